@@ -1,0 +1,1 @@
+// Definitions on lists and tests that every other crate shares, with their laws: no code.
