@@ -1,0 +1,1 @@
+// Bytes, joined lines and words.
