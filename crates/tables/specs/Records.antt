@@ -4,6 +4,8 @@ use mathlib.Core.List.{List}
 use lib.ListN.{getD, take, drop}
 use lib.IntN.{ℤ, pos}
 use Rattle.tables.specs.Tables.{Tables}
+use Rattle.tables.specs.declared.Element.{Element}
+use Rattle.tables.specs.declared.Corner.{Corner}
 
 -- how many numbers a record has in each table
 abbrev pub vWidth : ℕ
@@ -44,45 +46,30 @@ abbrev pub valueAt : ℕ → List ℤ → ℕ → ℕ → ℤ
 valueAt w l i k = getD l (w * i + k) (pos 0)
 
 -- "An element holds kind, corners, smoothing, and the place and length of its group run and material in the text."
-pub record Element : Type 0 where
-  pub kind : ℕ
-  pub first : ℕ
-  pub count : ℕ
-  pub body : ℕ
-  pub smoothing : ℕ
-  pub group-place : ℕ
-  pub group-length : ℕ
-  pub material-place : ℕ
-  pub material-length : ℕ
-
-abbrev pub elementAt : Tables → ℕ → Element
-elementAt t i =
+abbrev pub elementIn : List ℕ → ℕ → Element
+elementIn elements i =
     record {
-      kind = numberAt elementWidth (t .elements) i 0;
-      first = numberAt elementWidth (t .elements) i 1;
-      count = numberAt elementWidth (t .elements) i 2;
-      body = numberAt elementWidth (t .elements) i 3;
-      smoothing = numberAt elementWidth (t .elements) i 4;
-      group-place = numberAt elementWidth (t .elements) i 5;
-      group-length = numberAt elementWidth (t .elements) i 6;
-      material-place = numberAt elementWidth (t .elements) i 7;
-      material-length = numberAt elementWidth (t .elements) i 8;
+      kind = numberAt elementWidth elements i 0;
+      first = numberAt elementWidth elements i 1;
+      count = numberAt elementWidth elements i 2;
+      body = numberAt elementWidth elements i 3;
+      smoothing = numberAt elementWidth elements i 4;
+      «group_place» = numberAt elementWidth elements i 5;
+      «group_length» = numberAt elementWidth elements i 6;
+      «material_place» = numberAt elementWidth elements i 7;
+      «material_length» = numberAt elementWidth elements i 8;
     }
 
+abbrev pub elementAt : Tables → ℕ → Element
+elementAt t i = elementIn (t .elements) i
+
 -- "A corner is v, vt, vn (0 for none); a curv2 control holds its vp number in the first place."
-pub record Corner : Type 0 where
-  pub v : ℕ
-  pub vt : ℕ
-  pub vn : ℕ
+abbrev pub cornerIn : List ℕ → ℕ → Corner
+cornerIn corners at = record { v = getD corners at 0; vt = getD corners (at + 1) 0; vn = getD corners (at + 2) 0 }
 
 -- corner k of an element whose corners begin at the number `first`
 abbrev pub cornerAt : Tables → ℕ → ℕ → Corner
-cornerAt t first k =
-    record {
-      v = getD (t .corners) (first + cornerWidth * k) 0;
-      vt = getD (t .corners) (first + cornerWidth * k + 1) 0;
-      vn = getD (t .corners) (first + cornerWidth * k + 2) 0;
-    }
+cornerAt t first k = cornerIn (t .corners) (first + cornerWidth * k)
 
 -- "A body holds type, rational or not, degrees, ranges, parameters (u, then v), loops; a curve's v entries are 0."
 pub record Body : Type 0 where

@@ -1,0 +1,5 @@
+pub mod Cut
+pub mod Walk
+pub mod Places
+pub mod Loops
+pub mod Scans

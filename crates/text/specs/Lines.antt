@@ -48,6 +48,10 @@ abbrev pub ending : List ℕ → ℕ
 ending [] = 0
 ending (b ∷ bs) = cond (eqb b 10) 1 2
 
+-- the same where no line need end: 0 where none does
+abbrev pub breakOf : List ℕ → ℕ
+breakOf l = cond (lineEnd l) (ending l) 0
+
 -- the line that l begins with, and how far it is from there to the next
 abbrev pub lineOf : List ℕ → List ℕ
 lineOf l = take (extent gap l) l
