@@ -6,7 +6,7 @@ from pathlib import Path
 
 from damage import cases
 from exact import exact_on_curve, exact_on_surface, within
-from reader import read
+from reader import corner_of, group_of, material_of, read
 from records import CURV, CURV2, SURF, TABLES, TEXT_LIMIT, WIDTHS, Read, Refused, Used, zeros
 from rules import body_of, element_record, obeys
 from sampler import (
@@ -17,7 +17,7 @@ from tidier import TooLong, Written, agreement, tidy, tidy_text
 CASES = Path(__file__).resolve().parent / "cases"
 EXAMPLES = Path(__file__).resolve().parent.parent / "examples"
 PROGRAM_ROOM = 16_384
-SELF_CHECKS = 4_000
+SELF_CHECKS = 6_000
 
 
 class Tally:
@@ -102,9 +102,17 @@ def changed(answer, column):
     return Used(**used), list(tables.values())
 
 
-def called(used, tables, call):
+def called(data, used, tables, call):
     name, *numbers = call.split()
     numbers = [int(number) for number in numbers]
+    elements, corners = tables[TABLES.index("elements")], tables[TABLES.index("corners")]
+    if name in ("group", "material"):
+        ask = group_of if name == "group" else material_of
+        part = ask(data, elements, used.elements, *numbers).decode("ascii")
+        return part.replace("\\", "\\\\").replace("\n", "\\n")
+    if name == "corner":
+        found = corner_of(corners, elements, used.corners, used.elements, *numbers)
+        return " ".join(map(str, found))
     if name == "obeys":
         return str(obeys(used, tables, *numbers)).lower()
     if name == "run":
@@ -123,9 +131,9 @@ def called(used, tables, call):
 def check_points(tally):
     for name, call, changes, wanted, _ in rows(CASES / "points.txt"):
         rooms = dict.fromkeys(TABLES, 2_000)
-        answer = read((CASES / name).read_bytes(), rooms)
-        used, tables = changed(answer, changes)
-        tally.hold(f"{name} {call} {changes}", called(used, tables, call), wanted)
+        data = (CASES / name).read_bytes()
+        used, tables = changed(read(data, rooms), changes)
+        tally.hold(f"{name} {call} {changes}", called(data, used, tables, call), wanted)
 
 
 # The seeded self-check

@@ -36,13 +36,26 @@ EXTRA = (
 )
 
 
+def mix_patterns(rng, lines):
+    """One corner of a line gets another pattern, its references still good."""
+    heads = [words for words in lines if words[0] in (b"l", b"f", b"surf")]
+    if not heads:
+        return
+    words = rng.choice(heads)
+    at = rng.randrange(5 if words[0] == b"surf" else 1, len(words))
+    v = words[at].split(b"/")[0]
+    words[at] = v + rng.choice((b"", b"/1", b"//1", b"/1/1"))
+
+
 def word_damage(rng, lines):
     """Damage to the lines as words."""
     lines = [list(words) for words in lines]
     at = rng.randrange(len(lines))
     words = lines[at]
-    style = rng.randrange(12)
-    if style == 0:
+    style = rng.randrange(13)
+    if style == 12:
+        mix_patterns(rng, lines)
+    elif style == 0:
         del lines[at]
     elif style == 1:
         lines.insert(rng.randint(0, len(lines)), words[:])
