@@ -7,17 +7,19 @@ from pathlib import Path
 from damage import cases
 from exact import exact_on_curve, exact_on_surface, within
 from reader import corner_of, group_of, material_of, read
-from records import CURV, CURV2, SURF, TABLES, TEXT_LIMIT, WIDTHS, Read, Refused, Used, zeros
+from records import CURV, CURV2, SURF, TABLES, TEXT_LIMIT, Read, Refused, Used
 from rules import body_of, element_record, obeys
 from sampler import (
     RefusedPoint, point_on_curve, point_on_surface, run_on_curve, run_parameters,
 )
+from spelling import spelled
+from texts import text
 from tidier import TooLong, Written, agreement, tidy, tidy_text
 
 CASES = Path(__file__).resolve().parent / "cases"
 EXAMPLES = Path(__file__).resolve().parent.parent / "examples"
 PROGRAM_ROOM = 16_384
-SELF_CHECKS = 6_000
+SELF_CHECKS = 2_000
 
 
 class Tally:
@@ -159,7 +161,10 @@ def check_bounds(rng, used, tables):
             if point != RefusedPoint(18):
                 return f"element {element}: 18 wanted"
             continue
-        value = exact_on_surface(tables, element, u, v) if kind == SURF else exact_on_curve(tables, element, u)
+        if kind == SURF:
+            value = exact_on_surface(tables, element, u, v)
+        else:
+            value = exact_on_curve(tables, element, u)
         if not within(point, value, degree):
             return f"element {element}: {point} is not within {degree}/2 of {value}"
         if kind != SURF and not run_agrees(rng, used, tables, element, body):
@@ -239,6 +244,21 @@ def check_seeded(tally, seed, count):
     tally.hold("at least 40 % are read", numbers[0] * 10 >= count * 4, True)
 
 
+def check_valid(tally, seed, count):
+    """An undamaged text is read in just the room its maker counted, and is 14 in
+    one entry less."""
+    rng = random.Random(seed)
+    for i in range(count):
+        lines, needs = text(rng)
+        data = spelled(rng, lines)
+        tally.hold(f"valid {i}", isinstance(read(data, needs), Read), True)
+        needed = [table for table in TABLES if needs[table]]
+        if needed:
+            table = rng.choice(needed)
+            short = read(data, needs | {table: needs[table] - 1})
+            tally.hold(f"valid {i} short of {table}", short[0], 14)
+
+
 def check_examples(tally):
     rng = random.Random(0)
     rooms = [PROGRAM_ROOM] * len(TABLES)
@@ -257,6 +277,7 @@ def main():
     check_size(tally)
     check_points(tally)
     check_examples(tally)
+    check_valid(tally, 2, SELF_CHECKS // 4)
     check_seeded(tally, 1, SELF_CHECKS)
     print(f"{tally.passed} passed, {tally.failed} failed")
     return 1 if tally.failed else 0

@@ -6,7 +6,8 @@
 import random
 
 from records import TABLES
-from texts import NAMES, spelled, text
+from spelling import spelled
+from texts import NAMES, text
 
 KEYWORDS = (
     b"v vt vn vp p l f curv curv2 surf parm trim hole end cstype deg g s usemtl"
@@ -38,11 +39,12 @@ EXTRA = (
 
 def mix_patterns(rng, lines):
     """One corner of a line gets another pattern, its references still good."""
-    heads = [words for words in lines if words[0] in (b"l", b"f", b"surf")]
+    before = {b"l": 1, b"f": 1, b"surf": 5}
+    heads = [words for words in lines if len(words) > before.get(words[0], len(words))]
     if not heads:
         return
     words = rng.choice(heads)
-    at = rng.randrange(5 if words[0] == b"surf" else 1, len(words))
+    at = rng.randrange(before[words[0]], len(words))
     v = words[at].split(b"/")[0]
     words[at] = v + rng.choice((b"", b"/1", b"//1", b"/1/1"))
 
@@ -84,7 +86,7 @@ def body_damage(rng, lines):
     """Damage aimed at what is only found on a body's element line or its end."""
     lines = [list(words) for words in lines]
     heads = [i for i, words in enumerate(lines) if words[0] in (b"curv", b"curv2", b"surf")]
-    parms = [i for i, words in enumerate(lines) if words[0] == b"parm"]
+    parms = [i for i, words in enumerate(lines) if words[0] == b"parm" and len(words) > 2]
     forces = [i for i, words in enumerate(lines) if words[0] in (b"cstype", b"deg")]
     style = rng.randrange(8)
     if style == 0 and forces:

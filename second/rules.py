@@ -11,7 +11,7 @@ record that the element needs and that is past the used or lent entries is.
 from typing import NamedTuple
 
 from records import (
-    BSPLINE, CARDINAL, CARDINAL_DEGREE, CURV, CURV2, F, HOLE, L, LARGEST, ONE, P, SURF,
+    CARDINAL, CARDINAL_DEGREE, CURV, CURV2, F, HOLE, L, LARGEST, ONE, P, SURF,
     TABLES, TRIM, TYPES, WIDTHS, controls, in_order, widest,
 )
 

@@ -2,12 +2,12 @@
 table they need.
 
     text(rng) -> Text(lines, needs)          lines are lists of words
-    spelled(rng, lines) -> bytes             blanks, joins, comments, endings
 """
 
 from typing import NamedTuple
 
 from records import TABLES
+from spelling import coordinate, letters
 
 TYPE_NAMES = (b"bezier", b"bspline", b"cardinal", b"taylor")
 PASSED = (
@@ -21,46 +21,6 @@ NAMES = (b"top", b"left", b"a/b", b"x#1", b"default", b"!~", b"1", b"off", b"g",
 class Text(NamedTuple):
     lines: list
     needs: dict
-
-
-def letters(rng, millionths):
-    """One of the many spellings whose value rounds to `millionths`."""
-    size = abs(millionths)
-    style = rng.random()
-    tail = ""
-    if style < 0.15:
-        tail = rng.choice(("4999999999", "0", "000000001", "49", "1234"))
-    elif style < 0.25 and size > 0:
-        size -= 1
-        tail = rng.choice(("5", "50000000000", "9999999999", "7", "500000001"))
-    whole, rest = divmod(size, 1_000_000)
-    fraction = f"{rest:06d}" + tail
-    if not tail and rng.random() < 0.6:
-        fraction = fraction.rstrip("0")
-    start = str(whole)
-    if whole == 0 and fraction and rng.random() < 0.3:
-        start = ""
-    elif rng.random() < 0.05:
-        start = "0" * rng.randint(1, 30) + start
-    point = "." if fraction or rng.random() < 0.1 else ""
-    if millionths < 0 or (millionths == 0 and rng.random() < 0.1):
-        sign = "-"
-    else:
-        sign = "+" if rng.random() < 0.05 else ""
-    return (sign + start + point + fraction).encode()
-
-
-def coordinate(rng):
-    style = rng.random()
-    if style < 0.05:
-        return rng.choice((2_000_000_000, -2_000_000_000, 1_999_999_999))
-    if style < 0.10:
-        return rng.choice((0, 1, -1))
-    if style < 0.5:
-        return rng.randint(-20, 20) * 500_000
-    if style < 0.6:
-        return rng.randint(-2_000_000_000, 2_000_000_000)
-    return rng.randint(-9_000_000, 9_000_000)
 
 
 def increasing(rng, count):
@@ -122,8 +82,8 @@ class Maker:
 
     # Vertices and attributes
 
-    def vertex(self):
-        kind = self.rng.choice(("v", "v", "v", "vt", "vn", "vp"))
+    def vertex(self, kind=None):
+        kind = kind or self.rng.choice(("v", "v", "v", "vt", "vn", "vp"))
         least, most, width = {"v": (3, 4, 4), "vt": (1, 3, 3), "vn": (3, 3, 3), "vp": (1, 3, 4)}[kind]
         given = self.rng.randint(least, most)
         if kind == "vp" and not self.plane:
@@ -224,7 +184,9 @@ class Maker:
         return start, rng.randint(start + 1, high)
 
     def degree(self, most):
-        return self.rng.choice((1, 1, 2, 2, 3, 3, 3, 4, 5, most, self.rng.randint(1, most)))
+        if most == 20:
+            return self.rng.choice((most, self.rng.randint(1, most)))
+        return self.rng.choice((1, 1, 2, 2, 3, 3, 3, 4, 5))
 
     def parm(self, direction, values):
         rng = self.rng
@@ -245,14 +207,14 @@ class Maker:
             self.line(rng.choice((b"trim", b"hole")), *words)
             self.need(loops=2 * parts, spans=2 * parts)
 
-    def free_form(self):
+    def free_form(self, kind=None):
         rng = self.rng
-        kind = rng.choice(("curv", "curv", "curv2", "curv2", "surf"))
+        kind = kind or rng.choice(("curv", "curv", "curv2", "curv2", "surf"))
         if not self.count["v"] and kind != "curv2" or not self.plane and kind == "curv2":
             return
         type_ = rng.choice(TYPE_NAMES + TYPE_NAMES[:2])
         rational = rng.random() < 0.25
-        most = 20 if rng.random() < 0.15 else 4
+        most = 20 if rng.random() < 0.2 else 4
         cardinal = type_ == b"cardinal"
         u = 3 if cardinal else self.degree(most)
         v = (3 if cardinal else self.degree(most)) if kind == "surf" else None
@@ -285,40 +247,26 @@ class Maker:
         self.line("end")
 
 
-def text(rng):
-    maker = Maker(rng)
+def mixed(rng, maker):
     for _ in range(rng.choice((0, 3, 6, 10))):
         maker.vertex()
+    makers = (maker.vertex, maker.vertex, maker.attribute, maker.flat, maker.flat, maker.free_form)
     for _ in range(rng.choice((1, 4, 8, 12))):
-        rng.choice((maker.vertex, maker.vertex, maker.attribute, maker.flat, maker.flat, maker.free_form))()
+        rng.choice(makers)()
+
+
+def trimmed(rng, maker):
+    """Trimming curves first, then surfaces that can name them."""
+    for kind in ("vp", "v", "vp", "v", "vt", "vn"):
+        maker.vertex(kind)
+    for _ in range(rng.randint(1, 3)):
+        maker.free_form("curv2")
+    for _ in range(rng.randint(1, 2)):
+        maker.free_form("surf")
+        rng.choice((maker.attribute, maker.vertex, maker.flat))()
+
+
+def text(rng):
+    maker = Maker(rng)
+    rng.choice((mixed, mixed, mixed, mixed, trimmed))(rng, maker)
     return Text(maker.lines, maker.needs)
-
-
-def spelled(rng, lines):
-    """The lines as bytes, in plain or in wild clothes."""
-    if rng.random() < 0.3:
-        return b"".join(b" ".join(words) + b"\n" for words in lines)
-    ending = rng.choice((b"\n", b"\n", b"\r\n", None))
-    wild = rng.random() < 0.5
-    out = []
-    for words in lines:
-        chosen = ending or rng.choice((b"\n", b"\r\n"))
-        if rng.random() < 0.1:
-            out.append(rng.choice((b"# a comment \\", b"", b"  \t", b"#\x80\x00\rv 1", b"\\\n")) + chosen)
-        indent = rng.choice((b"", b"", b"    ", b"\t", b"\\\n")) if wild else b""
-        parts = [indent]
-        for i, word in enumerate(words):
-            if i:
-                parts.append(blank(rng) if wild else b" ")
-            parts.append(word)
-        if wild and rng.random() < 0.2:
-            parts.append(rng.choice((b" ", b" # tail \\", b"\t#\r#", b" \\\r\n", b"\\\n# x")))
-        out.append(b"".join(parts) + chosen)
-    joined = b"".join(out)
-    if rng.random() < 0.2 and joined.endswith(b"\n"):
-        joined = joined[:-2] if joined.endswith(b"\r\n") else joined[:-1]
-    return joined
-
-
-def blank(rng):
-    return rng.choice((b" ", b" ", b" ", b"  ", b"\t", b" \\\n", b"\\\r\n", b"\\\n\\\n ", b"\t \t"))

@@ -8,12 +8,13 @@ import re
 from records import LARGEST, Fault
 
 # A comment is tried before a word, so that a # opens one only where a word
-# would begin: inside a word the word's own rule has already taken it.
+# would begin: inside a word the word's own rule has already taken it.  A join
+# is a blank, and a word takes the blanks behind it along.
 TOKEN = re.compile(
-    rb"(?P<blank>(?:[\t ]|\\\r?\n)+)"
-    rb"|(?P<comment>\#[^\n]*)"
-    rb"|(?P<word>[!-\[\]-~]+)"
+    rb"(?P<comment>\#[^\n]*)"
+    rb"|(?P<word>[!-\[\]-~]+)(?:[\t ]|\\\r?\n)*"
     rb"|(?P<ending>\r?\n)"
+    rb"|(?P<blanks>(?:[\t ]|\\\r?\n)+)"
 )
 NUMBER = re.compile(rb"([+-]?)([0-9]*)\.?([0-9]*)")
 REFERENCE = re.compile(rb"-?[0-9]{1,10}")
@@ -36,7 +37,7 @@ def joined_lines(data):
             raise Fault(2, place)
         sort = found.lastgroup
         if sort == "word":
-            words.append((place, found.group()))
+            words.append((place, found.group("word")))
         elif sort == "ending" and words:
             yield words
             words = []
@@ -47,7 +48,7 @@ def joined_lines(data):
 
 def names_in(run):
     """The names of a group run: its words, blanks and joins left out."""
-    return [found.group() for found in TOKEN.finditer(run) if found.lastgroup == "word"]
+    return [found.group("word") for found in TOKEN.finditer(run) if found.lastgroup == "word"]
 
 
 def number(word):
