@@ -139,7 +139,7 @@ wordOf-cut (b ∷ bs) =
     (λ (t : isWord b ≡ false). no-word (extent word (b ∷ bs)) b bs t ∙ sym (no-word (suc (length bs)) b bs t) ∙ rw t refl)
     (test (isWord b))
 
-in-word : (m n : Mode) → opens m n ≡ true → n ≡ word
+pub in-word : (m n : Mode) → opens m n ≡ true → n ≡ word
 in-word m gap h = never (and-right (isGap m) false h)
 in-word m word h = refl
 in-word m comment h = never (and-right (isGap m) false h)

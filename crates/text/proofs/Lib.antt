@@ -3,3 +3,6 @@ pub mod Walk
 pub mod Places
 pub mod Loops
 pub mod Scans
+pub mod LineByLine
+pub mod Tokens
+pub mod ReadBack

@@ -58,7 +58,7 @@ two : (l : List ℕ) → lf l ≡ true → 1 ≤ length l
 two [] h = let z : _≡_ {A = ℕ} 0 1 = cc in omega arith
 two (b ∷ bs) h = omega arith
 
-ending-some : (l : List ℕ) → lineEnd l ≡ true → (0 < ending l) × (ending l ≤ length l)
+pub ending-some : (l : List ℕ) → lineEnd l ≡ true → (0 < ending l) × (ending l ≤ length l)
 ending-some [] h = let z : _≡_ {A = ℕ} 0 1 = cc in absurd (omega arith)
 ending-some (b ∷ bs) h =
     ⊎-elim

@@ -73,3 +73,7 @@ linesFrom (suc n) p (b ∷ bs) =
 -- the joined lines of a text; each takes a byte or more
 unfoldable pub linesOf : List ℕ → List Line
 linesOf t = linesFrom (length t) 0 t
+
+-- the lines from place p on, where a line starts
+unfoldable pub linesAt : List ℕ → ℕ → List Line
+linesAt t p = linesFrom (length (drop p t)) p (drop p t)

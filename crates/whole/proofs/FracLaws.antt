@@ -90,12 +90,12 @@ is-power {p = p} {D = D} h zero = is-conv (ap pos (sym (pow-zero p))) (sym (pow-
 is-power {p = p} {D = D} h (suc n) = is-conv (ap pos (sym (pow-suc p n))) (sym (pow-suc D n)) (is-times (is-power h n) h)
 
 -- ---- sums
-abbrev pub sum : ℕ → (ℕ → ℤ) → ℤ
+unfoldable pub sum : ℕ → (ℕ → ℤ) → ℤ
 sum zero f = pos 0
 sum (suc n) f = sum n f +ℤ f n
 
 pub is-sum : (m Q : ℕ) (f : ℕ → Frac) (z : ℕ → ℤ) → ((i : ℕ) → i < m → Is (f i) (z i) Q) → Is (sumTo m f) (sum m z) Q
-unfolding sumTo
+unfolding sumTo sum
 is-sum zero Q f z h = is-zero Q (is-whole (pos 0) 1)
 is-sum (suc m) Q f z h = is-plus (is-sum m Q f z (λ i l. h i (le-step l))) (h m (le-refl (suc m)))
 

@@ -1,5 +1,5 @@
 -- The order of whole numbers: as a difference that is a natural number, and by the tests that decide it.
-use mathlib.Core.Path.{_≡_, refl, sym, _∙_, ap, subst}
+use mathlib.Core.Path.{_≡_, refl, sym, _∙_, ap, ap₂, subst}
 use mathlib.Core.Bool.{Bool, true, false, not}
 use mathlib.Core.List.{[], _∷_}
 use mathlib.Core.Logic.{_⊎_, inl, inr, ⊎-elim}
@@ -67,6 +67,13 @@ up-abs {a} {b} u = e ∙ sym (ap (λ z. pos (natAbs z)) e)
     e : b -ℤ a ≡ pos (u .by)
     e = ap (λ z. z -ℤ a) (u .same) ∙ ring (a ∷ pos (u .by) ∷ []) (λ a n. a ⊕ n ⊝ a ≐ n) tt
 
+-- the way to a number between two is no longer than that to the second
+pub up-part : {a t b : ℤ} → Up a t → Up t b → natAbs (t -ℤ a) ≤ natAbs (b -ℤ a)
+up-part {a} {t} {b} u v = omega (arith, ap natAbs e)
+  where
+    e : pos (natAbs (b -ℤ a)) ≡ pos (natAbs (b -ℤ t) + natAbs (t -ℤ a))
+    e = sym (up-abs (up-trans u v)) ∙ ring (a ∷ t ∷ b ∷ []) (λ a t b. b ⊝ a ≐ b ⊝ t ⊕ (t ⊝ a)) tt ∙ ap₂ _+ℤ_ (up-abs v) (up-abs u)
+
 -- and one that is above 0
 pub up-wide : {a b c d : ℤ} → Up a b → b <ℤ c → Up c d → 0 < natAbs (d -ℤ a)
 up-wide {a} {b} {c} {d} u h v = rw e (go (lt-up h (lt→up h)))
@@ -111,3 +118,19 @@ not-less e = ltZ-no (subst (λ (q : Bool). T (not q)) (sym e) tt)
 
 pub not-upto : (a b : ℤ) → leZ a b ≡ false → b <ℤ a
 not-upto a b e = ⊎-elim (λ l. l) (λ l. absurd (subst T e (l .le))) (lt-or-le b a)
+
+pub yes-le : (a b : ℤ) → leZ a b ≡ true → a ≤ℤ b
+yes-le a b e = leZ-yes (subst T (sym e) tt)
+
+pub yes-lt : (a b : ℤ) → ltZ a b ≡ true → a <ℤ b
+yes-lt a b e = ltZ-yes (subst T (sym e) tt)
+
+holds : (q : Bool) → T q → q ≡ true
+holds true t = refl
+holds false t = absurd t
+
+pub le-yes : (a b : ℤ) → a ≤ℤ b → leZ a b ≡ true
+le-yes a b h = holds (leZ a b) (h .le)
+
+pub lt-yes : (a b : ℤ) → a <ℤ b → ltZ a b ≡ true
+lt-yes a b h = holds (ltZ a b) (h .lt)
