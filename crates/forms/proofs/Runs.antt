@@ -1,0 +1,142 @@
+-- A turn of each loop over digits: what is left to read comes to what all of it comes to.
+use Prim.Native.Nat.{ℕ, zero, suc, _+_, _-_, _*_, _^_, _≤_, _<_}
+use mathlib.Core.Path.{_≡_, refl, sym, ap, _∙_, subst}
+use mathlib.Core.List.{List, [], _∷_}
+use mathlib.Core.Bool.{Bool, true, false}
+use lib.ListN.{length, take, drop, getD, drop-of-length-le}
+use lib.Seq.{drop-cons, take-nil}
+use lib.Dec.{leb}
+use borrow.Author.Tests.{le-leb, lt-leb}
+use native.Mathlib.Omega.{arith}
+use native.Mathlib.Numerals.{add-one}
+use mathlib.Core.Logic.{⊎-elim}
+use borrow.Author.Tests.{leb-true, leb-false}
+use Rattle.lists.proofs.Tests.{test}
+use Rattle.forms.specs.Digits.{isDigit, digits, natOf}
+use Rattle.forms.specs.Straight.{digitOf, cap, run, WholeRead, SevenRead}
+use Rattle.forms.proofs.Rows.{low-digit, high-digit, mid-digit, cap-natOf, natOf-ge, seven-small}
+
+-- ---- a byte's number tells whether it is a digit
+low : (b : ℕ) → b < 48 → digitOf b ≡ 255
+low b h = rw (lt-leb 48 b h)
+
+same : (b : ℕ) → 48 ≤ b → digitOf b ≡ b - 48
+same b h = rw (le-leb 48 b h)
+
+pub digit-no : (b d : ℕ) → d ≡ digitOf b → 9 < d → isDigit b ≡ false
+digit-no b d e h =
+    ⊎-elim
+    (λ (t : leb 48 b ≡ true). let z = same b (leb-true 48 b t) in let y = leb-true 48 b t in high-digit b (omega arith))
+    (λ (t : leb 48 b ≡ false). low-digit b (leb-false 48 b t))
+    (test (leb 48 b))
+
+pub digit-yes : (b d : ℕ) → d ≡ digitOf b → d ≤ 9 → (isDigit b ≡ true) × (d ≡ b - 48)
+digit-yes b d e h =
+    ⊎-elim
+    (λ (t : leb 48 b ≡ true).
+    let z = same b (leb-true 48 b t) in let y = leb-true 48 b t in (mid-digit b y (omega arith), omega arith))
+    (λ (t : leb 48 b ≡ false). let z = low b (leb-false 48 b t) in absurd (omega arith))
+    (test (leb 48 b))
+
+-- ---- the digits at a place
+module _ (s : List ℕ) (i : ℕ) where
+  pub run-more : i < length s → isDigit (getD s i 0) ≡ true → run (drop i s) ≡ getD s i 0 ∷ run (drop (i + 1) s)
+  run-more h d = rw (drop-cons s i 0 h, d, add-one)
+
+  pub run-stop : i < length s → isDigit (getD s i 0) ≡ false → run (drop i s) ≡ []
+  run-stop h d = rw (drop-cons s i 0 h, d)
+
+  pub run-end : length s ≤ i → run (drop i s) ≡ []
+  run-end h = ap run (drop-of-length-le s h)
+
+  -- the same by what `digit` answers
+  pub run-no : (d : ℕ) → i < length s → d ≡ digitOf (getD s i 0) → 9 < d → run (drop i s) ≡ []
+  run-no d h e k = run-stop h (digit-no (getD s i 0) d e k)
+
+  pub run-yes : (d : ℕ) → i < length s → d ≡ digitOf (getD s i 0) → d ≤ 9 → run (drop i s) ≡ getD s i 0 ∷ run (drop (i + 1) s)
+  run-yes d h e k = run-more h (digit-yes (getD s i 0) d e k .0)
+
+-- ---- where they end
+module _ (s : List ℕ) (at i : ℕ) where
+  pub end-stop : i + length (run (drop i s)) ≡ at + length (run (drop at s)) → run (drop i s) ≡ [] → i ≡ at + length (run (drop at s))
+  end-stop g r = let q = rw r at g in omega arith
+
+  pub end-turn : (d : ℕ) → i + length (run (drop i s)) ≡ at + length (run (drop at s)) → i < length s → d ≡ digitOf (getD s i 0) → d ≤ 9
+      → i + 1 + length (run (drop (i + 1) s)) ≡ at + length (run (drop at s))
+  end-turn d g h e k = let q = rw (run-yes s i d h e k) at g in omega arith
+
+-- ---- all of them, capped
+pub record Going (s : List ℕ) (at i a : ℕ) : Type 0 where
+  pub to : i ≤ length s
+  pub small : a ≤ 20000000005
+  pub end-is : i + length (run (drop i s)) ≡ at + length (run (drop at s))
+  pub value-is : cap (natOf a (run (drop i s))) ≡ cap (natOf 0 (run (drop at s)))
+
+module _ (s : List ℕ) (at i a : ℕ) (g : Going s at i a) where
+  pub whole-stop : run (drop i s) ≡ [] → WholeRead s at i a
+  whole-stop r =
+      record {
+        to = g .to;
+        end-is = end-stop s at i (g .end-is) r;
+        value-is = let q = rw r at (g .value-is) in let k = g .small in omega arith;
+      }
+
+  pub whole-turn : (d a' : ℕ) → i < length s → d ≡ digitOf (getD s i 0) → d ≤ 9 → a' ≡ cap (a * 10 + d) → Going s at (i + 1) a'
+  whole-turn d a' h e k f =
+      let z = digit-yes (getD s i 0) d e k .1 in
+      let v : a' ≡ cap (a * 10 + (getD s i 0 - 48)) = f ∙ ap (λ (n : ℕ). cap (a * 10 + n)) z in
+      record {
+        to = omega arith;
+        small = omega arith;
+        end-is = end-turn s at i d (g .end-is) h e k;
+        value-is =
+            ap (λ (n : ℕ). cap (natOf n (run (drop (i + 1) s)))) v
+            ∙ cap-natOf (a * 10 + (getD s i 0 - 48)) (run (drop (i + 1) s))
+            ∙ (rw (run-yes s i d h e k) at (g .value-is));
+      }
+
+-- ---- the first seven, after those of w
+pub record Seven (s : List ℕ) (at w i a room : ℕ) : Type 0 where
+  pub to : i ≤ length s
+  pub end-is : i + length (take room (run (drop i s))) ≡ at + length (take 7 (run (drop at s)))
+  pub value-is : natOf a (take room (run (drop i s))) ≡ natOf w (take 7 (run (drop at s)))
+
+module _ (s : List ℕ) (at w i a room : ℕ) (g : Seven s at w i a room) where
+  stops : take room (run (drop i s)) ≡ [] → SevenRead s at w i a
+  stops r =
+      record {
+        to = g .to;
+        end-is = let q = rw r at (g .end-is) in omega arith;
+        value-is = rw r at (g .value-is);
+      }
+
+  pub seven-full : room ≡ 0 → SevenRead s at w i a
+  seven-full z = stops (rw z refl)
+
+  pub seven-stop : run (drop i s) ≡ [] → SevenRead s at w i a
+  seven-stop r = stops (rw r (take-nil {A = ℕ} room))
+
+  module _ (k d : ℕ) (z : room ≡ suc k) (h : i < length s) (e : d ≡ digitOf (getD s i 0)) (l : d ≤ 9) where
+    front : take room (run (drop i s)) ≡ getD s i 0 ∷ take k (run (drop (i + 1) s))
+    front = rw (z, run-yes s i d h e l) refl
+
+    value : natOf (a * 10 + d) (take k (run (drop (i + 1) s))) ≡ natOf w (take 7 (run (drop at s)))
+    value =
+        ap (λ (n : ℕ). natOf (a * 10 + n) (take k (run (drop (i + 1) s)))) (digit-yes (getD s i 0) d e l .1)
+        ∙ (rw front at (g .value-is))
+
+    -- no digit makes it wrap
+    pub seven-small-turn : w ≤ 20000000005 → a * 10 + d < 2 ^ 60
+    seven-small-turn b =
+        let x = natOf-ge (a * 10 + d) (take k (run (drop (i + 1) s))) in
+        let y = seven-small w (drop at s) b in
+        let q = value in
+        omega arith
+
+    pub seven-turn : Seven s at w (i + 1) (a * 10 + d) k
+    seven-turn =
+        record {
+          to = omega arith;
+          end-is = let q = rw front at (g .end-is) in omega arith;
+          value-is = value;
+        }

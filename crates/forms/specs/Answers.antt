@@ -1,0 +1,18 @@
+-- What each answer of the code means: the value and where its word ends, or 01's number of the refusal.
+use Prim.Native.Nat.{ℕ}
+use lib.IntN.{ℤ}
+use Rattle.forms.specs.Said.{Said, says, wrong}
+use Rattle.forms.specs.declared.number.Number.{Number}
+use Rattle.forms.specs.declared.number.Number.the-variants.{Value, Malformed, OutOfRange}
+use Rattle.forms.specs.declared.number.Magnitude.{Magnitude}
+use Rattle.forms.specs.declared.number.Magnitude.the-variants.{Of, Bad}
+
+abbrev pub saidNumber : Number → Said (ℤ × ℕ)
+saidNumber (Value v e) = says (v, e)
+saidNumber Malformed = wrong 6
+saidNumber OutOfRange = wrong 7
+
+-- of a number without its sign
+abbrev pub saidMagnitude : Magnitude → Said (ℕ × ℕ)
+saidMagnitude (Of m e) = says (m, e)
+saidMagnitude Bad = wrong 6

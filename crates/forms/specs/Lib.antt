@@ -1,0 +1,9 @@
+pub mod Said
+pub mod Digits
+pub mod Number
+pub mod Reference
+pub mod Corner
+pub mod Degree
+pub mod Written
+pub mod Answers
+pub mod Straight

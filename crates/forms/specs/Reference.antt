@@ -1,0 +1,22 @@
+-- 01: "Reference: optional -, then 1 to 10 digits. k means the k-th of its kind so far; -k the k-th from the last. Zero or past either end: 8."
+use Prim.Native.Nat.{ℕ, suc, _-_}
+use mathlib.Core.List.{List}
+use mathlib.Core.Bool.{Bool, cond, _&&_}
+use lib.Dec.{leb}
+use Rattle.forms.specs.Said.{Said, says, wrong, must}
+use Rattle.forms.specs.Digits.{natOf, whole, negative, unminus}
+
+-- "optional -, then 1 to 10 digits"
+unfoldable pub isReference : List ℕ → Bool
+isReference w = whole 10 (unminus w)
+
+-- "k means the k-th of its kind so far; -k the k-th from the last", counted from 1; 0 where there is none
+abbrev pub item : Bool → ℕ → ℕ → ℕ
+item back count k = cond (leb 1 k && leb k count) (cond back (suc count - k) k) 0
+
+unfoldable pub refer : ℕ → List ℕ → ℕ
+refer count w = item (negative w) count (natOf 0 (unminus w))
+
+-- "Zero or past either end: 8"
+unfoldable pub referenceOf : ℕ → List ℕ → Said ℕ
+referenceOf count w = must (isReference w) 6 (must (leb 1 (refer count w)) 8 (says (refer count w)))

@@ -1,0 +1,2 @@
+mod digits; // rows of digits, and where a word ends
+pub mod number;

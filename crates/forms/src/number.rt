@@ -1,0 +1,159 @@
+use crate::digits::Run;
+use crate::digits::byte_at;
+use crate::digits::digit;
+use crate::digits::digits_end;
+use crate::digits::whole_run;
+use crate::digits::wide;
+use crate::digits::word_ends;
+ghost use mathlib.Core.Path.{_≡_};
+ghost use Prim.Native.Nat.{ℕ, _+_, _*_, _-_, _/_, _^_, _≤_, _<_};
+ghost use lib.ListN.{length, drop, take};
+ghost use mathlib.Core.Bool.{cond};
+ghost use Rattle.text.specs.Words.{wordOf};
+ghost use Rattle.text.specs.Rest.{endOf};
+ghost use Rattle.forms.specs.Said.{ended};
+ghost use Rattle.forms.specs.Number.{numberOf, signed, isSign};
+ghost use Rattle.forms.specs.Answers.{saidNumber, saidMagnitude};
+ghost use Rattle.forms.specs.Straight.{SevenRead, magnitudeOf, pointed, settleOf};
+
+pub enum Number {
+    Value { value: i32, end: usize },
+    Malformed,
+    OutOfRange,
+}
+
+pub enum Magnitude {
+    Of { value: u64, end: usize },
+    Bad,
+}
+
+// At most seven digits from `at`, after those of `whole`.
+fn seven(text: &[u8], at: usize, whole: u64) -> Run
+    requires { ⌜ (at ≤ length (now text)) × (whole ≤ 20000000005) ⌝ }
+    ensures { λ r. ⌜ SevenRead (now (text .entry)) at whole (r .end) (r .value) ⌝ }
+{
+    let mut i = at;
+    let mut a = whole;
+    let mut room: u64 = 7;
+    while i < text.len() {
+        if room == 0 {
+            return Run { end: i, value: a };
+        }
+        let d = digit(text[i]);
+        if 9 < d {
+            return Run { end: i, value: a };
+        }
+        a = a * 10 + wide(d);
+        room -= 1;
+        i += 1;
+    }
+    Run { end: i, value: a }
+}
+
+// The ten-millionths that one of the last of n decimals counts.
+fn scale(n: usize) -> u64
+    ensures { λ r. ⌜ r ≡ 10 ^ (7 - n) ⌝ }
+{
+    match n {
+        0 => 10_000_000,
+        1 => 1_000_000,
+        2 => 100_000,
+        3 => 10_000,
+        4 => 1_000,
+        5 => 100,
+        6 => 10,
+        _ => 1,
+    }
+}
+
+// From the byte after the point on, `count` digits before it whose number is `whole`.
+fn fraction(text: &[u8], at: usize, count: usize, whole: u64) -> Magnitude
+    requires { ⌜ (at ≤ length (now text)) × (count ≤ at) × (whole ≤ 20000000005) ⌝ }
+    ensures { λ r. ⌜ saidMagnitude r ≡ ended (pointed count whole (wordOf (drop at (now (text .entry))))) (endOf (now (text .entry)) at) ⌝ }
+{
+    let f = seven(text, at, whole);
+    let last = f.end;
+    let end = digits_end(text, last);
+    if count + (end - at) == 0 {
+        return Magnitude::Bad;
+    }
+    if word_ends(text, end) {
+        return Magnitude::Of {
+            value: f.value * scale(last - at),
+            end: end,
+        };
+    }
+    Magnitude::Bad
+}
+
+// Digits with at most one point, in ten-millionths.
+fn measure(text: &[u8], at: usize) -> Magnitude
+    requires { ⌜ at ≤ length (now text) ⌝ }
+    ensures { λ r. ⌜ saidMagnitude r ≡ ended (magnitudeOf (wordOf (drop at (now (text .entry))))) (endOf (now (text .entry)) at) ⌝ }
+{
+    let w = whole_run(text, at);
+    let end = w.end;
+    if byte_at(text, end) == 46 {
+        return fraction(text, end + 1, end - at, w.value);
+    }
+    if end == at {
+        return Magnitude::Bad;
+    }
+    if word_ends(text, end) {
+        return Magnitude::Of {
+            value: w.value * 10_000_000,
+            end: end,
+        };
+    }
+    Magnitude::Bad
+}
+
+fn signed_of(minus: bool, m: u64) -> i32
+    requires { ⌜ m ≤ 2000000000 ⌝ }
+    ensures { λ r. ⌜ r ≡ signed minus m ⌝ }
+{
+    let n = m as i32;
+    if minus {
+        return 0 - n;
+    }
+    n
+}
+
+// Rounded to millionths, with the sign.
+fn settle(minus: bool, value: u64, end: usize) -> Number
+    ensures { λ r. ⌜ saidNumber r ≡ ended (settleOf minus value) end ⌝ }
+{
+    if 20_000_000_004 < value {
+        return Number::OutOfRange;
+    }
+    Number::Value {
+        value: signed_of(minus, (value + 5) / 10),
+        end: end,
+    }
+}
+
+fn sign_length(b: u8) -> usize
+    ensures { λ r. ⌜ r ≡ cond (isSign b) 1 0 ⌝ }
+{
+    match b {
+        43 | 45 => 1,
+        _ => 0,
+    }
+}
+
+// The number that the word at `at` is.
+pub fn number_at(text: &[u8], at: usize) -> Number
+    requires { ⌜ at ≤ length (now text) ⌝ }
+    ensures { λ r. ⌜ saidNumber r ≡ ended (numberOf (wordOf (drop at (now (text .entry))))) (endOf (now (text .entry)) at) ⌝ }
+{
+    let b = byte_at(text, at);
+    match measure(text, at + sign_length(b)) {
+        Magnitude::Bad => Number::Malformed,
+        Magnitude::Of { value, end } => {
+            if 64 < end - at {
+                return Number::Malformed;
+            }
+            settle(b == 45, value, end)
+        }
+    }
+}
