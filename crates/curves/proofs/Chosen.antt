@@ -14,7 +14,7 @@ use lib.IntN.{ℤ}
 use lib.Signed.{_≤ℤ_, _<ℤ_, leZ, ltZ, ≤ℤ-refl, clashℤ}
 use Rattle.whole.proofs.Order.{yes-le, yes-lt, le-yes, lt-yes, lt-or-le, ≤ℤ-trans, ≤ℤ-<ℤ-trans, <ℤ→≤ℤ, not-upto}
 use Rattle.lists.proofs.Tests.{and-left, and-right, and-both, test, never}
-use Rattle.curves.specs.Directions.{at, lastWhere, segment, span, BezierRules, SplineRules}
+use Rattle.curves.specs.Directions.{Basis, bezier, bspline, Direction, at, lastWhere, segment, span, chosen, BezierRules, SplineRules, Rules}
 
 -- ---- the last that passes a test
 pub record Last (f : ℕ → Bool) (m g : ℕ) : Type 0 where
@@ -145,3 +145,16 @@ module _ {n k : ℕ} {x : List ℤ} {t : ℤ} (d : SplineRules n k x t) where
           let b : s < k = span-below in
           let e : suc s + (k - suc s) ≡ k = omega arith in
           subst (λ (q : ℕ). at x q <ℤ t) e (under l (k - suc s) (omega arith))
+
+-- ---- of either kind
+chosen-of : (b : Basis) (n k : ℕ) (x : List ℤ) (t : ℤ) → (let d : Direction = record { basis = b; degree = n; controls = k; parameters = x } in
+    Rules d t → Holds (at x) t (chosen d t) × (suc (chosen d t) < length x))
+unfolding Rules chosen
+chosen-of bezier n k x t r = (segment-holds r, segment-below r)
+chosen-of bspline n k x t r = (span-holds r, omega (arith, span-below r, r .count))
+
+pub chosen-holds : (d : Direction) (t : ℤ) → Rules d t → Holds (at (d .parameters)) t (chosen d t)
+chosen-holds d t r = chosen-of (d .basis) (d .degree) (d .controls) (d .parameters) t r .0
+
+pub chosen-below : (d : Direction) (t : ℤ) → Rules d t → suc (chosen d t) < length (d .parameters)
+chosen-below d t r = chosen-of (d .basis) (d .degree) (d .controls) (d .parameters) t r .1

@@ -48,7 +48,7 @@ chosen d t =
     (span (at (d .parameters)) (d .degree) (d .controls) t)
 
 -- ---- 01, "Bodies": what the rules ask of a direction, and that t lies in it
--- "n(p-1)+1" controls; "Parameters strictly increase and first ≤ start < end ≤ last."
+-- "parm u or v, then 2 or more"; "n(p-1)+1" controls; "Parameters strictly increase and first ≤ start < end ≤ last."
 pub record BezierRules (n k : ℕ) (x : List ℤ) (t : ℤ) : Type 0 where
   pub many : 2 ≤ length x
   pub count : k ≡ n * (length x - 1) + 1
