@@ -30,8 +30,7 @@ module _ (x : ℕ → ℤ) (t : ℤ) (k : ℕ) where
       go (inl l) e = omega arith
       go (inr l) e = omega arith
   outside (suc r) i h =
-      is-plus-zero (is-zero-times (over (t -ℤ x i) (x (i + suc r) -ℤ x i)) (outside r i (one h)) (over-above (t -ℤ x i) (x (i + suc r) -ℤ x i)))
-      (is-zero-times (over (x (suc i + suc r) -ℤ t) (x (suc i + suc r) -ℤ x (suc i))) (outside r (suc i) (two h)) (over-above (x (suc i + suc r) -ℤ t) (x (suc i + suc r) -ℤ x (suc i))))
+      is-plus-zero (is-zero-times _ (outside r i (one h)) (over-above _ _)) (is-zero-times _ (outside r (suc i) (two h)) (over-above _ _))
     where
       one : (k < i) ⊎ (i + suc r < k) → (k < i) ⊎ (i + r < k)
       one (inl l) = inl l
@@ -74,7 +73,7 @@ module _ (x : ℕ → ℤ) (t : ℤ) (k : ℕ) where
         same = omega arith
     inside zero i (suc j) h l e = absurd (not-suc-le-zero l)
     inside (suc r) i zero h l e =
-        is-zero-plus (is-zero (level x t k r * all x t k r) (is-zero-times (over (t -ℤ x i) (x (i + suc r) -ℤ x i)) (outside r i (inr (omega arith))) (over-above (t -ℤ x i) (x (i + suc r) -ℤ x i))))
+        is-zero-plus (is-zero (level x t k r * all x t k r) (is-zero-times _ (outside r i (inr (omega arith))) (over-above _ _)))
         (high-term r 0 (suc i) h (omega arith) (omega arith) (inside r (suc i) 0 (omega arith) (omega arith) (omega arith)))
     inside (suc r) i (suc j) h l e =
         is-plus (low-term r j i h (le-of-suc-le-suc l) (omega arith) (inside r i j (omega arith) (omega arith) (omega arith)))
@@ -85,4 +84,4 @@ module _ (x : ℕ → ℤ) (t : ℤ) (k : ℕ) where
         go (yes m) f = high-term r (suc j) (suc i) h m (omega arith) (f m)
         go (no m) f =
             is-conv (ap pos (sym (ap (λ (v : ℕ). left x t k r (suc j) * v) (portion-past x t k r (suc j) (omega arith)) ∙ mul-zero (left x t k r (suc j))))) refl
-            (is-zero (level x t k r * all x t k r) (is-zero-times (over (x (suc i + suc r) -ℤ t) (x (suc i + suc r) -ℤ x (suc i))) (outside r (suc i) (inl (omega arith))) (over-above (x (suc i + suc r) -ℤ t) (x (suc i + suc r) -ℤ x (suc i)))))
+            (is-zero (level x t k r * all x t k r) (is-zero-times _ (outside r (suc i) (inl (omega arith))) (over-above _ _)))
