@@ -14,7 +14,7 @@ use lib.IntN.{ℤ}
 use lib.Signed.{_≤ℤ_, _<ℤ_, leZ, ltZ, ≤ℤ-refl, clashℤ}
 use Rattle.whole.proofs.Order.{yes-le, yes-lt, le-yes, lt-yes, lt-or-le, ≤ℤ-trans, ≤ℤ-<ℤ-trans, <ℤ→≤ℤ, not-upto}
 use Rattle.lists.proofs.Tests.{and-left, and-right, and-both, test, never}
-use Rattle.curves.specs.Directions.{at, lastWhere, segment, span, BezierRules, SplineRules}
+use Rattle.curves.specs.Directions.{Basis, bezier, bspline, Direction, at, lastWhere, segment, starts, span, chosen, BezierRules, SplineRules, Rules}
 
 -- ---- the last that passes a test
 pub record Last (f : ℕ → Bool) (m g : ℕ) : Type 0 where
@@ -87,10 +87,6 @@ module _ {n k : ℕ} {x : List ℤ} {t : ℤ} (d : BezierRules n k x t) where
       go (inl e) = subst (λ (q : ℕ). t ≤ℤ at x q) (sym e) (d .high)
       go (inr l) = <ℤ→≤ℤ (not-upto (at x (suc g)) t (segment-last .last (suc g) (le-refl (suc g)) l))
 
--- the test of a span
-abbrev pub starts : (x : ℕ → ℤ) (n : ℕ) (t : ℤ) → ℕ → Bool
-starts x n t i = leb n i && ltZ (x i) (x (suc i)) && leZ (x i) t
-
 starts-yes : (x : ℕ → ℤ) (n : ℕ) (t : ℤ) (i : ℕ) → n ≤ i → x i <ℤ x (suc i) → x i ≤ℤ t → starts x n t i ≡ true
 starts-yes x n t i a b c = and-both (and-both (le-leb n i a) (lt-yes (x i) (x (suc i)) b)) (le-yes (x i) t c)
 
@@ -145,3 +141,16 @@ module _ {n k : ℕ} {x : List ℤ} {t : ℤ} (d : SplineRules n k x t) where
           let b : s < k = span-below in
           let e : suc s + (k - suc s) ≡ k = omega arith in
           subst (λ (q : ℕ). at x q <ℤ t) e (under l (k - suc s) (omega arith))
+
+-- ---- of either kind
+chosen-of : (b : Basis) (n k : ℕ) (x : List ℤ) (t : ℤ) → (let d : Direction = record { basis = b; degree = n; controls = k; parameters = x } in
+    Rules d t → Holds (at x) t (chosen d t) × (suc (chosen d t) < length x))
+unfolding Rules chosen
+chosen-of bezier n k x t r = (segment-holds r, segment-below r)
+chosen-of bspline n k x t r = (span-holds r, omega (arith, span-below r, r .count))
+
+pub chosen-holds : (d : Direction) (t : ℤ) → Rules d t → Holds (at (d .parameters)) t (chosen d t)
+chosen-holds d t r = chosen-of (d .basis) (d .degree) (d .controls) (d .parameters) t r .0
+
+pub chosen-below : (d : Direction) (t : ℤ) → Rules d t → suc (chosen d t) < length (d .parameters)
+chosen-below d t r = chosen-of (d .basis) (d .degree) (d .controls) (d .parameters) t r .1

@@ -18,7 +18,7 @@ use Rattle.curves.specs.Exact.{along, bezierWeight, splineWeight, weight
 use Rattle.curves.specs.Sampled.{pyramid, lowAt, highAt, partAt, gapAt, firstControl, curveSampled}
 use Rattle.curves.proofs.Chosen.{Holds, segment-below, segment-holds, span-below, span-from, span-holds}
 use Rattle.curves.proofs.Bernstein.{share, casteljau-near, power-above, bernstein-is}
-use Rattle.curves.proofs.SplineScheme.{OnSpan, part, gap, part-le, gap-pos, w, Q, Q-pos, near}
+use Rattle.curves.proofs.SplineScheme.{OnSpan, part, gap, part-le, gap-pos, portion, all, all-above, near}
 use Rattle.curves.proofs.SplineWeights.{outside, inside}
 use Rattle.curves.proofs.Weights.{Sampler, window-sampler}
 
@@ -70,7 +70,7 @@ pub span-on : {n k : ℕ} {x : List ℤ} {t : ℤ} → SplineRules n k x t → O
 span-on r = record { rising = λ i l. r .rising i (omega (arith, r .count, span-below r)); holds = span-holds r; deep = span-from r }
 
 module _ (x : ℕ → ℤ) (t : ℤ) (s n : ℕ) (o : OnSpan x t s n) where
-  in-span : (j : ℕ) → j ≤ n → Is (splineWeight x t s n (s - n + j)) (pos (w x t s n j)) (Q x t s n)
+  in-span : (j : ℕ) → j ≤ n → Is (splineWeight x t s n (s - n + j)) (pos (portion x t s n j)) (all x t s n)
   in-span j l = let d : n ≤ s = o .deep in inside x t s n o n (s - n + j) j (le-refl n) l (omega arith)
 
   off-span : (i : ℕ) → (i < s - n) ⊎ (s - n + n < i) → Is (splineWeight x t s n i) (pos 0) 1
@@ -79,7 +79,7 @@ module _ (x : ℕ → ℤ) (t : ℤ) (s n : ℕ) (o : OnSpan x t s n) where
 
   span-sampler : (k : ℕ) → s - n + n < k → Sampler k (splineWeight x t s n) n (λ c. pyramid (part x t s) (gap x t s) n (λ j. c (s - n + j)))
   span-sampler k l =
-      window-sampler k (s - n) n (splineWeight x t s n) (w x t s n) (Q x t s n) (pyramid (part x t s) (gap x t s) n) l (Q-pos x t s n o n (le-refl n))
+      window-sampler k (s - n) n (splineWeight x t s n) (portion x t s n) (all x t s n) (pyramid (part x t s) (gap x t s) n) l (all-above x t s n o n (le-refl n))
       in-span off-span (near x t s n o n (le-refl n))
 
 pub span-controls : {n k : ℕ} {x : List ℤ} {t : ℤ} → SplineRules n k x t → span (at x) n k t - n + n < k

@@ -1,5 +1,5 @@
 -- One level of a triangular scheme of weights, and what rounding does to it: one half more. Serves Bernstein's weights and those of Cox and de Boor.
-use mathlib.Core.Path.{_≡_, refl, _∙_, ap, ap₂, subst}
+use mathlib.Core.Path.{_≡_, _∙_, ap, ap₂, subst}
 use mathlib.Core.List.{[], _∷_}
 use Prim.Native.Nat.{ℕ, zero, suc, _+_, _*_, _≤_, _<_}
 use native.Mathlib.Nat.{le-refl, le-trans, le-of-eq, mul-le-mul-left, le-step}
@@ -12,11 +12,6 @@ use Rattle.whole.proofs.Ring.{ring, K, _⊕_, _⊝_, _⊗_, _≐_}
 unfoldable pub total : ℕ → (ℕ → ℕ) → ℕ
 total zero f = 0
 total (suc n) f = total n f + f n
-
-pub sum-cong : (m : ℕ) (f g : ℕ → ℤ) → ((i : ℕ) → i < m → f i ≡ g i) → sum m f ≡ sum m g
-unfolding sum
-sum-cong zero f g h = refl
-sum-cong (suc m) f g h = ap₂ _+ℤ_ (sum-cong m f g (λ i l. h i (le-step l))) (h m (le-refl (suc m)))
 
 -- what stands at i of the next row, times the level's divisor
 abbrev pub mix : (α β : ℕ → ℕ) (c : ℕ → ℤ) → ℕ → ℤ

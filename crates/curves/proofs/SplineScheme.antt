@@ -48,41 +48,44 @@ prod-dvd (suc n) f i h = pick (eq-or-lt-of-le (le-of-suc-le-suc h)) (prod-dvd n 
     pick (inr l) k = dvd-mul-right-of-dvd (f i) (k l) (f n)
 
 module _ (x : ℕ → ℤ) (t : ℤ) (k : ℕ) where
+  -- what is left of the gap after the part
   pub rest : ℕ → ℕ → ℕ
   rest r j = natAbs (x (suc (k + j)) -ℤ t)
 
-  pub L : ℕ → ℕ
-  L r = prod (suc r) (gap x t k r)
+  -- the level's common divisor, and by how much it is larger than a gap
+  pub level : ℕ → ℕ
+  level r = prod (suc r) (gap x t k r)
 
-  pub M : ℕ → ℕ → ℕ
-  M r j = L r / gap x t k r j
+  pub scale : ℕ → ℕ → ℕ
+  scale r j = level r / gap x t k r j
 
-  unfoldable pub A : ℕ → ℕ → ℕ
-  A r j = rest r j * M r j
+  -- what numbers j and j + 1 count for, of the level
+  unfoldable pub left : ℕ → ℕ → ℕ
+  left r j = rest r j * scale r j
 
-  unfoldable pub B : ℕ → ℕ → ℕ
-  B r j = part x t k r j * M r j
+  unfoldable pub right : ℕ → ℕ → ℕ
+  right r j = part x t k r j * scale r j
 
-  -- the weights of a degree, of the whole Q
-  unfoldable pub w : ℕ → ℕ → ℕ
-  w zero zero = 1
-  w zero (suc j) = 0
-  w (suc r) zero = A r 0 * w r 0
-  w (suc r) (suc j) = B r j * w r j + A r (suc j) * w r (suc j)
+  -- what control j of the window weighs at degree r, of all
+  unfoldable pub portion : ℕ → ℕ → ℕ
+  portion zero zero = 1
+  portion zero (suc j) = 0
+  portion (suc r) zero = left r 0 * portion r 0
+  portion (suc r) (suc j) = right r j * portion r j + left r (suc j) * portion r (suc j)
 
-  unfoldable pub Q : ℕ → ℕ
-  Q zero = 1
-  Q (suc r) = L r * Q r
+  unfoldable pub all : ℕ → ℕ
+  all zero = 1
+  all (suc r) = level r * all r
 
-  pub w-past : (r j : ℕ) → r < j → w r j ≡ 0
-  unfolding w
-  w-past r zero h = absurd (not-suc-le-zero h)
-  w-past zero (suc j) h = refl
-  w-past (suc r) (suc j) h = rw (w-past r j (le-of-suc-le-suc h), w-past r (suc j) (omega arith)) (omega arith)
+  pub portion-past : (r j : ℕ) → r < j → portion r j ≡ 0
+  unfolding portion
+  portion-past r zero h = absurd (not-suc-le-zero h)
+  portion-past zero (suc j) h = refl
+  portion-past (suc r) (suc j) h = rw (portion-past r j (le-of-suc-le-suc h), portion-past r (suc j) (omega arith)) (omega arith)
 
-  w-over : (r : ℕ) → Over (A r) (B r) (w r) (w (suc r))
-  unfolding w
-  w-over r = record { first = refl; next = λ i. refl }
+  portion-over : (r : ℕ) → Over (left r) (right r) (portion r) (portion (suc r))
+  unfolding portion
+  portion-over r = record { first = refl; next = λ i. refl }
 
   module _ (n : ℕ) (s : OnSpan x t k n) where
     steps : (i d : ℕ) → i + d ≤ k + n → Up (x i) (x (i + d))
@@ -120,35 +123,35 @@ module _ (x : ℕ → ℤ) (t : ℤ) (k : ℕ) where
       pub part-le : part x t k r j ≤ gap x t k r j
       part-le = omega (arith, gap-sum)
 
-      pub M-is : gap x t k r j * M r j ≡ L r
-      unfolding M L
-      M-is = mul-div-cancel' (gap x t k r j) (prod-dvd (suc r) (gap x t k r) j (omega arith))
+      pub scale-is : gap x t k r j * scale r j ≡ level r
+      unfolding scale level
+      scale-is = mul-div-cancel' (gap x t k r j) (prod-dvd (suc r) (gap x t k r) j (omega arith))
 
-      AB-is : A r j + B r j ≡ L r
-      unfolding A B
-      AB-is = sym M-is'
+      sides-are : left r j + right r j ≡ level r
+      unfolding left right
+      sides-are = sym scale-sum
         where
-          M-is' : L r ≡ rest r j * M r j + part x t k r j * M r j
-          M-is' = sym M-is ∙ ap (λ (g : ℕ). g * M r j) gap-sum ∙ omega arith
+          scale-sum : level r ≡ rest r j * scale r j + part x t k r j * scale r j
+          scale-sum = sym scale-is ∙ ap (λ (g : ℕ). g * scale r j) gap-sum ∙ omega arith
 
-    pub Q-pos : (r : ℕ) → r ≤ n → 0 < Q r
-    unfolding Q L
-    Q-pos zero h = zero-lt-suc 0
-    Q-pos (suc r) h = mul-pos (prod-pos (suc r) (gap x t k r) (λ j l. gap-pos r j h (le-of-suc-le-suc l))) (Q-pos r (omega arith))
+    pub all-above : (r : ℕ) → r ≤ n → 0 < all r
+    unfolding all level
+    all-above zero h = zero-lt-suc 0
+    all-above (suc r) h = mul-pos (prod-pos (suc r) (gap x t k r) (λ j l. gap-pos r j h (le-of-suc-le-suc l))) (all-above r (omega arith))
 
     -- ---- the scheme, rounded
     module _ (c : ℕ → ℤ) (r j : ℕ) (h : r < n) (l : j ≤ r) where
       abbrev d : ℤ
       d = between (c j) (c (suc j)) (part x t k r j) (gap x t k r j)
 
-      scaled : pos (L r) *ℤ d -ℤ mix (A r) (B r) c j ≡ pos (M r j) *ℤ (pos (gap x t k r j) *ℤ d -ℤ (pos (rest r j) *ℤ c j +ℤ pos (part x t k r j) *ℤ c (suc j)))
-      unfolding A B
-      scaled = rw (← M-is r j h l)
-          (ring (pos (gap x t k r j) ∷ pos (M r j) ∷ d ∷ pos (rest r j) ∷ pos (part x t k r j) ∷ c j ∷ c (suc j) ∷ [])
+      scaled : pos (level r) *ℤ d -ℤ mix (left r) (right r) c j ≡ pos (scale r j) *ℤ (pos (gap x t k r j) *ℤ d -ℤ (pos (rest r j) *ℤ c j +ℤ pos (part x t k r j) *ℤ c (suc j)))
+      unfolding left right
+      scaled = rw (← scale-is r j h l)
+          (ring (pos (gap x t k r j) ∷ pos (scale r j) ∷ d ∷ pos (rest r j) ∷ pos (part x t k r j) ∷ c j ∷ c (suc j) ∷ [])
           (λ g m d a b c c′. g ⊗ m ⊗ d ⊝ (a ⊗ m ⊗ c ⊕ b ⊗ m ⊗ c′) ≐ m ⊗ (g ⊗ d ⊝ (a ⊗ c ⊕ b ⊗ c′))) tt)
 
-      row-near : 2 * natAbs (pos (L r) *ℤ d -ℤ mix (A r) (B r) c j) ≤ L r
-      row-near = rw (scaled, abs-*) (go (natAbs Y) (mul-le-mul-left (M r j) one) (M-is r j h l))
+      row-near : 2 * natAbs (pos (level r) *ℤ d -ℤ mix (left r) (right r) c j) ≤ level r
+      row-near = rw (scaled, abs-*) (go (natAbs Y) (mul-le-mul-left (scale r j) one) (scale-is r j h l))
         where
           Y : ℤ
           Y = pos (gap x t k r j) *ℤ d -ℤ (pos (rest r j) *ℤ c j +ℤ pos (part x t k r j) *ℤ c (suc j))
@@ -160,13 +163,13 @@ module _ (x : ℕ → ℤ) (t : ℤ) (k : ℕ) where
           one = subst (λ (a : ℕ). 2 * natAbs (pos (gap x t k r j) *ℤ d -ℤ (pos a *ℤ c j +ℤ pos (part x t k r j) *ℤ c (suc j))) ≤ gap x t k r j)
               (less (gap-sum r j h l)) (between-near (c j) (c (suc j)) (part x t k r j) (gap x t k r j) (gap-pos r j h l))
 
-          go : (y : ℕ) → M r j * (2 * y) ≤ M r j * gap x t k r j → gap x t k r j * M r j ≡ L r → 2 * (M r j * y) ≤ L r
+          go : (y : ℕ) → scale r j * (2 * y) ≤ scale r j * gap x t k r j → gap x t k r j * scale r j ≡ level r → 2 * (scale r j * y) ≤ level r
           go y p q = omega arith
 
-    pub near : (r : ℕ) → r ≤ n → (c : ℕ → ℤ) → Near (suc r) (w r) c (Q r) r (pyramid (part x t k) (gap x t k) r c)
-    unfolding w Q pyramid
-    near zero h c = near-zero (w 0) c refl
+    pub near : (r : ℕ) → r ≤ n → (c : ℕ → ℤ) → Near (suc r) (portion r) c (all r) r (pyramid (part x t k) (gap x t k) r c)
+    unfolding portion all pyramid
+    near zero h c = near-zero (portion 0) c refl
     near (suc r) h c =
-        near-step (A r) (B r) (w r) (w (suc r)) (w-over r) (suc r) (L r) (Q r) r c (λ j. between (c j) (c (suc j)) (part x t k r j) (gap x t k r j))
-        (pyramid (part x t k) (gap x t k) (suc r) c) (w-past r (suc r) (le-refl (suc r))) (λ i l. AB-is r i h (le-of-suc-le-suc l)) (λ i l. row-near c r i h (le-of-suc-le-suc l))
+        near-step (left r) (right r) (portion r) (portion (suc r)) (portion-over r) (suc r) (level r) (all r) r c (λ j. between (c j) (c (suc j)) (part x t k r j) (gap x t k r j))
+        (pyramid (part x t k) (gap x t k) (suc r) c) (portion-past r (suc r) (le-refl (suc r))) (λ i l. sides-are r i h (le-of-suc-le-suc l)) (λ i l. row-near c r i h (le-of-suc-le-suc l))
         (near r (omega arith) (λ j. between (c j) (c (suc j)) (part x t k r j) (gap x t k r j)))

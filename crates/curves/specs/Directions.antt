@@ -36,9 +36,13 @@ lastWhere f (suc i) = cond (f i) i (lastWhere f i)
 unfoldable pub segment : (x : ℕ → ℤ) (p : ℕ) (t : ℤ) → ℕ
 segment x p t = lastWhere (λ g. leZ (x g) t) (p - 1)
 
--- "the last non-empty span from x_n to x_k whose start is ≤ t"; span i runs from x_i to x_(i+1)
+-- span i runs from x_i to x_(i+1): it stands at x_n or later, is not empty, and starts at t or before
+abbrev pub starts : (x : ℕ → ℤ) (n : ℕ) (t : ℤ) → ℕ → Bool
+starts x n t i = leb n i && ltZ (x i) (x (suc i)) && leZ (x i) t
+
+-- "the last non-empty span from x_n to x_k whose start is ≤ t"
 unfoldable pub span : (x : ℕ → ℤ) (n k : ℕ) (t : ℤ) → ℕ
-span x n k t = lastWhere (λ i. leb n i && ltZ (x i) (x (suc i)) && leZ (x i) t) k
+span x n k t = lastWhere (starts x n t) k
 
 -- the segment or span chosen for t
 unfoldable pub chosen : Direction → (t : ℤ) → ℕ
@@ -48,7 +52,7 @@ chosen d t =
     (span (at (d .parameters)) (d .degree) (d .controls) t)
 
 -- ---- 01, "Bodies": what the rules ask of a direction, and that t lies in it
--- "n(p-1)+1" controls; "Parameters strictly increase and first ≤ start < end ≤ last."
+-- "parm u or v, then 2 or more"; "n(p-1)+1" controls; "Parameters strictly increase and first ≤ start < end ≤ last."
 pub record BezierRules (n k : ℕ) (x : List ℤ) (t : ℤ) : Type 0 where
   pub many : 2 ≤ length x
   pub count : k ≡ n * (length x - 1) + 1

@@ -33,7 +33,7 @@ splineWeight x t s (suc r) i =
     splineWeight x t s r i *ᶠ over (t -ℤ x i) (x (i + suc r) -ℤ x i)
     +ᶠ splineWeight x t s r (suc i) *ᶠ over (x (suc i + suc r) -ℤ t) (x (suc i + suc r) -ℤ x (suc i))
 
--- "Each control has a weight"
+-- "Each control has a weight"; "the exact value uses the same span for degree 0, at the end of the range too"
 unfoldable pub weightAt : Direction → (t : ℤ) → ℕ → Frac
 weightAt d t i =
     by (d .basis)

@@ -1,13 +1,15 @@
 -- Fractions as parts of a chosen whole: `Is f z Q` says that f is z / Q, multiplied out, and what adds, multiplies and compares goes through it.
 use mathlib.Core.Path.{_≡_, refl, sym, _∙_, ap, ap₂, subst₂}
 use mathlib.Core.List.{[], _∷_}
-use Prim.Native.Nat.{ℕ, zero, suc, _*_, _^_, _≤_, _<_}
+use Prim.Native.Nat.{ℕ, zero, suc, _+_, _*_, _^_, _≤_, _<_}
 use native.Mathlib.Nat.{mul-pos, zero-lt-suc, le-refl, le-step, not-suc-le-zero, mul-le-mul-left, le-of-mul-le-mul-left, pow-zero, pow-suc}
 use native.Mathlib.Omega.{arith}
 use lib.IntN.{ℤ, pos, negsuc, natAbs, _+ℤ_, _-ℤ_, _*ℤ_}
+use lib.Dec.{le→leb}
+use lib.Signed.{_≤ℤ_, leZ-yes}
 use Rattle.whole.specs.Fractions.{Frac, whole, _+ᶠ_, _-ᶠ_, _*ᶠ_, power, over, sumTo, _≈_, Close}
 use Rattle.whole.proofs.IntLaws.{abs-*, sub-eq}
-use Rattle.whole.proofs.Ring.{ring, K, _⊕_, _⊝_, _⊗_, _≐_}
+use Rattle.whole.proofs.Ring.{ring, K, _⊕_, _⊝_, _⊗_, ⊖, _≐_}
 
 -- f is z / Q
 pub record Is (f : Frac) (z : ℤ) (Q : ℕ) : Type 0 where
@@ -127,6 +129,18 @@ is-same {f} {g} {z} {Q} h i j =
     ∙ ap (λ x. x *ℤ pos (f .bot)) (sym (j .same))
     ∙ ring (g .top ∷ pos (f .bot) ∷ pos Q ∷ []) (λ c b q. c ⊗ q ⊗ b ≐ q ⊗ (c ⊗ b)) tt)
 
+-- a fraction that is p / Q is not below 0
+pub is-from-zero : {f : Frac} {p Q : ℕ} → 0 < Q → Is f (pos p) Q → pos 0 ≤ℤ f .top
+is-from-zero {f} {p} {Q} h i = go (f .top) (i .same)
+  where
+    none : (m n : ℕ) → suc m * Q + n ≡ 0 → ⊥
+    none m n e = omega (arith, mul-pos (zero-lt-suc m) h)
+
+    go : (z : ℤ) → z *ℤ pos Q ≡ pos p *ℤ pos (f .bot) → pos 0 ≤ℤ z
+    go (pos n) e = leZ-yes (le→leb 0 n (omega arith))
+    go (negsuc m) e =
+        absurd (none m (p * f .bot) (ap natAbs (ap (λ z. pos (suc m) *ℤ pos Q +ℤ z) (sym e) ∙ ring (pos (suc m) ∷ pos Q ∷ []) (λ a q. a ⊗ q ⊕ ⊖ a ⊗ q ≐ K (pos 0)) tt)))
+
 module _ (f : Frac) (W S : ℤ) (Q k : ℕ) (i : Is f W Q) where
   cross : pos Q *ℤ (S *ℤ pos (f .bot) -ℤ f .top) ≡ pos (f .bot) *ℤ (pos Q *ℤ S -ℤ W)
   cross =
@@ -145,7 +159,3 @@ module _ (f : Frac) (W S : ℤ) (Q k : ℕ) (i : Is f W Q) where
     above = i .above;
     near = le-of-mul-le-mul-left (swapped Q (f .bot) (natAbs (S *ℤ pos (f .bot) -ℤ f .top)) (natAbs (pos Q *ℤ S -ℤ W)) across (mul-le-mul-left (f .bot) l)) h;
   }
-
-  pub close-from : Close S f k → 2 * natAbs (pos Q *ℤ S -ℤ W) ≤ k * Q
-  close-from h =
-      le-of-mul-le-mul-left (swapped (f .bot) Q (natAbs (pos Q *ℤ S -ℤ W)) (natAbs (S *ℤ pos (f .bot) -ℤ f .top)) (sym across) (mul-le-mul-left Q (h .near))) (i .above)

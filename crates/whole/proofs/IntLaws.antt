@@ -54,10 +54,6 @@ pub *ℤ-assoc : (k l m : ℤ) → (k *ℤ l) *ℤ m ≡ k *ℤ (l *ℤ m)
 *ℤ-assoc (negsuc n) l m =
     ap (λ x. x *ℤ m) (neg-*ℤ (pos (suc n)) l) ∙ neg-*ℤ (pos (suc n) *ℤ l) m ∙ ap negℤ (assoc-pos (suc n) l m) ∙ sym (neg-*ℤ (pos (suc n)) (l *ℤ m))
 
-pub *ℤ-mid : (a b c d : ℤ) → (a *ℤ b) *ℤ (c *ℤ d) ≡ (a *ℤ c) *ℤ (b *ℤ d)
-*ℤ-mid a b c d =
-    *ℤ-assoc a b (c *ℤ d) ∙ ap (λ x. a *ℤ x) (sym (*ℤ-assoc b c d) ∙ ap (λ x. x *ℤ d) (*ℤ-comm b c) ∙ *ℤ-assoc c b d) ∙ sym (*ℤ-assoc a c (b *ℤ d))
-
 pub *ℤ-left : (a b c : ℤ) → a *ℤ (b *ℤ c) ≡ b *ℤ (a *ℤ c)
 *ℤ-left a b c = sym (*ℤ-assoc a b c) ∙ ap (λ x. x *ℤ c) (*ℤ-comm a b) ∙ *ℤ-assoc b a c
 
