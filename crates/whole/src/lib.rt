@@ -28,7 +28,7 @@ fn with_sign(below: bool, m: u64) -> i32
     if below { -(m as i32) } else { m as i32 }
 }
 
-// The nearest whole number of m / d, a half going up: 2m + d is at most 16,000,004,000,000,000,000, below 2^64.
+// The nearest whole number of m / d, a half going up: 2m + d is at most 16,000,000,004,000,000,000, below 2^64.
 fn nearest(m: u64, d: u64) -> u64
     requires { ⌜ (0 < d) × (d ≤ 4000000000) × (m ≤ 2000000000 * d) ⌝ }
     ensures { λ r. ⌜ (r ≡ nearest m d) × (r ≤ 2000000000) ⌝ }
