@@ -15,6 +15,7 @@ from sampler import (
 from spelling import spelled
 from texts import text
 from tidier import PROGRAM_ROOM, TooLong, Written, agreement, printed, tidy, tidy_text
+from witness import witnessed
 
 CASES = Path(__file__).resolve().parent / "cases"
 EXAMPLES = Path(__file__).resolve().parent.parent / "examples"
@@ -231,21 +232,43 @@ def check_one(rng, data, rooms):
     return check_bounds(rng, used, tables)
 
 
-def check_broken(rng, answer):
-    """Tables changed at random are answered, and what is not 15 is a point that
-    the exact value bounds."""
-    used, tables = answer.used, [list(numbers) for numbers in answer.tables]
-    if used.elements == 0:
-        return None
+def broken(rng, used, tables):
+    """Tables, lengths or used counts changed in one or two places."""
+    counts, tables = used._asdict(), [list(numbers) for numbers in tables]
     for _ in range(rng.choice((1, 1, 2))):
+        style = rng.random()
         numbers = rng.choice([numbers for numbers in tables if any(numbers)])
-        at = rng.randrange(len(numbers))
-        numbers[at] = rng.choice((numbers[at] + 1, max(numbers[at] - 1, 0), 0, 1, 2, 5, 2**31 - 1))
-    for element in range(0, used.elements + 2):
+        last = max(at for at, number in enumerate(numbers) if number)
+        if style < 0.1:
+            del numbers[rng.randint(0, last + 1):]
+        elif style < 0.2:
+            name = rng.choice(list(counts))
+            counts[name] = rng.choice((max(counts[name] - 1, 0), counts[name] + 1, 0))
+        else:
+            at = rng.randint(0, last)
+            near = (numbers[at] + 1, max(numbers[at] - 1, 0), numbers[at] + 3)
+            far = (0, 0, 1, 2, 3, 4, 5, 7, 20, 21, 65_536, 1_000_000, 2_000_000_001, 2**31 - 1)
+            numbers[at] = rng.choice(rng.choice((near, far)))
+        if not any(map(any, tables)):
+            break
+    return Used(**counts), tables
+
+
+def check_broken(rng, answer):
+    """Broken tables are answered; refusal 15 agrees with the other way to find
+    it; what is no refusal is a point that the exact value bounds."""
+    if answer.used.elements == 0:
+        return None
+    used, tables = broken(rng, answer.used, answer.tables)
+    whole = True
+    for element in range(1, used.elements + 1):
+        obeyed = obeys(used, tables, element)
+        whole = whole and obeyed
+        if obeyed != witnessed(used, tables, element):
+            return f"element {element}: obeys is {obeyed}, its witness says otherwise"
         point_on_curve(used, tables, element, 0)
         point_on_surface(used, tables, element, 0, 0)
         run_on_curve(used, tables, element, 2, [0] * 9, 0)
-    whole = all(obeys(used, tables, element) for element in range(1, used.elements + 1))
     return check_bounds(rng, used, tables) if whole else None
 
 
