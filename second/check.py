@@ -14,11 +14,11 @@ from sampler import (
 )
 from spelling import spelled
 from texts import text
-from tidier import TooLong, Written, agreement, tidy, tidy_text
+from tidier import PROGRAM_ROOM, TooLong, Written, agreement, printed, tidy, tidy_text
+from witness import witnessed
 
 CASES = Path(__file__).resolve().parent / "cases"
 EXAMPLES = Path(__file__).resolve().parent.parent / "examples"
-PROGRAM_ROOM = 16_384
 SELF_CHECKS = 2_000
 
 
@@ -73,15 +73,36 @@ def check_cases(tally):
                 tally.hold(f"{name} {table}", by_name[table] == filled, True)
     stored = {str(path.relative_to(CASES)) for path in CASES.rglob("*.obj")}
     points = {row[0] for row in rows(CASES / "points.txt")}
-    tally.hold("files without a row", sorted(stored - listed - points), [])
+    tidied = {name for name in stored if name.startswith("tidy/")}
+    tally.hold("files without a row", sorted(stored - listed - points - tidied), [])
 
 
 def check_size(tally):
     """Refusal 1 needs a text too large to store."""
     rooms = [0] * 11
-    tally.hold("16,777,216 bytes", shown(read(b"#" * TEXT_LIMIT, rooms)), "read")
-    tally.hold("one byte more", shown(read(b"#" * (TEXT_LIMIT + 1), rooms)), "refused 1 at 0")
-    tally.hold("1 before 2", shown(read(b"\x01" * (TEXT_LIMIT + 1), rooms)), "refused 1 at 0")
+    tally.hold("16,777,216 bytes", shown(read(b"#" * 16_777_216, rooms)), "read")
+    tally.hold("one byte more", shown(read(b"#" * 16_777_217, rooms)), "refused 1 at 0")
+    tally.hold("1 before 2", shown(read(b"\x01" * 16_777_217, rooms)), "refused 1 at 0")
+
+
+def check_program(tally):
+    """What the program prints at its own limits."""
+    vertex = b"v 0 0 0\n"
+    line = b"v 0.000000 0.000000 0.000000 1.000000\n"
+    names = b"v 0 0 0\ng " + b" ".join([b"n" * 255] * 255)
+    listing = b"v 0 0 0\nf 1 1 2\n"
+    for label, data, wanted in (
+        ("nothing", b"", b""),
+        ("a refusal", listing, b"refused 8 at 14\n"),
+        ("65,536 bytes", vertex + b"#" * (65_536 - len(vertex)), line),
+        ("65,537 bytes", vertex + b"#" * (65_537 - len(vertex)), b"refused 1 at 0\n"),
+        ("65,537 bad bytes", b"\x01" * 65_537, b"refused 1 at 0\n"),
+        ("4,097 vertices", vertex * 4_097, b"refused 14 at 32768\n"),
+        ("a text of 64 KiB", vertex * 1_724, line * 1_724),
+        ("a text too long", vertex * 1_725, b"refused 16 at 0\n"),
+        ("a long group", names + b"\np 1\n", line + names[8:] + b"\np 1\n"),
+    ):
+        tally.hold(f"the program on {label}", printed(data), wanted)
 
 
 # Points, on tables as read or changed on purpose
@@ -211,21 +232,43 @@ def check_one(rng, data, rooms):
     return check_bounds(rng, used, tables)
 
 
-def check_broken(rng, answer):
-    """Tables changed at random are answered, and what is not 15 is a point that
-    the exact value bounds."""
-    used, tables = answer.used, [list(numbers) for numbers in answer.tables]
-    if used.elements == 0:
-        return None
+def broken(rng, used, tables):
+    """Tables, lengths or used counts changed in one or two places."""
+    counts, tables = used._asdict(), [list(numbers) for numbers in tables]
     for _ in range(rng.choice((1, 1, 2))):
+        style = rng.random()
         numbers = rng.choice([numbers for numbers in tables if any(numbers)])
-        at = rng.randrange(len(numbers))
-        numbers[at] = rng.choice((numbers[at] + 1, max(numbers[at] - 1, 0), 0, 1, 2, 5, 2**31 - 1))
-    for element in range(0, used.elements + 2):
+        last = max(at for at, number in enumerate(numbers) if number)
+        if style < 0.1:
+            del numbers[rng.randint(0, last + 1):]
+        elif style < 0.2:
+            name = rng.choice(list(counts))
+            counts[name] = rng.choice((max(counts[name] - 1, 0), counts[name] + 1, 0))
+        else:
+            at = rng.randint(0, last)
+            near = (numbers[at] + 1, max(numbers[at] - 1, 0), numbers[at] + 3)
+            far = (0, 0, 1, 2, 3, 4, 5, 7, 20, 21, 65_536, 1_000_000, 2_000_000_001, 2**31 - 1)
+            numbers[at] = rng.choice(rng.choice((near, far)))
+        if not any(map(any, tables)):
+            break
+    return Used(**counts), tables
+
+
+def check_broken(rng, answer):
+    """Broken tables are answered; refusal 15 agrees with the other way to find
+    it; what is no refusal is a point that the exact value bounds."""
+    if answer.used.elements == 0:
+        return None
+    used, tables = broken(rng, answer.used, answer.tables)
+    whole = True
+    for element in range(1, used.elements + 1):
+        obeyed = obeys(used, tables, element)
+        whole = whole and obeyed
+        if obeyed != witnessed(used, tables, element):
+            return f"element {element}: obeys is {obeyed}, its witness says otherwise"
         point_on_curve(used, tables, element, 0)
         point_on_surface(used, tables, element, 0, 0)
         run_on_curve(used, tables, element, 2, [0] * 9, 0)
-    whole = all(obeys(used, tables, element) for element in range(1, used.elements + 1))
     return check_bounds(rng, used, tables) if whole else None
 
 
@@ -259,10 +302,11 @@ def check_valid(tally, seed, count):
             tally.hold(f"valid {i} short of {table}", short[0], 14)
 
 
-def check_examples(tally):
+def check_tidied(tally, folder):
+    """Texts that are read, each with its tidy text beside it where one is kept."""
     rng = random.Random(0)
     rooms = [PROGRAM_ROOM] * len(TABLES)
-    for path in sorted(EXAMPLES.glob("*.obj")):
+    for path in sorted(folder.glob("*.obj")):
         data = path.read_bytes()
         tally.hold(f"{path.name} is read", isinstance(read(data, rooms), Read), True)
         tally.hold(path.name, check_one(rng, data, rooms), None)
@@ -275,8 +319,10 @@ def main():
     tally = Tally()
     check_cases(tally)
     check_size(tally)
+    check_program(tally)
     check_points(tally)
-    check_examples(tally)
+    check_tidied(tally, CASES / "tidy")
+    check_tidied(tally, EXAMPLES)
     check_valid(tally, 2, SELF_CHECKS // 4)
     check_seeded(tally, 1, SELF_CHECKS)
     print(f"{tally.passed} passed, {tally.failed} failed")

@@ -10,30 +10,34 @@ from spelling import spelled
 from texts import NAMES, text
 
 KEYWORDS = (
+   
     b"v vt vn vp p l f curv curv2 surf parm trim hole end cstype deg g s usemtl"
     b" o mg mtllib usemap bevel c_interp d_interp lod shadow_obj trace_obj ctech stech"
     b" call csh con scrv sp bmat step fo bsp bzp cdc cdp res"
     b" maplib scmp V vx curv3 surface par g# # v#"
 ).split()
 WORDS = (
-    b"0", b"1", b"-1", b"2", b"3", b"-0", b"5.", b".5", b"+.5", b".", b"+", b"-.", b"1,5", b"nan", b"1e3",
-    b"2000.0000004", b"2000.0000005", b"-2000.0000004", b"-2000.0000005", b"9999", b"-9999",
-    b"0" * 64, b"0" * 65, b"9" * 65, b"." + b"0" * 63, b"1" * 64,
-    b"+1", b"0000000001", b"00000000001", b"9999999999", b"4294967297", b"-4294967297", b"0000000000",
-    b"1/1", b"1//1", b"1/1/1", b"1/", b"1//", b"1/1/", b"/1", b"1/2/3/4", b"1/0", b"1/x", b"-1/-1/-1",
-    b"000", b"003", b"0003", b"20", b"21", b"999", b"1000", b"3.0", b"65535", b"65536", b"99999", b"100000",
-    b"off", b"OFF", b"on", b"u", b"v", b"w", b"U", b"uv", b"rat", b"bezier", b"bspline", b"cardinal",
-    b"taylor", b"bmatrix", b"Bezier", b"1#2", b"x" * 255, b"x" * 256, b"#", b"\\", b"\\\n", b"0.0000005",
+    b"0", b"1", b"-1", b"2", b"3", b"-0", b"5.", b".5", b"+.5", b".", b"+", b"-.", b"1,5",
+    b"nan", b"1e3", b"2000.0000004", b"2000.0000005", b"-2000.0000004", b"-2000.0000005", b"9999",
+    b"-9999", b"0" * 64, b"0" * 65, b"9" * 65, b"." + b"0" * 63, b"1" * 64, b"+1",
+    b"0000000001", b"00000000001", b"9999999999", b"4294967297", b"-4294967297", b"0000000000",
+    b"1/1", b"1//1", b"1/1/1", b"1/", b"1//", b"1/1/", b"/1", b"1/2/3/4", b"1/0", b"1/x",
+    b"-1/-1/-1", b"000", b"003", b"0003", b"20", b"21", b"999", b"1000", b"3.0", b"65535",
+    b"65536", b"99999", b"100000", b"off", b"OFF", b"on", b"u", b"v", b"w", b"U", b"uv", b"rat",
+    b"bezier", b"bspline", b"cardinal", b"taylor", b"bmatrix", b"Bezier", b"1#2", b"x" * 255,
+    b"x" * 256, b"#", b"\\", b"\\\n", b"0.0000005",
 )
 BYTES = bytes(range(256)) + b"\\\\\\\r\r\n\n\n##//..--++\t\t  0123456789uv"
 EXTRA = (
-    b"g " + NAMES[9] + b"x", b"sp 1", b"bmat u 1 2", b"vp 1", b"end", b"end x", b"parm", b"parm v",
-    b"parm w 0 1", b"parm u 0", b"trim 0 1 1", b"hole 0 1", b"usemtl", b"usemtl a b", b"s", b"s off off",
-    b"v 1 2", b"v 1 2 3 4 5", b"vt", b"vt 1 2 3 4", b"vn 1 2", b"vp", b"vp 1 2 3 4", b"p", b"l 1", b"f 1 2",
-    b"curv 0 1 1", b"curv2 1", b"surf 0 1 0 1", b"cstype", b"cstype rat", b"cstype rat bmatrix",
-    b"cstype foo bmatrix", b"cstype bmatrix bezier", b"deg", b"deg 1 2 3", b"deg 0", b"deg 21 1", b"s 65536",
-    b"f 1/1 2 99", b"f 1/1/1 1//1 1", b"surf 0 1 0 1 1", b"curv 0 1 1 1", b"curv2 1 1", b"deg 3", b"deg 2 2",
-    b"cstype rat bspline", b"cstype cardinal", b"o \x80", b"# \x80", b"call a.obj", b"maplib a",
+    b"g " + NAMES[9] + b"x", b"sp 1", b"bmat u 1 2", b"vp 1", b"end", b"end x", b"parm",
+    b"parm v", b"parm w 0 1", b"parm u 0", b"trim 0 1 1", b"hole 0 1", b"usemtl", b"usemtl a b",
+    b"s", b"s off off", b"v 1 2", b"v 1 2 3 4 5", b"vt", b"vt 1 2 3 4", b"vn 1 2", b"vp",
+    b"vp 1 2 3 4", b"p", b"l 1", b"f 1 2", b"curv 0 1 1", b"curv2 1", b"surf 0 1 0 1",
+    b"cstype", b"cstype rat", b"cstype rat bmatrix", b"cstype foo bmatrix",
+    b"cstype bmatrix bezier", b"deg", b"deg 1 2 3", b"deg 0", b"deg 21 1", b"s 65536",
+    b"f 1/1 2 99", b"f 1/1/1 1//1 1", b"surf 0 1 0 1 1", b"curv 0 1 1 1", b"curv2 1 1",
+    b"deg 3", b"deg 2 2", b"cstype rat bspline", b"cstype cardinal", b"o \x80", b"# \x80",
+    b"call a.obj", b"maplib a",
 )
 
 

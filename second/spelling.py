@@ -1,5 +1,7 @@
 """Seeded spellings: a value as a number's letters, lines as bytes."""
 
+BETWEEN = (b"# a comment \\", b"", b"  \t", b"#\x80\x00\rv 1", b"\\\n")
+
 
 def letters(rng, millionths):
     """One of the many spellings whose value rounds to `millionths`."""
@@ -51,7 +53,7 @@ def spelled(rng, lines):
     for words in lines:
         chosen = ending or rng.choice((b"\n", b"\r\n"))
         if rng.random() < 0.1:
-            out.append(rng.choice((b"# a comment \\", b"", b"  \t", b"#\x80\x00\rv 1", b"\\\n")) + chosen)
+            out.append(rng.choice(BETWEEN) + chosen)
         indent = rng.choice((b"", b"", b"    ", b"\t", b"\\\n")) if wild else b""
         parts = [indent]
         for i, word in enumerate(words):

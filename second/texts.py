@@ -9,6 +9,7 @@ from typing import NamedTuple
 from records import TABLES
 from spelling import coordinate, letters
 
+VERTICES = {"v": (3, 4, 4), "vt": (1, 3, 3), "vn": (3, 3, 3), "vp": (1, 3, 4)}
 TYPE_NAMES = (b"bezier", b"bspline", b"cardinal", b"taylor")
 PASSED = (
     b"o part", b"mg 1 .5", b"mtllib a.mtl b.mtl", b"usemap wood", b"bevel on", b"c_interp off",
@@ -84,7 +85,7 @@ class Maker:
 
     def vertex(self, kind=None):
         kind = kind or self.rng.choice(("v", "v", "v", "vt", "vn", "vp"))
-        least, most, width = {"v": (3, 4, 4), "vt": (1, 3, 3), "vn": (3, 3, 3), "vp": (1, 3, 4)}[kind]
+        least, most, width = VERTICES[kind]
         given = self.rng.randint(least, most)
         if kind == "vp" and not self.plane:
             given = max(given, 2)

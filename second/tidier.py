@@ -1,8 +1,12 @@
 """The tidy text of an accepted file.
 
     tidy(data, rooms, buffer) -> Written | TooLong | Refused
+    printed(data) -> bytes                  what the program `tidy` prints
+
+Run as a script it is that program, from standard input to standard output.
 """
 
+import sys
 from typing import NamedTuple
 
 from reader import group_of, material_of, read
@@ -10,6 +14,10 @@ from records import (
     CURV, CURV2, HOLE, KINDS, ONE, SURF, TABLES, TEXT_LIMIT, TRIM, TYPES, Refused, Used,
 )
 from words import names_in
+
+
+PROGRAM_BYTES = 65_536
+PROGRAM_ROOM = 16_384
 
 
 class Written(NamedTuple):
@@ -136,6 +144,17 @@ def tidy(data, rooms, buffer):
     return Written(text, answer.used, answer.tables)
 
 
+def printed(data):
+    """The program takes 65,536 bytes; longer is `refused 1 at 0`, unread."""
+    if len(data) > PROGRAM_BYTES:
+        return b"refused 1 at 0\n"
+    answer = tidy(data, [PROGRAM_ROOM] * len(TABLES), PROGRAM_BYTES)
+    if isinstance(answer, Written):
+        return answer.text
+    number, place = (16, 0) if isinstance(answer, TooLong) else answer
+    return b"refused %d at %d\n" % (number, place)
+
+
 def agreement(data, used, tables):
     """The tables with each name run replaced by its words: two readings agree,
     apart from where names stand and the blanks between them, when this is equal."""
@@ -150,3 +169,7 @@ def agreement(data, used, tables):
         ))
     rest = [numbers for table, numbers in zip(TABLES, tables) if table != "elements"]
     return used, shown, rest
+
+
+if __name__ == "__main__":
+    sys.stdout.buffer.write(printed(sys.stdin.buffer.read(PROGRAM_BYTES + 1)))
