@@ -9,6 +9,7 @@ use Rattle.text.specs.Words.{Word}
 use Rattle.text.specs.Rest.{Rest, restAt, endOf, WordMet, EndMet, BadMet, gapIs, scanned, scanOf}
 use Rattle.text.specs.declared.Met.{Met}
 use Rattle.text.specs.declared.Met.the-variants.{Start, End, Bad}
+use Rattle.text.proofs.Found.{end-found, bad-found}
 use Rattle.text.specs.declared.Scan.the-variants.{Good, Bad as Fault}
 
 pub record Scanning (s : List ℕ) (at i count : ℕ) : Type 0 where
@@ -23,10 +24,6 @@ good r n q a b c = rw (a, b, c) refl
 
 fault : (r : Rest) (p : ℕ) → r .bad ≡ some p → Fault p ≡ scanOf r
 fault r p a = rw a refl
-
-module _ (s : List ℕ) (i : ℕ) (r : Met) (m : gapIs s i r) where
-  pub scan-word : {p : ℕ} → r ≡ Start p → WordMet s i p
-  scan-word e = rw e at m
 
 module _ (s : List ℕ) (at i count : ℕ) (w : Scanning s at i count) where
   pub scan-turn : {p e : ℕ} → WordMet s i p → e ≡ endOf s p → (Scanning s at e (count + 1)) × (i < e)
@@ -53,7 +50,7 @@ module _ (s : List ℕ) (at i count : ℕ) (w : Scanning s at i count) where
   module _ (r : Met) (m : gapIs s i r) where
     pub scan-end : {q : ℕ} → r ≡ End q → Good count q ≡ scanOf (restAt s at)
     scan-end {q} e =
-        let j : EndMet s i q = rw e at m in
+        let j : EndMet s i q = end-found s i r m e in
         let k = j .rest in
         let n = w .count-is in
         let v = ap (λ (r : Rest). length (r .words)) k in
@@ -64,5 +61,5 @@ module _ (s : List ℕ) (at i count : ℕ) (w : Scanning s at i count) where
 
     pub scan-bad : {p : ℕ} → r ≡ Bad p → Fault p ≡ scanOf (restAt s at)
     scan-bad {p} e =
-        let j : BadMet s i p = rw e at m in
+        let j : BadMet s i p = bad-found s i r m e in
         fault (restAt s at) p (sym (w .bad-is) ∙ j .bad-at)
