@@ -1,15 +1,15 @@
 -- The answers of `gap`, one by one: what each says of the rest of the line.
 use Prim.Native.Nat.{ℕ, _+_, _≤_, _<_}
-use mathlib.Core.Path.{_≡_, sym, ap, _∙_}
-use mathlib.Core.List.{List, [], _∷_}
-use mathlib.Core.Bool.{Bool, true, false}
+use mathlib.Core.Path.{_≡_}
+use mathlib.Core.List.{List}
+use mathlib.Core.Bool.{true, false}
 use mathlib.Core.Logic.{⊎-elim}
 use lib.ListN.{length}
 use lib.Dec.{leb}
 use native.Mathlib.Omega.{arith}
 use borrow.Author.Tests.{leb-true, leb-false}
 use Rattle.lists.proofs.Tests.{test}
-use Rattle.text.specs.Rest.{restAt, endOf, WordMet, EndMet, BadMet, gapIs}
+use Rattle.text.specs.Rest.{WordMet, EndMet, BadMet, gapIs}
 use Rattle.text.specs.declared.Met.{Met}
 use Rattle.text.specs.declared.Met.the-variants.{Start, End, Bad}
 

@@ -1,14 +1,13 @@
 -- A turn of `scan_line`, on lists: what is left of the line comes, with the count, to what all of it comes to.
-use Prim.Native.Nat.{ℕ, zero, suc, _+_, _-_, _≤_, _<_}
+use Prim.Native.Nat.{ℕ, _+_, _-_, _≤_, _<_}
 use mathlib.Core.Path.{_≡_, refl, sym, ap, _∙_}
-use mathlib.Core.List.{List, [], _∷_}
+use mathlib.Core.List.{List}
 use mathlib.Core.Option.{Option, none, some}
 use lib.ListN.{length}
 use native.Mathlib.Omega.{arith}
-use Rattle.text.specs.Words.{Word}
 use Rattle.text.specs.Rest.{Rest, restAt, endOf, WordMet, EndMet, BadMet, gapIs, scanned, scanOf}
 use Rattle.text.specs.declared.Met.{Met}
-use Rattle.text.specs.declared.Met.the-variants.{Start, End, Bad}
+use Rattle.text.specs.declared.Met.the-variants.{End, Bad}
 use Rattle.text.proofs.Found.{end-found, bad-found}
 use Rattle.text.specs.declared.Scan.the-variants.{Good, Bad as Fault}
 
@@ -63,3 +62,18 @@ module _ (s : List ℕ) (at i count : ℕ) (w : Scanning s at i count) where
     scan-bad {p} e =
         let j : BadMet s i p = bad-found s i r m e in
         fault (restAt s at) p (sym (w .bad-is) ∙ j .bad-at)
+
+-- ---- the answers of `scan_line`, read back
+good-is : (b : Option ℕ) (n q c x : ℕ) → Good n q ≡ scanned b c x → (b ≡ none) × (c ≡ n) × (x ≡ q)
+good-is none n q c x e = (refl, cc, cc)
+good-is (some p) n q c x e = absurd (let z : _≡_ {A = ℕ} 0 1 = cc in omega arith)
+
+fault-is : (b : Option ℕ) (p c x : ℕ) → Fault p ≡ scanned b c x → b ≡ some p
+fault-is none p c x e = absurd (let z : _≡_ {A = ℕ} 0 1 = cc in omega arith)
+fault-is (some q) p c x e = cc
+
+pub scan-good : (r : Rest) (n q : ℕ) → Good n q ≡ scanOf r → (r .bad ≡ none) × (length (r .words) ≡ n) × (r .next ≡ q)
+scan-good r n q e = good-is (r .bad) n q (length (r .words)) (r .next) e
+
+pub scan-fault : (r : Rest) (p : ℕ) → Fault p ≡ scanOf r → r .bad ≡ some p
+scan-fault r p e = fault-is (r .bad) p (length (r .words)) (r .next) e

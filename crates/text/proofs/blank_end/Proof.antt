@@ -1,5 +1,5 @@
 -- The loop keeps the rest of the line (`InBlanks`); each turn takes a byte off what is left.
-use mathlib.Core.Path.{_≡_, refl, sym, ap, _∙_}
+use mathlib.Core.Path.{refl}
 use Prim.Native.Nat.{_-_}
 use lib.ListN.{length}
 use native.Mathlib.Omega.{arith}

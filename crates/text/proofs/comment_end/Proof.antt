@@ -1,8 +1,6 @@
 -- The loop keeps the rest of the comment (`InComment`); each turn takes a byte off what is left.
-use mathlib.Core.Path.{_≡_, refl, sym, ap, _∙_}
 use Prim.Native.Nat.{_-_}
 use lib.ListN.{length}
-use native.Mathlib.Omega.{arith}
 use denote.Ref.{now}
 use borrow.Author.Needs.{needs}
 use Rattle.text.proofs.Loops as L

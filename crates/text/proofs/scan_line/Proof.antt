@@ -1,5 +1,5 @@
 -- The loop keeps the words found so far with the rest of the line (`Scanning`); each word takes bytes off what is left.
-use mathlib.Core.Path.{_≡_, refl, sym, ap, _∙_}
+use mathlib.Core.Path.{refl}
 use Prim.Native.Nat.{_-_}
 use lib.ListN.{length}
 use native.Mathlib.Omega.{arith}

@@ -1,5 +1,4 @@
 -- Each word takes bytes off what is left; a line ends past its start.
-use mathlib.Core.Path.{_≡_, refl, sym, ap, _∙_}
 use Prim.Native.Nat.{_-_, _≤_}
 use lib.ListN.{length}
 use native.Mathlib.Omega.{arith}
