@@ -118,7 +118,7 @@ fn blank_end(text: &[u8], at: usize) -> usize
 }
 
 // What a byte between words does that is neither a blank nor the start of a word.
-pub enum Turn {
+enum Turn {
     On(usize),
     End(usize),
     Refused,
