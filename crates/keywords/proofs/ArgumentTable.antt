@@ -1,10 +1,11 @@
 -- The fixed words after a keyword: each claim is one computed test, carried over by a law of every table.
-use Prim.Native.Nat.{ℕ, _<_}
+use Prim.Native.Nat.{ℕ, _≤_, _<_}
 use mathlib.Core.Path.{_≡_, refl, sym}
 use mathlib.Core.Logic.{_↔_}
 use mathlib.Core.List.{List, [], List·Memᴰ}
 use mathlib.Core.Option.{some}
 use mathlib.Core.Bool.{Bool, true, false}
+use native.Mathlib.Omega.{arith}
 use lib.ListN.{length, getD}
 use lib.Dec.{leb, eqb}
 use Rattle.lists.proofs.Tests.{never}
@@ -76,3 +77,17 @@ token DirectionU h = refl
 token DirectionV h = refl
 token Off h = refl
 token Other h = never (sym h)
+
+-- room for ten bytes is enough
+pub short : (k : Argument) → length (argumentBytes k) ≤ 10
+unfolding arguments argumentBytes
+short Rational = omega arith
+short BasisMatrix = omega arith
+short Bezier = omega arith
+short Bspline = omega arith
+short Cardinal = omega arith
+short Taylor = omega arith
+short DirectionU = omega arith
+short DirectionV = omega arith
+short Off = omega arith
+short Other = omega arith

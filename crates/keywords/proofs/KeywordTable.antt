@@ -1,10 +1,11 @@
 -- The keywords of 01: each claim is one computed test, carried over by a law of every table.
-use Prim.Native.Nat.{ℕ, _+_, _<_}
+use Prim.Native.Nat.{ℕ, _+_, _≤_, _<_}
 use mathlib.Core.Path.{_≡_, refl, sym}
 use mathlib.Core.Logic.{_↔_}
 use mathlib.Core.List.{List, [], List·Memᴰ}
 use mathlib.Core.Option.{some}
 use mathlib.Core.Bool.{Bool, true, false}
+use native.Mathlib.Omega.{arith}
 use lib.ListN.{length, getD}
 use lib.Dec.{leb, eqb}
 use Rattle.lists.proofs.Tests.{never}
@@ -120,3 +121,29 @@ token Material h = refl
 token PassedOver h = refl
 token Refused h = refl
 token Unknown h = never (sym h)
+
+-- room for ten bytes is enough
+pub short : (k : Statement) → length (keywordOf k) ≤ 10
+unfolding keywords keywordOf
+short Vertex = omega arith
+short TextureVertex = omega arith
+short VertexNormal = omega arith
+short ParameterVertex = omega arith
+short BodyType = omega arith
+short Degree = omega arith
+short Point = omega arith
+short Line = omega arith
+short Face = omega arith
+short Curve = omega arith
+short Curve2 = omega arith
+short Surface = omega arith
+short Parameters = omega arith
+short Trim = omega arith
+short Hole = omega arith
+short End = omega arith
+short Group = omega arith
+short Smoothing = omega arith
+short Material = omega arith
+short PassedOver = omega arith
+short Refused = omega arith
+short Unknown = omega arith
