@@ -12,6 +12,10 @@ isBlank b = eqb b 32 || eqb b 9
 abbrev pub isWord : ℕ → Bool
 isWord b = leb 33 b && leb b 126 && not (eqb b 92)
 
+-- "A # at the start of a word opens a comment": a word starts with any other word byte
+abbrev pub startsWord : ℕ → Bool
+startsWord b = isWord b && not (eqb b 35)
+
 -- LF at the front
 abbrev pub lf : List ℕ → Bool
 lf [] = false

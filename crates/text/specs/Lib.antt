@@ -2,3 +2,4 @@ pub mod Bytes
 pub mod Lines
 pub mod Words
 pub mod Rest
+pub mod Written

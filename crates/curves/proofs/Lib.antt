@@ -1,0 +1,13 @@
+pub mod Scheme
+pub mod Pyramid
+pub mod Weights
+pub mod Bernstein
+pub mod Chosen
+pub mod SplineScheme
+pub mod SplineWeights
+pub mod Samplers
+pub mod CurveNear
+pub mod SurfaceNear
+pub mod WeightsOne
+pub mod Within
+pub mod Examples

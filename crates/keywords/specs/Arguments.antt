@@ -1,0 +1,61 @@
+-- The words after a keyword that have a fixed spelling: cstype's rat and types, the directions of parm, smoothing's off, as 000 comes to them.
+use Prim.Native.Nat.{ℕ}
+use Prim.Native.String.{String}
+use mathlib.Core.List.{List, [], _∷_}
+use mathlib.Core.Bool.{Bool, true, false, cond}
+use lib.ListN.{drop}
+use lib.Dec.{eqb}
+use Rattle.lists.specs.Lists.{flat}
+use Rattle.text.specs.Words.{wordOf}
+use Rattle.keywords.specs.Rows.{Row, kindOf, kindBy, spellingOf, line}
+use Rattle.keywords.specs.declared.Argument.{Argument}
+use Rattle.keywords.specs.declared.Argument.the-variants.{Rational, BasisMatrix, Bezier, Bspline, Cardinal, Taylor, DirectionU, DirectionV, Off, Other}
+
+-- the letter that stands for it in the code's table; a blank is no row's
+abbrev pub signOf : Argument → ℕ
+signOf Rational = 65
+signOf BasisMatrix = 66
+signOf Bezier = 67
+signOf Bspline = 68
+signOf Cardinal = 69
+signOf Taylor = 70
+signOf DirectionU = 71
+signOf DirectionV = 72
+signOf Off = 73
+signOf Other = 32
+
+abbrev row : String → Argument → Row Argument
+row s k = record { spelling = s; kind = k }
+
+-- the form, and the types: "bezier, bspline, cardinal, taylor" are stored, "the type bmatrix" is refused; "parm u or v"; "Smoothing: off (0)"
+unfoldable pub arguments : List (Row Argument)
+arguments =
+    row "rat" Rational
+    ∷ row "bmatrix" BasisMatrix
+    ∷ row "bezier" Bezier
+    ∷ row "bspline" Bspline
+    ∷ row "cardinal" Cardinal
+    ∷ row "taylor" Taylor
+    ∷ row "u" DirectionU
+    ∷ row "v" DirectionV
+    ∷ row "off" Off
+    ∷ []
+
+-- the kind that a letter of the code's table stands for
+unfoldable pub ofSign : ℕ → Argument
+ofSign = kindBy signOf Other arguments
+
+-- the code's table
+unfoldable pub argumentTable : List ℕ
+argumentTable = flat (line signOf) arguments
+
+unfoldable pub argumentOf : List ℕ → Argument
+argumentOf w = kindOf Other arguments w
+
+-- the bytes that an argument is written with
+unfoldable pub argumentBytes : Argument → List ℕ
+argumentBytes k = spellingOf signOf arguments (signOf k)
+
+-- the argument that the word at a place is
+unfoldable pub argumentAt : List ℕ → ℕ → Argument
+argumentAt s at = argumentOf (wordOf (drop at s))

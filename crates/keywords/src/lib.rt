@@ -1,0 +1,289 @@
+// The spellings of keywords and of the fixed words after them, one table each, and what a word of a text finds there.
+ghost use mathlib.Core.Path.{_≡_};
+ghost use mathlib.Core.Bool.{true, cond};
+ghost use Prim.Native.Nat.{_+_, _*_, _≤_};
+ghost use lib.ListN.{length, drop};
+ghost use Rattle.lists.specs.Lists.{same};
+ghost use Rattle.text.specs.Bytes.{isWord};
+ghost use Rattle.text.specs.Words.{wordOf};
+ghost use Rattle.text.specs.Rest.{endOf};
+ghost use Rattle.keywords.specs.Rows.{foundIn, wordAhead};
+ghost use Rattle.keywords.specs.Keywords.{keywordTable, keywordAt, ofLetter};
+ghost use Rattle.keywords.specs.Arguments.{argumentTable, argumentAt, ofSign};
+
+// A row: the spelling, blanks up to eleven bytes, the letter of its kind.
+const WIDTH: usize = 12;
+
+const KEYWORD_ROWS: usize = 44;
+
+const ARGUMENT_ROWS: usize = 9;
+
+// Every keyword, in the order of the appendix's "File structure", then as the appendix comes to them: A to S are stored, - is passed over, ! refused.
+const KEYWORDS: [u8; 528] = *b"\
+    v          A\
+    vt         B\
+    vn         C\
+    vp         D\
+    cstype     E\
+    deg        F\
+    bmat       !\
+    step       !\
+    p          G\
+    l          H\
+    f          I\
+    curv       J\
+    curv2      K\
+    surf       L\
+    parm       M\
+    trim       N\
+    hole       O\
+    scrv       !\
+    sp         !\
+    end        P\
+    con        !\
+    g          Q\
+    s          R\
+    mg         -\
+    o          -\
+    bevel      -\
+    c_interp   -\
+    d_interp   -\
+    lod        -\
+    usemtl     S\
+    mtllib     -\
+    shadow_obj -\
+    trace_obj  -\
+    ctech      -\
+    stech      -\
+    call       !\
+    csh        !\
+    fo         !\
+    usemap     -\
+    bsp        !\
+    bzp        !\
+    cdc        !\
+    cdp        !\
+    res        !";
+
+// The fixed words after a keyword, as the appendix comes to them.
+const ARGUMENTS: [u8; 108] = *b"\
+    rat        A\
+    bmatrix    B\
+    bezier     C\
+    bspline    D\
+    cardinal   E\
+    taylor     F\
+    u          G\
+    v          H\
+    off        I";
+
+// The kind of a keyword's statement.
+pub enum Statement {
+    Vertex,
+    TextureVertex,
+    VertexNormal,
+    ParameterVertex,
+    BodyType,
+    Degree,
+    Point,
+    Line,
+    Face,
+    Curve,
+    Curve2,
+    Surface,
+    Parameters,
+    Trim,
+    Hole,
+    End,
+    Group,
+    Smoothing,
+    Material,
+    PassedOver,
+    Refused,
+    Unknown,
+}
+
+pub struct Keyword {
+    pub statement: Statement,
+    pub end: usize,
+}
+
+pub enum Argument {
+    Rational,
+    BasisMatrix,
+    Bezier,
+    Bspline,
+    Cardinal,
+    Taylor,
+    DirectionU,
+    DirectionV,
+    Off,
+    Other,
+}
+
+// What a word finds in a table: its row's letter, and where the word ends.
+pub struct Found {
+    pub kind: u8,
+    pub end: usize,
+}
+
+// The tables, to be made once and lent.
+pub fn keyword_table() -> [u8; 528]
+    ensures { λ r. ⌜ r ≡ keywordTable ⌝ }
+{
+    KEYWORDS
+}
+
+pub fn argument_table() -> [u8; 108]
+    ensures { λ r. ⌜ r ≡ argumentTable ⌝ }
+{
+    ARGUMENTS
+}
+
+fn is_word(b: u8) -> bool
+    ensures { λ r. ⌜ r ≡ isWord b ⌝ }
+{
+    if b < 33 {
+        return false;
+    }
+    if 126 < b {
+        return false;
+    }
+    b != 92
+}
+
+// Whether a word byte stands at `at`.
+fn word_ahead(text: &[u8], at: usize) -> bool
+    ensures { λ r. ⌜ r ≡ wordAhead (drop at (now (text .entry))) ⌝ }
+{
+    if text.len() <= at {
+        return false;
+    }
+    is_word(text[at])
+}
+
+// Where the word at `at` ends if the table's word at `from` is the same; else `at`.
+fn same_word(text: &[u8], at: usize, table: &[u8], from: usize) -> usize
+    ensures { λ r. ⌜ r ≡ cond (same (wordOf (drop at (now (text .entry)))) (wordOf (drop from (now (table .entry))))) (endOf (now (text .entry)) at) at ⌝ }
+{
+    let mut i = at;
+    let mut j = from;
+    while word_ahead(text, i) {
+        if table.len() <= j {
+            return at;
+        }
+        if text[i] != table[j] {
+            return at;
+        }
+        i += 1;
+        j += 1;
+    }
+    if word_ahead(table, j) {
+        return at;
+    }
+    i
+}
+
+// The first of the table's rows that the word at `at` is the spelling of. A first letter that differs settles most rows.
+fn row_at(text: &[u8], at: usize, table: &[u8], rows: usize) -> Found
+    requires { ⌜ wordAhead (drop at (now text)) ≡ true ⌝ }
+    requires { ⌜ 12 * rows ≤ length (now table) ⌝ }
+    ensures { λ r. ⌜ r ≡ foundIn rows (now (table .entry)) (wordOf (drop at (now (text .entry)))) at ⌝ }
+{
+    let first = text[at];
+    let mut from = 0;
+    let mut left = rows;
+    while 0 < left {
+        if table[from] == first {
+            let end = same_word(text, at, table, from);
+            if at < end {
+                return Found {
+                    kind: table[from + 11],
+                    end: end,
+                };
+            }
+        }
+        from += WIDTH;
+        left -= 1;
+    }
+    Found {
+        kind: b' ',
+        end: at,
+    }
+}
+
+fn statement_of(letter: u8) -> Statement
+    ensures { λ r. ⌜ r ≡ ofLetter letter ⌝ }
+{
+    match letter {
+        b'A' => Statement::Vertex,
+        b'B' => Statement::TextureVertex,
+        b'C' => Statement::VertexNormal,
+        b'D' => Statement::ParameterVertex,
+        b'E' => Statement::BodyType,
+        b'F' => Statement::Degree,
+        b'G' => Statement::Point,
+        b'H' => Statement::Line,
+        b'I' => Statement::Face,
+        b'J' => Statement::Curve,
+        b'K' => Statement::Curve2,
+        b'L' => Statement::Surface,
+        b'M' => Statement::Parameters,
+        b'N' => Statement::Trim,
+        b'O' => Statement::Hole,
+        b'P' => Statement::End,
+        b'Q' => Statement::Group,
+        b'R' => Statement::Smoothing,
+        b'S' => Statement::Material,
+        b'-' => Statement::PassedOver,
+        b'!' => Statement::Refused,
+        _ => Statement::Unknown,
+    }
+}
+
+fn argument_of(letter: u8) -> Argument
+    ensures { λ r. ⌜ r ≡ ofSign letter ⌝ }
+{
+    match letter {
+        b'A' => Argument::Rational,
+        b'B' => Argument::BasisMatrix,
+        b'C' => Argument::Bezier,
+        b'D' => Argument::Bspline,
+        b'E' => Argument::Cardinal,
+        b'F' => Argument::Taylor,
+        b'G' => Argument::DirectionU,
+        b'H' => Argument::DirectionV,
+        b'I' => Argument::Off,
+        _ => Argument::Other,
+    }
+}
+
+// The statement that the word at `at` is the keyword of, by a walk of the table.
+pub fn keyword_at(text: &[u8], at: usize, table: &[u8; 528]) -> Keyword
+    requires { ⌜ now table ≡ keywordTable ⌝ }
+    ensures { λ r. ⌜ r ≡ keywordAt (now (text .entry)) at ⌝ }
+{
+    if word_ahead(text, at) {
+        let found = row_at(text, at, table, KEYWORD_ROWS);
+        return Keyword {
+            statement: statement_of(found.kind),
+            end: found.end,
+        };
+    }
+    Keyword {
+        statement: Statement::Unknown,
+        end: at,
+    }
+}
+
+// The argument that the word at `at` is.
+pub fn argument_at(text: &[u8], at: usize, table: &[u8; 108]) -> Argument
+    requires { ⌜ now table ≡ argumentTable ⌝ }
+    ensures { λ r. ⌜ r ≡ argumentAt (now (text .entry)) at ⌝ }
+{
+    if word_ahead(text, at) {
+        let found = row_at(text, at, table, ARGUMENT_ROWS);
+        return argument_of(found.kind);
+    }
+    Argument::Other
+}

@@ -1,0 +1,45 @@
+-- closed examples
+use Prim.Native.Nat.{ℕ}
+use Prim.Native.String.{String}
+use mathlib.Core.Path.{_≡_, refl}
+use mathlib.Core.List.{List, [], _∷_, _++_}
+use mathlib.Core.Bool.{Bool, true, false}
+use lib.IntN.{ℤ, pos}
+use lib.ListN.{length}
+use Rattle.keywords.specs.Rows.{bytes}
+use Rattle.text.specs.Lines.{linesOf}
+use Rattle.forms.specs.Number.{numberOf, decimal, numerator, denominator, nearest}
+use Rattle.forms.specs.Digits.{whole}
+use Rattle.forms.specs.Reference.{isReference, refer, referenceOf}
+use Rattle.forms.specs.Corner.{cornerOf}
+use Rattle.forms.specs.Degree.{degreeOf, smoothingOf, nameOf}
+use Rattle.keywords.specs.Keywords.{statementOf, keywords}
+use Rattle.keywords.specs.Arguments.{argumentOf, arguments}
+use Rattle.tables.specs.Bodies.{inOrder, curveCount, surfaceCount}
+use Rattle.model.specs.Room.{Rooms, fits}
+use Rattle.model.specs.Parse.{parse}
+use Rattle.model.specs.Read.{Answer, read, refused, readOf, statement}
+use Rattle.model.specs.Layout.{tablesOf, usedOf, nothing}
+use Rattle.tables.specs.Tables.{Tables}
+
+many : Rooms
+many = record { v = 100; vt = 100; vn = 100; vp = 100; corners = 100; elements = 100; bodies = 100; ranges = 100; parameters = 100; loops = 100; spans = 100 }
+
+ex1 : readOf many (bytes "v 0 0 0\nf 1 1 2\n") ≡ refused 8 14
+unfolding readOf linesOf numberOf decimal numerator denominator nearest whole isReference refer referenceOf cornerOf degreeOf smoothingOf nameOf statementOf keywords argumentOf arguments inOrder curveCount surfaceCount fits parse statement many
+ex1 = refl
+
+small : Rooms
+small = record { v = 8; vt = 3; vn = 0; vp = 0; corners = 12; elements = 18; bodies = 9; ranges = 4; parameters = 4; loops = 0; spans = 0 }
+
+tab : Answer → Tables
+tab (read m) = tablesOf small m
+tab (refused n p) = tablesOf small nothing
+
+ex2 : tab (readOf small (bytes "cstype bezier\ndeg 1\nv 0 0 0\nv 1.5 0 0\ng top side\ncurv 0 1 -2 -1\nparm u 0 1\nend\n")) .elements ≡ 4 ∷ 0 ∷ 2 ∷ 1 ∷ 0 ∷ 40 ∷ 8 ∷ 0 ∷ 0 ∷ 0 ∷ 0 ∷ 0 ∷ 0 ∷ 0 ∷ 0 ∷ 0 ∷ 0 ∷ 0 ∷ []
+unfolding tab tablesOf readOf linesOf numberOf decimal numerator denominator nearest whole isReference refer referenceOf cornerOf degreeOf smoothingOf nameOf statementOf keywords argumentOf arguments inOrder curveCount surfaceCount fits parse statement small
+ex2 = refl
+
+ex3 : tab (readOf small (bytes "cstype bezier\ndeg 1\nv 0 0 0\nv 1.5 0 0\ng top side\ncurv 0 1 -2 -1\nparm u 0 1\nend\n")) .bodies ≡ 1 ∷ 0 ∷ 1 ∷ 0 ∷ 0 ∷ 2 ∷ 0 ∷ 0 ∷ 0 ∷ []
+unfolding tab tablesOf readOf linesOf numberOf decimal numerator denominator nearest whole isReference refer referenceOf cornerOf degreeOf smoothingOf nameOf statementOf keywords argumentOf arguments inOrder curveCount surfaceCount fits parse statement small
+ex3 = refl

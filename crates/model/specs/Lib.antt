@@ -1,0 +1,6 @@
+pub mod Model
+pub mod Statements
+pub mod Parse
+pub mod Room
+pub mod Read
+pub mod Layout

@@ -1,0 +1,80 @@
+-- 14, "a lent table lacks room": "Room for parm is checked at end, all other room at its own line; 14 is given exactly when the entries needed pass the lent length."
+use Prim.Native.Nat.{ℕ, suc, _+_, _*_}
+use mathlib.Core.List.{List, [], _∷_}
+use mathlib.Core.Bool.{Bool, true, false, _&&_}
+use mathlib.Core.Option.{Option, none, some}
+use lib.ListN.{length}
+use lib.Dec.{leb}
+use Rattle.tables.specs.Records.{vWidth, vtWidth, vnWidth, vpWidth, cornerWidth, elementWidth, bodyWidth, rangeWidth, loopWidth, spanWidth}
+use Rattle.model.specs.Model.{Part, Loop, Body, Kind, plain, free, Element, Open, State}
+
+-- how many entries each table has, or how many are needed
+pub record Rooms : Type 0 where
+  pub v : ℕ
+  pub vt : ℕ
+  pub vn : ℕ
+  pub vp : ℕ
+  pub corners : ℕ
+  pub elements : ℕ
+  pub bodies : ℕ
+  pub ranges : ℕ
+  pub parameters : ℕ
+  pub loops : ℕ
+  pub spans : ℕ
+
+abbrev pub summed : {A : Type 0} → (A → ℕ) → List A → ℕ
+summed f [] = 0
+summed f (a ∷ xs) = f a + summed f xs
+
+abbrev pub ofKind : (Body → ℕ) → Kind → ℕ
+ofKind f (plain k) = 0
+ofKind f (free b) = f b
+
+abbrev pub ofOpen : (Open → ℕ) → Option Open → ℕ
+ofOpen f none = 0
+ofOpen f (some o) = f o
+
+-- the parts of a body's loops
+abbrev pub partCount : Body → ℕ
+partCount b = summed (λ l. length (l .parts)) (b .loops)
+
+-- corners, elements, bodies, parameters and loop parts of a state; a body that has no end yet counts, but for its parameters
+abbrev pub cornerCount : State → ℕ
+cornerCount x = summed (λ e. length (e .corners)) (x .model .elements) + ofOpen (λ o. length (o .controls)) (x .open-body)
+
+abbrev pub elementCount : State → ℕ
+elementCount x = length (x .model .elements) + ofOpen (λ o. 1) (x .open-body)
+
+abbrev pub bodyCount : State → ℕ
+bodyCount x = summed (λ e. ofKind (λ b. 1) (e .kind)) (x .model .elements) + ofOpen (λ o. 1) (x .open-body)
+
+abbrev pub parameterCount : State → ℕ
+parameterCount x = summed (λ e. ofKind (λ b. length (b .us) + length (b .vs)) (e .kind)) (x .model .elements)
+
+abbrev pub loopPartCount : State → ℕ
+loopPartCount x = summed (λ e. ofKind partCount (e .kind)) (x .model .elements) + ofOpen (λ o. partCount (o .body)) (x .open-body)
+
+abbrev pub needed : State → Rooms
+needed x =
+    record {
+      v = vWidth * length (x .model .vertices .v);
+      vt = vtWidth * length (x .model .vertices .vt);
+      vn = vnWidth * length (x .model .vertices .vn);
+      vp = vpWidth * length (x .model .vertices .vp);
+      corners = cornerWidth * cornerCount x;
+      elements = elementWidth * elementCount x;
+      bodies = bodyWidth * bodyCount x;
+      ranges = rangeWidth * bodyCount x;
+      parameters = parameterCount x;
+      loops = loopWidth * loopPartCount x;
+      spans = spanWidth * loopPartCount x;
+    }
+
+abbrev pub within : Rooms → Rooms → Bool
+within a b =
+    leb (a .v) (b .v) && leb (a .vt) (b .vt) && leb (a .vn) (b .vn) && leb (a .vp) (b .vp) && leb (a .corners) (b .corners)
+    && leb (a .elements) (b .elements) && leb (a .bodies) (b .bodies) && leb (a .ranges) (b .ranges) && leb (a .parameters) (b .parameters)
+    && leb (a .loops) (b .loops) && leb (a .spans) (b .spans)
+
+unfoldable pub fits : Rooms → State → Bool
+fits R x = within (needed x) R

@@ -1,0 +1,106 @@
+-- The answers of asking, by the tests that lead to each: over plain numbers and lists.
+use Prim.Native.Nat.{ℕ, suc, _+_, _*_, _-_, _^_, _≤_, _<_}
+use mathlib.Core.Path.{_≡_, refl, sym, ap, subst⁻¹, _∙_}
+use mathlib.Core.List.{List, []}
+use mathlib.Core.Bool.{Bool, true, false, cond, _&&_}
+use native.Mathlib.Nat.{lt-of-le-of-lt, mul-le-mul-left, mul-lt-mul-of-pos-right, le-of-lt}
+use native.Mathlib.Omega.{arith}
+use borrow.Author.Tests.{lt-ltb, le-ltb, le-leb, lt-leb, leb-true}
+use lib.Dec.{leb, ltb}
+use lib.ListN.{length, getD, take, drop}
+use lib.Pow.{pow-pos, pow-add}
+use Rattle.lists.proofs.Tests.{and-left, and-right}
+use Rattle.tables.specs.Records.{elementIn, cornerIn}
+use Rattle.tables.specs.Asking.{held, elementOf, noElement, cornerWith, cornerOf, noCorner, partOf, groupOf, materialOf}
+use Rattle.tables.specs.declared.Used.{Used}
+use Rattle.tables.specs.declared.Element.{Element}
+use Rattle.tables.specs.declared.Corner.{Corner}
+
+-- the whole product of two 32-bit numbers
+pub product : {a b : ℕ} → a < 2 ^ 32 → b < 2 ^ 32 → a * b < 2 ^ 64
+product {a} {b} h k =
+    subst⁻¹ (λ (n : ℕ). a * b < n) (pow-add 2 32 32) (lt-of-le-of-lt (mul-le-mul-left a (le-of-lt k)) (mul-lt-mul-of-pos-right h (pow-pos 32)))
+
+module _ (number used w lent : ℕ) where
+  pub held-none : number < 1 → false ≡ held number used w lent
+  unfolding held
+  held-none h = rw (lt-leb 1 number h) refl
+
+  pub held-past : 1 ≤ number → used < number → false ≡ held number used w lent
+  unfolding held
+  held-past h k = rw (le-leb 1 number h, lt-leb number used k) refl
+
+  pub held-fits : 1 ≤ number → number ≤ used → leb (w * number) lent ≡ held number used w lent
+  unfolding held
+  held-fits h k = rw (le-leb 1 number h, le-leb number used k) refl
+
+  pub held-first : held number used w lent ≡ true → 1 ≤ number
+  unfolding held
+  held-first h = leb-true 1 number (and-left (leb 1 number) (leb number used) (and-left (leb 1 number && leb number used) (leb (w * number) lent) h))
+
+  pub held-used : held number used w lent ≡ true → number ≤ used
+  unfolding held
+  held-used h = leb-true number used (and-right (leb 1 number) (leb number used) (and-left (leb 1 number && leb number used) (leb (w * number) lent) h))
+
+  pub held-lent : held number used w lent ≡ true → w * number ≤ lent
+  unfolding held
+  held-lent h = leb-true (w * number) lent (and-right (leb 1 number && leb number used) (leb (w * number) lent) h)
+
+  -- the record with that number is the one at that index
+  pub held-whole : held number used w lent ≡ true → w * (number - 1) + w ≤ lent
+  held-whole h =
+      let l : w * number ≤ lent = held-lent h in
+      let f : 1 ≤ number = held-first h in
+      let e : number ≡ (number - 1) + 1 = omega arith in
+      let m : w * number ≡ w * ((number - 1) + 1) = ap (λ (n : ℕ). w * n) e in
+      omega arith
+
+module _ (used : Used) (elements : List ℕ) (number : ℕ) where
+  pub element-held : {e : Element} {b : Bool} → b ≡ held number (used .elements) 9 (length elements) → b ≡ true → e ≡ elementIn elements (number - 1) → e ≡ elementOf used elements number
+  unfolding elementOf
+  element-held h t p = p ∙ rw (sym h ∙ t) refl
+
+  pub element-none : {b : Bool} → b ≡ held number (used .elements) 9 (length elements) → b ≡ false → noElement ≡ elementOf used elements number
+  unfolding elementOf
+  element-none h t = rw (sym h ∙ t) refl
+
+module _ (used : Used) (corners : List ℕ) (e : Element) (k : ℕ) where
+  pub corner-lacked : e .count ≤ k → noCorner ≡ cornerWith used corners e k
+  unfolding cornerWith
+  corner-lacked h = rw (le-ltb k (e .count) h) refl
+
+  pub corner-unused : k < e .count → used .corners < e .first + 3 * k + 3 → noCorner ≡ cornerWith used corners e k
+  unfolding cornerWith
+  corner-unused h u = rw (lt-ltb k (e .count) h, lt-leb (e .first + 3 * k + 3) (used .corners) u) refl
+
+  pub corner-unlent : k < e .count → e .first + 3 * k + 3 ≤ used .corners → length corners < e .first + 3 * k + 3 → noCorner ≡ cornerWith used corners e k
+  unfolding cornerWith
+  corner-unlent h u l = rw (lt-ltb k (e .count) h, le-leb (e .first + 3 * k + 3) (used .corners) u, lt-leb (e .first + 3 * k + 3) (length corners) l) refl
+
+  pub corner-there : k < e .count → e .first + 3 * k + 3 ≤ used .corners → e .first + 3 * k + 3 ≤ length corners → cornerIn corners (e .first + 3 * k) ≡ cornerWith used corners e k
+  unfolding cornerWith
+  corner-there h u l = rw (lt-ltb k (e .count) h, le-leb (e .first + 3 * k + 3) (used .corners) u, le-leb (e .first + 3 * k + 3) (length corners) l) refl
+
+pub corner-asked : (used : Used) (elements corners : List ℕ) (number k : ℕ) {e : Element} {c : Corner} → e ≡ elementOf used elements number → c ≡ cornerWith used corners e k → c ≡ cornerOf used elements corners number k
+unfolding cornerOf
+corner-asked used elements corners number k p q = q ∙ ap (λ (e : Element). cornerWith used corners e k) p
+
+module _ (text : List ℕ) (place count : ℕ) where
+  pub part-there : place + count ≤ length text → take (place + count - place) (drop place text) ≡ partOf text place count
+  unfolding partOf
+  part-there h =
+      let e : place + count - place ≡ count = omega arith in
+      rw (le-leb (place + count) (length text) h, e) refl
+
+  pub part-past : length text < place + count → [] ≡ partOf text place count
+  unfolding partOf
+  part-past h = rw (lt-leb (place + count) (length text) h) refl
+
+module _ (text : List ℕ) (used : Used) (elements : List ℕ) (number : ℕ) {e : Element} {part : List ℕ} (p : e ≡ elementOf used elements number) where
+  pub group-asked : part ≡ partOf text (e .«group_place») (e .«group_length») → part ≡ groupOf text used elements number
+  unfolding groupOf
+  group-asked q = q ∙ ap (λ (e : Element). partOf text (e .«group_place») (e .«group_length»)) p
+
+  pub material-asked : part ≡ partOf text (e .«material_place») (e .«material_length») → part ≡ materialOf text used elements number
+  unfolding materialOf
+  material-asked q = q ∙ ap (λ (e : Element). partOf text (e .«material_place») (e .«material_length»)) p

@@ -1,0 +1,5 @@
+pub mod Clearing
+pub mod Stores
+pub mod Asked
+pub mod Filled
+pub mod Flat

@@ -1,0 +1,54 @@
+-- After i turns the first i numbers are zeros and the rest as lent: `Cleared`.
+use Prim.Native.Nat.{_-_}
+use borrow.Author.Needs.{needs}
+use lib.ListN.{length}
+use lib.IntN.{pos}
+use denote.Ref.{now}
+use Rattle.tables.proofs.Clearing.{Cleared, cleared-none, cleared-more, cleared-all}
+use Rattle.tables.proofs.storing.clear_i32.Statement.{statement}
+use Rattle.tables.proofs.storing.clear_i32.Tie as tie
+
+abbrev Inv-loop : tie.InvT-loop
+Inv-loop t₀ i₀ t i = Cleared (pos 0) t₀ t i
+
+abbrev μ-loop : tie.MeasureT-loop
+μ-loop t₀ i₀ t i = length t₀ - i
+
+loop-holds : tie.Need-loop-holds Inv-loop μ-loop
+loop-holds c = cleared-none (pos 0) (now (c .args .t))
+
+mul-t : tie.Need-mul-t Inv-loop μ-loop
+mul-t c = search needs
+
+slice-set-of-t : tie.Need-slice-set-of-t Inv-loop μ-loop
+slice-set-of-t c = search needs
+
+add-i : tie.Need-add-i Inv-loop μ-loop
+add-i c = search needs
+
+loop-less : tie.Need-loop-less Inv-loop μ-loop
+loop-less c = search needs
+
+loop-again : tie.Need-loop-again Inv-loop μ-loop
+loop-again c = cleared-more (c .before .loop .inv) (search needs)
+
+same-length : tie.Need-same-length Inv-loop μ-loop
+same-length c = search needs
+
+returns : tie.Need-returns Inv-loop μ-loop
+returns c = cleared-all (c .before .loop .inv) (search needs)
+
+pub clear-i32-spec : {M : Type 1} → statement M
+clear-i32-spec =
+    tie.close
+    (tie.spec
+    Inv-loop
+    μ-loop
+    loop-holds
+    mul-t
+    slice-set-of-t
+    add-i
+    loop-less
+    loop-again
+    same-length
+    returns)

@@ -1,0 +1,63 @@
+-- 01, "Records": "Asking for an element's group or material gives back that part of the caller's own text"; and asking for an element and for a corner of one. An element's number counts from 1, a corner's from 0.
+use Prim.Native.Nat.{ℕ, _+_, _*_, _-_}
+use mathlib.Core.List.{List, []}
+use mathlib.Core.Bool.{Bool, cond, _&&_}
+use lib.ListN.{length, take, drop}
+use lib.Dec.{ltb, leb}
+use Rattle.tables.specs.Records.{elementWidth, cornerWidth, elementIn, cornerIn}
+use Rattle.tables.specs.declared.Used.{Used}
+use Rattle.tables.specs.declared.Element.{Element}
+use Rattle.tables.specs.declared.Corner.{Corner}
+
+-- the record of that number, of w numbers, is among the used ones and stands whole within a lent length
+unfoldable pub held : ℕ → ℕ → ℕ → ℕ → Bool
+held number used w lent = leb 1 number && leb number used && leb (w * number) lent
+
+abbrev pub noElement : Element
+noElement =
+    record {
+      kind = 0;
+      first = 0;
+      count = 0;
+      body = 0;
+      smoothing = 0;
+      «group_place» = 0;
+      «group_length» = 0;
+      «material_place» = 0;
+      «material_length» = 0;
+    }
+
+-- the element of that number, all zeros for no such element
+unfoldable pub elementOf : Used → List ℕ → ℕ → Element
+elementOf used elements number =
+    cond (held number (used .elements) elementWidth (length elements)) (elementIn elements (number - 1)) noElement
+
+abbrev pub noCorner : Corner
+noCorner = record { v = 0; vt = 0; vn = 0 }
+
+-- corner k of an element, three zeros for one that it lacks or that passes the used or the lent entries; the used corners are counted in numbers
+unfoldable pub cornerWith : Used → List ℕ → Element → ℕ → Corner
+cornerWith used corners e k =
+    let at = e .first + cornerWidth * k in
+    cond
+    (ltb k (e .count) && leb (at + cornerWidth) (used .corners) && leb (at + cornerWidth) (length corners))
+    (cornerIn corners at)
+    noCorner
+
+unfoldable pub cornerOf : Used → List ℕ → List ℕ → ℕ → ℕ → Corner
+cornerOf used elements corners number k = cornerWith used corners (elementOf used elements number) k
+
+-- "that part of the caller's own text"; "a run past the text's end, gives an empty part"
+unfoldable pub partOf : List ℕ → ℕ → ℕ → List ℕ
+partOf text place count = cond (leb (place + count) (length text)) (take count (drop place text)) []
+
+-- "Place and length are 0 where none is set": the empty part then, and for no such element
+unfoldable pub groupOf : List ℕ → Used → List ℕ → ℕ → List ℕ
+groupOf text used elements number =
+    let e = elementOf used elements number in
+    partOf text (e .«group_place») (e .«group_length»)
+
+unfoldable pub materialOf : List ℕ → Used → List ℕ → ℕ → List ℕ
+materialOf text used elements number =
+    let e = elementOf used elements number in
+    partOf text (e .«material_place») (e .«material_length»)

@@ -1,0 +1,78 @@
+-- 01, "Bodies": the rules of controls, parameters and ranges along one direction of a body. The reader and the test of records both use them.
+use Prim.Native.Nat.{ℕ, suc, _+_, _*_, _-_}
+use mathlib.Core.List.{List, [], _∷_}
+use mathlib.Core.Bool.{Bool, true, false, _&&_}
+use mathlib.Core.Option.{Option, none, some}
+use lib.ListN.{length, getD}
+use lib.Dec.{leb, eqb}
+use lib.IntN.{ℤ, pos}
+use lib.Signed.{ltZ, leZ}
+
+pub data Basis : Type 0 where
+  bezier bspline cardinal taylor : Basis
+
+-- the number that a body's record holds
+abbrev pub basisNumber : Basis → ℕ
+basisNumber bezier = 1
+basisNumber bspline = 2
+basisNumber cardinal = 3
+basisNumber taylor = 4
+
+-- "Controls k along one direction, from p parameters and degree n"
+abbrev pub controls : Basis → ℕ → ℕ → ℕ
+controls bezier n p = n * (p - 1) + 1
+controls bspline n p = p - n - 1
+controls cardinal n p = p + 2
+controls taylor n p = (n + 1) * (p - 1)
+
+-- bspline: "p-n-1, at least n+1"
+abbrev pub enough : Basis → ℕ → ℕ → Bool
+enough bezier n p = true
+enough bspline n p = leb (n + 1) (p - n - 1)
+enough cardinal n p = true
+enough taylor n p = true
+
+-- "Parameters strictly increase"
+abbrev pub rising : List ℤ → Bool
+rising [] = true
+rising (a ∷ []) = true
+rising (a ∷ b ∷ x) = ltZ a b && rising (b ∷ x)
+
+-- "For bspline, knots x0.. never decrease"
+abbrev pub steady : List ℤ → Bool
+steady [] = true
+steady (a ∷ []) = true
+steady (a ∷ b ∷ x) = leZ a b && steady (b ∷ x)
+
+abbrev pub ordered : Basis → List ℤ → Bool
+ordered bezier x = rising x
+ordered bspline x = steady x
+ordered cardinal x = rising x
+ordered taylor x = rising x
+
+-- "first ≤ start < end ≤ last"; "x_n ≤ start < end ≤ x_k": the widest range that the n and the parameters x allow
+abbrev pub low : Basis → ℕ → List ℤ → ℤ
+low bezier n x = getD x 0 (pos 0)
+low bspline n x = getD x n (pos 0)
+low cardinal n x = getD x 0 (pos 0)
+low taylor n x = getD x 0 (pos 0)
+
+abbrev pub high : Basis → ℕ → List ℤ → ℤ
+high bezier n x = getD x (length x - 1) (pos 0)
+high bspline n x = getD x (length x - n - 1) (pos 0)
+high cardinal n x = getD x (length x - 1) (pos 0)
+high taylor n x = getD x (length x - 1) (pos 0)
+
+abbrev pub ranged : Basis → ℕ → List ℤ → ℤ → ℤ → Bool
+ranged t n x start end = leZ (low t n x) start && ltZ start end && leZ end (high t n x)
+
+-- 13 along one direction
+unfoldable pub inOrder : Basis → ℕ → List ℤ → ℤ → ℤ → Bool
+inOrder t n x start end = ordered t x && ranged t n x start end
+
+-- 12: the controls of a curve; "A surface has k_u times k_v controls"
+unfoldable pub curveCount : Basis → ℕ → ℕ → ℕ → Bool
+curveCount t n p k = enough t n p && eqb k (controls t n p)
+
+unfoldable pub surfaceCount : Basis → ℕ → ℕ → ℕ → ℕ → ℕ → Bool
+surfaceCount t m p n q k = enough t m p && enough t n q && eqb k (controls t m p * controls t n q)

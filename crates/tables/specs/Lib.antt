@@ -1,0 +1,4 @@
+pub mod Tables
+pub mod Records
+pub mod Bodies
+pub mod Asking

@@ -1,0 +1,148 @@
+-- The numbers of each record, as docs/RECORDS.md lists them. A record has a number that counts from 1, and an index that counts from 0.
+use Prim.Native.Nat.{ℕ, _+_, _*_}
+use mathlib.Core.List.{List}
+use lib.ListN.{getD, take, drop}
+use lib.IntN.{ℤ, pos}
+use Rattle.tables.specs.Tables.{Tables}
+use Rattle.tables.specs.declared.Element.{Element}
+use Rattle.tables.specs.declared.Corner.{Corner}
+
+-- how many numbers a record has in each table
+abbrev pub vWidth : ℕ
+vWidth = 4
+
+abbrev pub vtWidth : ℕ
+vtWidth = 3
+
+abbrev pub vnWidth : ℕ
+vnWidth = 3
+
+abbrev pub vpWidth : ℕ
+vpWidth = 4
+
+abbrev pub cornerWidth : ℕ
+cornerWidth = 3
+
+abbrev pub elementWidth : ℕ
+elementWidth = 9
+
+abbrev pub bodyWidth : ℕ
+bodyWidth = 9
+
+abbrev pub rangeWidth : ℕ
+rangeWidth = 4
+
+abbrev pub loopWidth : ℕ
+loopWidth = 2
+
+abbrev pub spanWidth : ℕ
+spanWidth = 2
+
+-- number k of the record of w numbers at index i
+abbrev pub numberAt : ℕ → List ℕ → ℕ → ℕ → ℕ
+numberAt w l i k = getD l (w * i + k) 0
+
+abbrev pub valueAt : ℕ → List ℤ → ℕ → ℕ → ℤ
+valueAt w l i k = getD l (w * i + k) (pos 0)
+
+-- "An element holds kind, corners, smoothing, and the place and length of its group run and material in the text."
+abbrev pub elementIn : List ℕ → ℕ → Element
+elementIn elements i =
+    record {
+      kind = numberAt elementWidth elements i 0;
+      first = numberAt elementWidth elements i 1;
+      count = numberAt elementWidth elements i 2;
+      body = numberAt elementWidth elements i 3;
+      smoothing = numberAt elementWidth elements i 4;
+      «group_place» = numberAt elementWidth elements i 5;
+      «group_length» = numberAt elementWidth elements i 6;
+      «material_place» = numberAt elementWidth elements i 7;
+      «material_length» = numberAt elementWidth elements i 8;
+    }
+
+abbrev pub elementAt : Tables → ℕ → Element
+elementAt t i = elementIn (t .elements) i
+
+-- "A corner is v, vt, vn (0 for none); a curv2 control holds its vp number in the first place."
+abbrev pub cornerIn : List ℕ → ℕ → Corner
+cornerIn corners at = record { v = getD corners at 0; vt = getD corners (at + 1) 0; vn = getD corners (at + 2) 0 }
+
+-- corner k of an element whose corners begin at the number `first`
+abbrev pub cornerAt : Tables → ℕ → ℕ → Corner
+cornerAt t first k = cornerIn (t .corners) (first + cornerWidth * k)
+
+-- "A body holds type, rational or not, degrees, ranges, parameters (u, then v), loops; a curve's v entries are 0."
+pub record Body : Type 0 where
+  pub type : ℕ
+  pub rational : ℕ
+  pub degree-u : ℕ
+  pub degree-v : ℕ
+  pub first-parameter : ℕ
+  pub count-u : ℕ
+  pub count-v : ℕ
+  pub first-loop : ℕ
+  pub loops : ℕ
+  pub start-u : ℤ
+  pub end-u : ℤ
+  pub start-v : ℤ
+  pub end-v : ℤ
+
+abbrev pub bodyAt : Tables → ℕ → Body
+bodyAt t i =
+    record {
+      type = numberAt bodyWidth (t .bodies) i 0;
+      rational = numberAt bodyWidth (t .bodies) i 1;
+      degree-u = numberAt bodyWidth (t .bodies) i 2;
+      degree-v = numberAt bodyWidth (t .bodies) i 3;
+      first-parameter = numberAt bodyWidth (t .bodies) i 4;
+      count-u = numberAt bodyWidth (t .bodies) i 5;
+      count-v = numberAt bodyWidth (t .bodies) i 6;
+      first-loop = numberAt bodyWidth (t .bodies) i 7;
+      loops = numberAt bodyWidth (t .bodies) i 8;
+      start-u = valueAt rangeWidth (t .ranges) i 0;
+      end-u = valueAt rangeWidth (t .ranges) i 1;
+      start-v = valueAt rangeWidth (t .ranges) i 2;
+      end-v = valueAt rangeWidth (t .ranges) i 3;
+    }
+
+-- the parameters of a body along u, and along v
+abbrev pub parametersU : Tables → Body → List ℤ
+parametersU t b = take (b .count-u) (drop (b .first-parameter) (t .parameters))
+
+abbrev pub parametersV : Tables → Body → List ℤ
+parametersV t b = take (b .count-v) (drop (b .first-parameter + b .count-u) (t .parameters))
+
+-- a part of a trimming loop: what begins with it (1 a trim, 2 a hole, 0 nothing), its curv2's number, its two numbers
+pub record Part : Type 0 where
+  pub begins : ℕ
+  pub curve : ℕ
+  pub from : ℤ
+  pub to : ℤ
+
+abbrev pub partAt : Tables → ℕ → Part
+partAt t i =
+    record {
+      begins = numberAt loopWidth (t .loops) i 0;
+      curve = numberAt loopWidth (t .loops) i 1;
+      from = valueAt spanWidth (t .spans) i 0;
+      to = valueAt spanWidth (t .spans) i 1;
+    }
+
+-- ---- the numbers of kinds and types
+abbrev pub pointKind : ℕ
+pointKind = 1
+
+abbrev pub lineKind : ℕ
+lineKind = 2
+
+abbrev pub faceKind : ℕ
+faceKind = 3
+
+abbrev pub curveKind : ℕ
+curveKind = 4
+
+abbrev pub curve2Kind : ℕ
+curve2Kind = 5
+
+abbrev pub surfaceKind : ℕ
+surfaceKind = 6

@@ -1,0 +1,14 @@
+-- The two tests of `isBlank`.
+use mathlib.Core.Path.{_≡_, refl, sym, ap, _∙_}
+use borrow.Author.Tests.{lt-leb, le-leb, ne-eqb, eq-eqb}
+use Rattle.text.proofs.is_blank.Statement.{statement}
+use Rattle.text.proofs.is_blank.Tie as tie
+
+returns : tie.Need-returns
+returns c = rw (c .if1 .taken) refl
+
+returns-2 : tie.Need-returns-2
+returns-2 c = simp (ne-eqb _ 32 (c .if1 .left))
+
+pub is-blank-spec : {M : Type 1} → statement M
+is-blank-spec = tie.close (tie.spec returns returns-2)

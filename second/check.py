@@ -1,0 +1,287 @@
+"""Runs the cases and a short seeded self-check.  Exit code 1 on a failure."""
+
+import random
+import sys
+from pathlib import Path
+
+from damage import cases
+from exact import exact_on_curve, exact_on_surface, within
+from reader import corner_of, group_of, material_of, read
+from records import CURV, CURV2, SURF, TABLES, TEXT_LIMIT, Read, Refused, Used
+from rules import body_of, element_record, obeys
+from sampler import (
+    RefusedPoint, point_on_curve, point_on_surface, run_on_curve, run_parameters,
+)
+from spelling import spelled
+from texts import text
+from tidier import TooLong, Written, agreement, tidy, tidy_text
+
+CASES = Path(__file__).resolve().parent / "cases"
+EXAMPLES = Path(__file__).resolve().parent.parent / "examples"
+PROGRAM_ROOM = 16_384
+SELF_CHECKS = 2_000
+
+
+class Tally:
+    def __init__(self):
+        self.passed = 0
+        self.failed = 0
+
+    def hold(self, label, found, wanted):
+        if found == wanted:
+            self.passed += 1
+        else:
+            self.failed += 1
+            print(f"FAILED {label}\n  wanted {wanted}\n  found  {found}")
+
+
+def rows(path):
+    for line in path.read_text(encoding="ascii").splitlines():
+        if line and not line.startswith("#"):
+            yield [part.strip() for part in line.split(" | ")]
+
+
+def rooms_of(column):
+    rooms = dict.fromkeys(TABLES, PROGRAM_ROOM)
+    if column != "-":
+        for part in column.split(","):
+            table, room = part.split()
+            rooms[table] = int(room)
+    return rooms
+
+
+def shown(answer):
+    if isinstance(answer, Refused):
+        return f"refused {answer.number} at {answer.place}"
+    counts = [f"{name} {count}" for name, count in answer.used._asdict().items() if count]
+    return " ".join(["read", *counts])
+
+
+def check_cases(tally):
+    listed = set()
+    for name, rooms, wanted, tables, _ in rows(CASES / "expected.txt"):
+        listed.add(name)
+        lent = rooms_of(rooms)
+        answer = read((CASES / name).read_bytes(), lent)
+        tally.hold(name, shown(answer), wanted)
+        if tables != "-" and isinstance(answer, Read):
+            by_name = dict(zip(TABLES, answer.tables))
+            for part in tables.split(";"):
+                table, *numbers = part.split()
+                numbers = [int(number) for number in numbers]
+                filled = numbers + [0] * (lent[table] - len(numbers))
+                tally.hold(f"{name} {table}", by_name[table] == filled, True)
+    stored = {str(path.relative_to(CASES)) for path in CASES.rglob("*.obj")}
+    points = {row[0] for row in rows(CASES / "points.txt")}
+    tally.hold("files without a row", sorted(stored - listed - points), [])
+
+
+def check_size(tally):
+    """Refusal 1 needs a text too large to store."""
+    rooms = [0] * 11
+    tally.hold("16,777,216 bytes", shown(read(b"#" * TEXT_LIMIT, rooms)), "read")
+    tally.hold("one byte more", shown(read(b"#" * (TEXT_LIMIT + 1), rooms)), "refused 1 at 0")
+    tally.hold("1 before 2", shown(read(b"\x01" * (TEXT_LIMIT + 1), rooms)), "refused 1 at 0")
+
+
+# Points, on tables as read or changed on purpose
+
+def changed(answer, column):
+    """`v[3] 7` sets an entry, `used v 7` a count, `lent v 7` a length."""
+    used, tables = answer.used._asdict(), dict(zip(TABLES, answer.tables))
+    if column == "-":
+        return answer.used, answer.tables
+    for part in column.split(","):
+        words = part.split()
+        if words[0] == "used":
+            used[words[1]] = int(words[2])
+        elif words[0] == "lent":
+            tables[words[1]] = tables[words[1]][:int(words[2])]
+        else:
+            table, index = words[0].rstrip("]").split("[")
+            tables[table] = list(tables[table])
+            tables[table][int(index)] = int(words[1])
+    return Used(**used), list(tables.values())
+
+
+def called(data, used, tables, call):
+    name, *numbers = call.split()
+    numbers = [int(number) for number in numbers]
+    elements, corners = tables[TABLES.index("elements")], tables[TABLES.index("corners")]
+    if name in ("group", "material"):
+        ask = group_of if name == "group" else material_of
+        part = ask(data, elements, used.elements, *numbers).decode("ascii")
+        return part.replace("\\", "\\\\").replace("\n", "\\n")
+    if name == "corner":
+        found = corner_of(corners, elements, used.corners, used.elements, *numbers)
+        return " ".join(map(str, found))
+    if name == "obeys":
+        return str(obeys(used, tables, *numbers)).lower()
+    if name == "run":
+        element, steps, room, at = numbers
+        before = list(range(-1, -room - 1, -1))
+        answer = run_on_curve(used, tables, element, steps, list(before), at)
+        if isinstance(answer, RefusedPoint):
+            return f"refused {answer.number}"
+        return " ".join(map(str, ["filled", answer.numbers, *answer.points]))
+    answer = {"curve": point_on_curve, "surface": point_on_surface}[name](used, tables, *numbers)
+    if isinstance(answer, RefusedPoint):
+        return f"refused {answer.number}"
+    return " ".join(map(str, answer))
+
+
+def check_points(tally):
+    for name, call, changes, wanted, _ in rows(CASES / "points.txt"):
+        rooms = dict.fromkeys(TABLES, 2_000)
+        data = (CASES / name).read_bytes()
+        used, tables = changed(read(data, rooms), changes)
+        tally.hold(f"{name} {call} {changes}", called(data, used, tables, call), wanted)
+
+
+# The seeded self-check
+
+def check_bounds(rng, used, tables):
+    """Every point sampled is within half a millionth a degree of the exact value."""
+    for element in range(1, used.elements + 1):
+        if not obeys(used, tables, element):
+            return f"element {element} breaks a rule"
+        kind = element_record(tables, element)[0]
+        if kind not in (CURV, CURV2, SURF):
+            continue
+        body = body_of(tables, element)
+        u_start, u_end, v_start, v_end = body.range
+        known = [u_start, u_end, *(x for x in body.u_parameters if u_start <= x <= u_end)]
+        u = rng.choice([rng.randint(u_start, u_end), rng.choice(known)])
+        if kind == SURF:
+            v = rng.choice([v_start, v_end, rng.randint(v_start, v_end)])
+            point, degree = point_on_surface(used, tables, element, u, v), sum(body.degrees)
+        else:
+            point, degree = point_on_curve(used, tables, element, u), body.degrees[0]
+        if body.rational or body.type > 2:
+            if point != RefusedPoint(18):
+                return f"element {element}: 18 wanted"
+            continue
+        if kind == SURF:
+            value = exact_on_surface(tables, element, u, v)
+        else:
+            value = exact_on_curve(tables, element, u)
+        if not within(point, value, degree):
+            return f"element {element}: {point} is not within {degree}/2 of {value}"
+        if kind != SURF and not run_agrees(rng, used, tables, element, body):
+            return f"element {element}: a run differs from its points"
+    return None
+
+
+def run_agrees(rng, used, tables, element, body):
+    steps, at, past = rng.randint(1, 5), rng.randint(0, 3), rng.randint(0, 3)
+    points = []
+    for t in run_parameters(*body.range[:2], steps):
+        points += point_on_curve(used, tables, element, t)
+    table = [7] * (at + len(points) + past)
+    run = run_on_curve(used, tables, element, steps, table, at)
+    short = run_on_curve(used, tables, element, steps, table[:at + len(points) - 1], at)
+    return run == (len(points), [7] * at + points + [7] * past) and short == RefusedPoint(16)
+
+
+def check_one(rng, data, rooms):
+    """None, or what is wrong with the reader's answer to this text."""
+    answer = read(data, rooms)
+    if isinstance(answer, Refused):
+        if not 2 <= answer.number <= 14 or not 0 <= answer.place <= len(data):
+            return f"odd refusal {answer}"
+        if tidy(data, rooms, TEXT_LIMIT) != answer:
+            return "tidying refuses otherwise"
+        return None
+    used, tables = answer
+    if [len(numbers) for numbers in tables] != list(rooms):
+        return "a table's length changed"
+    tidied = tidy(data, rooms, TEXT_LIMIT)
+    text = tidied.text
+    again = read(text, rooms)
+    if isinstance(again, Refused):
+        return f"the tidy text is refused: {again}"
+    if agreement(data, used, tables) != agreement(text, *again):
+        return "the tidy text reads to other tables"
+    if tidy_text(text, *again) != text:
+        return "the tidy text of the tidy text differs"
+    if not isinstance(tidy(data, rooms, len(text)), Written):
+        return "a text that just fits is not written"
+    if text and tidy(data, rooms, len(text) - 1) != TooLong(used, tables):
+        return "a text that does not fit is written"
+    return check_bounds(rng, used, tables)
+
+
+def check_broken(rng, answer):
+    """Tables changed at random are answered, and what is not 15 is a point that
+    the exact value bounds."""
+    used, tables = answer.used, [list(numbers) for numbers in answer.tables]
+    if used.elements == 0:
+        return None
+    for _ in range(rng.choice((1, 1, 2))):
+        numbers = rng.choice([numbers for numbers in tables if any(numbers)])
+        at = rng.randrange(len(numbers))
+        numbers[at] = rng.choice((numbers[at] + 1, max(numbers[at] - 1, 0), 0, 1, 2, 5, 2**31 - 1))
+    for element in range(0, used.elements + 2):
+        point_on_curve(used, tables, element, 0)
+        point_on_surface(used, tables, element, 0, 0)
+        run_on_curve(used, tables, element, 2, [0] * 9, 0)
+    whole = all(obeys(used, tables, element) for element in range(1, used.elements + 1))
+    return check_bounds(rng, used, tables) if whole else None
+
+
+def check_seeded(tally, seed, count):
+    rng = random.Random(seed)
+    numbers = {}
+    for i, (data, rooms) in enumerate(cases(seed, count)):
+        wrong = check_one(rng, data, rooms)
+        tally.hold(f"seed {seed} case {i}", wrong, None)
+        answer = read(data, rooms)
+        if isinstance(answer, Read):
+            tally.hold(f"seed {seed} case {i} broken", check_broken(rng, answer), None)
+        number = answer.number if isinstance(answer, Refused) else 0
+        numbers[number] = numbers.get(number, 0) + 1
+    tally.hold("refusals met", sorted(numbers), [0, *range(2, 15)])
+    tally.hold("at least 40 % are read", numbers[0] * 10 >= count * 4, True)
+
+
+def check_valid(tally, seed, count):
+    """An undamaged text is read in just the room its maker counted, and is 14 in
+    one entry less."""
+    rng = random.Random(seed)
+    for i in range(count):
+        lines, needs = text(rng)
+        data = spelled(rng, lines)
+        tally.hold(f"valid {i}", isinstance(read(data, needs), Read), True)
+        needed = [table for table in TABLES if needs[table]]
+        if needed:
+            table = rng.choice(needed)
+            short = read(data, needs | {table: needs[table] - 1})
+            tally.hold(f"valid {i} short of {table}", short[0], 14)
+
+
+def check_examples(tally):
+    rng = random.Random(0)
+    rooms = [PROGRAM_ROOM] * len(TABLES)
+    for path in sorted(EXAMPLES.glob("*.obj")):
+        data = path.read_bytes()
+        tally.hold(f"{path.name} is read", isinstance(read(data, rooms), Read), True)
+        tally.hold(path.name, check_one(rng, data, rooms), None)
+        wanted = path.with_suffix(".tidy")
+        if wanted.exists():
+            tally.hold(wanted.name, tidy(data, rooms, 65_536).text, wanted.read_bytes())
+
+
+def main():
+    tally = Tally()
+    check_cases(tally)
+    check_size(tally)
+    check_points(tally)
+    check_examples(tally)
+    check_valid(tally, 2, SELF_CHECKS // 4)
+    check_seeded(tally, 1, SELF_CHECKS)
+    print(f"{tally.passed} passed, {tally.failed} failed")
+    return 1 if tally.failed else 0
+
+
+if __name__ == "__main__":
+    sys.exit(main())
