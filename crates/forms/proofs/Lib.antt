@@ -10,3 +10,4 @@ pub mod Pieces
 pub mod References
 pub mod Corners
 pub mod Patterns
+pub mod Wholes

@@ -9,7 +9,7 @@ use lib.IntN.{ℤ}
 use Rattle.text.specs.Words.{wordOf}
 use Rattle.forms.specs.Said.{Said, says, wrong, must}
 use Rattle.text.specs.Bytes.{isWord}
-use Rattle.forms.specs.Digits.{isDigit, digits, natOf, negative, unminus}
+use Rattle.forms.specs.Digits.{isDigit, digits, natOf, whole, negative, unminus}
 use Rattle.forms.specs.Reference.{isReference, item, refer}
 use Rattle.forms.specs.Corner.{Corner, formed}
 use Rattle.forms.specs.declared.reference.Part.{Part}
@@ -67,6 +67,10 @@ pointed n a u = must (digits u && leb 1 (n + length u)) 6 (says (natOf a (take 7
 
 abbrev pub settleOf : Bool → ℕ → Said ℤ
 settleOf minus t = inRange minus ((t + 5) / 10)
+
+-- 1 to k digits
+unfoldable pub rowOf : ℕ → List ℕ → Said ℕ
+rowOf k w = must (whole k w) 6 (says (natOf 0 w))
 
 -- ---- references and corners
 -- the bytes at the front that pass the test

@@ -1,5 +1,4 @@
 use crate::digits::byte_at;
-use crate::digits::is_word;
 use crate::digits::word_ends;
 use crate::reference::Part;
 use crate::reference::part_at;
@@ -105,7 +104,7 @@ fn texture_at(
             if b == 47 {
                 return normal_at(text, end + 1, both(v, number), v, number, nvn, normal);
             }
-            if is_word(b) {
+            if text::is_word(b) {
                 return CornerWord::Malformed;
             }
             made(both(v, number), v, number, 0, end)
@@ -133,7 +132,7 @@ pub fn corner_at(
             if b == 47 {
                 return texture_at(text, end + 1, number, nvt, nvn, texture, normal);
             }
-            if is_word(b) {
+            if text::is_word(b) {
                 return CornerWord::Malformed;
             }
             made(number != 0, number, 0, 0, end)
