@@ -1,11 +1,23 @@
 -- What each answer of the code means: the value and where its word ends, or 01's number of the refusal.
 use Prim.Native.Nat.{ℕ}
+use mathlib.Core.List.{List}
 use lib.IntN.{ℤ}
+use Rattle.forms.specs.Corner.{Corner}
 use Rattle.forms.specs.Said.{Said, says, wrong}
 use Rattle.forms.specs.declared.number.Number.{Number}
 use Rattle.forms.specs.declared.number.Number.the-variants.{Value, Malformed, OutOfRange}
 use Rattle.forms.specs.declared.number.Magnitude.{Magnitude}
 use Rattle.forms.specs.declared.number.Magnitude.the-variants.{Of, Bad}
+use Rattle.forms.specs.declared.reference.Reference.{Reference}
+use Rattle.forms.specs.declared.reference.Reference.the-variants as reference
+use Rattle.forms.specs.declared.corner.CornerWord.{CornerWord}
+use Rattle.forms.specs.declared.corner.CornerWord.the-variants as corner
+use Rattle.forms.specs.declared.whole.Whole.{Whole}
+use Rattle.forms.specs.declared.whole.Whole.the-variants as whole
+use Rattle.forms.specs.declared.whole.Row.{Row}
+use Rattle.forms.specs.declared.whole.Row.the-variants as row
+use Rattle.forms.specs.declared.name.Name.{Name}
+use Rattle.forms.specs.declared.name.Name.the-variants as name
 
 abbrev pub saidNumber : Number → Said (ℤ × ℕ)
 saidNumber (Value v e) = says (v, e)
@@ -16,3 +28,29 @@ saidNumber OutOfRange = wrong 7
 abbrev pub saidMagnitude : Magnitude → Said (ℕ × ℕ)
 saidMagnitude (Of m e) = says (m, e)
 saidMagnitude Bad = wrong 6
+
+abbrev pub saidReference : Reference → Said (ℕ × ℕ)
+saidReference (reference.Item k e) = says (k, e)
+saidReference reference.Malformed = wrong 6
+saidReference reference.Missing = wrong 8
+
+abbrev pub saidCorner : CornerWord → Said (Corner × ℕ)
+saidCorner (corner.Of v vt vn e) = says (record { v = v; vt = vt; vn = vn }, e)
+saidCorner corner.Malformed = wrong 6
+saidCorner corner.Missing = wrong 8
+
+-- of a degree and of a smoothing number
+abbrev pub saidWhole : Whole → Said (ℕ × ℕ)
+saidWhole (whole.Value n e) = says (n, e)
+saidWhole whole.Malformed = wrong 6
+saidWhole whole.OutOfRange = wrong 7
+
+-- of digits alone
+abbrev pub saidRow : Row → Said (ℕ × ℕ)
+saidRow (row.Of n e) = says (n, e)
+saidRow row.Malformed = wrong 6
+
+-- a name's bytes are those from its place on
+abbrev pub saidName : List ℕ → Name → Said (List ℕ × ℕ)
+saidName w (name.Of e) = says (w, e)
+saidName w name.Malformed = wrong 6

@@ -1,7 +1,6 @@
 ghost use mathlib.Core.Path.{_≡_};
 ghost use Prim.Native.Nat.{ℕ, _+_, _*_, _≤_, _<_};
 ghost use lib.ListN.{length, drop};
-ghost use Rattle.text.specs.Bytes.{isWord};
 ghost use Rattle.text.specs.Words.{wordOf};
 ghost use Rattle.forms.specs.Straight.{first, over, digitOf, cap, run, WholeRead};
 
@@ -22,23 +21,11 @@ pub fn byte_at(text: &[u8], at: usize) -> u8
     10
 }
 
-pub fn is_word(b: u8) -> bool
-    ensures { λ r. ⌜ r ≡ isWord b ⌝ }
-{
-    if b < 33 {
-        return false;
-    }
-    if 126 < b {
-        return false;
-    }
-    b != 92
-}
-
 // Whether the word ends at `at`.
 pub fn word_ends(text: &[u8], at: usize) -> bool
     ensures { λ r. ⌜ r ≡ over (wordOf (drop at (now (text .entry)))) ⌝ }
 {
-    if is_word(byte_at(text, at)) {
+    if text::is_word(byte_at(text, at)) {
         return false;
     }
     true

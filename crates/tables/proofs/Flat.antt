@@ -67,6 +67,12 @@ module _ {A R : Type 0} (f : R → List A) (w : ℕ) (wide : (r : R) → length 
       let m : w * suc i ≡ length (f r) + w * i = rw mul-suc (omega arith) in
       ap (λ (k : ℕ). take w (drop k (f r ++ flat f rs))) m ∙ ap (λ (t : List A). take w t) (drop-append-add (f r) (flat f rs) (w * i)) ∙ record-flat rs i none (omega arith)
 
+  pub getD-flat-append : (rs : List R) (ys : List A) (i k : ℕ) (none : R) (z : A) → i < length rs → k < w → getD (flat f rs ++ ys) (w * i + k) z ≡ getD (f (getD rs i none)) k z
+  getD-flat-append rs ys i k none z h l =
+      let e : length (flat f rs) ≡ w * length rs = length-flat rs in
+      let m : w * (i + 1) ≤ w * length rs = mul-le-mul-left w (omega arith) in
+      List·getD-append (flat f rs) ys z (w * i + k) (omega arith) ∙ getD-flat rs i k none z h l
+
   -- both in a lent table that holds the records
   pub getD-table : (n : ℕ) (z : A) (rs : List R) (i k : ℕ) (none : R) → i < length rs → k < w → getD (filled n z (flat f rs)) (w * i + k) z ≡ getD (f (getD rs i none)) k z
   getD-table n z rs i k none h l = getD-filled n z (flat f rs) (w * i + k) ∙ getD-flat rs i k none z h l

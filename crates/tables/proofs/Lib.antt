@@ -3,3 +3,4 @@ pub mod Stores
 pub mod Asked
 pub mod Filled
 pub mod Flat
+pub mod Examples

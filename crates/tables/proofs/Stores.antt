@@ -1,12 +1,11 @@
 -- A put's stores at `at`, `at + 1`, .. are one `sets`, over the element type and the width; and what a put's answer says to its caller.
-use Prim.Native.Nat.{ℕ, zero, suc, _+_, _^_, _≤_, _<_}
+use Prim.Native.Nat.{ℕ, suc, _+_, _^_, _≤_, _<_}
 use mathlib.Core.Path.{_≡_, refl, sym, ap, _∙_}
-use mathlib.Core.List.{List, [], _∷_, _++_}
-use mathlib.Core.Bool.{Bool, true, false, cond}
+use mathlib.Core.List.{List, [], _∷_}
+use mathlib.Core.Bool.{true, false}
 use native.Mathlib.Nat.{add-suc}
 use native.Mathlib.Numerals.{add-one}
-use native.Mathlib.Omega.{arith}
-use borrow.Author.Tests.{le-leb, lt-leb, leb-true}
+use borrow.Author.Tests.{le-leb, lt-leb}
 use lib.Dec.{leb}
 use lib.IntN.{ℤ}
 use lib.ListN.{length, set}
@@ -34,3 +33,7 @@ module _ {A : Type 0} where
 
   pub put-refused : (l : List A) (at w : ℕ) → length l < at + w → (false ≡ leb (at + w) (length l)) × (l ≡ l)
   put-refused l at w h = (sym (lt-leb (at + w) (length l) h), refl)
+
+-- a signed number that a call gave, as it is handed on to a put
+pub passed : {z z′ : ℤ} → mag z < 2 ^ 31 → z ≡ z′ → toZ w32 (ofZ w32 z) ≡ z′
+passed h e = toZ-ofZ (record { sfits = h }) ∙ e

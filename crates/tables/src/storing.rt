@@ -9,22 +9,22 @@ ghost use lib.ListN.{length, replicate};
 ghost use lib.Seq.{sets};
 ghost use Rattle.tables.specs.Tables.{tables, zeros};
 
-pub fn clear_i32(t: &mut [i32])
-    ensures { λ r. ⌜ now (t .exit) ≡ replicate (length (now (t .entry))) (pos 0) ⌝ }
+pub fn clear_i32(values: &mut [i32])
+    ensures { λ r. ⌜ now (values .exit) ≡ replicate (length (now (values .entry))) (pos 0) ⌝ }
 {
     let mut i: usize = 0;
-    while i < t.len() {
-        t[i] = 0;
+    while i < values.len() {
+        values[i] = 0;
         i += 1;
     }
 }
 
-pub fn clear_u32(t: &mut [u32])
-    ensures { λ r. ⌜ now (t .exit) ≡ replicate (length (now (t .entry))) 0 ⌝ }
+pub fn clear_u32(numbers: &mut [u32])
+    ensures { λ r. ⌜ now (numbers .exit) ≡ replicate (length (now (numbers .entry))) 0 ⌝ }
 {
     let mut i: usize = 0;
-    while i < t.len() {
-        t[i] = 0;
+    while i < numbers.len() {
+        numbers[i] = 0;
         i += 1;
     }
 }

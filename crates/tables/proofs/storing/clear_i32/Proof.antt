@@ -9,19 +9,19 @@ use Rattle.tables.proofs.storing.clear_i32.Statement.{statement}
 use Rattle.tables.proofs.storing.clear_i32.Tie as tie
 
 abbrev Inv-loop : tie.InvT-loop
-Inv-loop t₀ i₀ t i = Cleared (pos 0) t₀ t i
+Inv-loop values₀ i₀ values i = Cleared (pos 0) values₀ values i
 
 abbrev μ-loop : tie.MeasureT-loop
-μ-loop t₀ i₀ t i = length t₀ - i
+μ-loop values₀ i₀ values i = length values₀ - i
 
 loop-holds : tie.Need-loop-holds Inv-loop μ-loop
-loop-holds c = cleared-none (pos 0) (now (c .args .t))
+loop-holds c = cleared-none (pos 0) (now (c .args .values))
 
-mul-t : tie.Need-mul-t Inv-loop μ-loop
-mul-t c = search needs
+mul-values : tie.Need-mul-values Inv-loop μ-loop
+mul-values c = search needs
 
-slice-set-of-t : tie.Need-slice-set-of-t Inv-loop μ-loop
-slice-set-of-t c = search needs
+slice-set-of-values : tie.Need-slice-set-of-values Inv-loop μ-loop
+slice-set-of-values c = search needs
 
 add-i : tie.Need-add-i Inv-loop μ-loop
 add-i c = search needs
@@ -45,8 +45,8 @@ clear-i32-spec =
     Inv-loop
     μ-loop
     loop-holds
-    mul-t
-    slice-set-of-t
+    mul-values
+    slice-set-of-values
     add-i
     loop-less
     loop-again

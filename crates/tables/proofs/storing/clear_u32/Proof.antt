@@ -8,19 +8,19 @@ use Rattle.tables.proofs.storing.clear_u32.Statement.{statement}
 use Rattle.tables.proofs.storing.clear_u32.Tie as tie
 
 abbrev Inv-loop : tie.InvT-loop
-Inv-loop t₀ i₀ t i = Cleared 0 t₀ t i
+Inv-loop numbers₀ i₀ numbers i = Cleared 0 numbers₀ numbers i
 
 abbrev μ-loop : tie.MeasureT-loop
-μ-loop t₀ i₀ t i = length t₀ - i
+μ-loop numbers₀ i₀ numbers i = length numbers₀ - i
 
 loop-holds : tie.Need-loop-holds Inv-loop μ-loop
-loop-holds c = cleared-none 0 (now (c .args .t))
+loop-holds c = cleared-none 0 (now (c .args .numbers))
 
-mul-t : tie.Need-mul-t Inv-loop μ-loop
-mul-t c = search needs
+mul-numbers : tie.Need-mul-numbers Inv-loop μ-loop
+mul-numbers c = search needs
 
-slice-write-t : tie.Need-slice-write-t Inv-loop μ-loop
-slice-write-t c = search needs
+slice-write-numbers : tie.Need-slice-write-numbers Inv-loop μ-loop
+slice-write-numbers c = search needs
 
 add-i : tie.Need-add-i Inv-loop μ-loop
 add-i c = search needs
@@ -44,8 +44,8 @@ clear-u32-spec =
     Inv-loop
     μ-loop
     loop-holds
-    mul-t
-    slice-write-t
+    mul-numbers
+    slice-write-numbers
     add-i
     loop-less
     loop-again

@@ -1,8 +1,7 @@
 -- The store is one `sets`, and the two tests are one on the lent length.
-use mathlib.Core.List.{[], _∷_}
+use mathlib.Core.List.{[]}
 use native.Mathlib.Omega.{arith}
 use borrow.Author.Needs.{needs}
-use lib.ListN.{length-set}
 use mir.Facts.{toZ-ofZ}
 use denote.Ref.{now}
 use Rattle.tables.proofs.Stores.{put-stored, put-refused}
