@@ -113,7 +113,7 @@ module _ (R : Rooms) (m : Model) (n : Names) (f : Form) where
       let t : Tables = imageOf R (state m n f none) in
       3 * c + 3 * length cs ≤ R .corners → 9 * length (m .elements) + 9 ≤ R .elements
       → withElement (sets (t .corners) (3 * c) (flat cornerRow cs)) (sets (t .elements) (9 * length (m .elements)) (elementRow (3 * c) b e)) t
-        ≡ imageOf R (apply (element k cs) (state m n f none))
+      ≡ imageOf R (apply (element k cs) (state m n f none))
   unfolding imageOf
   element-image k cs h i =
       let e : Element = record { kind = plain k; corners = cs; names = n } in
@@ -123,9 +123,9 @@ module _ (R : Rooms) (m : Model) (n : Names) (f : Form) where
       let bq : bodiesOf (es ++ e ∷ []) ≡ bodiesOf es = flat-append (λ e. bodyOf (e .kind)) es (e ∷ []) ∙ append-nil (bodiesOf es) in
       let t : Tables = imageOf R (state m n f none) in
       let c1 : sets (t .corners) (3 * summed (λ e. length (e .corners)) es) (flat cornerRow cs) ≡ filled (R .corners) 0 (flat cornerRows ((es ++ e ∷ []) ++ [])) =
-            rw (q, q′) (corners-stored (R .corners) es e h) in
+      rw (q, q′) (corners-stored (R .corners) es e h) in
       let e1 : sets (t .elements) (9 * length es) (elementRow (3 * summed (λ e. length (e .corners)) es) (summed (λ e. ofKind (λ b. 1) (e .kind)) es) e) ≡ filled (R .elements) 0 (elementRows 0 0 ((es ++ e ∷ []) ++ [])) =
-            rw (q, q′) (element-stored (R .elements) es e i) in
+      rw (q, q′) (element-stored (R .elements) es e i) in
       rw (c1, e1, bq) refl
 
   -- the element and the controls of curv, curv2, surf, with its range as r
@@ -138,7 +138,7 @@ module _ (R : Rooms) (m : Model) (n : Names) (f : Form) where
       b .loops ≡ [] → r ≡ filled (R .ranges) (pos 0) (flat rangeRow (bodiesOf (m .elements) ++ b ∷ []))
       → 3 * c + 3 * length cs ≤ R .corners → 9 * length (m .elements) + 9 ≤ R .elements
       → withRange r (withElement (sets (t .corners) (3 * c) (flat cornerRow cs)) (sets (t .elements) (9 * length (m .elements)) (elementRow (3 * c) k e)) t)
-        ≡ imageOf R (apply (body b cs) (state m n f none))
+      ≡ imageOf R (apply (body b cs) (state m n f none))
   unfolding imageOf
   body-image b cs r nl rr h i =
       let e : Element = record { kind = free b; corners = cs; names = n } in
@@ -148,13 +148,13 @@ module _ (R : Rooms) (m : Model) (n : Names) (f : Form) where
       let p : bs ++ [] ≡ bs = append-nil bs in
       let t : Tables = imageOf R (state m n f none) in
       let c1 : sets (t .corners) (3 * summed (λ e. length (e .corners)) es) (flat cornerRow cs) ≡ filled (R .corners) 0 (flat cornerRows (es ++ e ∷ [])) =
-            rw q (corners-stored (R .corners) es e h) in
+      rw q (corners-stored (R .corners) es e h) in
       let e1 : sets (t .elements) (9 * length es) (elementRow (3 * summed (λ e. length (e .corners)) es) (summed (λ e. ofKind (λ b. 1) (e .kind)) es) e) ≡ filled (R .elements) 0 (elementRows 0 0 (es ++ e ∷ [])) =
-            rw q (element-stored (R .elements) es e i) in
+      rw q (element-stored (R .elements) es e i) in
       let l1 : flat loopRows (bs ++ b ∷ []) ≡ flat loopRows (bs ++ []) =
-            flat-append loopRows bs (b ∷ []) ∙ ap (λ (x : List Loop). flat loopRows bs ++ (flat loopRow x ++ [])) nl ∙ append-nil (flat loopRows bs) ∙ ap (flat loopRows) (sym p) in
+      flat-append loopRows bs (b ∷ []) ∙ ap (λ (x : List Loop). flat loopRows bs ++ (flat loopRow x ++ [])) nl ∙ append-nil (flat loopRows bs) ∙ ap (flat loopRows) (sym p) in
       let s1 : flat spanRows (bs ++ b ∷ []) ≡ flat spanRows (bs ++ []) =
-            flat-append spanRows bs (b ∷ []) ∙ ap (λ (x : List Loop). flat spanRows bs ++ (flat (λ l. flat spanRow (l .parts)) x ++ [])) nl ∙ append-nil (flat spanRows bs) ∙ ap (flat spanRows) (sym p) in
+      flat-append spanRows bs (b ∷ []) ∙ ap (λ (x : List Loop). flat spanRows bs ++ (flat (λ l. flat spanRow (l .parts)) x ++ [])) nl ∙ append-nil (flat spanRows bs) ∙ ap (flat spanRows) (sym p) in
       rw (c1, e1, rr, l1, s1) refl
 
   -- a body in the place of another that has the same rows in mid-text
@@ -170,7 +170,7 @@ module _ (R : Rooms) (m : Model) (n : Names) (f : Form) where
       let k : ℕ = 0 + summed (λ e. ofKind (λ x. 1) (e .kind)) es in
       let row : elementRow c k e′ ≡ elementRow c k e = ap (λ (x : Free). freeNumber x ∷ c ∷ length (o .controls) ∷ suc k ∷ o .names .smoothing ∷ runOf (o .names .group) .place ∷ runOf (o .names .group) .length ∷ runOf (listed (o .names .material)) .place ∷ runOf (listed (o .names .material)) .length ∷ []) fe in
       let er : elementRows 0 0 (es ++ e′ ∷ []) ≡ elementRows 0 0 (es ++ e ∷ []) =
-            elementRows-append 0 0 es (e′ ∷ []) ∙ ap (λ (r : List ℕ). elementRows 0 0 es ++ (r ++ [])) row ∙ sym (elementRows-append 0 0 es (e ∷ [])) in
+      elementRows-append 0 0 es (e′ ∷ []) ∙ ap (λ (r : List ℕ). elementRows 0 0 es ++ (r ++ [])) row ∙ sym (elementRows-append 0 0 es (e ∷ [])) in
       let cr : flat cornerRows (es ++ e′ ∷ []) ≡ flat cornerRows (es ++ e ∷ []) = flat-append cornerRows es (e′ ∷ []) ∙ sym (flat-append cornerRows es (e ∷ [])) in
       let rr : flat rangeRow (bs ++ b ∷ []) ≡ flat rangeRow (bs ++ o .body ∷ []) = flat-append rangeRow bs (b ∷ []) ∙ ap (λ (r : List ℤ). flat rangeRow bs ++ (r ++ [])) re ∙ sym (flat-append rangeRow bs (o .body ∷ [])) in
       let lr : flat loopRows (bs ++ b ∷ []) ≡ flat loopRows (bs ++ o .body ∷ []) = flat-append loopRows bs (b ∷ []) ∙ ap (λ (r : List ℕ). flat loopRows bs ++ (r ++ [])) le ∙ sym (flat-append loopRows bs (o .body ∷ [])) in
@@ -204,21 +204,21 @@ module _ (R : Rooms) (m : Model) (n : Names) (f : Form) where
       let sw : length (flat spanRow (l .parts)) ≡ 2 * length (l .parts) = spans-length (l .parts) in
       let lb : flat loopRow (b .loops ++ l ∷ []) ≡ flat loopRow (b .loops) ++ loopRow l = flat-append loopRow (b .loops) (l ∷ []) ∙ ap (λ (r : List ℕ). flat loopRow (b .loops) ++ r) (append-nil (loopRow l)) in
       let sb : flat (λ l. flat spanRow (l .parts)) (b .loops ++ l ∷ []) ≡ flat (λ l. flat spanRow (l .parts)) (b .loops) ++ flat spanRow (l .parts) =
-            flat-append (λ l. flat spanRow (l .parts)) (b .loops) (l ∷ []) ∙ ap (λ (r : List ℤ). flat (λ l. flat spanRow (l .parts)) (b .loops) ++ r) (append-nil (flat spanRow (l .parts))) in
+      flat-append (λ l. flat spanRow (l .parts)) (b .loops) (l ∷ []) ∙ ap (λ (r : List ℤ). flat (λ l. flat spanRow (l .parts)) (b .loops) ++ r) (append-nil (flat spanRow (l .parts))) in
       let la : flat loopRows (bs ++ b ∷ []) ++ loopRow l ≡ flat loopRows (bs ++ b′ ∷ []) =
-            ap (λ (r : List ℕ). r ++ loopRow l) (flat-append loopRows bs (b ∷ []) ∙ ap (λ (r : List ℕ). flat loopRows bs ++ r) (append-nil (loopRows b)))
-            ∙ append-assoc (flat loopRows bs) (loopRows b) (loopRow l)
-            ∙ ap (λ (r : List ℕ). flat loopRows bs ++ r) (sym lb ∙ sym (append-nil (loopRows b′)))
-            ∙ sym (flat-append loopRows bs (b′ ∷ [])) in
+      ap (λ (r : List ℕ). r ++ loopRow l) (flat-append loopRows bs (b ∷ []) ∙ ap (λ (r : List ℕ). flat loopRows bs ++ r) (append-nil (loopRows b)))
+      ∙ append-assoc (flat loopRows bs) (loopRows b) (loopRow l)
+      ∙ ap (λ (r : List ℕ). flat loopRows bs ++ r) (sym lb ∙ sym (append-nil (loopRows b′)))
+      ∙ sym (flat-append loopRows bs (b′ ∷ [])) in
       let sa : flat spanRows (bs ++ b ∷ []) ++ flat spanRow (l .parts) ≡ flat spanRows (bs ++ b′ ∷ []) =
-            ap (λ (r : List ℤ). r ++ flat spanRow (l .parts)) (flat-append spanRows bs (b ∷ []) ∙ ap (λ (r : List ℤ). flat spanRows bs ++ r) (append-nil (spanRows b)))
-            ∙ append-assoc (flat spanRows bs) (spanRows b) (flat spanRow (l .parts))
-            ∙ ap (λ (r : List ℤ). flat spanRows bs ++ r) (sym sb ∙ sym (append-nil (spanRows b′)))
-            ∙ sym (flat-append spanRows bs (b′ ∷ [])) in
+      ap (λ (r : List ℤ). r ++ flat spanRow (l .parts)) (flat-append spanRows bs (b ∷ []) ∙ ap (λ (r : List ℤ). flat spanRows bs ++ r) (append-nil (spanRows b)))
+      ∙ append-assoc (flat spanRows bs) (spanRows b) (flat spanRow (l .parts))
+      ∙ ap (λ (r : List ℤ). flat spanRows bs ++ r) (sym sb ∙ sym (append-nil (spanRows b′)))
+      ∙ sym (flat-append spanRows bs (b′ ∷ [])) in
       let l1 : sets (filled (R .loops) 0 (flat loopRows (bs ++ b ∷ []))) (2 * c) (loopRow l) ≡ filled (R .loops) 0 (flat loopRows (bs ++ b′ ∷ [])) =
-            stored-at (R .loops) 0 (flat loopRows (bs ++ b ∷ [])) (loopRow l) (2 * c) ll (omega arith) ∙ ap (λ (r : List ℕ). filled (R .loops) 0 r) la in
+      stored-at (R .loops) 0 (flat loopRows (bs ++ b ∷ [])) (loopRow l) (2 * c) ll (omega arith) ∙ ap (λ (r : List ℕ). filled (R .loops) 0 r) la in
       let s1 : sets (filled (R .spans) (pos 0) (flat spanRows (bs ++ b ∷ []))) (2 * c) (flat spanRow (l .parts)) ≡ filled (R .spans) (pos 0) (flat spanRows (bs ++ b′ ∷ [])) =
-            stored-at (R .spans) (pos 0) (flat spanRows (bs ++ b ∷ [])) (flat spanRow (l .parts)) (2 * c) sl (omega arith) ∙ ap (λ (r : List ℤ). filled (R .spans) (pos 0) r) sa in
+      stored-at (R .spans) (pos 0) (flat spanRows (bs ++ b ∷ [])) (flat spanRow (l .parts)) (2 * c) sl (omega arith) ∙ ap (λ (r : List ℤ). filled (R .spans) (pos 0) r) sa in
       let er : elementRows 0 0 (es ++ e ∷ []) ≡ elementRows 0 0 (es ++ e′ ∷ []) = elementRows-append 0 0 es (e ∷ []) ∙ sym (elementRows-append 0 0 es (e′ ∷ [])) in
       let cr : flat cornerRows (es ++ e ∷ []) ≡ flat cornerRows (es ++ e′ ∷ []) = flat-append cornerRows es (e ∷ []) ∙ sym (flat-append cornerRows es (e′ ∷ [])) in
       let rr : flat rangeRow (bs ++ b ∷ []) ≡ flat rangeRow (bs ++ b′ ∷ []) = flat-append rangeRow bs (b ∷ []) ∙ sym (flat-append rangeRow bs (b′ ∷ [])) in

@@ -103,8 +103,8 @@ elementRows-append c b (e ∷ es) fs =
     ap (λ (l : List ℕ). elementRow c b e ++ l) (elementRows-append (c + cornerWidth * length (e .corners)) (b + n) es fs)
     ∙ sym (append-assoc (elementRow c b e) (elementRows (c + cornerWidth * length (e .corners)) (b + n) es) _)
     ∙ ap₂ (λ (i j : ℕ). (elementRow c b e ++ elementRows (c + cornerWidth * length (e .corners)) (b + n) es) ++ elementRows i j fs)
-      (let q : c + 3 * length (e .corners) + 3 * k ≡ c + 3 * (length (e .corners) + k) = omega arith in q)
-      (let q : b + n + m ≡ b + (n + m) = omega arith in q)
+    (let q : c + 3 * length (e .corners) + 3 * k ≡ c + 3 * (length (e .corners) + k) = omega arith in q)
+    (let q : b + n + m ≡ b + (n + m) = omega arith in q)
 
 pub bodyRows-append : (p l : ℕ) (bs cs : List Body) →
     bodyRows p l (bs ++ cs) ≡ bodyRows p l bs ++ bodyRows (p + summed (λ b. length (b .us) + length (b .vs)) bs) (l + summed partCount bs) cs
@@ -116,8 +116,8 @@ bodyRows-append p l (b ∷ bs) cs =
     ap (λ (r : List ℕ). bodyRow p l b ++ r) (bodyRows-append (p + n) (l + partCount b) bs cs)
     ∙ sym (append-assoc (bodyRow p l b) (bodyRows (p + n) (l + partCount b) bs) _)
     ∙ ap₂ (λ (i j : ℕ). (bodyRow p l b ++ bodyRows (p + n) (l + partCount b) bs) ++ bodyRows i j cs)
-      (let q : p + n + k ≡ p + (n + k) = omega arith in q)
-      (let q : l + partCount b + m ≡ l + (partCount b + m) = omega arith in q)
+    (let q : p + n + k ≡ p + (n + k) = omega arith in q)
+    (let q : l + partCount b + m ≡ l + (partCount b + m) = omega arith in q)
 
 -- ---- the bodies of elements, counted in the elements
 pub bodies-append : (es fs : List Element) → bodiesOf (es ++ fs) ≡ bodiesOf es ++ bodiesOf fs

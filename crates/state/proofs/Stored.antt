@@ -50,29 +50,29 @@ module _ (n : ℕ) (es : List Element) (e : Element) where
 
   pub element-stored : 9 * length es + 9 ≤ n
       → sets (filled n 0 (elementRows 0 0 es)) (9 * length es) (elementRow (3 * summed (λ e. length (e .corners)) es) (summed (λ e. ofKind (λ b. 1) (e .kind)) es) e)
-        ≡ filled n 0 (elementRows 0 0 (es ++ e ∷ []))
+      ≡ filled n 0 (elementRows 0 0 (es ++ e ∷ []))
   element-stored h =
       let c : ℕ = 3 * summed (λ e. length (e .corners)) es in
       let b : ℕ = summed (λ e. ofKind (λ b. 1) (e .kind)) es in
       stored-at n 0 (elementRows 0 0 es) (elementRow c b e) (9 * length es) (sym (elementRows-length 0 0 es)) h
       ∙ ap (λ (l : List ℕ). filled n 0 l)
-        (sym (elementRows-append 0 0 es (e ∷ [])
-        ∙ ap (λ (l : List ℕ). elementRows 0 0 es ++ l)
-          (append-nil (elementRow (0 + c) (0 + b) e) ∙ ap₂ (λ (i j : ℕ). elementRow i j e) (let q : 0 + c ≡ c = omega arith in q) (let q : 0 + b ≡ b = omega arith in q))))
+      (sym (elementRows-append 0 0 es (e ∷ [])
+      ∙ ap (λ (l : List ℕ). elementRows 0 0 es ++ l)
+      (append-nil (elementRow (0 + c) (0 + b) e) ∙ ap₂ (λ (i j : ℕ). elementRow i j e) (let q : 0 + c ≡ c = omega arith in q) (let q : 0 + b ≡ b = omega arith in q))))
 
 -- ---- bodies
 module _ (n : ℕ) (bs : List Body) (b : Body) where
   pub body-stored : 9 * length bs + 9 ≤ n
       → sets (filled n 0 (bodyRows 0 0 bs)) (9 * length bs) (bodyRow (summed (λ b. length (b .us) + length (b .vs)) bs) (summed partCount bs) b)
-        ≡ filled n 0 (bodyRows 0 0 (bs ++ b ∷ []))
+      ≡ filled n 0 (bodyRows 0 0 (bs ++ b ∷ []))
   body-stored h =
       let p : ℕ = summed (λ b. length (b .us) + length (b .vs)) bs in
       let l : ℕ = summed partCount bs in
       stored-at n 0 (bodyRows 0 0 bs) (bodyRow p l b) (9 * length bs) (sym (bodyRows-length 0 0 bs)) h
       ∙ ap (λ (r : List ℕ). filled n 0 r)
-        (sym (bodyRows-append 0 0 bs (b ∷ [])
-        ∙ ap (λ (r : List ℕ). bodyRows 0 0 bs ++ r)
-          (append-nil (bodyRow (0 + p) (0 + l) b) ∙ ap₂ (λ (i j : ℕ). bodyRow i j b) (let q : 0 + p ≡ p = omega arith in q) (let q : 0 + l ≡ l = omega arith in q))))
+      (sym (bodyRows-append 0 0 bs (b ∷ [])
+      ∙ ap (λ (r : List ℕ). bodyRows 0 0 bs ++ r)
+      (append-nil (bodyRow (0 + p) (0 + l) b) ∙ ap₂ (λ (i j : ℕ). bodyRow i j b) (let q : 0 + p ≡ p = omega arith in q) (let q : 0 + l ≡ l = omega arith in q))))
 
   pub range-stored : 4 * length bs + 4 ≤ n → sets (filled n (pos 0) (flat rangeRow bs)) (4 * length bs) (rangeRow b) ≡ filled n (pos 0) (flat rangeRow (bs ++ b ∷ []))
   range-stored h = flat-stored n (pos 0) rangeRow bs b (4 * length bs) (sym (rangeRows-length bs)) h
@@ -87,9 +87,9 @@ module _ (n : ℕ) (bs : List Body) (b : Body) where
       stored-at n (pos 0) (flat rangeRow bs) two (4 * length bs) (sym l) (omega arith)
       ∙ zeros-there n (pos 0) (flat rangeRow bs ++ two) 2 (omega arith)
       ∙ ap (λ (r : List ℤ). filled n (pos 0) r)
-        (append-assoc (flat rangeRow bs) two (pos 0 ∷ pos 0 ∷ [])
-        ∙ ap₂ (λ (i j : ℤ). flat rangeRow bs ++ (b .start-u ∷ b .end-u ∷ i ∷ j ∷ [])) (sym s) (sym e)
-        ∙ sym (flat-append rangeRow bs (b ∷ [])))
+      (append-assoc (flat rangeRow bs) two (pos 0 ∷ pos 0 ∷ [])
+      ∙ ap₂ (λ (i j : ℤ). flat rangeRow bs ++ (b .start-u ∷ b .end-u ∷ i ∷ j ∷ [])) (sym s) (sym e)
+      ∙ sym (flat-append rangeRow bs (b ∷ [])))
 
   pub no-range-stored : b .start-u ≡ pos 0 → b .end-u ≡ pos 0 → b .start-v ≡ pos 0 → b .end-v ≡ pos 0 → 4 * length bs + 4 ≤ n
       → filled n (pos 0) (flat rangeRow bs) ≡ filled n (pos 0) (flat rangeRow (bs ++ b ∷ []))
