@@ -1,1 +1,5 @@
 pub mod Walking
+pub mod Closed
+pub mod Rows
+pub mod Taking
+pub mod Parse

@@ -56,9 +56,49 @@ pub fn numbers_into(text: &[u8], at: usize, most: usize, table: &mut [i32], firs
     Numbers::Full { end: i }
 }
 
+// A line of numbers alone, as many as it may have.
 pub enum Row {
     Whole { count: usize, next: usize },
     Not,
+}
+
+// From `least` to `most` numbers and nothing else from `at` on, stored from entry `first` on.
+fn row_into(
+    text: &[u8],
+    at: usize,
+    least: usize,
+    most: usize,
+    table: &mut [i32],
+    first: usize,
+) -> Row
+    requires { ⌜ at ≤ length (now text) ⌝ }
+    ensures { λ r. ⌜ rowIs least most (now (text .entry)) at first (now (table .entry)) (now (table .exit)) r ⌝ }
+{
+    match numbers_into(text, at, most, table, first) {
+        Numbers::Ended { count, next } => {
+            if count < least {
+                return Row::Not;
+            }
+            Row::Whole {
+                count: count,
+                next: next,
+            }
+        }
+        Numbers::Full { end } => {
+            if most < least {
+                return Row::Not;
+            }
+            match text::gap(text, end) {
+                Met::Start(_) => Row::Not,
+                Met::End(q) => Row::Whole {
+                    count: most,
+                    next: q,
+                },
+                Met::Bad(_) => Row::Not,
+            }
+        }
+        Numbers::Stopped => Row::Not,
+    }
 }
 
 pub enum Kind {
@@ -68,6 +108,7 @@ pub enum Kind {
     Parametric,
 }
 
+// How many numbers a line of a kind has, and where they stand in the record.
 pub struct Shape {
     pub least: usize,
     pub most: usize,
@@ -75,7 +116,71 @@ pub struct Shape {
     pub lead: usize,
 }
 
+fn shape_of(kind: Kind) -> Shape
+    ensures { λ r. ⌜ r ≡ shapeOf (kindOf kind) ⌝ }
+{
+    match kind {
+        Kind::Geometric => Shape {
+            least: 3,
+            most: 4,
+            width: 4,
+            lead: 0,
+        },
+        Kind::Texture => Shape {
+            least: 1,
+            most: 3,
+            width: 3,
+            lead: 0,
+        },
+        Kind::Normal => Shape {
+            least: 3,
+            most: 3,
+            width: 3,
+            lead: 0,
+        },
+        Kind::Parametric => Shape {
+            least: 1,
+            most: 3,
+            width: 4,
+            lead: 1,
+        },
+    }
+}
+
+// The record as it is before the line's numbers: what is absent has its default.
+fn put_blank(table: &mut [i32], at: usize, width: usize) -> bool
+    ensures { λ r. ⌜ r ≡ leb (at + length (blank width)) (length (now (table .entry))) ⌝ }
+    ensures { λ r. ⌜ now (table .exit) ≡ cond r (sets (now (table .entry)) at (blank width)) (now (table .entry)) ⌝ }
+{
+    if width == 4 {
+        return tables::storing::put4_i32(table, at, 0, 0, 0, 1_000_000);
+    }
+    tables::storing::put3_i32(table, at, 0, 0, 0)
+}
+
 pub enum Vertex {
     Taken { next: usize },
     GaveUp,
+}
+
+// A line of v, vt, vn or vp from just after its keyword on, into its table, of which `used` records are used.
+pub fn take_vertex(kind: Kind, text: &[u8], at: usize, used: u32, table: &mut [i32]) -> Vertex
+    requires { ⌜ at ≤ length (now text) ⌝ }
+    ensures { λ r. ⌜ vertexIs (kindOf kind) (now (text .entry)) at used (now (table .entry)) (now (table .exit)) r ⌝ }
+{
+    let shape = shape_of(kind);
+    let first = shape.width * (used as usize);
+    if !put_blank(table, first, shape.width) {
+        return Vertex::GaveUp;
+    }
+    match row_into(text, at, shape.least, shape.most, table, first + shape.lead) {
+        Row::Whole { count, next } => {
+            if shape.lead == 0 {
+                return Vertex::Taken { next: next };
+            }
+            table[first] = count as i32;
+            Vertex::Taken { next: next }
+        }
+        Row::Not => Vertex::GaveUp,
+    }
 }
