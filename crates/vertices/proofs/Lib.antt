@@ -3,3 +3,4 @@ pub mod Closed
 pub mod Rows
 pub mod Taking
 pub mod Parse
+pub mod Examples

@@ -50,7 +50,7 @@ module _ (least most : ℕ) (s : List ℕ) (at first : ℕ) (l m : List ℤ) whe
     pub row-ended : least ≤ n → WholeRow least most s at first l m n q
     row-ended k =
         let c = h .counted in
-        record { found = h .found; said = some-row least most (restAt s at) (h .found) q (ap closed (h .walked)) (omega arith); counted = c; stored = h .stored }
+        record { found = h .found; said = some-row least most (restAt s at) (h .found) q (ap closed (h .walked)) (omega arith); counted = c; room = h .room; stored = h .stored }
 
     pub row-few : n < least → NoRow least most s at first l m
     row-few k =
@@ -103,6 +103,7 @@ module _ (least most : ℕ) (s : List ℕ) (at first : ℕ) (l m : List ℤ) whe
           found = h .found;
           said = some-row least most (restAt s at) (h .found) q (here ∙ ap (λ (r : Rest). closed (full (h .found) r)) (g .rest)) (omega arith);
           counted = sym c;
+          room = h .room;
           stored = h .stored;
         }
 

@@ -16,8 +16,8 @@ use Rattle.text.specs.Rest.{Rest, restAt}
 use Rattle.model.specs.Model.{VertexKind, geometric, texture, normal, parametric}
 use Rattle.model.specs.Parse.{defaults, recordOf}
 use Rattle.vertices.specs.Into.{rowSaid, WholeRow, NoRow}
-use Rattle.vertices.specs.Vertex.{least, most, width, lead, shapeOf, recorded, vertexSaid, TakenVertex, NoVertex, blank}
-use Rattle.vertices.specs.declared.Shape.{Shape}
+use Rattle.vertices.specs.Vertex.{least, most, width, lead, layoutOf, recorded, vertexSaid, TakenVertex, NoVertex, blank}
+use Rattle.vertices.specs.declared.Layout.{Layout}
 use Rattle.vertices.proofs.Closed.{nothing, closed-some, row-some}
 
 -- ---- stores over stores
@@ -77,18 +77,18 @@ module _ (l : List ℤ) (first : ℕ) (zs : List ℤ) where
       ∙ ap (λ (y : List ℤ). sets y (suc first) (zs ++ drop (length zs) ds)) (set-set l first (pos 0) x)
       ∙ ap (λ (y : ℤ). sets l first (y ∷ zs ++ drop (length zs) ds)) f
 
-pub record Row (k : VertexKind) (r : Rest) (z : List ℤ) (q : ℕ) : Type 0 where
+pub record VertexRow (k : VertexKind) (r : Rest) (z : List ℤ) (q : ℕ) : Type 0 where
   pub numbers : List ℤ
   pub whole : z ≡ recordOf k numbers
   pub said : rowSaid (least k) (most k) r ≡ some (numbers, q)
 
-row-of : (k : VertexKind) (o : Option (List ℤ × ℕ)) (z : List ℤ) (q : ℕ) (r : Rest) → rowSaid (least k) (most k) r ≡ o → recorded k o ≡ some (z, q) → Row k r z q
+row-of : (k : VertexKind) (o : Option (List ℤ × ℕ)) (z : List ℤ) (q : ℕ) (r : Rest) → rowSaid (least k) (most k) r ≡ o → recorded k o ≡ some (z, q) → VertexRow k r z q
 row-of k none z q r h e = nothing e
 row-of k (some p) z q r h e =
     let f : _≡_ {A = List ℤ × ℕ} (recordOf k (p .0), p .1) (z, q) = cc in
     record { numbers = p .0; whole = sym (ap (λ (x : List ℤ × ℕ). x .0) f); said = h ∙ ap (λ (n : ℕ). some (p .0, n)) (ap (λ (x : List ℤ × ℕ). x .1) f) }
 
-pub vertex-row : (k : VertexKind) (r : Rest) (z : List ℤ) (q : ℕ) → vertexSaid k r ≡ some (z, q) → Row k r z q
+pub vertex-row : (k : VertexKind) (r : Rest) (z : List ℤ) (q : ℕ) → vertexSaid k r ≡ some (z, q) → VertexRow k r z q
 vertex-row k r z q e = row-of k (rowSaid (least k) (most k) r) z q r refl e
 
 pub row-short : (k : VertexKind) (r : Rest) (zs : List ℤ) (q : ℕ) → rowSaid (least k) (most k) r ≡ some (zs, q) → length zs ≤ most k
@@ -98,13 +98,13 @@ row-short k r zs q e =
     let b = f .short in
     omega arith
 
-module _ (k : VertexKind) (s : List ℕ) (at used : ℕ) (l : List ℤ) {h : Shape} (is : h ≡ shapeOf k) where
+module _ (k : VertexKind) (s : List ℕ) (at used : ℕ) (l : List ℤ) {h : Layout} (is : h ≡ layoutOf k) where
   pub product : used < 2 ^ 32 → h .width * used < 2 ^ 34
-  product n = let w : h .width ≡ width k = ap (λ (g : Shape). g .width) is in rw w (first-fits k used n)
+  product n = let w : h .width ≡ width k = ap (λ (g : Layout). g .width) is in rw w (first-fits k used n)
 
   module _ {r : Bool} {u : List ℤ} (put : (r ≡ leb (h .width * used + length (blank (h .width))) (length l)) × (u ≡ cond r (sets l (h .width * used) (blank (h .width))) l)) where
     needs : h .width * used + length (blank (h .width)) ≡ width k * used + width k
-    needs = ap (λ (g : Shape). g .width * used + length (blank (g .width))) is ∙ ap (λ (n : ℕ). width k * used + n) (blank-wide k)
+    needs = ap (λ (g : Layout). g .width * used + length (blank (g .width))) is ∙ ap (λ (n : ℕ). width k * used + n) (blank-wide k)
 
     pub no-room : r ≡ false → NoVertex k s at used l u
     no-room f =
@@ -126,7 +126,7 @@ module _ (k : VertexKind) (s : List ℕ) (at used : ℕ) (l : List ℤ) {h : Sha
       blanked : u ≡ sets l (width k * used) (blank (width k))
       blanked =
           put .1 ∙ ap (λ (b : Bool). cond b (sets l (h .width * used) (blank (h .width))) l) f
-          ∙ ap (λ (g : Shape). sets l (g .width * used) (blank (g .width))) is
+          ∙ ap (λ (g : Layout). sets l (g .width * used) (blank (g .width))) is
 
       kept : length u ≡ length l
       kept = ap length blanked ∙ length-sets l (width k * used) (blank (width k))
@@ -135,14 +135,14 @@ module _ (k : VertexKind) (s : List ℕ) (at used : ℕ) (l : List ℤ) {h : Sha
       inside =
           let g = room in
           let n = lead-most k in
-          let w : h .width * used + h .lead ≡ width k * used + lead k = ap (λ (g : Shape). g .width * used + g .lead) is in
+          let w : h .width * used + h .lead ≡ width k * used + lead k = ap (λ (g : Layout). g .width * used + g .lead) is in
           omega arith
 
       module _ {m : List ℤ} where
         pub no-vertex : NoRow (h .least) (h .most) s at (h .width * used + h .lead) u m → NoVertex k s at used l m
         no-vertex row =
             let no : NoRow (least k) (most k) s at (width k * used + lead k) u m =
-            subst (λ (g : Shape). NoRow (g .least) (g .most) s at (g .width * used + g .lead) u m) is row in
+            subst (λ (g : Layout). NoRow (g .least) (g .most) s at (g .width * used + g .lead) u m) is row in
             record {
               same = no .same ∙ kept;
               short = λ z q e.
@@ -157,7 +157,7 @@ module _ (k : VertexKind) (s : List ℕ) (at used : ℕ) (l : List ℤ) {h : Sha
 
         module _ {n q : ℕ} (row : WholeRow (h .least) (h .most) s at (h .width * used + h .lead) u m n q) where
           whole : WholeRow (least k) (most k) s at (width k * used + lead k) u m n q
-          whole = subst (λ (g : Shape). WholeRow (g .least) (g .most) s at (g .width * used + g .lead) u m n q) is row
+          whole = subst (λ (g : Layout). WholeRow (g .least) (g .most) s at (g .width * used + g .lead) u m n q) is row
 
           fewer : length (whole .found) ≤ most k
           fewer = row-short k (restAt s at) (whole .found) q (whole .said)
@@ -193,7 +193,7 @@ module _ (k : VertexKind) (s : List ℕ) (at used : ℕ) (l : List ℤ) {h : Sha
 
           pub taken-plain : h .lead ≡ 0 → TakenVertex k s at used l m q
           taken-plain e =
-              let leads : lead k ≡ 0 = sym (ap (λ (g : Shape). g .lead) is) ∙ e in
+              let leads : lead k ≡ 0 = sym (ap (λ (g : Layout). g .lead) is) ∙ e in
               record {
                 row = recordOf k (whole .found);
                 said = ap (recorded k) (whole .said);
@@ -208,6 +208,6 @@ module _ (k : VertexKind) (s : List ℕ) (at used : ℕ) (l : List ℤ) {h : Sha
                 said = ap (recorded k) (whole .said);
                 room = room;
                 stored =
-                    ap (λ (w : Shape). set m (w .width * used) x) is ∙ ap (λ (y : List ℤ). set y (width k * used) x) placed
-                    ∙ row-led l (width k * used) (whole .found) k (λ i. e (ap (λ (w : Shape). w .lead) is ∙ i)) fewer x (g ∙ ap pos (whole .counted));
+                    ap (λ (w : Layout). set m (w .width * used) x) is ∙ ap (λ (y : List ℤ). set y (width k * used) x) placed
+                    ∙ row-led l (width k * used) (whole .found) k (λ i. e (ap (λ (w : Layout). w .lead) is ∙ i)) fewer x (g ∙ ap pos (whole .counted));
               }

@@ -200,7 +200,7 @@ module _ (most : ℕ) (s : List ℕ) (at first : ℕ) (l : List ℤ) (i count : 
                 full-short = λ zs q g. let y = full-long (w .done ++ z ∷ []) zs q (numbersWalk (most - (count + 1)) (restAt s e)) (sym on ∙ g) in omega arith;
               }
 
-          pub turn : r ≡ true → (Walking most s at first l e (count + 1) u) × (i < e)
+          pub turn : r ≡ true → Walking most s at first l e (count + 1) u
           turn f =
               let h = leb-true (first + count + 1) (length t) (sym (put .0) ∙ f) in
               let k = w .same in
@@ -212,20 +212,18 @@ module _ (most : ℕ) (s : List ℕ) (at first : ℕ) (l : List ℤ) (i count : 
               let d4 = w .from in
               let pl : first + count ≡ first + length (w .done) = omega arith in
               let us : u ≡ sets t (first + count) (z ∷ []) =
-              put .1 ∙ ap (λ (b : Bool). cond b (sets t (first + count) (x ∷ [])) t) f ∙ ap (λ (y : ℤ). sets t (first + count) (y ∷ [])) same in (
-                record {
-                  from = omega arith;
-                  to = omega arith;
-                  done = w .done ++ z ∷ [];
-                  counted = sym longer;
-                  within = omega arith;
-                  rest = on;
-                  room = λ q. omega arith;
-                  stored =
-                      us ∙ ap (λ (x : List ℤ). sets x (first + count) (z ∷ [])) (w .stored)
-                      ∙ ap (λ (j : ℕ). sets (sets l first (w .done)) j (z ∷ [])) pl
-                      ∙ sym (sets-append l first (w .done) (z ∷ []));
-                  same = ap length us ∙ length-sets t (first + count) (z ∷ []) ∙ w .same;
-                },
-                omega arith,
-              )
+              put .1 ∙ ap (λ (b : Bool). cond b (sets t (first + count) (x ∷ [])) t) f ∙ ap (λ (y : ℤ). sets t (first + count) (y ∷ [])) same in
+              record {
+                from = omega arith;
+                to = omega arith;
+                done = w .done ++ z ∷ [];
+                counted = sym longer;
+                within = omega arith;
+                rest = on;
+                room = λ q. omega arith;
+                stored =
+                    us ∙ ap (λ (x : List ℤ). sets x (first + count) (z ∷ [])) (w .stored)
+                    ∙ ap (λ (j : ℕ). sets (sets l first (w .done)) j (z ∷ [])) pl
+                    ∙ sym (sets-append l first (w .done) (z ∷ []));
+                same = ap length us ∙ length-sets t (first + count) (z ∷ []) ∙ w .same;
+              }

@@ -67,6 +67,7 @@ pub record WholeRow (least most : ℕ) (s : List ℕ) (at first : ℕ) (l m : Li
   pub found : List ℤ
   pub said : rowSaid least most (restAt s at) ≡ some (found, next)
   pub counted : count ≡ length found
+  pub room : 0 < count → first + count ≤ length l
   pub stored : m ≡ sets l first found
 
 pub record NoRow (least most : ℕ) (s : List ℕ) (at first : ℕ) (l m : List ℤ) : Type 0 where

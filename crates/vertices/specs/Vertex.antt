@@ -5,6 +5,7 @@ use mathlib.Core.Bool.{Bool, true, false, cond}
 use mathlib.Core.List.{List, [], _∷_}
 use mathlib.Core.Option.{Option, none, some}
 use lib.ListN.{length}
+use lib.Dec.{eqb}
 use lib.IntN.{ℤ, pos}
 use lib.Seq.{sets}
 use Rattle.text.specs.Rest.{Rest, restAt}
@@ -14,7 +15,7 @@ use Rattle.model.specs.Parse.{recordOf}
 use Rattle.vertices.specs.Into.{rowSaid}
 use Rattle.vertices.specs.declared.Kind.{Kind}
 use Rattle.vertices.specs.declared.Kind.the-variants.{Geometric, Texture, Normal, Parametric}
-use Rattle.vertices.specs.declared.Shape.{Shape}
+use Rattle.vertices.specs.declared.Layout.{Layout}
 use Rattle.vertices.specs.declared.Vertex.{Vertex}
 use Rattle.vertices.specs.declared.Vertex.the-variants.{Taken, GaveUp}
 
@@ -37,7 +38,7 @@ most texture = 3
 most normal = 3
 most parametric = 3
 
--- the numbers of a record
+-- the numbers of a record: "v holds x y z w"; "vt three"; "vn three"; "vp the count given and u v w"
 abbrev pub width : VertexKind → ℕ
 width geometric = vWidth
 width texture = vtWidth
@@ -51,9 +52,14 @@ lead texture = 0
 lead normal = 0
 lead parametric = 1
 
-abbrev pub shapeOf : VertexKind → Shape
-shapeOf k = record { least = least k; most = most k; width = width k; lead = lead k }
+abbrev pub layoutOf : VertexKind → Layout
+layoutOf k = record { least = least k; most = most k; width = width k; lead = lead k }
 
+-- what the code stores before the line's numbers, in a record of width n: what is absent is 0, and the last of four 1.000000
+abbrev pub blank : ℕ → List ℤ
+blank n = cond (eqb n 4) (pos 0 ∷ pos 0 ∷ pos 0 ∷ pos 1000000 ∷ []) (pos 0 ∷ pos 0 ∷ pos 0 ∷ [])
+
+-- ---- what a line says: as many numbers as the kind has, and no more, as the record that `parse` gives
 abbrev pub recorded : VertexKind → Option (List ℤ × ℕ) → Option (List ℤ × ℕ)
 recorded k none = none
 recorded k (some p) = some (recordOf k (p .0), p .1)
@@ -61,7 +67,8 @@ recorded k (some p) = some (recordOf k (p .0), p .1)
 abbrev pub vertexSaid : VertexKind → Rest → Option (List ℤ × ℕ)
 vertexSaid k r = recorded k (rowSaid (least k) (most k) r)
 
--- ---- the table held l and then holds m
+-- ---- what `take_vertex` answers; the table held l and then holds m
+-- the record stands where the used ones end
 pub record TakenVertex (k : VertexKind) (s : List ℕ) (at used : ℕ) (l m : List ℤ) (next : ℕ) : Type 0 where
   pub row : List ℤ
   pub said : vertexSaid k (restAt s at) ≡ some (row, next)
@@ -76,7 +83,3 @@ pub record NoVertex (k : VertexKind) (s : List ℕ) (at used : ℕ) (l m : List 
 abbrev pub vertexIs : VertexKind → List ℕ → ℕ → ℕ → List ℤ → List ℤ → Vertex → Type 0
 vertexIs k s at used l m (Taken q) = TakenVertex k s at used l m q
 vertexIs k s at used l m GaveUp = NoVertex k s at used l m
-
--- what stands in a record of that width before the line's numbers: absent ones are 0, "w 1.000000 if absent"
-abbrev pub blank : ℕ → List ℤ
-blank n = cond (lib.Dec.eqb n 4) (pos 0 ∷ pos 0 ∷ pos 0 ∷ pos 1000000 ∷ []) (pos 0 ∷ pos 0 ∷ pos 0 ∷ [])

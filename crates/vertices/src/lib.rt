@@ -8,7 +8,7 @@ ghost use lib.Dec.{leb};
 ghost use lib.ListN.{length};
 ghost use lib.Seq.{sets};
 ghost use Rattle.vertices.specs.Into.{numbersIs, rowIs};
-ghost use Rattle.vertices.specs.Vertex.{kindOf, shapeOf, blank, vertexIs};
+ghost use Rattle.vertices.specs.Vertex.{kindOf, layoutOf, blank, vertexIs};
 
 // What a line's numbers come to: the line ended; as many as were asked for were found; or it has a word that is no number, a byte that is not allowed, or
 // more numbers than the table has room for.
@@ -63,7 +63,7 @@ pub enum Row {
 }
 
 // From `least` to `most` numbers and nothing else from `at` on, stored from entry `first` on.
-fn row_into(
+pub fn row_into(
     text: &[u8],
     at: usize,
     least: usize,
@@ -101,6 +101,7 @@ fn row_into(
     }
 }
 
+// v, vt, vn, vp.
 pub enum Kind {
     Geometric,
     Texture,
@@ -109,36 +110,36 @@ pub enum Kind {
 }
 
 // How many numbers a line of a kind has, and where they stand in the record.
-pub struct Shape {
+pub struct Layout {
     pub least: usize,
     pub most: usize,
     pub width: usize,
     pub lead: usize,
 }
 
-fn shape_of(kind: Kind) -> Shape
-    ensures { λ r. ⌜ r ≡ shapeOf (kindOf kind) ⌝ }
+fn layout_of(kind: Kind) -> Layout
+    ensures { λ r. ⌜ r ≡ layoutOf (kindOf kind) ⌝ }
 {
     match kind {
-        Kind::Geometric => Shape {
+        Kind::Geometric => Layout {
             least: 3,
             most: 4,
             width: 4,
             lead: 0,
         },
-        Kind::Texture => Shape {
+        Kind::Texture => Layout {
             least: 1,
             most: 3,
             width: 3,
             lead: 0,
         },
-        Kind::Normal => Shape {
+        Kind::Normal => Layout {
             least: 3,
             most: 3,
             width: 3,
             lead: 0,
         },
-        Kind::Parametric => Shape {
+        Kind::Parametric => Layout {
             least: 1,
             most: 3,
             width: 4,
@@ -168,14 +169,21 @@ pub fn take_vertex(kind: Kind, text: &[u8], at: usize, used: u32, table: &mut [i
     requires { ⌜ at ≤ length (now text) ⌝ }
     ensures { λ r. ⌜ vertexIs (kindOf kind) (now (text .entry)) at used (now (table .entry)) (now (table .exit)) r ⌝ }
 {
-    let shape = shape_of(kind);
-    let first = shape.width * (used as usize);
-    if !put_blank(table, first, shape.width) {
+    let layout = layout_of(kind);
+    let first = layout.width * (used as usize);
+    if !put_blank(table, first, layout.width) {
         return Vertex::GaveUp;
     }
-    match row_into(text, at, shape.least, shape.most, table, first + shape.lead) {
+    match row_into(
+        text,
+        at,
+        layout.least,
+        layout.most,
+        table,
+        first + layout.lead,
+    ) {
         Row::Whole { count, next } => {
-            if shape.lead == 0 {
+            if layout.lead == 0 {
                 return Vertex::Taken { next: next };
             }
             table[first] = count as i32;

@@ -5,130 +5,115 @@ use Rattle.vertices.proofs.Rows as R
 use borrow.Author.Needs.{needs}
 use Rattle.vertices.proofs.row_into.Statement.{statement}
 use Rattle.vertices.proofs.row_into.Tie as tie
-use Rattle.vertices.proofs.row_into.Reads as reads
-use Rattle.vertices.proofs.row_into.Lts as lts
-use Rattle.text.proofs.gap.Reads as gap-reads
-use Rattle.vertices.proofs.numbers_into.Reads as numbers-into-reads
 
--- src/lib.rt:77:11
 numbers-into-requires : tie.Need-numbers-into-requires
 numbers-into-requires c κs = search needs
 
--- src/lib.rt:78:26
 enum-known-count : tie.Need-enum-known-count
 enum-known-count c = search needs
 
--- src/lib.rt:80:17
 same-length : tie.Need-same-length
 same-length c = search needs
 
--- src/lib.rt:80:17
 returns : tie.Need-returns
 returns c =
-    let start = c .before .before .before .before .before .before .before .before in
+    let numbers = c .before .before in
+    let found = numbers .before .before .before in
+    let start = found .before .before .before in
     let a = start .args in
-    let found = c .before .before .before .before .before .numbers-into .ensures in
-    R.row-few (a .least) (a .most) (now (a .text)) (a .at) (a .first) (now (a .table)) _ (R.is-ended (a .least) (a .most) (now (a .text)) (a .at) (a .first) (now (a .table)) _ found (c .before .before .count .given .1)) (c .if1 .taken)
+    R.row-few (a .least) (a .most) (now (a .text)) (a .at) (a .first) (now (a .table)) _ (R.is-ended (a .least) (a .most) (now (a .text)) (a .at) (a .first) (now (a .table)) _ (found .numbers-into .ensures) (numbers .count .given .1)) (c .if1 .taken)
 
--- src/lib.rt:87:25
 enum-known-end : tie.Need-enum-known-end
 enum-known-end c = search needs
 
--- src/lib.rt:89:17
 same-length-2 : tie.Need-same-length-2
 same-length-2 c = search needs
 
--- src/lib.rt:89:17
 returns-2 : tie.Need-returns-2
 returns-2 c =
-    let start = c .before .before .before .before .before .before .before .before in
+    let numbers = c .before .before in
+    let found = numbers .before .before .before in
+    let start = found .before .before .before in
     let a = start .args in
-    let found = c .before .before .before .before .before .numbers-into .ensures in
-    R.full-few (a .least) (a .most) (now (a .text)) (a .at) (a .first) (now (a .table)) _ (R.is-full (a .least) (a .most) (now (a .text)) (a .at) (a .first) (now (a .table)) _ found (c .before .before .end .given .1)) (c .if2 .taken)
+    R.full-few (a .least) (a .most) (now (a .text)) (a .at) (a .first) (now (a .table)) _ (R.is-full (a .least) (a .most) (now (a .text)) (a .at) (a .first) (now (a .table)) _ (found .numbers-into .ensures) (numbers .end .given .1)) (c .if2 .taken)
 
--- src/lib.rt:91:19
 gap-requires : tie.Need-gap-requires
 gap-requires c κs =
-    let start = c .before .before .before .before .before .before .before .before in
+    let numbers = c .before .before in
+    let found = numbers .before .before .before in
+    let start = found .before .before .before in
     let a = start .args in
-    let found = c .before .before .before .before .before .numbers-into .ensures in
-    R.is-full (a .least) (a .most) (now (a .text)) (a .at) (a .first) (now (a .table)) _ found (c .before .before .end .given .1) .to
+    R.is-full (a .least) (a .most) (now (a .text)) (a .at) (a .first) (now (a .table)) _ (found .numbers-into .ensures) (numbers .end .given .1) .to
 
--- src/lib.rt:92:34
 enum-told : tie.Need-enum-told
 enum-told c = search needs
 
--- src/lib.rt:93:26
 enum-known-q : tie.Need-enum-known-q
 enum-known-q c = search needs
 
--- src/lib.rt:97:32
 enum-told-2 : tie.Need-enum-told-2
 enum-told-2 c = search needs
 
--- src/lib.rt:100:29
 enum-told-3 : tie.Need-enum-told-3
 enum-told-3 c = search needs
 
--- src/lib.rt:66:1
 same-length-3 : tie.Need-same-length-3
 same-length-3 c = search needs
 
--- src/lib.rt:66:1
 returns-3 : tie.Need-returns-3
 returns-3 c =
-    let start = c .before .before .before .before .before .before .before .before in
+    let numbers = c .before .before in
+    let found = numbers .before .before .before in
+    let start = found .before .before .before in
     let a = start .args in
-    let found = c .before .before .before .before .before .numbers-into .ensures in
-    R.row-ended (a .least) (a .most) (now (a .text)) (a .at) (a .first) (now (a .table)) _ (R.is-ended (a .least) (a .most) (now (a .text)) (a .at) (a .first) (now (a .table)) _ found (c .before .before .count .given .1)) (c .if1 .left)
+    R.row-ended (a .least) (a .most) (now (a .text)) (a .at) (a .first) (now (a .table)) _ (R.is-ended (a .least) (a .most) (now (a .text)) (a .at) (a .first) (now (a .table)) _ (found .numbers-into .ensures) (numbers .count .given .1)) (c .if1 .left)
 
--- src/lib.rt:66:1
 same-length-4 : tie.Need-same-length-4
 same-length-4 c = search needs
 
--- src/lib.rt:66:1
 returns-4 : tie.Need-returns-4
 returns-4 c =
-    let start = c .before .before .before .before .before .before .before .before .before .before .before in
+    let ahead = c .before .before in
+    let numbers = ahead .before .before .before in
+    let found = numbers .before .before .before in
+    let start = found .before .before .before in
     let a = start .args in
-    let found = c .before .before .before .before .before .before .before .before .numbers-into .ensures in
-    R.full-word (a .least) (a .most) (now (a .text)) (a .at) (a .first) (now (a .table)) _ (R.is-full (a .least) (a .most) (now (a .text)) (a .at) (a .first) (now (a .table)) _ found (c .before .before .before .before .before .end .given .1)) (W.met-word (now (a .text)) _ (c .before .before .gap .ensures) (c .enum-told .given .1))
+    R.full-word (a .least) (a .most) (now (a .text)) (a .at) (a .first) (now (a .table)) _ (R.is-full (a .least) (a .most) (now (a .text)) (a .at) (a .first) (now (a .table)) _ (found .numbers-into .ensures) (numbers .end .given .1)) (W.met-word (now (a .text)) _ (ahead .gap .ensures) (c .enum-told .given .1))
 
--- src/lib.rt:66:1
 same-length-5 : tie.Need-same-length-5
 same-length-5 c = search needs
 
--- src/lib.rt:66:1
 returns-5 : tie.Need-returns-5
 returns-5 c =
-    let start = c .before .before .before .before .before .before .before .before .before .before .before .before in
+    let ahead = c .before .before .before in
+    let enough = ahead .before in
+    let numbers = enough .before .before in
+    let found = numbers .before .before .before in
+    let start = found .before .before .before in
     let a = start .args in
-    let found = c .before .before .before .before .before .before .before .before .before .numbers-into .ensures in
-    R.full-end (a .least) (a .most) (now (a .text)) (a .at) (a .first) (now (a .table)) _ (R.is-full (a .least) (a .most) (now (a .text)) (a .at) (a .first) (now (a .table)) _ found (c .before .before .before .before .before .before .end .given .1)) (W.met-end (now (a .text)) _ (c .before .before .before .gap .ensures) (c .before .q .given .1)) (c .before .before .before .before .if2 .left)
+    R.full-end (a .least) (a .most) (now (a .text)) (a .at) (a .first) (now (a .table)) _ (R.is-full (a .least) (a .most) (now (a .text)) (a .at) (a .first) (now (a .table)) _ (found .numbers-into .ensures) (numbers .end .given .1)) (W.met-end (now (a .text)) _ (ahead .gap .ensures) (c .before .q .given .1)) (enough .if2 .left)
 
--- src/lib.rt:66:1
 same-length-6 : tie.Need-same-length-6
 same-length-6 c = search needs
 
--- src/lib.rt:66:1
 returns-6 : tie.Need-returns-6
 returns-6 c =
-    let start = c .before .before .before .before .before .before .before .before .before .before .before in
+    let ahead = c .before .before in
+    let numbers = ahead .before .before .before in
+    let found = numbers .before .before .before in
+    let start = found .before .before .before in
     let a = start .args in
-    let found = c .before .before .before .before .before .before .before .before .numbers-into .ensures in
-    R.full-bad (a .least) (a .most) (now (a .text)) (a .at) (a .first) (now (a .table)) _ (R.is-full (a .least) (a .most) (now (a .text)) (a .at) (a .first) (now (a .table)) _ found (c .before .before .before .before .before .end .given .1)) (W.met-bad (now (a .text)) _ (c .before .before .gap .ensures) (c .enum-told2 .given .1))
+    R.full-bad (a .least) (a .most) (now (a .text)) (a .at) (a .first) (now (a .table)) _ (R.is-full (a .least) (a .most) (now (a .text)) (a .at) (a .first) (now (a .table)) _ (found .numbers-into .ensures) (numbers .end .given .1)) (W.met-bad (now (a .text)) _ (ahead .gap .ensures) (c .enum-told2 .given .1))
 
--- src/lib.rt:66:1
 same-length-7 : tie.Need-same-length-7
 same-length-7 c = search needs
 
--- src/lib.rt:66:1
 returns-7 : tie.Need-returns-7
 returns-7 c =
-    let start = c .before .before .before .before .before .before in
+    let found = c .before .before .before in
+    let start = found .before .before .before in
     let a = start .args in
-    let found = c .before .before .before .numbers-into .ensures in
-    R.no-row (a .least) (a .most) (now (a .text)) (a .at) (a .first) (now (a .table)) _ (R.is-stopped (a .least) (a .most) (now (a .text)) (a .at) (a .first) (now (a .table)) _ found (c .enum-told3 .given .1))
+    R.no-row (a .least) (a .most) (now (a .text)) (a .at) (a .first) (now (a .table)) _ (R.is-stopped (a .least) (a .most) (now (a .text)) (a .at) (a .first) (now (a .table)) _ (found .numbers-into .ensures) (c .enum-told3 .given .1))
 
 pub row-into-spec : {M : Type 1} → statement M
 row-into-spec =
