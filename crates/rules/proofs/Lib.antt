@@ -6,3 +6,6 @@ pub mod Order
 pub mod Products
 pub mod OneVertex
 pub mod EachCorner
+pub mod Basis
+pub mod EachPart
+pub mod OneBody

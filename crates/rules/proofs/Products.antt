@@ -6,11 +6,11 @@ use mathlib.Core.Path.{_≡_}
 use mir.Syntax.{w32, w64}
 use mir.Val.{Fits}
 
-pub product : (a b : ℕ) → a < 4294967296 → b < 4294967296 → a * b ≤ 18446744065119617025
+pub product : (a b : ℕ) → a ≤ 4294967296 → b < 4294967296 → a * b ≤ 18446744069414584320
 product a b h k =
-    let x : a ≤ 4294967295 = omega arith in
+    let x : a ≤ 4294967296 = h in
     let y : b ≤ 4294967295 = omega arith in
     mul-le-mul x y
 
-pub product-fits : (a b : ℕ) → a < 4294967296 → b < 4294967296 → Fits w64 (a * b)
+pub product-fits : (a b : ℕ) → a ≤ 4294967296 → b < 4294967296 → Fits w64 (a * b)
 product-fits a b h k = record { fits = lt-of-le-of-lt (product a b h k) (omega arith) }

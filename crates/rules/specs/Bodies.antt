@@ -1,5 +1,5 @@
 -- 01, "Bodies": the body of a curv, curv2 or surf, all of its records.
-use Prim.Native.Nat.{ℕ, _*_, _-_}
+use Prim.Native.Nat.{ℕ, _+_, _*_, _-_, _≤_}
 use mathlib.Core.List.{List}
 use mathlib.Core.Bool.{Bool, cond, _&&_}
 use lib.ListN.{length}
@@ -26,11 +26,15 @@ curveObeys curv2 x b count =
     && flatObeys b
 
 -- 12 and 13 of a surface with the parameters x and y: "A surface has k_u times k_v controls"
-unfoldable pub surfaceObeys : List ℤ → List ℤ → Body → ℕ → Bool
-surfaceObeys x y b count =
+unfoldable pub directionsObey : List ℤ → List ℤ → Body → ℕ → Bool
+directionsObey x y b count =
     surfaceCount (basisOf (b .type)) (b .degree-u) (b .count-u) (b .degree-v) (b .count-v) count
     && inOrder (basisOf (b .type)) (b .degree-u) x (b .start-u) (b .end-u)
     && inOrder (basisOf (b .type)) (b .degree-v) y (b .start-v) (b .end-v)
+
+unfoldable pub surfaceObeys : ℕ → Tables → ℕ → ℕ → Body → Bool
+surfaceObeys used t curves count b =
+    directionsObey (parametersU t b) (parametersV t b) b count && loopsObey used t curves (b .first-loop) (b .loops)
 
 -- the body of an element of this kind with `count` corners
 unfoldable pub recordObeys : Used → Tables → ℕ → ℕ → ℕ → Body → Bool
@@ -38,7 +42,7 @@ recordObeys used t curves kind count b =
     typeObeys (eqb kind surfaceKind) (b .type) (b .rational) (b .degree-u) (b .degree-v)
     && parametersObey (eqb kind surfaceKind) (t .parameters) (used .parameters) (b .first-parameter) (b .count-u) (b .count-v)
     && cond (eqb kind surfaceKind)
-    (surfaceObeys (parametersU t b) (parametersV t b) b count && loopsObey (used .loops) t curves (b .first-loop) (b .loops))
+    (surfaceObeys (used .loops) t curves count b)
     (curveObeys (eqb kind curve2Kind) (parametersU t b) b count)
 
 -- body number k is used and lent, with its range
@@ -49,3 +53,8 @@ bodyObeys used t curves kind count k =
     && leb (bodyWidth * k) (length (t .bodies))
     && leb (rangeWidth * k) (length (t .ranges))
     && recordObeys used t curves kind count (bodyAt t (k - 1))
+
+-- what the tests of a body's directions ask: the body at index i and its range are lent
+pub record Lies (t : Tables) (i : ℕ) : Type 0 where
+  pub body : bodyWidth * i + bodyWidth ≤ length (t .bodies)
+  pub range : rangeWidth * i + rangeWidth ≤ length (t .ranges)

@@ -15,6 +15,9 @@ beginsObeys k begins = leb begins 2 && cond (eqb k 0) (leb 1 begins) true
 unfoldable pub partObeys : ℕ → ℕ → Part → Bool
 partObeys curves k part = beginsObeys k (part .begins) && leb 1 (part .curve) && leb (part .curve) curves && small (part .from) && small (part .to)
 
+unfoldable pub eachPart : Tables → ℕ → ℕ → ℕ → Bool
+eachPart t curves first count = allBelow count (λ k. partObeys curves k (partAt t (first + k)))
+
 -- `count` parts from `first` on are used and lent; a body without loops has first loop part 0
 unfoldable pub loopsObey : ℕ → Tables → ℕ → ℕ → ℕ → Bool
 loopsObey used t curves first count =
@@ -22,4 +25,4 @@ loopsObey used t curves first count =
     (leb (first + count) used
     && leb (loopWidth * (first + count)) (length (t .loops))
     && leb (spanWidth * (first + count)) (length (t .spans))
-    && allBelow count (λ k. partObeys curves k (partAt t (first + k))))
+    && eachPart t curves first count)

@@ -1,10 +1,11 @@
 -- Refusal 15: "its records (names aside) or a vertex they name break a rule above or pass the used or lent entries".
 use Prim.Native.Nat.{ℕ, zero, suc, _+_, _*_}
+use mathlib.Core.List.{List}
 use mathlib.Core.Bool.{Bool, cond, _&&_}
 use lib.ListN.{length}
 use lib.Dec.{leb, eqb}
 use Rattle.tables.specs.Tables.{Tables}
-use Rattle.tables.specs.Records.{Element, elementAt, elementWidth, faceKind, curve2Kind, surfaceKind}
+use Rattle.tables.specs.Records.{Element, elementAt, numberAt, elementWidth, faceKind, curve2Kind, surfaceKind}
 use Rattle.tables.specs.declared.Used.{Used}
 use Rattle.rules.specs.Corners.{cornersObey}
 use Rattle.rules.specs.Bodies.{bodyObeys}
@@ -23,6 +24,9 @@ unfoldable pub obeys : Used → Tables → ℕ → ℕ → Bool
 obeys used t curves i = leb (elementWidth * i + elementWidth) (length (t .elements)) && elementObeys used t curves (elementAt t i)
 
 -- "k means the k-th of its kind so far": the curv2 elements at indices below i
+abbrev pub curvesAmong : List ℕ → ℕ → ℕ
+curvesAmong elements zero = zero
+curvesAmong elements (suc i) = curvesAmong elements i + cond (eqb (numberAt elementWidth elements i 0) curve2Kind) 1 0
+
 abbrev pub curvesBefore : Tables → ℕ → ℕ
-curvesBefore t zero = zero
-curvesBefore t (suc i) = curvesBefore t i + cond (eqb (elementAt t i .kind) curve2Kind) 1 0
+curvesBefore t i = curvesAmong (t .elements) i
