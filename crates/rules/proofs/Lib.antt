@@ -9,3 +9,6 @@ pub mod EachCorner
 pub mod Basis
 pub mod EachPart
 pub mod OneBody
+pub mod Facts
+pub mod Element
+pub mod Examples

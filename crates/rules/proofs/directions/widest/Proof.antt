@@ -21,7 +21,7 @@ unfolding widest
 returns-2 c =
     let call = c .before in
     let s = call .before .before in
-    let e = lt-no-le (call .low .result) (s .args .start) (rw (fitted (call .low .ok), toZ-ofZ (s .fits .start)) at (c .if2 .taken)) in
+    let e = lt-no-le (call .low .result) (s .args .start) (rw (fitted {z = call .low .result} (call .low .ok), toZ-ofZ (s .fits .start)) at (c .if2 .taken)) in
     rw (not-false (s .args .curv2) (call .before .if1 .left), rw (call .low .ensures) at e)
 
 high-requires : tie.Need-high-requires
@@ -33,8 +33,8 @@ returns-3 c =
     let test = c .before in
     let call = test .before in
     let s = call .before .before in
-    let e = no-lt-le (call .low .result) (s .args .start) (rw (fitted (call .low .ok), toZ-ofZ (s .fits .start)) at (test .if2 .left)) in
-    rw (not-false (s .args .curv2) (call .before .if1 .left), rw (call .low .ensures) at e, fitted (c .high .ok), toZ-ofZ (s .fits .end), c .high .ensures)
+    let e = no-lt-le (call .low .result) (s .args .start) (rw (fitted {z = call .low .result} (call .low .ok), toZ-ofZ (s .fits .start)) at (test .if2 .left)) in
+    rw (not-false (s .args .curv2) (call .before .if1 .left), rw (call .low .ensures) at e, fitted {z = c .high .result} (c .high .ok), toZ-ofZ (s .fits .end), c .high .ensures)
 
 pub widest-spec : {M : Type 1} → statement M
 widest-spec = tie.close (tie.spec returns low-requires returns-2 high-requires returns-3)
