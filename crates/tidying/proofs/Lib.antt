@@ -1,0 +1,25 @@
+mod Examples
+pub mod Values
+pub mod Words
+pub mod Standing
+pub mod Back
+pub mod Shapes
+pub mod Coordinates
+pub mod Fit
+pub mod Fits
+pub mod Good
+pub mod Up
+pub mod Bodies
+pub mod Keep
+pub mod Texts
+pub mod Rooms
+pub mod Kept
+pub mod Bare
+pub mod Goes
+pub mod Elements
+pub mod Tokens
+pub mod TidyRead
+pub mod SameTidy
+pub mod Parts
+pub mod Runs
+pub mod Named
