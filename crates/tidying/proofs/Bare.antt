@@ -159,11 +159,11 @@ here-bare f o end h = ends-bare o h
 here-bare f o passed h = sym (outside-bare o) ∙ h
 
 -- ---- room
-summed-bare : (f : Element → ℕ) → ((e : Element) → f (bareElement e) ≡ f e) → (es : List Element) → summed f (bareElements es) ≡ summed f es
+pub summed-bare : (f : Element → ℕ) → ((e : Element) → f (bareElement e) ≡ f e) → (es : List Element) → summed f (bareElements es) ≡ summed f es
 summed-bare f h [] = refl
 summed-bare f h (e ∷ es) = ap₂ (λ (a b : ℕ). a + b) (h e) (summed-bare f h es)
 
-length-bare : (es : List Element) → length (bareElements es) ≡ length es
+pub length-bare : (es : List Element) → length (bareElements es) ≡ length es
 length-bare [] = refl
 length-bare (e ∷ es) = ap suc (length-bare es)
 

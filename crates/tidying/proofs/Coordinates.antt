@@ -37,17 +37,17 @@ full texture = (refl, refl)
 full normal = (refl, refl)
 full parametric = (refl, refl)
 
-module _ (k : VertexKind) (z : List ℤ) (c : countedVertex k (length z) ≡ true) (h : all numberFits z ≡ true) where
-  completed-length : length (completed k z) ≡ length (defaults k)
-  completed-length =
-      let l = most k (length z) c in
-      let a = length-append z (drop (length z) (defaults k)) in
-      let b = length-drop (length z) (defaults k) in
-      omega arith
+pub completed-length : (k : VertexKind) (z : List ℤ) → countedVertex k (length z) ≡ true → length (completed k z) ≡ length (defaults k)
+completed-length k z c =
+    let l = most k (length z) c in
+    let a = length-append z (drop (length z) (defaults k)) in
+    let b = length-drop (length z) (defaults k) in
+    omega arith
 
+module _ (k : VertexKind) (z : List ℤ) (c : countedVertex k (length z) ≡ true) (h : all numberFits z ≡ true) where
   completed-again : completed k (completed k z) ≡ completed k z
   completed-again =
-      let l : length (defaults k) ≤ length (completed k z) = (let e = completed-length in omega arith) in
+      let l : length (defaults k) ≤ length (completed k z) = (let e = completed-length k z c in omega arith) in
       ap (λ (r : List ℤ). completed k z ++ r) (drop-of-length-le (defaults k) l) ∙ append-nil (completed k z)
 
   completed-numbers : all numberFits (completed k z) ≡ true
@@ -61,11 +61,11 @@ record Written (k : VertexKind) (r : List ℤ) : Type 0 where
 
 written-is : (k : VertexKind) (z : List ℤ) → countedVertex k (length z) ≡ true → all numberFits z ≡ true → Written k (recordOf k z)
 written-is geometric z c h =
-    record { many = rw (completed-length geometric z c h) refl; numbers = completed-numbers geometric z c h; whole = completed-again geometric z c h }
+    record { many = rw (completed-length geometric z c) refl; numbers = completed-numbers geometric z c h; whole = completed-again geometric z c h }
 written-is texture z c h =
-    record { many = rw (completed-length texture z c h) refl; numbers = completed-numbers texture z c h; whole = completed-again texture z c h }
+    record { many = rw (completed-length texture z c) refl; numbers = completed-numbers texture z c h; whole = completed-again texture z c h }
 written-is normal z c h =
-    record { many = rw (completed-length normal z c h) refl; numbers = completed-numbers normal z c h; whole = completed-again normal z c h }
+    record { many = rw (completed-length normal z c) refl; numbers = completed-numbers normal z c h; whole = completed-again normal z c h }
 written-is parametric z c h =
     let e : take (length z) (completed parametric z) ≡ z = take-append-seam z (drop (length z) (defaults parametric)) in
     record { many = rw e c; numbers = rw e h; whole = ap (recordOf parametric) e }

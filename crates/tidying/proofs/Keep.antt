@@ -112,16 +112,16 @@ module _ (x : Vertices) (s : State) (u : More (s .model .vertices) x) (g : Good 
   inside-kept none f h k = tt
   inside-kept (some o) f h k = h o refl k
 
-  go : (t : Statement) → Fine (s .model .vertices) N t → Fine x N t → Here (s .form) (s .open-body) t → Good x (apply t s)
-  go (vertex geometric z) f' f h =
+  go : (t : Statement) → Fine x N t → Here (s .form) (s .open-body) t → Good x (apply t s)
+  go (vertex geometric z) f h =
       record { v = vertices-add geometric (s .model .vertices .v) z (g .v) (always-vertex x N geometric z f); vt = g .vt; vn = g .vn; vp = g .vp; elements = g .elements; names = g .names; form = g .form; opened = g .opened }
-  go (vertex texture z) f' f h =
+  go (vertex texture z) f h =
       record { v = g .v; vt = vertices-add texture (s .model .vertices .vt) z (g .vt) (always-vertex x N texture z f); vn = g .vn; vp = g .vp; elements = g .elements; names = g .names; form = g .form; opened = g .opened }
-  go (vertex normal z) f' f h =
+  go (vertex normal z) f h =
       record { v = g .v; vt = g .vt; vn = vertices-add normal (s .model .vertices .vn) z (g .vn) (always-vertex x N normal z f); vp = g .vp; elements = g .elements; names = g .names; form = g .form; opened = g .opened }
-  go (vertex parametric z) f' f h =
+  go (vertex parametric z) f h =
       record { v = g .v; vt = g .vt; vn = g .vn; vp = vertices-add parametric (s .model .vertices .vp) z (g .vp) (always-vertex x N parametric z f); elements = g .elements; names = g .names; form = g .form; opened = g .opened }
-  go (element k cs) f' f h =
+  go (element k cs) f h =
       record {
         v = g .v;
         vt = g .vt;
@@ -132,7 +132,7 @@ module _ (x : Vertices) (s : State) (u : More (s .model .vertices) x) (g : Good 
         form = g .form;
         opened = shut x N _ (s .names) (s .names) (s .open-body) h (g .opened);
       }
-  go (group ws) f' f h =
+  go (group ws) f h =
       record {
         v = g .v;
         vt = g .vt;
@@ -143,7 +143,7 @@ module _ (x : Vertices) (s : State) (u : More (s .model .vertices) x) (g : Good 
         form = g .form;
         opened = shut x N N (s .names) _ (s .open-body) h (g .opened);
       }
-  go (smoothing k) f' f h =
+  go (smoothing k) f h =
       record {
         v = g .v;
         vt = g .vt;
@@ -154,7 +154,7 @@ module _ (x : Vertices) (s : State) (u : More (s .model .vertices) x) (g : Good 
         form = g .form;
         opened = shut x N N (s .names) _ (s .open-body) h (g .opened);
       }
-  go (material w) f' f h =
+  go (material w) f h =
       record {
         v = g .v;
         vt = g .vt;
@@ -165,14 +165,14 @@ module _ (x : Vertices) (s : State) (u : More (s .model .vertices) x) (g : Good 
         form = g .form;
         opened = shut x N N (s .names) _ (s .open-body) h (g .opened);
       }
-  go (type r t) f' f h =
+  go (type r t) f h =
       record { v = g .v; vt = g .vt; vn = g .vn; vp = g .vp; elements = g .elements; names = g .names; form = record { u = g .form .u; v = g .form .v }; opened = g .opened }
-  go (degree m k) f' f h =
+  go (degree m k) f h =
       let d = degrees-form x N m k f in
       record { v = g .v; vt = g .vt; vn = g .vn; vp = g .vp; elements = g .elements; names = g .names; form = record { u = d .0; v = d .1 }; opened = g .opened }
-  go (body b cs) f' f h =
+  go (body b cs) f h =
       record { v = g .v; vt = g .vt; vn = g .vn; vp = g .vp; elements = g .elements; names = g .names; form = g .form; opened = opened-good x N (s .names) (s .form) b cs (h .1) (g .form) f }
-  go (parameters d z) f' f h =
+  go (parameters d z) f h =
       record {
         v = g .v;
         vt = g .vt;
@@ -184,7 +184,7 @@ module _ (x : Vertices) (s : State) (u : More (s .model .vertices) x) (g : Good 
         opened = inside-kept (s .open-body) (withBody (withParameters d z))
             (λ b q k. parameters-good x N (s .names) b d z (ap (λ (o : Option Open). inBody o (λ k. isSurface k || not (isV (some d)))) (sym q) ∙ h) (always-parameters x N d z f) k) (g .opened);
       }
-  go (loop l) f' f h =
+  go (loop l) f h =
       record {
         v = g .v;
         vt = g .vt;
@@ -195,7 +195,7 @@ module _ (x : Vertices) (s : State) (u : More (s .model .vertices) x) (g : Good 
         form = g .form;
         opened = inside-kept (s .open-body) (withBody (withLoop l)) (λ b q k. loop-good x N (s .names) b l (ap (λ (o : Option Open). inBody o isSurface) (sym q) ∙ h) f k) (g .opened);
       }
-  go end f' f h =
+  go end f h =
       let e = ended-vertices (s .open-body) (s .model) in
       record {
         v = subst (λ (y : Vertices). GoodVertices geometric (y .v)) (sym e) (g .v);
@@ -207,7 +207,7 @@ module _ (x : Vertices) (s : State) (u : More (s .model .vertices) x) (g : Good 
         form = g .form;
         opened = tt;
       }
-  go passed f' f h = g
+  go passed f h = g
 
   pub keep : (t : Statement) → Ready s t → Good x (apply t s)
-  keep t r = go t (r .fine) (fine-up (s .model .vertices) x N N t u (le-refl N) (r .fine)) (r .here)
+  keep t r = go t (fine-up (s .model .vertices) x N N t u (le-refl N) (r .fine)) (r .here)

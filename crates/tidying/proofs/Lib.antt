@@ -23,3 +23,7 @@ pub mod SameTidy
 pub mod Parts
 pub mod Runs
 pub mod Named
+pub mod Rows
+pub mod Layouts
+pub mod SameElements
+pub mod TablesAgree

@@ -29,7 +29,7 @@ use Rattle.tidying.proofs.Kept.{on-read, finished, sized}
 use Rattle.tidying.proofs.TidyRead.{tidy-read}
 
 -- ---- printing looks at no place
-bytes-bare : (ws : List Word) → bytesOf (bareWords ws) ≡ bytesOf ws
+pub bytes-bare : (ws : List Word) → bytesOf (bareWords ws) ≡ bytesOf ws
 bytes-bare [] = refl
 bytes-bare (w ∷ ws) = ap (λ (r : List (List ℕ)). w .bytes ∷ r) (bytes-bare ws)
 
