@@ -15,6 +15,7 @@ use Rattle.text.specs.Rest.{Rest}
 use Rattle.model.specs.Model.{VertexKind, geometric, texture, normal, parametric, State}
 use Rattle.model.specs.Statements.{Statement, vertex}
 use Rattle.model.specs.Parse.{Parsed, fine, fault, then, must, a-vertex, a-number, outside, countedVertex, Value, number, formOf, valuesOf, numbersOf, defaults, recordOf, seenIn, parse}
+use Rattle.model.proofs.Parsed.{fine-is, must-fine, then-fine}
 use Rattle.vertices.specs.Vertex.{least, most, width, recorded, vertexSaid}
 use Rattle.vertices.proofs.Closed.{faulty, closed-some, values-back, row-some, some-row}
 use Rattle.vertices.proofs.Taking.{vertex-row, row-short}
@@ -85,19 +86,6 @@ pub record SaidVertex (k : VertexKind) (r : Rest) (t : Statement) : Type 0 where
   pub is : t ≡ vertex k row
   pub said : vertexSaid k r ≡ some (row, r .next)
 
-must-fine : {A : Type 0} (b : Bool) (n p : ℕ) (y : Parsed A) (a : A) → must b n p y ≡ fine a → (b ≡ true) × (y ≡ fine a)
-must-fine true n p y a e = (refl, e)
-must-fine false n p y a e = faulty e
-
-record Then {A C : Type 0} (y : Parsed A) (f : A → Parsed C) (c : C) : Type 0 where
-  pub first : A
-  pub is : y ≡ fine first
-  pub after : f first ≡ fine c
-
-then-fine : {A C : Type 0} (y : Parsed A) (f : A → Parsed C) (c : C) → then y f ≡ fine c → Then y f c
-then-fine (fine a) f c e = record { first = a; is = refl; after = e }
-then-fine (fault n p) f c e = faulty e
-
 pub parse-said : (k : VertexKind) (x : State) (r : Rest) (key : ℕ) (t : Statement) → outside (x .open-body) ≡ true → r .bad ≡ none
     → parse (a-vertex k) x key (r .words) ≡ fine t → SaidVertex k r t
 unfolding parse
@@ -110,14 +98,11 @@ parse-said k x r key t out good e =
     let c = then-fine values told t (b .1) in
     let count = count-in k (length ws) (b .0) in
     let least-is = count .0 in
-    let v = values-back (seenIn x) (most k) 0 ws (r .next) (c .first) (c .is) (count .1) in
+    let v = values-back (seenIn x) (most k) 0 ws (r .next) (c .0) (c .1) (count .1) in
     let same = v .counted in
     let from : _ = v .from in
     record {
-      row = recordOf k (numbersOf (c .first));
-      is = let f : vertex k (recordOf k (numbersOf (c .first))) ≡ t = fine-inj (c .after) in sym f;
-      said = ap (recorded k) (some-row (least k) (most k) r (numbersOf (c .first)) (r .next) (rw good from) (omega arith));
+      row = recordOf k (numbersOf (c .0));
+      is = let f : vertex k (recordOf k (numbersOf (c .0))) ≡ t = fine-is (c .2) in sym f;
+      said = ap (recorded k) (some-row (least k) (most k) r (numbersOf (c .0)) (r .next) (rw good from) (omega arith));
     }
-  where
-    fine-inj : {A : Type 0} {a b : A} → fine a ≡ fine b → a ≡ b
-    fine-inj h = cc
