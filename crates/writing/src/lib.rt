@@ -97,7 +97,7 @@ pub fn write_number(out: &mut [u8], at: usize, value: i32) -> usize
     ensures { λ r. ⌜ (r ≡ at + length (writtenNumber value)) × (now (out .exit) ≡ sets (now (out .entry)) at (writtenNumber value)) ⌝ }
 {
     let m = magnitude(value);
-    if value < 0 {
+    if value < 0 { // zero has no minus
         let first = put_byte(out, at, 45);
         return write_millionths(out, first, m);
     }
