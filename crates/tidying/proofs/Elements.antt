@@ -1,27 +1,24 @@
 -- The lines of an element come to it, and those of all elements to all of them: by the kind of body, by the loops, by the elements.
-use Prim.Native.Nat.{ℕ, zero, suc, _+_, _≤_, _<_}
+use Prim.Native.Nat.{ℕ}
 use mathlib.Core.Path.{_≡_, refl, sym, ap, ap₂, _∙_, subst}
 use mathlib.Core.List.{List, [], _∷_, _++_, map, append-assoc, append-nil}
-use mathlib.Core.Bool.{Bool, true, false, cond, _&&_, _||_, not}
+use mathlib.Core.Bool.{Bool, true, false, _||_}
 use mathlib.Core.Option.{Option, none, some}
 use lib.ListN.{length}
 use lib.IntN.{ℤ}
 use native.Mathlib.Omega.{arith}
-use Rattle.lists.proofs.Tests.{never}
 use Rattle.text.specs.Words.{Word}
 use Rattle.forms.specs.Corner.{Corner}
 use Rattle.tables.specs.Bodies.{Basis}
-use Rattle.model.specs.Model.{geometric, texture, normal, parametric, Vertices, Names, Free, curve, curve2, surface, along-u, along-v, Loop, Body, Kind, plain, free, Element, Model, Form, Open, State, curves, start}
-use Rattle.model.specs.Statements.{Statement, element, type, degree, body, parameters, loop, end, apply, settled}
+use Rattle.model.specs.Model.{geometric, texture, normal, parametric, Vertices, Names, Free, curve, curve2, surface, Loop, Body, Kind, plain, free, Element, Model, Form, State, curves, start}
+use Rattle.model.specs.Statements.{Statement, element, type, degree, body, loop, end, settled}
 use Rattle.model.specs.Parse.{isSurface}
-use Rattle.tidying.specs.Tidied.{vertexLines, groupLines, smoothingLines, materialLines, unsettled, unfilled, atLine, parameterLines, elementLines, elementsLines, tidied}
+use Rattle.tidying.specs.Tidied.{vertexLines, groupLines, smoothingLines, materialLines, unsettled, atLine, parameterLines, elementLines, elementsLines, tidied}
 use Rattle.tidying.specs.Agree.{bareNames, bareElement, bareElements}
-use Rattle.tidying.proofs.Standing.{Fine, Sound, Opens}
-use Rattle.tidying.proofs.Fit.{Ready}
-use Rattle.tidying.proofs.Good.{Always, GoodVertices, GoodNames, stays, formIn, GoodLoops, LoopsIn, SecondIn, GoodBody, GoodKind, plus, GoodElements, Good}
+use Rattle.tidying.proofs.Standing.{Sound}
+use Rattle.tidying.proofs.Good.{Always, GoodVertices, formIn, GoodLoops, LoopsIn, SecondIn, GoodBody, GoodKind, GoodElements, Good}
 use Rattle.tidying.proofs.Keep.{curves-add}
-use Rattle.tidying.proofs.Bare.{bareStatement}
-use Rattle.tidying.proofs.Goes.{Stand, runs, Goes, on, nil, one, holding, vertices, at, groups, smoothings, materials}
+use Rattle.tidying.proofs.Goes.{Goes, on, nil, one, holding, vertices, at, groups, smoothings, materials}
 
 always-type : (r : Bool) (t : Basis) → Always (type r t)
 always-type true t x n = record { many = refl; fits = (refl, ((t, refl), tt)); whole = tt }
@@ -46,7 +43,20 @@ module _ (x : Vertices) (es : List Element) (n : Names) (b : Body) (cs : List Co
 
   abbrev filled : List ℤ → List ℤ → List Loop → Body
   filled us vs ls =
-      record { free = u .free; basis = u .basis; rational = u .rational; degree-u = u .degree-u; degree-v = u .degree-v; start-u = u .start-u; end-u = u .end-u; start-v = u .start-v; end-v = u .end-v; us = us; vs = vs; loops = ls }
+      record {
+        free = u .free;
+        basis = u .basis;
+        rational = u .rational;
+        degree-u = u .degree-u;
+        degree-v = u .degree-v;
+        start-u = u .start-u;
+        end-u = u .end-u;
+        start-v = u .start-v;
+        end-v = u .end-v;
+        us = us;
+        vs = vs;
+        loops = ls;
+      }
 
   abbrev inside : Body → State
   inside c =

@@ -9,6 +9,7 @@ pub mod Fit
 pub mod Fits
 pub mod Good
 pub mod Up
+pub mod Opening
 pub mod Bodies
 pub mod Keep
 pub mod Texts
@@ -27,3 +28,4 @@ pub mod Rows
 pub mod Layouts
 pub mod SameElements
 pub mod TablesAgree
+pub mod TidyTables

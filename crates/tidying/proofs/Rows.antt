@@ -1,6 +1,6 @@
 -- Rows that lie one after the other are told apart again: by their widths, by where a loop begins, by the numbers of kinds.
-use Prim.Native.Nat.{ℕ, zero, suc, _+_, _*_, _-_, _≤_, _<_}
-use mathlib.Core.Path.{_≡_, refl, sym, ap, ap₂, _∙_, subst}
+use Prim.Native.Nat.{ℕ, _*_, _-_, _<_}
+use mathlib.Core.Path.{_≡_, refl, sym, ap, ap₂, _∙_}
 use mathlib.Core.List.{List, [], _∷_, _++_}
 use mathlib.Core.Bool.{Bool, true, false, cond}
 use lib.ListN.{length, length-append, replicate}
@@ -11,9 +11,8 @@ use Rattle.lists.specs.Lists.{flat, filled}
 use Rattle.lists.proofs.Tests.{never}
 use Rattle.forms.specs.Corner.{Corner}
 use Rattle.tables.specs.Bodies.{Basis, bezier, bspline, cardinal, taylor, basisNumber}
-use Rattle.model.specs.Model.{Shape, point, line, face, Free, curve, curve2, surface, Part, Loop, Body}
-use Rattle.model.specs.Room.{summed, partCount}
-use Rattle.model.specs.Layout.{cornerRow, shapeNumber, freeNumber, flag, beginning, partRow, partRows, loopRow, spanRow, loopRows, spanRows, itself}
+use Rattle.model.specs.Model.{Shape, point, line, face, Free, curve, curve2, surface, Part, Loop}
+use Rattle.model.specs.Layout.{cornerRow, shapeNumber, freeNumber, flag, beginning, partRow, partRows, loopRow, spanRow, itself}
 
 -- ---- two lists one after the other, the first of one length
 pub append-inj : {A : Type 0} (a b x y : List A) → length a ≡ length b → a ++ x ≡ b ++ y → (a ≡ b) × (x ≡ y)

@@ -1,8 +1,7 @@
 -- Demand 2, of the lent tables: those of two accepted texts agree exactly where the models do. From the models the tables by the layout, and back by its rows.
-use Prim.Native.Nat.{ℕ, zero, suc, _+_, _*_, _-_, _≤_, _<_}
+use Prim.Native.Nat.{ℕ, _+_, _*_, _-_}
 use mathlib.Core.Path.{_≡_, refl, sym, ap, ap₂, _∙_, subst}
 use mathlib.Core.List.{List, [], _∷_, _++_}
-use mathlib.Core.Bool.{Bool, true, false}
 use mathlib.Core.Option.{Option, none, some}
 use lib.ListN.{length, replicate}
 use lib.IntN.{ℤ, pos}
@@ -10,19 +9,17 @@ use native.Mathlib.Omega.{arith}
 use Rattle.lists.specs.Lists.{flat, filled}
 use Rattle.text.specs.Words.{Word}
 use Rattle.text.specs.Written.{bytesOf}
-use Rattle.tables.specs.Tables.{Tables}
 use Rattle.tables.specs.Records.{cornerWidth}
 use Rattle.tables.specs.declared.Used.{Used}
-use Rattle.model.specs.Model.{geometric, texture, normal, parametric, Vertices, Kind, Body, Element, Model, State}
+use Rattle.model.specs.Model.{geometric, texture, normal, parametric, Vertices, Body, Element, Model}
 use Rattle.model.specs.Room.{Rooms, summed, ofKind, partCount}
 use Rattle.model.specs.Read.{read, readOf}
 use Rattle.model.specs.Layout.{listed, kindNumber, bodyNumber, cornerRows, elementRows, bodyOf, bodiesOf, bodyRows, rangeRow, parameterRow, loopRows, spanRows, itself, tablesOf, usedOf}
-use Rattle.tidying.specs.Agree.{bareWord, bareWords, bareOption, bareNames, bareElement, bareElements, bare, Agree, unnamed, namesIn, TablesAgree}
-use Rattle.tidying.proofs.Good.{GoodVertices, GoodElements}
-use Rattle.tidying.proofs.Kept.{Came, read-came}
+use Rattle.tidying.specs.Agree.{bareOption, bareElements, bare, Agree, namesIn, TablesAgree}
+use Rattle.tidying.proofs.Kept.{read-came}
 use Rattle.tidying.proofs.Bare.{summed-bare, length-bare}
 use Rattle.tidying.proofs.SameTidy.{bytes-bare}
-use Rattle.tidying.proofs.Named.{ElementsStand, read-stands}
+use Rattle.tidying.proofs.Named.{read-stands}
 use Rattle.tidying.proofs.Rows.{append-inj, filled-inj, Wide, wide-length, wide-inj}
 use Rattle.tidying.proofs.Layouts.{fives, unnamed-is, fives-length, wordsIn, names-in, all-corners, all-bodies, all-ranges, all-parameters, all-loops, all-spans, SameBodies}
 use Rattle.tidying.proofs.SameElements.{vertices-wide, PartedAll, elements-parted, same-elements}

@@ -1,25 +1,24 @@
 -- Demand 2: the tidy text of an accepted text is read as the same model, apart from where names stand. By the statements of the tidy text.
-use Prim.Native.Nat.{ℕ, zero, suc, _+_, _≤_, _<_}
+use Prim.Native.Nat.{ℕ, suc, _≤_}
 use mathlib.Core.Path.{_≡_, refl, sym, ap, ap₂, _∙_, subst}
-use mathlib.Core.List.{List, [], _∷_, _++_, map}
-use mathlib.Core.Bool.{Bool, true, false, cond, _&&_}
+use mathlib.Core.List.{List, [], _∷_, map}
+use mathlib.Core.Bool.{Bool, true, false, cond}
 use mathlib.Core.Option.{Option, none, some}
 use lib.ListN.{length}
-use lib.Dec.{leb}
 use native.Mathlib.Omega.{arith}
 use native.Mathlib.Nat.{le-refl}
 use borrow.Author.Tests.{le-leb}
-use Rattle.lists.specs.Lists.{all, flat}
+use Rattle.lists.specs.Lists.{all}
 use Rattle.lists.proofs.Tests.{and-both, never}
 use Rattle.text.specs.Lines.{Line as JoinedLine, linesOf}
-use Rattle.text.specs.Words.{Word, wordsOf, badOf}
+use Rattle.text.specs.Words.{Word, wordsOf}
 use Rattle.text.specs.Written.{bytesOf, isToken, writtenLines}
-use Rattle.keywords.specs.Keywords.{statementOf, keywordOf}
-use Rattle.model.specs.Model.{Vertices, Names, Kind, plain, free, Element, Model, Form, Open, State, isCurve2, curves, start}
+use Rattle.keywords.specs.Keywords.{keywordOf}
+use Rattle.model.specs.Model.{Vertices, Names, Kind, plain, Model, Form, Open, State, isCurve2, curves, start}
 use Rattle.model.specs.Statements.{Statement, vertex, element, group, smoothing, material, type, degree, body, parameters, loop, end, passed, apply, ended, closed}
-use Rattle.model.specs.Parse.{Parsed, fine, fault, then, must, unless, seenIn, parse}
+use Rattle.model.specs.Parse.{Parsed, fine, unless, parse}
 use Rattle.model.specs.Room.{Rooms, fits}
-use Rattle.model.specs.Read.{statement, step, Answer, read, refused, finish, onParsed, readLines, readOf}
+use Rattle.model.specs.Read.{statement, step, read, refused, finish, onParsed, readLines, readOf}
 use Rattle.tidying.specs.Printed.{keywordIn, wordsAfter, printed, tidyText}
 use Rattle.tidying.specs.Tidied.{tidied}
 use Rattle.tidying.specs.Agree.{bareElements, bare, Agree}
@@ -35,9 +34,9 @@ use Rattle.tidying.proofs.Rooms.{NoMore, no-more-same, no-more-join, fi
 use Rattle.tidying.proofs.Bare.{bareOpening, bareState, bareStatement, renamed-bare, bare-apply, curves-bare, here-bare, needs-bare}
 use Rattle.tidying.proofs.Texts.{Say, text-back}
 use Rattle.tidying.proofs.Tokens.{line-tokens}
-use Rattle.tidying.proofs.Kept.{apply-more, Came, read-came, read-small}
-use Rattle.tidying.proofs.Goes.{Stand, runs, Goes, at}
-use Rattle.tidying.proofs.Elements.{Comes, tidied-goes}
+use Rattle.tidying.proofs.Kept.{apply-more, read-came, read-small}
+use Rattle.tidying.proofs.Goes.{Stand, runs, at}
+use Rattle.tidying.proofs.Elements.{tidied-goes}
 
 -- ---- later statements take nothing back
 pub record Later (s u : State) : Type 0 where

@@ -1,24 +1,23 @@
 -- A statement that can be printed still can after more vertices and curves; one that refers to nothing can anywhere. By cases on the forms of its words.
-use Prim.Native.Nat.{ℕ, zero, suc, _+_, _-_, _≤_, _<_}
-use mathlib.Core.Path.{_≡_, refl, sym, ap, ap₂, _∙_, subst}
+use Prim.Native.Nat.{ℕ, zero, suc, _+_, _-_, _≤_}
+use mathlib.Core.Path.{_≡_, refl, sym, ap, _∙_}
 use mathlib.Core.List.{List, [], _∷_, _++_, append-nil, append-assoc}
-use mathlib.Core.Bool.{Bool, true, false, cond, _&&_}
+use mathlib.Core.Bool.{Bool, true, false, cond}
 use lib.ListN.{length, length-append, getD}
 use lib.Dec.{leb, eqb}
 use lib.IntN.{ℤ, pos, natAbs}
 use native.Mathlib.Omega.{arith}
-use Rattle.lists.specs.Lists.{all}
 use Rattle.lists.proofs.Tests.{never}
 use Rattle.lists.proofs.Laws.{all-imp}
 use Rattle.text.specs.Words.{Word}
 use Rattle.forms.specs.Corner.{Corner}
-use Rattle.model.specs.Model.{VertexKind, geometric, texture, normal, parametric, Vertices, Free, curve, curve2, surface, Direction, Loop}
+use Rattle.model.specs.Model.{VertexKind, geometric, texture, normal, parametric, Vertices, Free, curve, curve2, surface, Direction}
 use Rattle.model.specs.Statements.{Statement, vertex, element, group, smoothing, material, type, degree, body, parameters, loop, end, passed, withVertex}
 use Rattle.model.specs.Parse.{WordForm, a-number, a-corner, a-control, a-curve, a-direction, a-type, a-rational, a-degree, a-smoothing, a-name, anything, Value, Seen, formOf, parm, given}
 use Rattle.tidying.proofs.Values.{keyOf, valuesIn}
 use Rattle.tidying.proofs.Words.{Fits, Fitting, Up, fitting-up, Small}
 use Rattle.tidying.proofs.Standing.{seenOf, wide, wideIn, Whole, Fine}
-use Rattle.tidying.proofs.Good.{Always, GoodLoops, LoopsIn}
+use Rattle.tidying.proofs.Good.{Always}
 
 -- ---- what refers to nothing
 abbrev refers : WordForm → Bool
