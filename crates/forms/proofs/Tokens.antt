@@ -16,7 +16,7 @@ use Rattle.text.specs.Written.{isToken}
 use Rattle.forms.specs.Digits.{isDigit, digits}
 use Rattle.forms.specs.Corner.{Corner}
 use Rattle.forms.specs.Written.{full, writtenWhole, writtenMillionths, writtenNumber, slashed, writtenCorner}
-use Rattle.forms.proofs.Fronts.{digit-word}
+use Rattle.forms.proofs.Fronts.{digit-word, append-nil}
 use Rattle.forms.proofs.Numerals.{full-digits}
 use Rattle.forms.proofs.WholesBack.{written-digits, written-some}
 
@@ -31,10 +31,6 @@ token (b ∷ bs) r h l k =
     let m = leb-true 48 b (and-left (leb 48 b) (leb b 57) d) in
     and-both (and-both (digit-word b d) (rw (ne-eqb b 35 (omega arith)) refl))
     (all-append isWord bs r (digit-words bs (and-right (isDigit b) (digits bs) h)) k)
-
-append-nil : (l : List ℕ) → l ++ [] ≡ l
-append-nil [] = refl
-append-nil (b ∷ bs) = ap (λ (r : List ℕ). b ∷ r) (append-nil bs)
 
 pub whole-token : (n : ℕ) → isToken (writtenWhole n) ≡ true
 whole-token n = ap isToken (sym (append-nil (writtenWhole n))) ∙ token (writtenWhole n) [] (written-digits n) (written-some n) refl
