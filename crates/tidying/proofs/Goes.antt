@@ -14,7 +14,7 @@ use Rattle.model.specs.Model.{VertexKind, geometric, texture, normal, parametri
 use Rattle.model.specs.Statements.{Statement, vertex, group, smoothing, material, apply, withVertex}
 use Rattle.tidying.specs.Tidied.{sameWords, groupLines, smoothingLines, materialLines}
 use Rattle.tidying.specs.Agree.{bareWord, bareWords, bareOption}
-use Rattle.tidying.proofs.Fit.{Ready}
+use Rattle.tidying.proofs.Ready.{Ready}
 use Rattle.tidying.proofs.Good.{Always, GoodVertices, GoodMaterial, stays}
 use Rattle.tidying.proofs.Bare.{bareStatement, same-words}
 

@@ -14,9 +14,9 @@ use Rattle.model.specs.Model.{VertexKind, geometric, texture, normal, parametri
 use Rattle.model.specs.Statements.{Statement, vertex, element, group, smoothing, material, type, degree, body, parameters, loop, end, passed, apply, closed, ended, onOpen, withBody, withParameters, withLoop}
 use Rattle.model.specs.Parse.{whole, outside, inBody, isSurface, isV, within}
 use Rattle.tidying.proofs.Standing.{Fine, Ends, Here}
-use Rattle.tidying.proofs.Fit.{Ready}
+use Rattle.tidying.proofs.Ready.{Ready}
 use Rattle.tidying.proofs.Good.{Always, GoodVertices, GoodNames, stays, GoodKind, plus, GoodElements, GoodOpen, GoodOption, Good}
-use Rattle.tidying.proofs.Up.{More, fine-up, always-vertex, always-group, always-smoothing, always-material, always-parameters}
+use Rattle.tidying.proofs.More.{More, fine-up, always-vertex, always-group, always-smoothing, always-material, always-parameters}
 use Rattle.tidying.proofs.Opening.{opened-good}
 use Rattle.tidying.proofs.Bodies.{parameters-good, loop-good, closed-good}
 

@@ -22,15 +22,11 @@ fives c b (e ∷ es) =
     kindNumber (e .kind) ∷ c ∷ length (e .corners) ∷ bodyNumber (e .kind) b ∷ e .names .smoothing
     ∷ fives (c + cornerWidth * length (e .corners)) (b + ofKind (λ x. 1) (e .kind)) es
 
-pub unnamed-is : (c b : ℕ) (es : List Element) (z : List ℕ) → unnamed (length es) (elementRows c b es ++ z) ≡ fives c b es ++ z
+pub unnamed-is : (c b : ℕ) (es : List Element) (z : List ℕ) → unnamed (length es) (elementRows c b es ++ z) ≡ fives c b es
 unnamed-is c b [] z = refl
 unnamed-is c b (e ∷ es) z =
     ap (λ (r : List ℕ). kindNumber (e .kind) ∷ c ∷ length (e .corners) ∷ bodyNumber (e .kind) b ∷ e .names .smoothing ∷ r)
     (unnamed-is (c + cornerWidth * length (e .corners)) (b + ofKind (λ x. 1) (e .kind)) es z)
-
-pub fives-length : (c b : ℕ) (es : List Element) → length (fives c b es) ≡ 5 * length es
-fives-length c b [] = refl
-fives-length c b (e ∷ es) = let i = fives-length (c + cornerWidth * length (e .corners)) (b + ofKind (λ x. 1) (e .kind)) es in omega arith
 
 -- the names of elements, as words
 abbrev pub wordsIn : List Element → List (List (List ℕ))

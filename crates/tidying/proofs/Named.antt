@@ -24,9 +24,9 @@ use Rattle.model.specs.Read.{keywordOf, statement, step, read, readLines, readO
 use Rattle.tidying.specs.Agree.{wordsAt}
 use Rattle.tidying.proofs.Words.{then-fine, placed-fine, on-says}
 use Rattle.tidying.proofs.Back.{names-of}
-use Rattle.tidying.proofs.Fit.{must-fine, unless-fine}
-use Rattle.tidying.proofs.Kept.{on-read, sized}
-use Rattle.tidying.proofs.Kept as kept
+use Rattle.tidying.proofs.Ready.{must-fine, unless-fine}
+use Rattle.tidying.proofs.Reading.{on-read, sized}
+use Rattle.tidying.proofs.Reading as reading
 use Rattle.tidying.proofs.Runs.{names-run}
 
 -- ---- names that stand in the text t
@@ -186,7 +186,7 @@ module _ (t : List ℕ) where
       subst Standing (let y' = d .1 in let z : apply (c .0) x ≡ y = cc in z) (apply-stands x h (c .0) (parse-sets x (w .place) (c .0) (a .0) ws r (c .1)))
 
   lines-stand : (R : Rooms) (n : ℕ) (ls : List JoinedLine) (x : State) (m : Model) → InText ls → readLines R n ls x ≡ read m → Standing x → ElementsStand (m .elements)
-  lines-stand R n [] x m i e h = subst (λ (k : Model). ElementsStand (k .elements)) (kept.finished n (x .open-body) (x .model) m e .1) (h .elements)
+  lines-stand R n [] x m i e h = subst (λ (k : Model). ElementsStand (k .elements)) (reading.finished n (x .open-body) (x .model) m e .1) (h .elements)
   lines-stand R n (l ∷ ls) x m i e h =
       let a = on-read (unless (badOf l) 2 (step R x (wordsOf l))) (readLines R n ls) m e in
       let b = unless-fine (badOf l) 2 (step R x (wordsOf l)) (a .0) (a .1) in

@@ -3,7 +3,8 @@ use Prim.Native.Nat.{ℕ, _*_, _-_, _<_}
 use mathlib.Core.Path.{_≡_, refl, sym, ap, ap₂, _∙_}
 use mathlib.Core.List.{List, [], _∷_, _++_}
 use mathlib.Core.Bool.{Bool, true, false, cond}
-use lib.ListN.{length, length-append, replicate}
+use lib.ListN.{length, length-append, replicate, take}
+use lib.Seq.{take-at}
 use lib.Dec.{eqb}
 use lib.IntN.{ℤ}
 use native.Mathlib.Omega.{arith}
@@ -25,8 +26,9 @@ append-inj {A} (c ∷ a) (d ∷ b) x y l e =
     let i = append-inj a b x y (omega arith) t in
     (ap₂ (λ (u : A) (us : List A). u ∷ us) h (i .0), i .1)
 
-pub filled-inj : {A : Type 0} (n m : ℕ) (z : A) (a b : List A) → length a ≡ length b → filled n z a ≡ filled m z b → a ≡ b
-filled-inj n m z a b l e = append-inj a b (replicate (n - length a) z) (replicate (m - length b) z) l e .0
+-- the used entries of a lent table
+pub used-of : {A : Type 0} (n r : ℕ) (z : A) (xs : List A) → length xs ≡ n → take n (filled r z xs) ≡ xs
+used-of n r z xs l = take-at xs (replicate (r - length xs) z) n l
 
 -- ---- vertices: each record of w numbers
 abbrev pub Wide : ℕ → List (List ℤ) → Type 0

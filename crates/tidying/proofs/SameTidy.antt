@@ -21,8 +21,8 @@ use Rattle.tidying.specs.Printed.{printed, tidyText}
 use Rattle.tidying.specs.Agree.{bareWord, bareWords, bareOption, bareNames, bareElements, bare, Agree}
 use Rattle.tidying.proofs.Values.{map-append}
 use Rattle.tidying.proofs.Words.{then-fine}
-use Rattle.tidying.proofs.Fit.{must-fine, unless-fine}
-use Rattle.tidying.proofs.Kept.{on-read, finished, sized}
+use Rattle.tidying.proofs.Ready.{must-fine, unless-fine}
+use Rattle.tidying.proofs.Reading.{on-read, finished, sized}
 use Rattle.tidying.proofs.TidyRead.{tidy-read}
 
 -- ---- printing looks at no place

@@ -26,15 +26,15 @@ use Rattle.tidying.proofs.Values.{keyOf, key-back}
 use Rattle.tidying.proofs.Words.{Small}
 use Rattle.tidying.proofs.Standing.{seenOf, Fine, Here}
 use Rattle.tidying.proofs.Back.{renamed, back}
-use Rattle.tidying.proofs.Fit.{Ready}
+use Rattle.tidying.proofs.Ready.{Ready}
 use Rattle.tidying.proofs.Good.{plus}
-use Rattle.tidying.proofs.Up.{More, more-same, more-join, small-down}
+use Rattle.tidying.proofs.More.{More, more-same, more-join, small-down}
 use Rattle.tidying.proofs.Keep.{curves-add}
 use Rattle.tidying.proofs.Rooms.{NoMore, no-more-same, no-more-join, fits-down, grows}
 use Rattle.tidying.proofs.Bare.{bareOpening, bareState, bareStatement, renamed-bare, bare-apply, curves-bare, here-bare, needs-bare}
 use Rattle.tidying.proofs.Texts.{Say, text-back}
 use Rattle.tidying.proofs.Tokens.{line-tokens}
-use Rattle.tidying.proofs.Kept.{apply-more, read-came, read-small}
+use Rattle.tidying.proofs.Reading.{apply-more, read-came, read-small}
 use Rattle.tidying.proofs.Goes.{Stand, runs, at}
 use Rattle.tidying.proofs.Elements.{tidied-goes}
 

@@ -23,10 +23,10 @@ use Rattle.model.specs.Read.{keywordOf, statement, step, Answer, read, refused,
 use Rattle.tidying.proofs.Texts.{words-tokens, lines-length}
 use Rattle.tidying.proofs.Words.{Small, then-fine}
 use Rattle.tidying.proofs.Standing.{seenOf}
-use Rattle.tidying.proofs.Fit.{Ready, must-fine, unless-fine}
-use Rattle.tidying.proofs.Fits.{fit}
+use Rattle.tidying.proofs.Ready.{Ready, must-fine, unless-fine}
+use Rattle.tidying.proofs.Parsed.{fit}
 use Rattle.tidying.proofs.Good.{Good, plus}
-use Rattle.tidying.proofs.Up.{More, more-same, more-join, more-vertex}
+use Rattle.tidying.proofs.More.{More, more-same, more-join, more-vertex}
 use Rattle.tidying.proofs.Rooms.{together}
 use Rattle.tidying.proofs.Keep.{keep, curves-add, ended-vertices}
 

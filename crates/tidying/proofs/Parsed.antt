@@ -19,7 +19,7 @@ use Rattle.model.specs.Statements.{Statement, smoothing, material, type, degree
 use Rattle.model.specs.Parse.{fine, Keyword, a-vertex, an-element, a-body, parm, trim, hole, ends, cstype, deg, g, s, usemtl, over, Value, direction, whole, basis, name, nothing, within, counted, formOf, allowed, valuesOf, saidOf, placed, directionOf, directionSaid, checked, finished, seenIn, parse, isV, saysV, complete, countsAgree, inRange}
 use Rattle.tidying.proofs.Words.{Fitting, values-fit, then-fine, placed-fine}
 use Rattle.tidying.proofs.Standing.{seenOf, Ends}
-use Rattle.tidying.proofs.Fit.{Ready, must-fine, put, told, vertex-fit, element-fit, body-fit, parm-fit, loop-fits, group-fit}
+use Rattle.tidying.proofs.Ready.{Ready, must-fine, put, told, vertex-fit, element-fit, body-fit, parm-fit, loop-fits, group-fit}
 
 module _ (x : State) (p : ℕ) (ws : List Word) (t : Statement) where
   abbrev X : Vertices
