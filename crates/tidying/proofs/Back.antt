@@ -1,28 +1,26 @@
 -- The printed line of a statement, parsed where it may stand, is that statement, its names being the line's own words. By cases on the statement.
-use Prim.Native.Nat.{ℕ, zero, suc, _+_, _≤_, _<_}
-use mathlib.Core.Path.{_≡_, refl, sym, ap, ap₂, _∙_, subst}
+use Prim.Native.Nat.{ℕ, zero, suc}
+use mathlib.Core.Path.{_≡_, refl, ap, ap₂, _∙_}
 use mathlib.Core.List.{List, [], _∷_, _++_, map}
-use mathlib.Core.Bool.{Bool, true, false, cond, _&&_, _||_, not}
+use mathlib.Core.Bool.{Bool, true, false, _||_, not}
 use mathlib.Core.Option.{Option, none, some}
-use lib.ListN.{length, length-map, drop, getD}
-use lib.Dec.{leb, eqb}
-use lib.IntN.{ℤ, pos}
+use lib.ListN.{length, length-map, drop}
+use lib.IntN.{ℤ}
 use native.Mathlib.Omega.{arith}
 use Rattle.lists.specs.Lists.{all, flat}
-use Rattle.lists.proofs.Tests.{and-left, and-right, and-both, never}
+use Rattle.lists.proofs.Tests.{and-left, and-right, never}
 use Rattle.lists.proofs.Laws.{all-append}
 use Rattle.text.specs.Words.{Word}
 use Rattle.text.specs.Written.{bytesOf}
 use Rattle.forms.specs.Corner.{Corner, alike}
-use Rattle.keywords.specs.Arguments.{argumentOf, arguments, argumentBytes}
-use Rattle.tables.specs.Bodies.{Basis}
-use Rattle.model.specs.Model.{VertexKind, Vertices, Free, curve, curve2, surface, Direction, along-u, along-v, Part, Loop, Body, Form, Open, State, curves}
+use Rattle.keywords.specs.Arguments.{argumentBytes}
+use Rattle.model.specs.Model.{Vertices, Free, curve, curve2, surface, Part, Body, Open, State, curves}
 use Rattle.model.specs.Statements.{Statement, vertex, element, group, smoothing, material, type, degree, body, parameters, loop, end, passed}
-use Rattle.model.specs.Parse.{Parsed, fine, fault, then, must, unless, Keyword, trim, hole, Value, number, corner, whole, direction, basis, name, nothing, counted, formOf, allowed, valuesOf, numbersOf, cornersOf, wholesOf, namesOf, basisOf, partsOf, differing, unlike, given, narrow, narrowIn, recordOf, bodyOf, inForce, checked, finished, opened, seenIn, parse, outside, inBody, isSurface, isV, saysV, directionOf, rangeWords, complete, countsAgree, inRange}
+use Rattle.model.specs.Parse.{fine, hole, Value, number, corner, whole, direction, basis, name, nothing, formOf, allowed, numbersOf, cornersOf, wholesOf, namesOf, partsOf, differing, unlike, narrow, narrowIn, checked, finished, opened, seenIn, parse, inBody, isSurface, saysV, rangeWords, complete}
 use Rattle.tidying.specs.Printed.{coordinates, rangeOf, wordsAfter, directionArgument}
 use Rattle.tidying.proofs.Values.{keyOf, loopKey, valuesIn, partValues, typeValues, degreeValues, written, words-written}
-use Rattle.tidying.proofs.Words.{Small, Fitting, stand, stands, values-back, direction-is}
-use Rattle.tidying.proofs.Standing.{seenOf, uniform, wide, wideIn, Whole, Fine, Sound, Ends, Opens, Here}
+use Rattle.tidying.proofs.Words.{Small, stand, stands, values-back, direction-is}
+use Rattle.tidying.proofs.Standing.{uniform, wide, wideIn, Whole, Fine, Ends, Opens, Here}
 
 -- the statement with the line's words for its names
 abbrev pub firstOr : Word → List Word → Word

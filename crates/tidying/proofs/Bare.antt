@@ -1,8 +1,8 @@
 -- Places forgotten: applying, parsing and room do not look at where names stand. By cases on the statement, and by the elements.
-use Prim.Native.Nat.{ℕ, zero, suc, _+_, _≤_, _<_}
-use mathlib.Core.Path.{_≡_, refl, sym, ap, ap₂, _∙_, subst}
-use mathlib.Core.List.{List, [], _∷_, _++_, map}
-use mathlib.Core.Bool.{Bool, true, false, cond, _&&_, _||_, not}
+use Prim.Native.Nat.{ℕ, suc, _+_}
+use mathlib.Core.Path.{_≡_, refl, sym, ap, ap₂, _∙_}
+use mathlib.Core.List.{List, [], _∷_, _++_}
+use mathlib.Core.Bool.{Bool, true, cond}
 use mathlib.Core.Option.{Option, none, some}
 use lib.ListN.{length}
 use native.Mathlib.Omega.{arith}
@@ -11,14 +11,14 @@ use Rattle.lists.proofs.Tests.{and-left, and-right, never}
 use Rattle.lists.proofs.Laws.{same-eq}
 use Rattle.text.specs.Words.{Word}
 use Rattle.text.specs.Written.{bytesOf}
-use Rattle.model.specs.Model.{Vertices, Names, Free, Direction, Loop, Body, Kind, plain, free, Element, Model, Form, Open, State, isCurve2, curves}
-use Rattle.model.specs.Statements.{Statement, vertex, element, group, smoothing, material, type, degree, body, parameters, loop, end, passed, apply, onOpen, withBody, withParameters, withLoop, closed, ended}
+use Rattle.model.specs.Model.{Free, Body, plain, Element, Form, Open, State, isCurve2, curves}
+use Rattle.model.specs.Statements.{Statement, vertex, element, group, smoothing, material, type, degree, body, parameters, loop, end, passed, apply, onOpen, withBody, withParameters, withLoop, closed}
 use Rattle.model.specs.Parse.{outside, inBody}
 use Rattle.model.specs.Room.{summed, ofKind, ofOpen, partCount}
 use Rattle.tidying.specs.Printed.{wordsAfter}
 use Rattle.tidying.specs.Tidied.{sameWords}
-use Rattle.tidying.specs.Agree.{bareWord, bareWords, bareOption, bareNames, bareElement, bareElements}
-use Rattle.tidying.proofs.Standing.{Fine, Here, Ends}
+use Rattle.tidying.specs.Agree.{bareWord, bareWords, bareNames, bareElement, bareElements}
+use Rattle.tidying.proofs.Standing.{Here, Ends}
 use Rattle.tidying.proofs.Back.{renamed, firstOr}
 use Rattle.tidying.proofs.Rooms.{NoMore}
 
@@ -32,7 +32,12 @@ bareOpening (some o) = some (bareOpen o)
 
 abbrev pub bareState : State → State
 bareState x =
-    record { model = record { vertices = x .model .vertices; elements = bareElements (x .model .elements) }; names = bareNames (x .names); form = x .form; open-body = bareOpening (x .open-body) }
+    record {
+      model = record { vertices = x .model .vertices; elements = bareElements (x .model .elements) };
+      names = bareNames (x .names);
+      form = x .form;
+      open-body = bareOpening (x .open-body);
+    }
 
 abbrev pub bareStatement : Statement → Statement
 bareStatement (vertex k z) = vertex k z
@@ -67,7 +72,9 @@ same-words [] [] h = refl
 same-words [] (w ∷ ws) h = never h
 same-words (v ∷ vs) [] h = never h
 same-words (v ∷ vs) (w ∷ ws) h =
-    ap₂ (λ (x : List ℕ) (y : List Word). record { place = 0; bytes = x } ∷ y) (same-eq (v .bytes) (w .bytes) (and-left (same (v .bytes) (w .bytes)) (sameWords vs ws) h)) (same-words vs ws (and-right (same (v .bytes) (w .bytes)) (sameWords vs ws) h))
+    ap₂ (λ (x : List ℕ) (y : List Word). record { place = 0; bytes = x } ∷ y)
+    (same-eq (v .bytes) (w .bytes) (and-left (same (v .bytes) (w .bytes)) (sameWords vs ws) h))
+    (same-words vs ws (and-right (same (v .bytes) (w .bytes)) (sameWords vs ws) h))
 
 -- a line's own words for a statement's names
 pub renamed-bare : (ws : List Word) (t : Statement) → bytesOf ws ≡ wordsAfter t → bareStatement (renamed ws t) ≡ bareStatement t
@@ -184,6 +191,6 @@ needs-bare x =
     let d = summed-bare (λ (e : Element). ofKind (λ (b : Body). length (b .us) + length (b .vs)) (e .kind)) (λ e. refl) es in
     let f = summed-bare (λ (e : Element). ofKind partCount (e .kind)) (λ e. refl) es in
     let f' = open-bare (λ (o : Open). partCount (o .body)) (λ o. refl) o in (
-      record { v = omega arith; vt = omega arith; vn = omega arith; vp = omega arith; corners = omega arith; elements = omega arith; bodies = omega arith; parameters = omega arith; loops = omega arith },
-      record { v = omega arith; vt = omega arith; vn = omega arith; vp = omega arith; corners = omega arith; elements = omega arith; bodies = omega arith; parameters = omega arith; loops = omega arith },
+      omega arith,
+      omega arith,
     )

@@ -1,21 +1,21 @@
 -- The record of a vertex, its coordinates written, is read as that record: what is filled in is there, and is left alone.
-use Prim.Native.Nat.{ℕ, zero, suc, _+_, _-_, _≤_, _<_}
-use mathlib.Core.Path.{_≡_, refl, sym, ap, ap₂, _∙_, subst}
-use mathlib.Core.List.{List, [], _∷_, _++_, map, append-nil}
-use mathlib.Core.Bool.{Bool, true, false, cond, _&&_}
-use lib.ListN.{length, length-append, length-drop, length-map, drop, take, drop-of-length-le}
+use Prim.Native.Nat.{ℕ, zero, suc, _≤_}
+use mathlib.Core.Path.{_≡_, refl, ap, _∙_}
+use mathlib.Core.List.{List, [], _∷_, _++_, append-nil}
+use mathlib.Core.Bool.{Bool, true}
+use lib.ListN.{length, length-append, length-drop, length-map, drop, drop-of-length-le}
 use lib.Seq.{take-append-seam}
-use lib.Dec.{leb, eqb}
-use lib.IntN.{ℤ, pos}
+use lib.Dec.{leb}
+use lib.IntN.{ℤ}
 use native.Mathlib.Omega.{arith}
-use borrow.Author.Tests.{leb-true, le-leb, eqb-true, eq-eqb}
+use borrow.Author.Tests.{leb-true, eqb-true}
 use Rattle.lists.specs.Lists.{all}
-use Rattle.lists.proofs.Tests.{and-left, and-right, and-both, never}
+use Rattle.lists.proofs.Tests.{and-right}
 use Rattle.lists.proofs.Laws.{all-append}
 use Rattle.forms.specs.Fits.{numberFits}
 use Rattle.model.specs.Model.{VertexKind, geometric, texture, normal, parametric, Vertices}
-use Rattle.model.specs.Statements.{Statement, vertex}
-use Rattle.model.specs.Parse.{number, within, countedVertex, defaults, completed, recordOf}
+use Rattle.model.specs.Statements.{vertex}
+use Rattle.model.specs.Parse.{number, countedVertex, defaults, completed, recordOf}
 use Rattle.tidying.specs.Printed.{coordinates}
 use Rattle.tidying.proofs.Shapes.{fit-numbers}
 use Rattle.tidying.proofs.Standing.{seenOf, Fine}
@@ -67,8 +67,12 @@ written-is texture z c h =
 written-is normal z c h =
     record { many = rw (completed-length normal z c) refl; numbers = completed-numbers normal z c h; whole = completed-again normal z c h }
 written-is parametric z c h =
-    let e : take (length z) (completed parametric z) ≡ z = take-append-seam z (drop (length z) (defaults parametric)) in
-    record { many = rw e c; numbers = rw e h; whole = ap (recordOf parametric) e }
+    let e : coordinates parametric (recordOf parametric z) ≡ z = take-append-seam z (drop (length z) (defaults parametric)) in
+    record {
+      many = ap (λ (y : List ℤ). countedVertex parametric (length y)) e ∙ c;
+      numbers = ap (all numberFits) e ∙ h;
+      whole = ap (recordOf parametric) e;
+    }
 
 pub vertex-fine : (x : Vertices) (n : ℕ) (k : VertexKind) (z : List ℤ) → countedVertex k (length z) ≡ true → all numberFits z ≡ true → Fine x n (vertex k (recordOf k z))
 vertex-fine x n k z c h =

@@ -40,3 +40,10 @@ curved :
     ≡ bytes "v 0.000000 0.000000 0.000000 1.000000\nv 1.000000 0.000000 0.000000 1.000000\nvt 1.000000 0.000000 0.000000\nvn 0.000000 0.000000 -1.000000\nvp 0.500000\nvp 0.000000 1.000000\nvp 1.000000 -1.000000 2.000000\ng a b#c\nusemtl x\nl 1/1 2/1\ng\ns 7\nf 1//1 2//1 2//1\ncstype rat cardinal\ndeg 3\ncurv2 2 3 2 2\nparm u 0.000000 1.000000\nend\ncstype bezier\ndeg 1 1\nsurf 0.000000 1.000000 0.000000 1.000000 1 2 1 2\nparm u -0.000001 1.000000\nparm v 0.000000 1.000000\nhole 0.000000 1.000000 1 0.500000 1.000000 1\ntrim 1.000000 0.000000 1\nend\n"
 unfolding many tidyOf tidied tidyText readOf linesOf numberOf decimal numerator denominator nearest whole isReference refer referenceOf cornerOf degreeOf smoothingOf nameOf writtenWhole writtenMillionths statementOf keywords keywordOf argumentOf arguments argumentBytes inOrder curveCount surfaceCount fits parse statement
 curved = refl
+
+-- the other types, a curve of each, and corners with all three parts
+types :
+    tidyOf (readOf many (bytes "v 0 0 0 2\nv 1 0 0\nvt .5\nvn 1 0 0\ndeg 1 5\ncstype rat bspline\ncurv 0 1 1 2\nparm u 0 0 1 1\nend\ncstype taylor\ncurv .25 .75 -2 -1\nparm u 0 1\nend\nusemtl a\nusemtl b\nf 1/1/1 2/1/1 2/-1/-1\ng a a\np 1 2 1\ng a \\\n a\ns 0\nusemtl b\np 2\n"))
+    ≡ bytes "v 0.000000 0.000000 0.000000 2.000000\nv 1.000000 0.000000 0.000000 1.000000\nvt 0.500000 0.000000 0.000000\nvn 1.000000 0.000000 0.000000\ncstype rat bspline\ndeg 1\ncurv 0.000000 1.000000 1 2\nparm u 0.000000 0.000000 1.000000 1.000000\nend\ncstype taylor\ndeg 1\ncurv 0.250000 0.750000 1 2\nparm u 0.000000 1.000000\nend\nusemtl b\nf 1/1/1 2/1/1 2/1/1\ng a a\np 1 2 1\np 2\n"
+unfolding many tidyOf tidied tidyText readOf linesOf numberOf decimal numerator denominator nearest whole isReference refer referenceOf cornerOf degreeOf smoothingOf nameOf writtenWhole writtenMillionths statementOf keywords keywordOf argumentOf arguments argumentBytes inOrder curveCount surfaceCount fits parse statement
+types = refl

@@ -1,27 +1,21 @@
 -- The statements of the tidy text each stand where they are, and come to the model with its places forgotten: by the elements.
-use Prim.Native.Nat.{ℕ, zero, suc, _+_, _≤_, _<_}
-use mathlib.Core.Path.{_≡_, refl, sym, ap, ap₂, _∙_, subst}
+use Prim.Native.Nat.{ℕ}
+use mathlib.Core.Path.{_≡_, refl, sym, ap, _∙_, subst}
 use mathlib.Core.List.{List, [], _∷_, _++_, map, append-assoc, append-nil}
-use mathlib.Core.Bool.{Bool, true, false, cond, _&&_, _||_, not}
+use mathlib.Core.Bool.{true, false}
 use mathlib.Core.Option.{Option, none, some}
 use mathlib.Core.Logic.{⊎-elim}
-use lib.ListN.{length}
 use lib.Dec.{eqb}
 use lib.IntN.{ℤ}
-use native.Mathlib.Omega.{arith}
 use borrow.Author.Tests.{eqb-true}
 use Rattle.lists.proofs.Tests.{never, test}
 use Rattle.text.specs.Words.{Word}
-use Rattle.forms.specs.Corner.{Corner}
-use Rattle.model.specs.Model.{VertexKind, geometric, texture, normal, parametric, Vertices, Names, Free, curve, curve2, surface, Direction, along-u, along-v, Loop, Body, Kind, plain, free, Element, Model, Form, Open, State, curves, start}
-use Rattle.model.specs.Statements.{Statement, vertex, element, group, smoothing, material, type, degree, body, parameters, loop, end, passed, apply, withVertex, settled}
-use Rattle.model.specs.Parse.{isSurface}
-use Rattle.model.specs.Layout.{listed}
-use Rattle.tidying.specs.Tidied.{vertexLines, sameWords, groupLines, smoothingLines, materialLines, unsettled, unfilled, atLine, parameterLines, elementLines, elementsLines, tidied}
-use Rattle.tidying.specs.Agree.{bareWord, bareWords, bareOption, bareNames, bareElement, bareElements}
-use Rattle.tidying.proofs.Standing.{Fine, Sound, Opens, Here}
-use Rattle.tidying.proofs.Fit.{Ready}
-use Rattle.tidying.proofs.Good.{Always, GoodVertices, GoodMaterial, GoodNames, stays, formIn, GoodLoops, LoopsIn, SecondIn, GoodBody, GoodKind, plus, GoodElements}
+use Rattle.model.specs.Model.{VertexKind, geometric, texture, normal, parametric, Vertices, Names, Element, Form, State, curves, start}
+use Rattle.model.specs.Statements.{Statement, vertex, group, smoothing, material, apply, withVertex}
+use Rattle.tidying.specs.Tidied.{sameWords, groupLines, smoothingLines, materialLines}
+use Rattle.tidying.specs.Agree.{bareWord, bareWords, bareOption}
+use Rattle.tidying.proofs.Ready.{Ready}
+use Rattle.tidying.proofs.Good.{Always, GoodVertices, GoodMaterial, stays}
 use Rattle.tidying.proofs.Bare.{bareStatement, same-words}
 
 -- ---- statements that each stand where they are, and what they come to, places forgotten

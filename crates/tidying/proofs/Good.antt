@@ -1,15 +1,15 @@
 -- What reading keeps of a model: its records can be printed, and each passes its tests.
-use Prim.Native.Nat.{ℕ, zero, suc, _+_, _-_, _≤_, _<_}
-use mathlib.Core.Path.{_≡_, refl, sym, ap, ap₂, _∙_, subst}
-use mathlib.Core.List.{List, [], _∷_, _++_}
-use mathlib.Core.Bool.{Bool, true, false, cond, _&&_}
+use Prim.Native.Nat.{ℕ, suc}
+use mathlib.Core.Path.{_≡_}
+use mathlib.Core.List.{List, [], _∷_}
+use mathlib.Core.Bool.{Bool, true, false, cond}
 use mathlib.Core.Option.{Option, none, some}
 use lib.ListN.{length}
 use lib.Dec.{leb}
 use lib.IntN.{ℤ}
 use Rattle.text.specs.Words.{Word}
 use Rattle.forms.specs.Corner.{Corner}
-use Rattle.model.specs.Model.{VertexKind, geometric, texture, normal, parametric, Vertices, Names, Free, curve, curve2, surface, Direction, along-u, along-v, Loop, Body, Kind, plain, free, Element, Model, Form, Open, State, isCurve2, curves}
+use Rattle.model.specs.Model.{VertexKind, geometric, texture, normal, parametric, Vertices, Names, Free, curve, curve2, surface, Direction, along-u, along-v, Loop, Body, Kind, plain, free, Element, Form, Open, State, isCurve2, curves}
 use Rattle.model.specs.Statements.{Statement, vertex, element, group, smoothing, material, degree, body, parameters, loop, settled}
 use Rattle.tidying.specs.Tidied.{unsettled, unfilled, atLine}
 use Rattle.tidying.proofs.Standing.{Fine, Sound, Opens}

@@ -1,26 +1,24 @@
 -- Each statement that is ready keeps a state good: by cases on the statement.
-use Prim.Native.Nat.{ℕ, zero, suc, _+_, _≤_, _<_}
-use mathlib.Core.Path.{_≡_, refl, sym, ap, ap₂, _∙_, subst}
+use Prim.Native.Nat.{ℕ, zero, suc, _+_}
+use mathlib.Core.Path.{_≡_, refl, sym, ap, _∙_, subst}
 use mathlib.Core.List.{List, [], _∷_, _++_}
-use mathlib.Core.Bool.{Bool, true, false, cond, _&&_, _||_, not}
+use mathlib.Core.Bool.{Bool, true, false, cond, _||_, not}
 use mathlib.Core.Option.{Option, none, some}
-use lib.ListN.{length}
 use lib.Dec.{leb}
 use lib.IntN.{ℤ}
 use native.Mathlib.Omega.{arith}
 use native.Mathlib.Nat.{le-refl}
-use Rattle.lists.proofs.Tests.{and-left, and-right, and-both, never}
+use Rattle.lists.proofs.Tests.{and-right, never}
 use Rattle.text.specs.Words.{Word}
-use Rattle.forms.specs.Corner.{Corner}
-use Rattle.model.specs.Model.{VertexKind, geometric, texture, normal, parametric, Vertices, Names, Free, Direction, along-u, along-v, Loop, Body, Kind, plain, free, Element, Model, Form, Open, State, isCurve2, curves, start}
-use Rattle.model.specs.Statements.{Statement, vertex, element, group, smoothing, material, type, degree, body, parameters, loop, end, passed, apply, withElement, closed, ended, onOpen, withBody, withParameters, withLoop, settled}
-use Rattle.model.specs.Parse.{Value, whole, outside, inBody, isSurface, isV, within}
-use Rattle.tidying.proofs.Words.{Fitting}
-use Rattle.tidying.proofs.Standing.{seenOf, Fine, Sound, Ends, Here}
-use Rattle.tidying.proofs.Fit.{Ready}
-use Rattle.tidying.proofs.Good.{Always, GoodVertices, GoodMaterial, GoodNames, stays, GoodKind, plus, GoodElements, GoodOpen, GoodOption, GoodForm, Good}
-use Rattle.tidying.proofs.Up.{More, fine-up, always-vertex, always-group, always-smoothing, always-material, always-parameters}
-use Rattle.tidying.proofs.Bodies.{opened-good, parameters-good, loop-good, closed-good}
+use Rattle.model.specs.Model.{VertexKind, geometric, texture, normal, parametric, Vertices, Names, plain, Element, Model, Open, State, isCurve2, curves}
+use Rattle.model.specs.Statements.{Statement, vertex, element, group, smoothing, material, type, degree, body, parameters, loop, end, passed, apply, closed, ended, onOpen, withBody, withParameters, withLoop}
+use Rattle.model.specs.Parse.{whole, outside, inBody, isSurface, isV, within}
+use Rattle.tidying.proofs.Standing.{Fine, Ends, Here}
+use Rattle.tidying.proofs.Ready.{Ready}
+use Rattle.tidying.proofs.Good.{Always, GoodVertices, GoodNames, stays, GoodKind, plus, GoodElements, GoodOpen, GoodOption, Good}
+use Rattle.tidying.proofs.More.{More, fine-up, always-vertex, always-group, always-smoothing, always-material, always-parameters}
+use Rattle.tidying.proofs.Opening.{opened-good}
+use Rattle.tidying.proofs.Bodies.{parameters-good, loop-good, closed-good}
 
 -- ---- how many curv2 elements there are
 abbrev pub after : ℕ → List Element → ℕ
@@ -72,15 +70,12 @@ shut : (x : Vertices) (n m : ℕ) (a b : Names) (o : Option Open) → outside o 
 shut x n m a b none h g = tt
 shut x n m a b (some o) h g = never h
 
+at-most : (m : ℕ) → (i : ℕ) × (whole m ≡ whole i) × (within 1 20 i ≡ true) → leb m 20 ≡ true
+at-most m q = ap (λ (i : ℕ). leb i 20) (let e = q .1 in let z : m ≡ q .0 = cc in z) ∙ and-right (leb 1 (q .0)) (leb (q .0) 20) (q .2)
+
 degrees-form : (x : Vertices) (n m k : ℕ) → Fine x n (degree m k) → (leb m 20 ≡ true) × (leb k 20 ≡ true)
-degrees-form x n m zero f = (up m (f .fits .0), refl)
-  where
-    up : (m : ℕ) → (i : ℕ) × (whole m ≡ whole i) × (within 1 20 i ≡ true) → leb m 20 ≡ true
-    up m q = ap (λ (i : ℕ). leb i 20) (let e = q .1 in let z : m ≡ q .0 = cc in z) ∙ and-right (leb 1 (q .0)) (leb (q .0) 20) (q .2)
-degrees-form x n m (suc k) f = (up m (f .fits .0), up (suc k) (f .fits .1 .0))
-  where
-    up : (m : ℕ) → (i : ℕ) × (whole m ≡ whole i) × (within 1 20 i ≡ true) → leb m 20 ≡ true
-    up m q = ap (λ (i : ℕ). leb i 20) (let e = q .1 in let z : m ≡ q .0 = cc in z) ∙ and-right (leb 1 (q .0)) (leb (q .0) 20) (q .2)
+degrees-form x n m zero f = (at-most m (f .fits .0), refl)
+degrees-form x n m (suc k) f = (at-most m (f .fits .0), at-most (suc k) (f .fits .1 .0))
 
 pub ended-vertices : (o : Option Open) (m : Model) → ended o m .vertices ≡ m .vertices
 ended-vertices none m = refl
@@ -114,13 +109,49 @@ module _ (x : Vertices) (s : State) (u : More (s .model .vertices) x) (g : Good 
 
   go : (t : Statement) → Fine x N t → Here (s .form) (s .open-body) t → Good x (apply t s)
   go (vertex geometric z) f h =
-      record { v = vertices-add geometric (s .model .vertices .v) z (g .v) (always-vertex x N geometric z f); vt = g .vt; vn = g .vn; vp = g .vp; elements = g .elements; names = g .names; form = g .form; opened = g .opened }
+      record {
+        v = vertices-add geometric (s .model .vertices .v) z (g .v) (always-vertex x N geometric z f);
+        vt = g .vt;
+        vn = g .vn;
+        vp = g .vp;
+        elements = g .elements;
+        names = g .names;
+        form = g .form;
+        opened = g .opened;
+      }
   go (vertex texture z) f h =
-      record { v = g .v; vt = vertices-add texture (s .model .vertices .vt) z (g .vt) (always-vertex x N texture z f); vn = g .vn; vp = g .vp; elements = g .elements; names = g .names; form = g .form; opened = g .opened }
+      record {
+        v = g .v;
+        vt = vertices-add texture (s .model .vertices .vt) z (g .vt) (always-vertex x N texture z f);
+        vn = g .vn;
+        vp = g .vp;
+        elements = g .elements;
+        names = g .names;
+        form = g .form;
+        opened = g .opened;
+      }
   go (vertex normal z) f h =
-      record { v = g .v; vt = g .vt; vn = vertices-add normal (s .model .vertices .vn) z (g .vn) (always-vertex x N normal z f); vp = g .vp; elements = g .elements; names = g .names; form = g .form; opened = g .opened }
+      record {
+        v = g .v;
+        vt = g .vt;
+        vn = vertices-add normal (s .model .vertices .vn) z (g .vn) (always-vertex x N normal z f);
+        vp = g .vp;
+        elements = g .elements;
+        names = g .names;
+        form = g .form;
+        opened = g .opened;
+      }
   go (vertex parametric z) f h =
-      record { v = g .v; vt = g .vt; vn = g .vn; vp = vertices-add parametric (s .model .vertices .vp) z (g .vp) (always-vertex x N parametric z f); elements = g .elements; names = g .names; form = g .form; opened = g .opened }
+      record {
+        v = g .v;
+        vt = g .vt;
+        vn = g .vn;
+        vp = vertices-add parametric (s .model .vertices .vp) z (g .vp) (always-vertex x N parametric z f);
+        elements = g .elements;
+        names = g .names;
+        form = g .form;
+        opened = g .opened;
+      }
   go (element k cs) f h =
       record {
         v = g .v;
@@ -166,12 +197,39 @@ module _ (x : Vertices) (s : State) (u : More (s .model .vertices) x) (g : Good 
         opened = shut x N N (s .names) _ (s .open-body) h (g .opened);
       }
   go (type r t) f h =
-      record { v = g .v; vt = g .vt; vn = g .vn; vp = g .vp; elements = g .elements; names = g .names; form = record { u = g .form .u; v = g .form .v }; opened = g .opened }
+      record {
+        v = g .v;
+        vt = g .vt;
+        vn = g .vn;
+        vp = g .vp;
+        elements = g .elements;
+        names = g .names;
+        form = record { u = g .form .u; v = g .form .v };
+        opened = g .opened;
+      }
   go (degree m k) f h =
       let d = degrees-form x N m k f in
-      record { v = g .v; vt = g .vt; vn = g .vn; vp = g .vp; elements = g .elements; names = g .names; form = record { u = d .0; v = d .1 }; opened = g .opened }
+      record {
+        v = g .v;
+        vt = g .vt;
+        vn = g .vn;
+        vp = g .vp;
+        elements = g .elements;
+        names = g .names;
+        form = record { u = d .0; v = d .1 };
+        opened = g .opened;
+      }
   go (body b cs) f h =
-      record { v = g .v; vt = g .vt; vn = g .vn; vp = g .vp; elements = g .elements; names = g .names; form = g .form; opened = opened-good x N (s .names) (s .form) b cs (h .1) (g .form) f }
+      record {
+        v = g .v;
+        vt = g .vt;
+        vn = g .vn;
+        vp = g .vp;
+        elements = g .elements;
+        names = g .names;
+        form = g .form;
+        opened = opened-good x N (s .names) (s .form) b cs (h .1) (g .form) f;
+      }
   go (parameters d z) f h =
       record {
         v = g .v;

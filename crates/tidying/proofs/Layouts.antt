@@ -1,25 +1,19 @@
 -- The tables of elements tell these apart, but for where their names stand: one element after the other, and from each table its rows.
-use Prim.Native.Nat.{ℕ, zero, suc, _+_, _*_, _-_, _≤_, _<_}
-use mathlib.Core.Path.{_≡_, refl, sym, ap, ap₂, _∙_, subst}
+use Prim.Native.Nat.{ℕ, _+_, _*_}
+use mathlib.Core.Path.{_≡_, refl, ap, ap₂, _∙_}
 use mathlib.Core.List.{List, [], _∷_, _++_}
-use mathlib.Core.Bool.{Bool, true, false, cond}
-use mathlib.Core.Option.{Option, none, some}
-use lib.ListN.{length, length-append, getD, take, drop}
-use lib.IntN.{ℤ}
+use lib.ListN.{length, length-append}
 use native.Mathlib.Omega.{arith}
 use Rattle.lists.specs.Lists.{flat}
-use Rattle.text.specs.Words.{Word}
 use Rattle.text.specs.Written.{bytesOf}
-use Rattle.forms.specs.Corner.{Corner}
-use Rattle.tables.specs.Bodies.{Basis, basisNumber}
+use Rattle.tables.specs.Bodies.{basisNumber}
 use Rattle.tables.specs.Records.{cornerWidth}
-use Rattle.model.specs.Model.{Names, Shape, Free, Part, Loop, Body, Kind, plain, free, Element}
+use Rattle.model.specs.Model.{Part, Loop, Body, free, Element}
 use Rattle.model.specs.Room.{summed, ofKind, partCount}
-use Rattle.model.specs.Layout.{runOf, listed, cornerRow, cornerRows, kindNumber, shapeNumber, freeNumber, bodyNumber, elementRow, elementRows, firstPart, flag, bodyRow, rangeRow, bodyOf, bodiesOf, bodyRows, parameterRow, beginning, partRow, partRows, loopRow, spanRow, loopRows, spanRows}
-use Rattle.tidying.specs.Agree.{bareWord, bareWords, bareOption, bareNames, bareElement, bareElements, wordsAt, unnamed, namesIn}
-use Rattle.tidying.proofs.Bare.{bare-words}
-use Rattle.tidying.proofs.Named.{NamesStand, ElementsStand}
-use Rattle.tidying.proofs.Rows.{append-inj, corners-length, corners-inj, shape-inj, free-inj, shape-free, basis-inj, flag-inj, Parted, loops-inj}
+use Rattle.model.specs.Layout.{listed, cornerRows, kindNumber, bodyNumber, elementRows, flag, rangeRow, bodyRows, parameterRow, beginning, partRow, partRows, loopRow, spanRow, loopRows, spanRows}
+use Rattle.tidying.specs.Agree.{unnamed, namesIn}
+use Rattle.tidying.proofs.Named.{ElementsStand}
+use Rattle.tidying.proofs.Rows.{append-inj, corners-length, basis-inj, flag-inj, Parted, loops-inj}
 
 -- ---- the table of elements, its names apart
 abbrev pub fives : ℕ → ℕ → List Element → List ℕ
@@ -28,15 +22,11 @@ fives c b (e ∷ es) =
     kindNumber (e .kind) ∷ c ∷ length (e .corners) ∷ bodyNumber (e .kind) b ∷ e .names .smoothing
     ∷ fives (c + cornerWidth * length (e .corners)) (b + ofKind (λ x. 1) (e .kind)) es
 
-pub unnamed-is : (c b : ℕ) (es : List Element) (z : List ℕ) → unnamed (length es) (elementRows c b es ++ z) ≡ fives c b es ++ z
+pub unnamed-is : (c b : ℕ) (es : List Element) (z : List ℕ) → unnamed (length es) (elementRows c b es ++ z) ≡ fives c b es
 unnamed-is c b [] z = refl
 unnamed-is c b (e ∷ es) z =
     ap (λ (r : List ℕ). kindNumber (e .kind) ∷ c ∷ length (e .corners) ∷ bodyNumber (e .kind) b ∷ e .names .smoothing ∷ r)
     (unnamed-is (c + cornerWidth * length (e .corners)) (b + ofKind (λ x. 1) (e .kind)) es z)
-
-pub fives-length : (c b : ℕ) (es : List Element) → length (fives c b es) ≡ 5 * length es
-fives-length c b [] = refl
-fives-length c b (e ∷ es) = let i = fives-length (c + cornerWidth * length (e .corners)) (b + ofKind (λ x. 1) (e .kind)) es in omega arith
 
 -- the names of elements, as words
 abbrev pub wordsIn : List Element → List (List (List ℕ))

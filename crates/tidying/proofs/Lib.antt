@@ -5,15 +5,16 @@ pub mod Standing
 pub mod Back
 pub mod Shapes
 pub mod Coordinates
-pub mod Fit
-pub mod Fits
+pub mod Ready
+pub mod Parsed
 pub mod Good
-pub mod Up
+pub mod More
+pub mod Opening
 pub mod Bodies
 pub mod Keep
 pub mod Texts
 pub mod Rooms
-pub mod Kept
+pub mod Reading
 pub mod Bare
 pub mod Goes
 pub mod Elements
@@ -27,3 +28,4 @@ pub mod Rows
 pub mod Layouts
 pub mod SameElements
 pub mod TablesAgree
+pub mod TidyTables

@@ -1,16 +1,13 @@
 -- The names of every element of an accepted text are the words of the part of the text that its record gives. By the lines.
-use Prim.Native.Nat.{ℕ, zero, suc, _+_, _≤_, _<_}
+use Prim.Native.Nat.{ℕ, zero, suc, _+_}
 use mathlib.Core.Path.{_≡_, refl, sym, ap, ap₂, _∙_, subst}
 use mathlib.Core.List.{List, [], _∷_, _++_, map}
-use mathlib.Core.Bool.{Bool, true, false, cond, _&&_}
+use mathlib.Core.Bool.{true}
 use mathlib.Core.Option.{Option, none, some}
-use mathlib.Core.Logic.{_⊎_, inl, inr, ⊎-elim}
 use lib.ListN.{length, drop}
 use lib.Seq.{drop-drop}
-use lib.Dec.{leb, eqb}
 use native.Mathlib.Omega.{arith}
 use borrow.Author.Tests.{le-leb, eqb-true}
-use Rattle.lists.specs.Lists.{all}
 use Rattle.lists.proofs.Tests.{never}
 use Rattle.text.specs.Lines.{Line as JoinedLine, gap, lineOf, strideOf, linesFrom, linesOf}
 use Rattle.text.specs.Words.{Word, words, wordsOf, badOf}
@@ -20,17 +17,16 @@ use Rattle.keywords.specs.Keywords.{statementOf}
 use Rattle.tables.specs.Asking.{partOf}
 use Rattle.model.specs.Model.{Names, Free, Element, Model, Open, State, start}
 use Rattle.model.specs.Statements.{Statement, vertex, element, group, smoothing, material, type, degree, body, parameters, loop, end, passed, apply, onOpen, withBody, withParameters, withLoop, ended}
-use Rattle.model.specs.Parse.{Parsed, fine, fault, then, must, unless, Keyword, a-vertex, an-element, a-body, parm, trim, hole, ends, cstype, deg, g, s, usemtl, over, WordForm, a-name, Value, name, Seen, saidOf, placed, valuesOf, counted, checked, namesOf, cornersOf, numbersOf, unlike, opened, inForce, narrowIn, rangeWords, finished, complete, countsAgree, inRange, seenIn, parse, formOf, materialOf}
+use Rattle.model.specs.Parse.{fine, unless, Keyword, a-vertex, an-element, a-body, parm, trim, hole, ends, cstype, deg, g, s, usemtl, over, a-name, Value, name, Seen, saidOf, placed, valuesOf, counted, checked, namesOf, cornersOf, unlike, opened, inForce, narrowIn, rangeWords, finished, complete, countsAgree, inRange, seenIn, parse, formOf, materialOf}
 use Rattle.model.specs.Layout.{runOf, listed}
 use Rattle.model.specs.Room.{Rooms, fits}
-use Rattle.model.specs.Read.{keywordOf, statement, step, Answer, read, finish, onParsed, readLines, readOf}
+use Rattle.model.specs.Read.{keywordOf, statement, step, read, readLines, readOf}
 use Rattle.tidying.specs.Agree.{wordsAt}
-use Rattle.tidying.proofs.Texts.{words-tokens}
 use Rattle.tidying.proofs.Words.{then-fine, placed-fine, on-says}
 use Rattle.tidying.proofs.Back.{names-of}
-use Rattle.tidying.proofs.Fit.{must-fine, unless-fine}
-use Rattle.tidying.proofs.Kept.{on-read, sized}
-use Rattle.tidying.proofs.Kept as kept
+use Rattle.tidying.proofs.Ready.{must-fine, unless-fine}
+use Rattle.tidying.proofs.Reading.{on-read, sized}
+use Rattle.tidying.proofs.Reading as reading
 use Rattle.tidying.proofs.Runs.{names-run}
 
 -- ---- names that stand in the text t
@@ -190,7 +186,7 @@ module _ (t : List ℕ) where
       subst Standing (let y' = d .1 in let z : apply (c .0) x ≡ y = cc in z) (apply-stands x h (c .0) (parse-sets x (w .place) (c .0) (a .0) ws r (c .1)))
 
   lines-stand : (R : Rooms) (n : ℕ) (ls : List JoinedLine) (x : State) (m : Model) → InText ls → readLines R n ls x ≡ read m → Standing x → ElementsStand (m .elements)
-  lines-stand R n [] x m i e h = subst (λ (k : Model). ElementsStand (k .elements)) (kept.finished n (x .open-body) (x .model) m e .1) (h .elements)
+  lines-stand R n [] x m i e h = subst (λ (k : Model). ElementsStand (k .elements)) (reading.finished n (x .open-body) (x .model) m e .1) (h .elements)
   lines-stand R n (l ∷ ls) x m i e h =
       let a = on-read (unless (badOf l) 2 (step R x (wordsOf l))) (readLines R n ls) m e in
       let b = unless-fine (badOf l) 2 (step R x (wordsOf l)) (a .0) (a .1) in

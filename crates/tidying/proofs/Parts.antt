@@ -1,21 +1,19 @@
 -- The words from one word of a line to its last are the words of that part of the text alone. By the bytes: `upto` counts those up to the end of the last word.
-use Prim.Native.Nat.{ℕ, zero, suc, _+_, _-_, _≤_, _<_}
-use mathlib.Core.Path.{_≡_, refl, sym, ap, ap₂, _∙_, subst}
-use mathlib.Core.List.{List, [], _∷_, _++_}
-use mathlib.Core.Bool.{Bool, true, false, cond, _&&_, _||_, not}
+use Prim.Native.Nat.{ℕ, zero, suc, _≤_, _<_}
+use mathlib.Core.Path.{_≡_, refl, sym, ap, _∙_, subst}
+use mathlib.Core.List.{List, [], _∷_}
+use mathlib.Core.Bool.{Bool, true, false, cond, _&&_, _||_}
 use mathlib.Core.Logic.{_⊎_, inl, inr, ⊎-elim}
-use lib.ListN.{length, take, drop, length-drop}
+use lib.ListN.{length, take, drop}
 use lib.Seq.{drop-drop}
-use lib.Dec.{eqb, leb}
+use lib.Dec.{eqb}
 use native.Mathlib.Omega.{arith}
 use native.Mathlib.Numerals.{add-one}
-use borrow.Author.Tests.{le-leb, leb-true}
 use Rattle.lists.proofs.Tests.{test, never, and-left, and-right}
 use Rattle.text.specs.Bytes.{isWord, isBlank, lf, lineEnd}
 use Rattle.text.specs.Lines.{Mode, gap, word, comment, join, Look, goes, ends, refused, plain, look, onward}
 use Rattle.text.specs.Words.{Word, wordOf, isGap, isInWord, opens, words}
 use Rattle.text.proofs.Cut.{in-word}
-use Rattle.model.specs.Layout.{lastEnd}
 
 -- ---- the words from one word on
 next-drop : (s : List ℕ) (p b : ℕ) (bs : List ℕ) → drop p s ≡ b ∷ bs → drop (suc p) s ≡ bs

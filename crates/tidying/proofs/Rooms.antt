@@ -1,8 +1,8 @@
 -- What is needed at any line is needed at the end: no ready statement takes anything back. By cases on the statement.
-use Prim.Native.Nat.{ℕ, zero, suc, _+_, _*_, _≤_, _<_}
-use mathlib.Core.Path.{_≡_, refl, sym, ap, ap₂, _∙_, subst}
+use Prim.Native.Nat.{ℕ, _+_, _*_, _≤_}
+use mathlib.Core.Path.{_≡_, refl, ap}
 use mathlib.Core.List.{List, [], _∷_, _++_}
-use mathlib.Core.Bool.{Bool, true, false, cond, _&&_, _||_, not}
+use mathlib.Core.Bool.{true, _&&_}
 use mathlib.Core.Option.{Option, none, some}
 use lib.ListN.{length, length-append}
 use lib.Dec.{leb}
@@ -10,12 +10,11 @@ use lib.IntN.{ℤ}
 use native.Mathlib.Omega.{arith}
 use borrow.Author.Tests.{leb-true, le-leb}
 use Rattle.lists.proofs.Tests.{and-left, and-right, and-both, never}
-use Rattle.forms.specs.Corner.{Corner}
-use Rattle.model.specs.Model.{VertexKind, geometric, texture, normal, parametric, Vertices, Free, curve, curve2, surface, Direction, along-u, along-v, Loop, Body, Kind, plain, free, Element, Model, Form, Open, State}
-use Rattle.model.specs.Statements.{Statement, vertex, element, group, smoothing, material, type, degree, body, parameters, loop, end, passed, apply, closed, ended, onOpen, withBody, withParameters, withLoop, settled}
+use Rattle.model.specs.Model.{geometric, texture, normal, parametric, Free, curve, curve2, surface, Direction, along-u, along-v, Loop, Body, plain, free, Element, Open, State}
+use Rattle.model.specs.Statements.{Statement, vertex, element, group, smoothing, material, type, degree, body, parameters, loop, end, passed, apply, closed, onOpen, withBody, withParameters, withLoop, settled}
 use Rattle.model.specs.Parse.{outside}
 use Rattle.model.specs.Room.{Rooms, summed, ofKind, ofOpen, partCount, cornerCount, elementCount, bodyCount, parameterCount, loopPartCount, needed, within, fits}
-use Rattle.tidying.proofs.Standing.{Here, Ends}
+use Rattle.tidying.proofs.Standing.{Here}
 
 -- x needs no more than y
 pub record NoMore (x y : State) : Type 0 where
@@ -30,22 +29,10 @@ pub record NoMore (x y : State) : Type 0 where
   pub loops : loopPartCount x ≤ loopPartCount y
 
 pub no-more-same : (x : State) → NoMore x x
-no-more-same x =
-    record { v = omega arith; vt = omega arith; vn = omega arith; vp = omega arith; corners = omega arith; elements = omega arith; bodies = omega arith; parameters = omega arith; loops = omega arith }
+no-more-same x = omega arith
 
 pub no-more-join : (x y z : State) → NoMore x y → NoMore y z → NoMore x z
-no-more-join x y z a b =
-    record {
-      v = (let p = a .v in let q = b .v in omega arith);
-      vt = (let p = a .vt in let q = b .vt in omega arith);
-      vn = (let p = a .vn in let q = b .vn in omega arith);
-      vp = (let p = a .vp in let q = b .vp in omega arith);
-      corners = (let p = a .corners in let q = b .corners in omega arith);
-      elements = (let p = a .elements in let q = b .elements in omega arith);
-      bodies = (let p = a .bodies in let q = b .bodies in omega arith);
-      parameters = (let p = a .parameters in let q = b .parameters in omega arith);
-      loops = (let p = a .loops in let q = b .loops in omega arith);
-    }
+no-more-join x y z a b = omega arith
 
 down : (w a b r : ℕ) → a ≤ b → leb (w * b) r ≡ true → leb (w * a) r ≡ true
 down w a b r l h = let k = leb-true (w * b) r h in let m = native.Mathlib.Nat.mul-le-mul-left w l in le-leb (w * a) r (omega arith)
@@ -105,7 +92,9 @@ apart a b h =
 
 pub together : (a b : Rooms) → Has a b → within a b ≡ true
 together a b h =
-    and-both (and-both (and-both (and-both (and-both (and-both (and-both (and-both (and-both (and-both (h .v) (h .vt)) (h .vn)) (h .vp)) (h .corners)) (h .elements)) (h .bodies)) (h .ranges)) (h .parameters)) (h .loops)) (h .spans)
+    let four = and-both (and-both (and-both (h .v) (h .vt)) (h .vn)) (h .vp) in
+    let seven = and-both (and-both (and-both four (h .corners)) (h .elements)) (h .bodies) in
+    and-both (and-both (and-both (and-both seven (h .ranges)) (h .parameters)) (h .loops)) (h .spans)
 
 pub fits-down : (R : Rooms) (x y : State) → NoMore x y → fits R y ≡ true → fits R x ≡ true
 unfolding fits
@@ -149,7 +138,7 @@ module _ (s : State) where
   inside-grows none f h = no-more-same (holding none)
   inside-grows (some o) f h =
       let p = h o in
-      record { v = omega arith; vt = omega arith; vn = omega arith; vp = omega arith; corners = omega arith; elements = omega arith; bodies = omega arith; parameters = omega arith; loops = omega arith }
+      omega arith
 
   end-grows : (o : Option Open) → NoMore (holding o) (apply end (holding o))
   end-grows none = no-more-same (holding none)
@@ -161,10 +150,12 @@ module _ (s : State) where
       let c = summed-add (λ (e : Element). ofKind (λ (b : Body). 1) (e .kind)) es e in
       let d = summed-add (λ (e : Element). ofKind (λ (b : Body). length (b .us) + length (b .vs)) (e .kind)) es e in
       let f = summed-add (λ (e : Element). ofKind partCount (e .kind)) es e in
-      let g : partCount (settled (o .body .free) (o .body)) ≡ partCount (o .body) = ap (λ (ls : List Loop). summed (λ l. length (l .parts)) ls) (settled-us (o .body .free) (o .body)) in
-      record { v = omega arith; vt = omega arith; vn = omega arith; vp = omega arith; corners = omega arith; elements = omega arith; bodies = omega arith; parameters = omega arith; loops = omega arith }
+      let g : partCount (settled (o .body .free) (o .body)) ≡ partCount (o .body) =
+      ap (λ (ls : List Loop). summed (λ l. length (l .parts)) ls) (settled-us (o .body .free) (o .body)) in
+      omega arith
 
-  parameters-grow : (d : Direction) (z : List ℤ) (b : Open) → (length (b .controls) ≤ length (withBody (withParameters d z) b .controls)) × (partCount (b .body) ≤ partCount (withBody (withParameters d z) b .body))
+  parameters-grow : (d : Direction) (z : List ℤ) (b : Open)
+      → (length (b .controls) ≤ length (withBody (withParameters d z) b .controls)) × (partCount (b .body) ≤ partCount (withBody (withParameters d z) b .body))
   parameters-grow along-u z b = (omega arith, omega arith)
   parameters-grow along-v z b = (omega arith, omega arith)
 
@@ -174,16 +165,16 @@ module _ (s : State) where
   pub grows : (t : Statement) → Here (s .form) (s .open-body) t → NoMore s (apply t s)
   grows (vertex geometric z) h =
       let l = length-append (s .model .vertices .v) (z ∷ []) in
-      record { v = omega arith; vt = omega arith; vn = omega arith; vp = omega arith; corners = omega arith; elements = omega arith; bodies = omega arith; parameters = omega arith; loops = omega arith }
+      omega arith
   grows (vertex texture z) h =
       let l = length-append (s .model .vertices .vt) (z ∷ []) in
-      record { v = omega arith; vt = omega arith; vn = omega arith; vp = omega arith; corners = omega arith; elements = omega arith; bodies = omega arith; parameters = omega arith; loops = omega arith }
+      omega arith
   grows (vertex normal z) h =
       let l = length-append (s .model .vertices .vn) (z ∷ []) in
-      record { v = omega arith; vt = omega arith; vn = omega arith; vp = omega arith; corners = omega arith; elements = omega arith; bodies = omega arith; parameters = omega arith; loops = omega arith }
+      omega arith
   grows (vertex parametric z) h =
       let l = length-append (s .model .vertices .vp) (z ∷ []) in
-      record { v = omega arith; vt = omega arith; vn = omega arith; vp = omega arith; corners = omega arith; elements = omega arith; bodies = omega arith; parameters = omega arith; loops = omega arith }
+      omega arith
   grows (element k cs) h =
       let es = s .model .elements in
       let e : Element = record { kind = plain k; corners = cs; names = s .names } in
@@ -192,17 +183,17 @@ module _ (s : State) where
       let c = summed-add (λ (e : Element). ofKind (λ (b : Body). 1) (e .kind)) es e in
       let d = summed-add (λ (e : Element). ofKind (λ (b : Body). length (b .us) + length (b .vs)) (e .kind)) es e in
       let f = summed-add (λ (e : Element). ofKind partCount (e .kind)) es e in
-      record { v = omega arith; vt = omega arith; vn = omega arith; vp = omega arith; corners = omega arith; elements = omega arith; bodies = omega arith; parameters = omega arith; loops = omega arith }
-  grows (group ws) h = record { v = omega arith; vt = omega arith; vn = omega arith; vp = omega arith; corners = omega arith; elements = omega arith; bodies = omega arith; parameters = omega arith; loops = omega arith }
-  grows (smoothing n) h = record { v = omega arith; vt = omega arith; vn = omega arith; vp = omega arith; corners = omega arith; elements = omega arith; bodies = omega arith; parameters = omega arith; loops = omega arith }
-  grows (material w) h = record { v = omega arith; vt = omega arith; vn = omega arith; vp = omega arith; corners = omega arith; elements = omega arith; bodies = omega arith; parameters = omega arith; loops = omega arith }
-  grows (type r t) h = record { v = omega arith; vt = omega arith; vn = omega arith; vp = omega arith; corners = omega arith; elements = omega arith; bodies = omega arith; parameters = omega arith; loops = omega arith }
-  grows (degree m n) h = record { v = omega arith; vt = omega arith; vn = omega arith; vp = omega arith; corners = omega arith; elements = omega arith; bodies = omega arith; parameters = omega arith; loops = omega arith }
+      omega arith
+  grows (group ws) h = omega arith
+  grows (smoothing n) h = omega arith
+  grows (material w) h = omega arith
+  grows (type r t) h = omega arith
+  grows (degree m n) h = omega arith
   grows (body b cs) h =
       let a = shut (λ o. length (o .controls)) (s .open-body) (h .0) in
       let c = shut (λ o. 1) (s .open-body) (h .0) in
       let d = shut (λ o. partCount (o .body)) (s .open-body) (h .0) in
-      record { v = omega arith; vt = omega arith; vn = omega arith; vp = omega arith; corners = omega arith; elements = omega arith; bodies = omega arith; parameters = omega arith; loops = omega arith }
+      omega arith
   grows (parameters d z) h = inside-grows (s .open-body) (withBody (withParameters d z)) (parameters-grow d z)
   grows (loop l) h = inside-grows (s .open-body) (withBody (withLoop l)) (loop-grows l)
   grows end h = end-grows (s .open-body)

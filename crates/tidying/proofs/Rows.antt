@@ -1,9 +1,10 @@
 -- Rows that lie one after the other are told apart again: by their widths, by where a loop begins, by the numbers of kinds.
-use Prim.Native.Nat.{ℕ, zero, suc, _+_, _*_, _-_, _≤_, _<_}
-use mathlib.Core.Path.{_≡_, refl, sym, ap, ap₂, _∙_, subst}
+use Prim.Native.Nat.{ℕ, _*_, _-_, _<_}
+use mathlib.Core.Path.{_≡_, refl, sym, ap, ap₂, _∙_}
 use mathlib.Core.List.{List, [], _∷_, _++_}
 use mathlib.Core.Bool.{Bool, true, false, cond}
-use lib.ListN.{length, length-append, replicate}
+use lib.ListN.{length, length-append, replicate, take}
+use lib.Seq.{take-at}
 use lib.Dec.{eqb}
 use lib.IntN.{ℤ}
 use native.Mathlib.Omega.{arith}
@@ -11,9 +12,8 @@ use Rattle.lists.specs.Lists.{flat, filled}
 use Rattle.lists.proofs.Tests.{never}
 use Rattle.forms.specs.Corner.{Corner}
 use Rattle.tables.specs.Bodies.{Basis, bezier, bspline, cardinal, taylor, basisNumber}
-use Rattle.model.specs.Model.{Shape, point, line, face, Free, curve, curve2, surface, Part, Loop, Body}
-use Rattle.model.specs.Room.{summed, partCount}
-use Rattle.model.specs.Layout.{cornerRow, shapeNumber, freeNumber, flag, beginning, partRow, partRows, loopRow, spanRow, loopRows, spanRows, itself}
+use Rattle.model.specs.Model.{Shape, point, line, face, Free, curve, curve2, surface, Part, Loop}
+use Rattle.model.specs.Layout.{cornerRow, shapeNumber, freeNumber, flag, beginning, partRow, partRows, loopRow, spanRow, itself}
 
 -- ---- two lists one after the other, the first of one length
 pub append-inj : {A : Type 0} (a b x y : List A) → length a ≡ length b → a ++ x ≡ b ++ y → (a ≡ b) × (x ≡ y)
@@ -26,8 +26,9 @@ append-inj {A} (c ∷ a) (d ∷ b) x y l e =
     let i = append-inj a b x y (omega arith) t in
     (ap₂ (λ (u : A) (us : List A). u ∷ us) h (i .0), i .1)
 
-pub filled-inj : {A : Type 0} (n m : ℕ) (z : A) (a b : List A) → length a ≡ length b → filled n z a ≡ filled m z b → a ≡ b
-filled-inj n m z a b l e = append-inj a b (replicate (n - length a) z) (replicate (m - length b) z) l e .0
+-- the used entries of a lent table
+pub used-of : {A : Type 0} (n r : ℕ) (z : A) (xs : List A) → length xs ≡ n → take n (filled r z xs) ≡ xs
+used-of n r z xs l = take-at xs (replicate (r - length xs) z) n l
 
 -- ---- vertices: each record of w numbers
 abbrev pub Wide : ℕ → List (List ℤ) → Type 0
@@ -197,7 +198,8 @@ loops-inj (l ∷ ls) (k ∷ ks) g h e f =
     ap₂ (λ (x : Loop) (y : List Loop). x ∷ y) (loop-is l k (hole-inj (l .hole) (k .hole) (r .0)) (r .1 .parts)) (loops-inj ls ks (g .1) (h .1) (r .1 .rest) (r .1 .spans))
   where
     go : (ps qs : List Part) → 0 < length ps → 0 < length qs → partRows (beginning (l .hole)) ps ++ flat loopRow ls ≡ partRows (beginning (k .hole)) qs ++ flat loopRow ks
-        → flat spanRow ps ++ spansOf ls ≡ flat spanRow qs ++ spansOf ks → (beginning (l .hole) ≡ beginning (k .hole)) × Parts ps qs (flat loopRow ls) (flat loopRow ks) (spansOf ls) (spansOf ks)
+        → flat spanRow ps ++ spansOf ls ≡ flat spanRow qs ++ spansOf ks
+        → (beginning (l .hole) ≡ beginning (k .hole)) × Parts ps qs (flat loopRow ls) (flat loopRow ks) (spansOf ls) (spansOf ks)
     go [] qs x y e f = absurd (omega arith)
     go (p ∷ ps) [] x y e f = absurd (omega arith)
     go (p ∷ ps) (q ∷ qs) x y e f =

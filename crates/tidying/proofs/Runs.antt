@@ -1,23 +1,22 @@
 -- The run of names from the first to the last of a line: as a part of the text, its words are these names. By the bytes.
 use Prim.Native.Nat.{ℕ, zero, suc, _+_, _-_, _≤_, _<_}
-use mathlib.Core.Path.{_≡_, refl, sym, ap, ap₂, _∙_, subst}
-use mathlib.Core.List.{List, [], _∷_, _++_}
-use mathlib.Core.Bool.{Bool, true, false, cond, _&&_, _||_, not}
+use mathlib.Core.Path.{_≡_, refl, sym, ap, ap₂, _∙_}
+use mathlib.Core.List.{List, [], _∷_}
+use mathlib.Core.Bool.{Bool, true, false, cond}
 use mathlib.Core.Logic.{_⊎_, inl, inr, ⊎-elim}
-use lib.ListN.{length, take, drop, length-drop}
-use lib.Dec.{leb}
+use lib.ListN.{length, drop, length-drop}
 use native.Mathlib.Omega.{arith}
 use borrow.Author.Tests.{le-leb}
 use Rattle.lists.proofs.Tests.{test, never, and-right}
 use Rattle.text.specs.Bytes.{isWord, isBlank, lineEnd}
-use Rattle.text.specs.Lines.{Mode, gap, word, comment, join, Look, goes, ends, refused, plain, look, onward, lineOf}
+use Rattle.text.specs.Lines.{Mode, gap, word, comment, join, Look, goes, ends, refused, look, onward, lineOf}
 use Rattle.text.specs.Words.{Word, wordOf, isGap, isInWord, opens, words}
 use Rattle.text.specs.Written.{bytesOf}
 use Rattle.text.proofs.Cut.{words-cut}
 use Rattle.tables.specs.Asking.{partOf}
-use Rattle.model.specs.Layout.{Run, lastEnd, runOf}
+use Rattle.model.specs.Layout.{lastEnd, runOf}
 use Rattle.tidying.specs.Agree.{wordsAt}
-use Rattle.tidying.proofs.Parts.{Onward, onward-from, longer, upto, longer-one, longer-none, tested, words-upto, upto-some, upto-short}
+use Rattle.tidying.proofs.Parts.{onward-from, longer, upto, longer-one, tested, words-upto, upto-some, upto-short}
 
 -- in a word, a byte goes on in it exactly where it is a word byte
 word-goes : (w k e f g : Bool) (n : Mode) → tested w k e f g ≡ goes n → isInWord n ≡ w

@@ -1,8 +1,8 @@
 -- Elements whose tables are the same, names as words, are the same but for places: one after the other.
-use Prim.Native.Nat.{ℕ, zero, suc, _+_, _*_, _≤_, _<_}
+use Prim.Native.Nat.{ℕ, suc, _+_, _*_, _<_}
 use mathlib.Core.Path.{_≡_, refl, sym, ap, ap₂, _∙_, subst}
-use mathlib.Core.List.{List, [], _∷_, _++_, map}
-use mathlib.Core.Bool.{Bool, true, false, cond, _&&_}
+use mathlib.Core.List.{List, [], _∷_, _++_}
+use mathlib.Core.Bool.{Bool, true, false}
 use mathlib.Core.Option.{Option, none, some}
 use lib.ListN.{length, length-map}
 use lib.Dec.{ltb}
@@ -15,17 +15,15 @@ use Rattle.text.specs.Words.{Word}
 use Rattle.text.specs.Written.{bytesOf}
 use Rattle.forms.specs.Corner.{Corner}
 use Rattle.tables.specs.Records.{cornerWidth}
-use Rattle.model.specs.Model.{VertexKind, geometric, texture, normal, parametric, Vertices, Names, Shape, Free, curve, curve2, surface, Part, Loop, Body, Kind, plain, free, Element, start}
-use Rattle.model.specs.Statements.{vertex, loop}
-use Rattle.model.specs.Parse.{number, countedVertex, counted, recordOf, defaults}
+use Rattle.model.specs.Model.{VertexKind, geometric, texture, normal, parametric, Vertices, Names, Free, curve, curve2, surface, Part, Loop, Body, Kind, plain, free, Element, start}
+use Rattle.model.specs.Parse.{number, countedVertex, counted, recordOf}
 use Rattle.model.specs.Room.{ofKind, partCount}
-use Rattle.model.specs.Layout.{listed, cornerRow, cornerRows, kindNumber, bodyOf, bodiesOf}
+use Rattle.model.specs.Layout.{listed, cornerRows, kindNumber, bodyOf, bodiesOf}
 use Rattle.tidying.specs.Printed.{coordinates}
-use Rattle.tidying.specs.Agree.{bareWord, bareWords, bareOption, bareNames, bareElement, bareElements}
+use Rattle.tidying.specs.Agree.{bareWords, bareOption, bareNames, bareElement, bareElements}
 use Rattle.tidying.proofs.Values.{loopKey, partValues}
-use Rattle.tidying.proofs.Standing.{Fine}
 use Rattle.tidying.proofs.Coordinates.{completed-length}
-use Rattle.tidying.proofs.Good.{Always, GoodVertices, GoodLoops, LoopsIn, GoodKind, plus, GoodElements}
+use Rattle.tidying.proofs.Good.{GoodVertices, GoodLoops, LoopsIn, GoodKind, plus, GoodElements}
 use Rattle.tidying.proofs.Bare.{bare-words}
 use Rattle.tidying.proofs.Rows.{append-inj, Wide, corners-length, corners-inj, shape-inj, free-inj, shape-free, Parted}
 use Rattle.tidying.proofs.Layouts.{fives, wordsIn, SameBodies, body-inj}

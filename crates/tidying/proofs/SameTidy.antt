@@ -1,31 +1,28 @@
 -- Demand 2: same tidy text exactly where the models agree, and tidying twice changes nothing. From reading the tidy text back, and since printing looks at
 -- no place and room only refuses.
-use Prim.Native.Nat.{ℕ, zero, suc, _≤_}
-use mathlib.Core.Path.{_≡_, refl, sym, ap, ap₂, _∙_, subst}
+use Prim.Native.Nat.{ℕ, _≤_}
+use mathlib.Core.Path.{_≡_, refl, sym, ap, ap₂, _∙_}
 use mathlib.Core.List.{List, [], _∷_, _++_, map}
 use mathlib.Core.Bool.{Bool, true, false, cond, _&&_}
 use mathlib.Core.Option.{Option, none, some}
 use lib.ListN.{length}
-use lib.Dec.{eqb}
-use native.Mathlib.Omega.{arith}
-use Rattle.lists.specs.Lists.{flat, same}
+use Rattle.lists.specs.Lists.{same}
 use Rattle.text.specs.Lines.{Line as JoinedLine, linesOf}
 use Rattle.text.specs.Words.{Word, wordsOf, badOf}
 use Rattle.text.specs.Written.{bytesOf, writtenLines}
 use Rattle.keywords.specs.Keywords.{statementOf}
-use Rattle.model.specs.Model.{Names, Kind, plain, free, Element, Model, Open, State, start}
+use Rattle.model.specs.Model.{Names, Element, Model, State, start}
 use Rattle.model.specs.Statements.{Statement, group, smoothing, material, apply}
-use Rattle.model.specs.Parse.{Parsed, fine, fault, then, must, unless, parse}
+use Rattle.model.specs.Parse.{fine, unless, parse}
 use Rattle.model.specs.Room.{Rooms, fits}
-use Rattle.model.specs.Layout.{listed}
-use Rattle.model.specs.Read.{keywordOf, statement, step, Answer, read, refused, finish, onParsed, readLines, readOf}
+use Rattle.model.specs.Read.{keywordOf, statement, step, read, readLines, readOf}
 use Rattle.tidying.specs.Tidied.{vertexLines, sameWords, groupLines, smoothingLines, materialLines, elementLines, elementsLines, tidied}
 use Rattle.tidying.specs.Printed.{printed, tidyText}
-use Rattle.tidying.specs.Agree.{bareWord, bareWords, bareOption, bareNames, bareElement, bareElements, bare, Agree}
+use Rattle.tidying.specs.Agree.{bareWord, bareWords, bareOption, bareNames, bareElements, bare, Agree}
 use Rattle.tidying.proofs.Values.{map-append}
 use Rattle.tidying.proofs.Words.{then-fine}
-use Rattle.tidying.proofs.Fit.{must-fine, unless-fine}
-use Rattle.tidying.proofs.Kept.{on-read, finished, sized}
+use Rattle.tidying.proofs.Ready.{must-fine, unless-fine}
+use Rattle.tidying.proofs.Reading.{on-read, finished, sized}
 use Rattle.tidying.proofs.TidyRead.{tidy-read}
 
 -- ---- printing looks at no place

@@ -1,21 +1,21 @@
 -- Values that fit the forms of a line are the values of its statement: by the values.
-use Prim.Native.Nat.{ℕ, zero, suc, _+_, _%_, _≤_, _<_}
-use mathlib.Core.Path.{_≡_, refl, sym, ap, ap₂, _∙_, subst}
+use Prim.Native.Nat.{ℕ, zero, suc, _+_, _%_, _≤_}
+use mathlib.Core.Path.{_≡_, refl, ap, ap₂, subst}
 use mathlib.Core.List.{List, [], _∷_, _++_, map}
-use mathlib.Core.Bool.{Bool, true, false, cond, _&&_}
+use mathlib.Core.Bool.{true, false, cond}
 use lib.ListN.{length}
-use lib.Dec.{leb, ltb, eqb}
+use lib.Dec.{ltb, eqb}
 use lib.IntN.{ℤ}
 use native.Mathlib.Omega.{arith}
 use native.Mathlib.Nat.{le-refl}
 use borrow.Author.Tests.{le-ltb, lt-ltb, ne-eqb, eq-eqb}
 use Rattle.lists.specs.Lists.{all, flat}
-use Rattle.lists.proofs.Tests.{and-left, and-right, and-both, never}
+use Rattle.lists.proofs.Tests.{and-left, and-right, and-both}
 use Rattle.text.specs.Words.{Word}
 use Rattle.forms.specs.Corner.{Corner, Parts}
 use Rattle.forms.specs.Fits.{numberFits}
 use Rattle.model.specs.Model.{Free, curve, curve2, surface, Part}
-use Rattle.model.specs.Parse.{WordForm, a-number, a-corner, a-control, a-curve, a-name, Value, number, corner, whole, name, Seen, controlForm, rangeWords}
+use Rattle.model.specs.Parse.{WordForm, a-number, a-corner, a-control, a-curve, a-name, Value, number, corner, name, Seen, controlForm, rangeWords}
 use Rattle.tidying.proofs.Values.{partValues}
 use Rattle.tidying.proofs.Words.{Fits, Fitting}
 

@@ -1,16 +1,14 @@
 -- Which statements can be printed, and where they may stand.
-use Prim.Native.Nat.{ℕ, zero, suc, _+_}
+use Prim.Native.Nat.{ℕ}
 use mathlib.Core.Path.{_≡_}
 use mathlib.Core.List.{List, [], _∷_}
 use mathlib.Core.Bool.{Bool, true, false, _||_, not}
 use mathlib.Core.Option.{Option, none, some}
 use lib.ListN.{length}
 use lib.Dec.{leb}
-use lib.IntN.{ℤ}
 use Rattle.lists.specs.Lists.{all}
-use Rattle.text.specs.Words.{Word}
 use Rattle.forms.specs.Corner.{Corner, alike}
-use Rattle.model.specs.Model.{VertexKind, Vertices, Free, curve, curve2, surface, Body, Form, Open, State, curves, countsOf}
+use Rattle.model.specs.Model.{Vertices, Free, curve, curve2, surface, Body, Form, Open, curves, countsOf}
 use Rattle.model.specs.Statements.{Statement, vertex, element, group, smoothing, material, type, degree, body, parameters, loop, end, passed}
 use Rattle.model.specs.Parse.{Seen, counted, formOf, recordOf, bodyOf, inForce, given, outside, inBody, isSurface, isV, complete, countsAgree, inRange}
 use Rattle.tidying.specs.Printed.{coordinates, rangeOf}

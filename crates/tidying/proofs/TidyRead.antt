@@ -1,25 +1,24 @@
 -- Demand 2: the tidy text of an accepted text is read as the same model, apart from where names stand. By the statements of the tidy text.
-use Prim.Native.Nat.{ℕ, zero, suc, _+_, _≤_, _<_}
+use Prim.Native.Nat.{ℕ, suc, _≤_}
 use mathlib.Core.Path.{_≡_, refl, sym, ap, ap₂, _∙_, subst}
-use mathlib.Core.List.{List, [], _∷_, _++_, map}
-use mathlib.Core.Bool.{Bool, true, false, cond, _&&_}
+use mathlib.Core.List.{List, [], _∷_, map}
+use mathlib.Core.Bool.{Bool, true, false, cond}
 use mathlib.Core.Option.{Option, none, some}
 use lib.ListN.{length}
-use lib.Dec.{leb}
 use native.Mathlib.Omega.{arith}
 use native.Mathlib.Nat.{le-refl}
 use borrow.Author.Tests.{le-leb}
-use Rattle.lists.specs.Lists.{all, flat}
+use Rattle.lists.specs.Lists.{all}
 use Rattle.lists.proofs.Tests.{and-both, never}
 use Rattle.text.specs.Lines.{Line as JoinedLine, linesOf}
-use Rattle.text.specs.Words.{Word, wordsOf, badOf}
+use Rattle.text.specs.Words.{Word, wordsOf}
 use Rattle.text.specs.Written.{bytesOf, isToken, writtenLines}
-use Rattle.keywords.specs.Keywords.{statementOf, keywordOf}
-use Rattle.model.specs.Model.{Vertices, Names, Kind, plain, free, Element, Model, Form, Open, State, isCurve2, curves, start}
+use Rattle.keywords.specs.Keywords.{keywordOf}
+use Rattle.model.specs.Model.{Vertices, Names, Kind, plain, Model, Form, Open, State, isCurve2, curves, start}
 use Rattle.model.specs.Statements.{Statement, vertex, element, group, smoothing, material, type, degree, body, parameters, loop, end, passed, apply, ended, closed}
-use Rattle.model.specs.Parse.{Parsed, fine, fault, then, must, unless, seenIn, parse}
+use Rattle.model.specs.Parse.{Parsed, fine, unless, parse}
 use Rattle.model.specs.Room.{Rooms, fits}
-use Rattle.model.specs.Read.{statement, step, Answer, read, refused, finish, onParsed, readLines, readOf}
+use Rattle.model.specs.Read.{statement, step, read, refused, finish, onParsed, readLines, readOf}
 use Rattle.tidying.specs.Printed.{keywordIn, wordsAfter, printed, tidyText}
 use Rattle.tidying.specs.Tidied.{tidied}
 use Rattle.tidying.specs.Agree.{bareElements, bare, Agree}
@@ -27,17 +26,17 @@ use Rattle.tidying.proofs.Values.{keyOf, key-back}
 use Rattle.tidying.proofs.Words.{Small}
 use Rattle.tidying.proofs.Standing.{seenOf, Fine, Here}
 use Rattle.tidying.proofs.Back.{renamed, back}
-use Rattle.tidying.proofs.Fit.{Ready}
+use Rattle.tidying.proofs.Ready.{Ready}
 use Rattle.tidying.proofs.Good.{plus}
-use Rattle.tidying.proofs.Up.{More, more-same, more-join, small-down}
+use Rattle.tidying.proofs.More.{More, more-same, more-join, small-down}
 use Rattle.tidying.proofs.Keep.{curves-add}
 use Rattle.tidying.proofs.Rooms.{NoMore, no-more-same, no-more-join, fits-down, grows}
 use Rattle.tidying.proofs.Bare.{bareOpening, bareState, bareStatement, renamed-bare, bare-apply, curves-bare, here-bare, needs-bare}
 use Rattle.tidying.proofs.Texts.{Say, text-back}
 use Rattle.tidying.proofs.Tokens.{line-tokens}
-use Rattle.tidying.proofs.Kept.{apply-more, Came, read-came, read-small}
-use Rattle.tidying.proofs.Goes.{Stand, runs, Goes, at}
-use Rattle.tidying.proofs.Elements.{Comes, tidied-goes}
+use Rattle.tidying.proofs.Reading.{apply-more, read-came, read-small}
+use Rattle.tidying.proofs.Goes.{Stand, runs, at}
+use Rattle.tidying.proofs.Elements.{tidied-goes}
 
 -- ---- later statements take nothing back
 pub record Later (s u : State) : Type 0 where
@@ -133,12 +132,15 @@ reread R n (l ∷ ls) (t ∷ ts) x s q h y f m =
     let v : s .model .vertices ≡ x .model .vertices = ap (λ (z : State). z .model .vertices) (sym q) in
     let c : curves (s .model .elements) ≡ curves (x .model .elements) = ap (λ (z : State). curves (z .model .elements)) (sym q) ∙ curves-bare (x .model .elements) in
     let m' = small-down (s .model .vertices) (runs ts u .model .vertices) (curves (s .model .elements)) (curves (runs ts u .model .elements)) (L .more) (L .curves) m in
-    let k = step-back R x t (subst (λ (z : State). Ready z t) (sym q) (h .0)) (subst (λ (z : Vertices). Small (seenOf z (curves (x .model .elements)))) v (subst (λ (j : ℕ). Small (seenOf (s .model .vertices) j)) c m'))
+    let k = step-back R x t (subst (λ (z : State). Ready z t) (sym q) (h .0))
+    (subst (λ (z : Vertices). Small (seenOf z (curves (x .model .elements)))) v (subst (λ (j : ℕ). Small (seenOf (s .model .vertices) j)) c m'))
     (ap (λ (z : State). fits R (apply (bareStatement t) z)) q ∙ fits-down R u (runs ts u) (later ts u (h .1) .room) f) (wordsOf l) (y .1) in
     let i = reread R n ls ts (k .0) u (k .2 ∙ ap (apply (bareStatement t)) q) (h .1) (y .2) f m in
     record {
       state = i .state;
-      reads = ap (λ (b : Option ℕ). onParsed (unless b 2 (step R x (wordsOf l))) (readLines R n ls)) (y .0) ∙ ap (λ (r : Parsed State). onParsed r (readLines R n ls)) (k .1) ∙ i .reads;
+      reads = ap (λ (b : Option ℕ). onParsed (unless b 2 (step R x (wordsOf l))) (readLines R n ls)) (y .0)
+          ∙ ap (λ (r : Parsed State). onParsed r (readLines R n ls)) (k .1)
+          ∙ i .reads;
       is = i .is;
     }
 

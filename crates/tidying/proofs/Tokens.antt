@@ -1,23 +1,22 @@
 -- Every printed line is a line of tokens: by the values of its words.
-use Prim.Native.Nat.{ℕ, zero, suc}
-use mathlib.Core.Path.{_≡_, refl, sym, ap, ap₂, _∙_, subst}
-use mathlib.Core.List.{List, [], _∷_, _++_, map}
-use mathlib.Core.Bool.{Bool, true, false, _&&_}
+use Prim.Native.Nat.{ℕ, suc}
+use mathlib.Core.Path.{_≡_, refl, ap, _∙_}
+use mathlib.Core.List.{List, [], _∷_, map}
+use mathlib.Core.Bool.{Bool, true, false}
 use lib.ListN.{length}
 use lib.Dec.{leb}
 use Rattle.lists.specs.Lists.{all}
-use Rattle.lists.proofs.Tests.{and-left, and-right, and-both}
-use Rattle.text.specs.Words.{Word}
+use Rattle.lists.proofs.Tests.{and-left, and-both}
 use Rattle.text.specs.Written.{isToken}
 use Rattle.forms.proofs.Tokens.{number-token, whole-token, corner-token}
 use Rattle.keywords.specs.Keywords.{keywordOf, keywords}
 use Rattle.keywords.specs.Arguments.{argumentBytes, arguments}
 use Rattle.keywords.specs.declared.Argument.the-variants.{Rational}
 use Rattle.tables.specs.Bodies.{Basis, bezier, bspline, cardinal, taylor}
-use Rattle.model.specs.Model.{VertexKind, geometric, texture, normal, parametric, Vertices, Shape, point, line, face, Free, curve, curve2, surface, Direction, along-u, along-v}
+use Rattle.model.specs.Model.{geometric, texture, normal, parametric, Vertices, point, line, face, Free, curve, curve2, surface, Direction, along-u, along-v}
 use Rattle.model.specs.Statements.{Statement, vertex, element, group, smoothing, material, type, degree, body, parameters, loop, end, passed}
 use Rattle.model.specs.Parse.{WordForm, a-number, a-corner, a-control, a-curve, a-direction, a-type, a-rational, a-degree, a-smoothing, a-name, anything, Value, Seen, formOf}
-use Rattle.tidying.specs.Printed.{keywordIn, freeKeyword, loopKeyword, basisArgument, directionArgument, wordsAfter, printed}
+use Rattle.tidying.specs.Printed.{keywordIn, freeKeyword, loopKeyword, basisArgument, directionArgument, printed}
 use Rattle.tidying.proofs.Values.{keyOf, valuesIn, written, words-written}
 use Rattle.tidying.proofs.Words.{isName, Fits, Fitting}
 use Rattle.tidying.proofs.Standing.{seenOf, Fine}

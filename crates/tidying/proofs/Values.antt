@@ -1,11 +1,9 @@
 -- A statement's line as values: the values of its words, each written. By cases on the statement.
-use Prim.Native.Nat.{ℕ, zero, suc, _+_, _≤_, _<_}
+use Prim.Native.Nat.{ℕ, zero, suc}
 use mathlib.Core.Path.{_≡_, refl, sym, ap, ap₂, _∙_}
 use mathlib.Core.List.{List, [], _∷_, _++_, map}
-use mathlib.Core.Bool.{Bool, true, false, cond}
-use mathlib.Core.Option.{Option, none, some}
-use lib.ListN.{length, take}
-use lib.IntN.{ℤ, natAbs}
+use mathlib.Core.Bool.{Bool, true, false}
+use lib.IntN.{ℤ}
 use Rattle.lists.specs.Lists.{flat}
 use Rattle.text.specs.Words.{Word}
 use Rattle.text.specs.Written.{bytesOf}
@@ -15,9 +13,9 @@ use Rattle.keywords.specs.Keywords.{keywordOf, statementOf, keywords}
 use Rattle.keywords.specs.Arguments.{argumentBytes}
 use Rattle.keywords.specs.declared.Argument.the-variants.{Rational}
 use Rattle.tables.specs.Bodies.{Basis}
-use Rattle.model.specs.Model.{VertexKind, geometric, texture, normal, parametric, Shape, point, line, face, Free, curve, curve2, surface, Direction, Part, Loop, Body}
+use Rattle.model.specs.Model.{geometric, texture, normal, parametric, point, line, face, Free, curve, curve2, surface, Part}
 use Rattle.model.specs.Statements.{Statement, vertex, element, group, smoothing, material, type, degree, body, parameters, loop, end, passed}
-use Rattle.model.specs.Parse.{Keyword, a-vertex, an-element, a-body, parm, trim, hole, ends, cstype, deg, g, s, usemtl, over, Parsed, fine, Value, number, corner, whole, direction, basis, name, nothing}
+use Rattle.model.specs.Parse.{Keyword, a-vertex, an-element, a-body, parm, trim, hole, ends, cstype, deg, g, s, usemtl, over, fine, Value, number, corner, whole, direction, basis, name, nothing}
 use Rattle.model.specs.Read as reading
 use Rattle.tidying.specs.Printed.{keywordIn, coordinates, basisArgument, directionArgument, rangeOf, partWords, wordsAfter}
 

@@ -1,8 +1,8 @@
 -- One word and all words of a line: a value that fits its word's form is read back from what is written; and what is read fits. By cases on the form.
-use Prim.Native.Nat.{ℕ, zero, suc, _+_, _≤_, _<_, _^_}
-use mathlib.Core.Path.{_≡_, refl, sym, ap, ap₂, _∙_, subst}
-use mathlib.Core.List.{List, [], _∷_, _++_, map}
-use mathlib.Core.Bool.{Bool, true, false, cond, _&&_, _||_}
+use Prim.Native.Nat.{ℕ, suc, _≤_, _<_, _^_}
+use mathlib.Core.Path.{_≡_, refl, ap, _∙_, subst}
+use mathlib.Core.List.{List, [], _∷_, map}
+use mathlib.Core.Bool.{Bool, true, false, _&&_, _||_}
 use mathlib.Core.Option.{Option, none, some}
 use lib.ListN.{length}
 use lib.Dec.{leb, eqb}
@@ -16,7 +16,7 @@ use Rattle.text.specs.Written.{bytesOf, isToken}
 use Rattle.forms.specs.Said.{Said, says, wrong, must}
 use Rattle.forms.specs.Number.{numberOf}
 use Rattle.forms.specs.Reference.{referenceOf}
-use Rattle.forms.specs.Corner.{Corner, Counts, Parts, cornerOf}
+use Rattle.forms.specs.Corner.{Corner, cornerOf}
 use Rattle.forms.specs.Degree.{degreeOf, smoothingOf, nameOf}
 use Rattle.forms.specs.Written.{writtenWhole, writtenNumber, writtenCorner}
 use Rattle.forms.specs.Fits.{numberFits, referenceFits, partFits, cornerFits, degreeFits, smoothingFits}
@@ -138,7 +138,8 @@ stands [] xs = xs
 stands (w ∷ ws) [] = []
 stands (w ∷ ws) (x ∷ xs) = stand w x ∷ stands ws xs
 
-pub values-back : (n : Seen) (f : ℕ → WordForm) (i : ℕ) (ws : List Word) (xs : List Value) → Small n → Fitting n f i xs → bytesOf ws ≡ map written xs → valuesOf n f i ws ≡ fine (stands ws xs)
+pub values-back : (n : Seen) (f : ℕ → WordForm) (i : ℕ) (ws : List Word) (xs : List Value) → Small n → Fitting n f i xs → bytesOf ws ≡ map written xs
+    → valuesOf n f i ws ≡ fine (stands ws xs)
 values-back n f i [] [] s h e = refl
 values-back n f i [] (x ∷ xs) s h e = absurd (let z : _≡_ {A = ℕ} 0 1 = cc in omega arith)
 values-back n f i (w ∷ ws) [] s h e = absurd (let z : _≡_ {A = ℕ} 0 1 = cc in omega arith)

@@ -1,5 +1,5 @@
 -- Demand 2: two files agree where their tables are the same "apart from where names stand and the blanks between them".
-use Prim.Native.Nat.{ℕ, zero, suc}
+use Prim.Native.Nat.{ℕ, zero, suc, _*_}
 use mathlib.Core.Path.{_≡_}
 use mathlib.Core.List.{List, [], _∷_, _++_}
 use mathlib.Core.Option.{Option, none, some}
@@ -7,7 +7,7 @@ use lib.ListN.{getD, take, drop}
 use Rattle.text.specs.Words.{Word, wordsOf}
 use Rattle.text.specs.Written.{bytesOf}
 use Rattle.tables.specs.Tables.{Tables}
-use Rattle.tables.specs.Records.{elementWidth}
+use Rattle.tables.specs.Records.{vWidth, vtWidth, vnWidth, vpWidth, elementWidth, bodyWidth, rangeWidth, loopWidth, spanWidth}
 use Rattle.tables.specs.Asking.{partOf}
 use Rattle.tables.specs.declared.Used.{Used}
 use Rattle.model.specs.Model.{Names, Element, Model}
@@ -49,7 +49,7 @@ wordsAt s place count = bytesOf (wordsOf (record { place = place; bytes = partOf
 
 -- the table of n elements without the last four numbers of each: the place and length of its group and of its material
 abbrev pub unnamed : ℕ → List ℕ → List ℕ
-unnamed zero l = l
+unnamed zero l = []
 unnamed (suc n) l = take 5 l ++ unnamed n (drop elementWidth l)
 
 -- and the words that these four give in the text s
@@ -57,18 +57,19 @@ abbrev pub namesIn : List ℕ → ℕ → List ℕ → List (List (List ℕ))
 namesIn s zero l = []
 namesIn s (suc n) l = wordsAt s (getD l 5 0) (getD l 6 0) ∷ wordsAt s (getD l 7 0) (getD l 8 0) ∷ namesIn s n (drop elementWidth l)
 
--- the texts s and t, the tables S and T that they were read into, and how much of these is used
+-- the texts s and t, the tables S and T that they were read into, and how much of these is used: the used entries, since those after them are 0 and
+-- tables of other lengths may be lent. The corners are counted in numbers, the ranges with the bodies, the spans with the loop parts.
 pub record TablesAgree (s : List ℕ) (S : Tables) (p : Used) (t : List ℕ) (T : Tables) (q : Used) : Type 0 where
   pub used : p ≡ q
-  pub v : S .v ≡ T .v
-  pub vt : S .vt ≡ T .vt
-  pub vn : S .vn ≡ T .vn
-  pub vp : S .vp ≡ T .vp
-  pub corners : S .corners ≡ T .corners
+  pub v : take (vWidth * p .v) (S .v) ≡ take (vWidth * q .v) (T .v)
+  pub vt : take (vtWidth * p .vt) (S .vt) ≡ take (vtWidth * q .vt) (T .vt)
+  pub vn : take (vnWidth * p .vn) (S .vn) ≡ take (vnWidth * q .vn) (T .vn)
+  pub vp : take (vpWidth * p .vp) (S .vp) ≡ take (vpWidth * q .vp) (T .vp)
+  pub corners : take (p .corners) (S .corners) ≡ take (q .corners) (T .corners)
   pub elements : unnamed (p .elements) (S .elements) ≡ unnamed (q .elements) (T .elements)
-  pub bodies : S .bodies ≡ T .bodies
-  pub ranges : S .ranges ≡ T .ranges
-  pub parameters : S .parameters ≡ T .parameters
-  pub loops : S .loops ≡ T .loops
-  pub spans : S .spans ≡ T .spans
+  pub bodies : take (bodyWidth * p .bodies) (S .bodies) ≡ take (bodyWidth * q .bodies) (T .bodies)
+  pub ranges : take (rangeWidth * p .bodies) (S .ranges) ≡ take (rangeWidth * q .bodies) (T .ranges)
+  pub parameters : take (p .parameters) (S .parameters) ≡ take (q .parameters) (T .parameters)
+  pub loops : take (loopWidth * p .loops) (S .loops) ≡ take (loopWidth * q .loops) (T .loops)
+  pub spans : take (spanWidth * p .loops) (S .spans) ≡ take (spanWidth * q .loops) (T .spans)
   pub names : namesIn s (p .elements) (S .elements) ≡ namesIn t (q .elements) (T .elements)

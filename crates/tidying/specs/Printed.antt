@@ -1,13 +1,11 @@
 -- 01, "The tidy text": the words of each statement's line, and the text. "One space between words, LF after each line".
 use Prim.Native.Nat.{ℕ, zero, suc}
 use mathlib.Core.List.{List, [], _∷_, _++_, map}
-use mathlib.Core.Bool.{Bool, true, false, cond}
+use mathlib.Core.Bool.{Bool, true, false}
 use lib.ListN.{take}
 use lib.IntN.{ℤ, natAbs}
 use Rattle.lists.specs.Lists.{flat}
-use Rattle.text.specs.Words.{Word}
 use Rattle.text.specs.Written.{bytesOf, writtenLines}
-use Rattle.forms.specs.Corner.{Corner}
 use Rattle.forms.specs.Written.{writtenWhole, writtenNumber, writtenCorner}
 use Rattle.keywords.specs.Keywords.{keywordOf}
 use Rattle.keywords.specs.Arguments.{argumentBytes}
@@ -16,7 +14,7 @@ use Rattle.keywords.specs.declared.Argument.the-variants.{Rational, Bezier, Bsp
 use Rattle.keywords.specs.declared.Statement.{Statement as Keyword}
 use Rattle.keywords.specs.declared.Statement.the-variants.{Vertex, TextureVertex, VertexNormal, ParameterVertex, BodyType, Degree, Point, Line, Face, Curve, Curve2, Surface, Parameters, Trim, Hole, End, Group, Smoothing, Material, PassedOver}
 use Rattle.tables.specs.Bodies.{Basis, bezier, bspline, cardinal, taylor}
-use Rattle.model.specs.Model.{VertexKind, geometric, texture, normal, parametric, Shape, point, line, face, Free, curve, curve2, surface, Direction, along-u, along-v, Part, Loop, Body, Model}
+use Rattle.model.specs.Model.{VertexKind, geometric, texture, normal, parametric, Shape, point, line, face, Free, curve, curve2, surface, Direction, along-u, along-v, Part, Body, Model}
 use Rattle.model.specs.Statements.{Statement, vertex, element, group, smoothing, material, type, degree, body, parameters, loop, end, passed}
 use Rattle.tidying.specs.Tidied.{tidied}
 

@@ -2,9 +2,9 @@
 use Prim.Native.Nat.{ℕ}
 use mathlib.Core.List.{List, [], _∷_, _++_, map}
 use mathlib.Core.Bool.{Bool, true, false, cond, _&&_}
-use mathlib.Core.Option.{Option, none, some}
+use mathlib.Core.Option.{Option}
 use lib.Dec.{eqb}
-use lib.IntN.{ℤ, pos}
+use lib.IntN.{pos}
 use Rattle.lists.specs.Lists.{same}
 use Rattle.text.specs.Words.{Word}
 use Rattle.forms.specs.Corner.{Corner}
@@ -44,7 +44,20 @@ unsettled surface b = b
 -- no parameters and no loops yet
 abbrev pub unfilled : Body → Body
 unfilled b =
-    record { free = b .free; basis = b .basis; rational = b .rational; degree-u = b .degree-u; degree-v = b .degree-v; start-u = b .start-u; end-u = b .end-u; start-v = b .start-v; end-v = b .end-v; us = []; vs = []; loops = [] }
+    record {
+      free = b .free;
+      basis = b .basis;
+      rational = b .rational;
+      degree-u = b .degree-u;
+      degree-v = b .degree-v;
+      start-u = b .start-u;
+      end-u = b .end-u;
+      start-v = b .start-v;
+      end-v = b .end-v;
+      us = [];
+      vs = [];
+      loops = [];
+    }
 
 -- a body as its element's line leaves it
 abbrev pub atLine : Body → Body

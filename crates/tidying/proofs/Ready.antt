@@ -1,31 +1,27 @@
 -- What a line is parsed as can be printed, and may stand where the line stands. By cases on the keyword.
-use Prim.Native.Nat.{ℕ, zero, suc, _+_, _%_, _≤_, _<_}
+use Prim.Native.Nat.{ℕ, zero, suc, _+_, _%_, _≤_}
 use mathlib.Core.Path.{_≡_, refl, sym, ap, ap₂, _∙_, subst}
 use mathlib.Core.List.{List, [], _∷_, _++_, map}
-use mathlib.Core.Bool.{Bool, true, false, cond, _&&_, _||_, not}
+use mathlib.Core.Bool.{Bool, true, false, cond, _||_, not}
 use mathlib.Core.Option.{Option, none, some}
 use lib.ListN.{length, length-map, length-append, length-drop, drop}
-use lib.Seq.{drop-at}
-use lib.Dec.{leb, ltb, eqb}
+use lib.Dec.{ltb}
 use lib.IntN.{ℤ}
 use native.Mathlib.Omega.{arith}
-use borrow.Author.Tests.{leb-true, le-leb, eqb-true, ne-eqb}
-use Rattle.lists.specs.Lists.{all, flat}
-use Rattle.lists.proofs.Tests.{and-left, and-right, and-both, never}
+use borrow.Author.Tests.{leb-true, eqb-true, ne-eqb}
+use Rattle.lists.specs.Lists.{all}
+use Rattle.lists.proofs.Tests.{and-right, and-both}
 use Rattle.text.specs.Words.{Word}
-use Rattle.text.specs.Written.{bytesOf, isToken}
 use Rattle.forms.specs.Corner.{Corner, alike}
-use Rattle.forms.specs.Said.{says}
-use Rattle.keywords.specs.Arguments.{argumentOf}
-use Rattle.model.specs.Model.{VertexKind, Vertices, Shape, Free, curve, curve2, surface, Direction, Part, Loop, Body, Form, Open, State, curves}
-use Rattle.model.specs.Statements.{Statement, vertex, element, group, smoothing, material, type, degree, body, parameters, loop, end, passed}
-use Rattle.model.specs.Parse.{Parsed, fine, fault, then, must, unless, Keyword, a-vertex, an-element, a-body, parm, trim, hole, ends, cstype, deg, g, s, usemtl, over, WordForm, a-number, Value, number, corner, whole, direction, basis, name, nothing, within, counted, formOf, allowed, valuesOf, saidOf, placed, numbersOf, cornersOf, wholesOf, namesOf, basisOf, directionOf, directionSaid, differing, unlike, narrow, narrowIn, recordOf, bodyOf, inForce, checked, finished, opened, seenIn, parse, outside, inBody, isSurface, isV, saysV, rangeWords, fewestControls, complete, countsAgree, inRange, degreesOf}
+use Rattle.model.specs.Model.{VertexKind, Vertices, Shape, Free, curve, curve2, surface, Direction, Part, Loop, Form, State, curves}
+use Rattle.model.specs.Statements.{Statement, vertex, element, group, body, parameters, loop}
+use Rattle.model.specs.Parse.{Parsed, fine, must, unless, a-vertex, an-element, a-body, parm, trim, hole, g, a-number, Value, number, corner, whole, direction, basis, name, counted, formOf, allowed, numbersOf, cornersOf, namesOf, differing, unlike, narrow, narrowIn, recordOf, bodyOf, inForce, checked, opened, outside, inBody, isSurface, isV, saysV, rangeWords, fewestControls}
 use Rattle.tidying.specs.Printed.{rangeOf}
-use Rattle.tidying.proofs.Values.{keyOf, loopKey, valuesIn, partValues}
-use Rattle.tidying.proofs.Words.{Fits, Fitting, Found, values-fit, then-fine, placed-fine}
-use Rattle.tidying.proofs.Standing.{seenOf, uniform, wide, wideIn, Whole, Fine, Sound, Ends, Opens, Here}
+use Rattle.tidying.proofs.Values.{keyOf, loopKey, valuesIn}
+use Rattle.tidying.proofs.Words.{Fitting}
+use Rattle.tidying.proofs.Standing.{seenOf, uniform, wide, wideIn, Whole, Fine, Here}
 use Rattle.tidying.proofs.Back.{numbers-of, corners-of, line-numbers, line-corners, names-of, parts-of}
-use Rattle.tidying.proofs.Shapes.{fits-is, fitting-is, numbers-fit, corners-fit, names-fit, Split, line-fit, loop-fit}
+use Rattle.tidying.proofs.Shapes.{fitting-is, numbers-fit, corners-fit, names-fit, line-fit, loop-fit}
 use Rattle.tidying.proofs.Coordinates.{vertex-fine}
 
 -- a statement of x that can be printed and may stand in x
@@ -157,7 +153,8 @@ module _ (x : State) (p : ℕ) (ws : List Word) where
         (assemble k r cs (opened-is k (x .form) r (q .many)) a c f (q .are) (unlike-fit vs cs l (u₁ .0)) (u₂ .0) (narrowIn-fit k X vs cs l (u₃ .0)))
       where
         assemble : (k : Free) (r : List ℤ) (cs : List Corner) → Opened k (x .form) r → outside (x .open-body) ≡ true → counted (a-body k) (length xs) ≡ true
-            → Fitting (seenOf X N) (formOf (a-body k) (length xs)) 0 xs → xs ≡ map number r ++ map corner cs → uniform cs ≡ true → inForce k (x .form) (x .form .basis) ≡ true → wideIn k X cs ≡ true
+            → Fitting (seenOf X N) (formOf (a-body k) (length xs)) 0 xs → xs ≡ map number r ++ map corner cs → uniform cs ≡ true
+            → inForce k (x .form) (x .form .basis) ≡ true → wideIn k X cs ≡ true
             → Ready x (body (bodyOf k (x .form) r) cs)
         assemble k r cs o a c f e u i w =
             let b = bodyOf k (x .form) r in

@@ -1,32 +1,32 @@
 -- Reading keeps a state good, and its counts small: by the lines.
-use Prim.Native.Nat.{ℕ, zero, suc, _+_, _≤_, _<_, _^_}
-use mathlib.Core.Path.{_≡_, refl, sym, ap, ap₂, _∙_, subst}
-use mathlib.Core.List.{List, [], _∷_, _++_}
-use mathlib.Core.Bool.{Bool, true, false, cond, _&&_}
+use Prim.Native.Nat.{ℕ, suc, _+_, _≤_}
+use mathlib.Core.Path.{_≡_, refl, sym, ap, _∙_, subst}
+use mathlib.Core.List.{List, [], _∷_}
+use mathlib.Core.Bool.{Bool, true, false, cond}
 use mathlib.Core.Option.{Option, none, some}
-use mathlib.Core.Logic.{_⊎_, inl, inr, ⊎-elim}
+use mathlib.Core.Logic.{_⊎_, inl, inr}
 use lib.ListN.{length, length-append}
 use lib.Dec.{leb}
 use native.Mathlib.Omega.{arith}
 use borrow.Author.Tests.{leb-true, le-leb}
 use Rattle.lists.specs.Lists.{all}
-use Rattle.lists.proofs.Tests.{and-left, and-right, and-both, never, test}
+use Rattle.lists.proofs.Tests.{and-right}
 use Rattle.text.specs.Lines.{Line as JoinedLine, linesOf}
 use Rattle.text.specs.Words.{Word, wordsOf, badOf}
 use Rattle.text.specs.Written.{bytesOf, isToken}
 use Rattle.keywords.specs.Keywords.{statementOf}
-use Rattle.model.specs.Model.{VertexKind, geometric, texture, normal, parametric, Vertices, Kind, plain, free, Element, Model, Open, State, isCurve2, curves, start}
+use Rattle.model.specs.Model.{geometric, texture, normal, parametric, Vertices, Kind, plain, Model, Open, State, isCurve2, curves, start}
 use Rattle.model.specs.Statements.{Statement, vertex, element, group, smoothing, material, type, degree, body, parameters, loop, end, passed, apply, ended, closed}
-use Rattle.model.specs.Parse.{Parsed, fine, fault, then, must, unless, parse}
+use Rattle.model.specs.Parse.{Parsed, fine, fault, unless, parse}
 use Rattle.model.specs.Room.{Rooms, needed, fits}
 use Rattle.model.specs.Read.{keywordOf, statement, step, Answer, read, refused, finish, onParsed, readLines, readOf}
 use Rattle.tidying.proofs.Texts.{words-tokens, lines-length}
 use Rattle.tidying.proofs.Words.{Small, then-fine}
 use Rattle.tidying.proofs.Standing.{seenOf}
-use Rattle.tidying.proofs.Fit.{Ready, must-fine, unless-fine}
-use Rattle.tidying.proofs.Fits.{fit}
-use Rattle.tidying.proofs.Good.{GoodVertices, GoodElements, Good, plus}
-use Rattle.tidying.proofs.Up.{More, more-same, more-join, more-vertex}
+use Rattle.tidying.proofs.Ready.{Ready, must-fine, unless-fine}
+use Rattle.tidying.proofs.Parsed.{fit}
+use Rattle.tidying.proofs.Good.{Good, plus}
+use Rattle.tidying.proofs.More.{More, more-same, more-join, more-vertex}
 use Rattle.tidying.proofs.Rooms.{together}
 use Rattle.tidying.proofs.Keep.{keep, curves-add, ended-vertices}
 
@@ -44,7 +44,12 @@ step-did R x y (w ∷ ws) a h =
     let p = then-fine (keywordOf (statementOf (w .bytes)) (w .place)) _ y h in
     let q = then-fine (parse (p .0) x (w .place) ws) _ y (p .2) in
     let r = must-fine (fits R (apply (q .0) x)) 14 (w .place) _ y (q .2) in
-    inr (record { said = q .0; ready = fit x (w .place) ws (q .0) (p .0) (and-right (isToken (w .bytes)) _ a) (q .1); room = r .0; is = (let z = r .1 in let e : apply (q .0) x ≡ y = cc in sym e) })
+    inr (record {
+      said = q .0;
+      ready = fit x (w .place) ws (q .0) (p .0) (and-right (isToken (w .bytes)) _ a) (q .1);
+      room = r .0;
+      is = (let z = r .1 in let e : apply (q .0) x ≡ y = cc in sym e);
+    })
 
 pub on-read : (r : Parsed State) (f : State → Answer) (m : Model) → onParsed r f ≡ read m → (y : State) × (r ≡ fine y) × (f y ≡ read m)
 on-read (fine y) f m h = (y, refl, h)
@@ -107,33 +112,33 @@ one-more k n = go (isCurve2 k)
     go false = omega arith
 
 apply-bounded : (k : ℕ) (t : Statement) (x : State) → Bounded k x → Bounded (suc k) (apply t x)
-apply-bounded k (vertex geometric z) x b = let l = length-append (x .model .vertices .v) (z ∷ []) in record { v = omega arith; vt = omega arith; vn = omega arith; vp = omega arith; curves = omega arith }
-apply-bounded k (vertex texture z) x b = let l = length-append (x .model .vertices .vt) (z ∷ []) in record { v = omega arith; vt = omega arith; vn = omega arith; vp = omega arith; curves = omega arith }
-apply-bounded k (vertex normal z) x b = let l = length-append (x .model .vertices .vn) (z ∷ []) in record { v = omega arith; vt = omega arith; vn = omega arith; vp = omega arith; curves = omega arith }
-apply-bounded k (vertex parametric z) x b = let l = length-append (x .model .vertices .vp) (z ∷ []) in record { v = omega arith; vt = omega arith; vn = omega arith; vp = omega arith; curves = omega arith }
+apply-bounded k (vertex geometric z) x b = let l = length-append (x .model .vertices .v) (z ∷ []) in omega arith
+apply-bounded k (vertex texture z) x b = let l = length-append (x .model .vertices .vt) (z ∷ []) in omega arith
+apply-bounded k (vertex normal z) x b = let l = length-append (x .model .vertices .vn) (z ∷ []) in omega arith
+apply-bounded k (vertex parametric z) x b = let l = length-append (x .model .vertices .vp) (z ∷ []) in omega arith
 apply-bounded k (element j cs) x b =
     let e = curves-add (x .model .elements) (record { kind = plain j; corners = cs; names = x .names }) in
-    record { v = omega arith; vt = omega arith; vn = omega arith; vp = omega arith; curves = omega arith }
-apply-bounded k (group ws) x b = record { v = omega arith; vt = omega arith; vn = omega arith; vp = omega arith; curves = omega arith }
-apply-bounded k (smoothing n) x b = record { v = omega arith; vt = omega arith; vn = omega arith; vp = omega arith; curves = omega arith }
-apply-bounded k (material w) x b = record { v = omega arith; vt = omega arith; vn = omega arith; vp = omega arith; curves = omega arith }
-apply-bounded k (type r t) x b = record { v = omega arith; vt = omega arith; vn = omega arith; vp = omega arith; curves = omega arith }
-apply-bounded k (degree m n) x b = record { v = omega arith; vt = omega arith; vn = omega arith; vp = omega arith; curves = omega arith }
-apply-bounded k (body c cs) x b = record { v = omega arith; vt = omega arith; vn = omega arith; vp = omega arith; curves = omega arith }
-apply-bounded k (parameters d z) x b = record { v = omega arith; vt = omega arith; vn = omega arith; vp = omega arith; curves = omega arith }
-apply-bounded k (loop l) x b = record { v = omega arith; vt = omega arith; vn = omega arith; vp = omega arith; curves = omega arith }
+    omega arith
+apply-bounded k (group ws) x b = omega arith
+apply-bounded k (smoothing n) x b = omega arith
+apply-bounded k (material w) x b = omega arith
+apply-bounded k (type r t) x b = omega arith
+apply-bounded k (degree m n) x b = omega arith
+apply-bounded k (body c cs) x b = omega arith
+apply-bounded k (parameters d z) x b = omega arith
+apply-bounded k (loop l) x b = omega arith
 apply-bounded k end x b = go (x .open-body)
   where
     go : (o : Option Open) → Bounded (suc k) (record { model = ended o (x .model); names = x .names; form = x .form; open-body = none })
-    go none = record { v = omega arith; vt = omega arith; vn = omega arith; vp = omega arith; curves = omega arith }
+    go none = omega arith
     go (some o) =
         let e = curves-add (x .model .elements) (closed o) in
         let l = one-more (closed o .kind) (curves (x .model .elements)) in
-        record { v = omega arith; vt = omega arith; vn = omega arith; vp = omega arith; curves = omega arith }
-apply-bounded k passed x b = record { v = omega arith; vt = omega arith; vn = omega arith; vp = omega arith; curves = omega arith }
+        omega arith
+apply-bounded k passed x b = omega arith
 
 did-bounded : (R : Rooms) (k : ℕ) (x y : State) → (y ≡ x) ⊎ Did R x y → Bounded k x → Bounded (suc k) y
-did-bounded R k x y (inl e) b = subst (Bounded (suc k)) (sym e) (record { v = omega arith; vt = omega arith; vn = omega arith; vp = omega arith; curves = omega arith })
+did-bounded R k x y (inl e) b = subst (Bounded (suc k)) (sym e) (omega arith)
 did-bounded R k x y (inr d) b = subst (Bounded (suc k)) (sym (d .is)) (apply-bounded k (d .said) x b)
 
 -- ---- what an accepted text comes to
@@ -157,12 +162,13 @@ came : (R : Rooms) (n k : ℕ) (ls : List JoinedLine) (x : State) (m : Model) �
     → Came R (k + length ls) m
 came R n k [] x m h g b f =
     let p = finished n (x .open-body) (x .model) m h in
-    record { state = x; good = g; bounded = record { v = omega arith; vt = omega arith; vn = omega arith; vp = omega arith; curves = omega arith }; room = f; shut = p .0; model = p .1 }
+    record { state = x; good = g; bounded = omega arith; room = f; shut = p .0; model = p .1 }
 came R n k (l ∷ ls) x m h g b f =
     let p = first R n l ls x m h in
     let e : suc k + length ls ≡ k + suc (length ls) = omega arith in
     subst (λ (j : ℕ). Came R j m) e
-    (came R n (suc k) ls (p .state) m (p .rest) (did-good R (m .vertices) x (p .state) (more R n (l ∷ ls) x m h) (p .did) g) (did-bounded R k x (p .state) (p .did) b) (did-fits R x (p .state) (p .did) f))
+    (came R n (suc k) ls (p .state) m (p .rest) (did-good R (m .vertices) x (p .state) (more R n (l ∷ ls) x m h) (p .did) g)
+    (did-bounded R k x (p .state) (p .did) b) (did-fits R x (p .state) (p .did) f))
 
 -- ---- from the start
 always-none : (x : Vertices) → Good x start
@@ -173,7 +179,11 @@ always-none x =
       vn = tt;
       vp = tt;
       elements = refl;
-      names = record { group = λ y n. record { many = refl; fits = tt; whole = tt }; smoothing = λ y n. record { many = refl; fits = ((0, refl, refl), tt); whole = tt }; material = tt };
+      names = record {
+        group = λ y n. record { many = refl; fits = tt; whole = tt };
+        smoothing = λ y n. record { many = refl; fits = ((0, refl, refl), tt); whole = tt };
+        material = tt;
+      };
       form = record { u = refl; v = refl };
       opened = tt;
     }
@@ -210,7 +220,7 @@ pub read-came : (R : Rooms) (t : List ℕ) (m : Model) → readOf R t ≡ read m
 read-came R t m h =
     let p = sized R t m h in
     subst (λ (k : ℕ). Came R k m) (let e : 0 + length (linesOf t) ≡ length (linesOf t) = omega arith in e)
-    (came R (length t) 0 (linesOf t) start m (p .1) (always-none (m .vertices)) (record { v = omega arith; vt = omega arith; vn = omega arith; vp = omega arith; curves = omega arith }) (start-fits R))
+    (came R (length t) 0 (linesOf t) start m (p .1) (always-none (m .vertices)) (omega arith) (start-fits R))
 
 -- what refers can be written
 pub read-small : (R : Rooms) (t : List ℕ) (m : Model) → readOf R t ≡ read m → Small (seenOf (m .vertices) (curves (m .elements)))

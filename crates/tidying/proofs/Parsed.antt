@@ -1,25 +1,25 @@
 -- The rest of the keywords, and all of them together: what a line is parsed as is ready where the line stands.
-use Prim.Native.Nat.{ℕ, zero, suc, _+_, _≤_, _<_}
+use Prim.Native.Nat.{ℕ, zero, suc}
 use mathlib.Core.Path.{_≡_, refl, sym, ap, ap₂, _∙_, subst}
-use mathlib.Core.List.{List, [], _∷_, _++_, map}
-use mathlib.Core.Bool.{Bool, true, false, cond, _&&_, _||_, not}
+use mathlib.Core.List.{List, [], _∷_}
+use mathlib.Core.Bool.{true, false}
 use mathlib.Core.Option.{Option, none, some}
 use lib.ListN.{length, drop}
-use lib.Dec.{leb, eqb}
+use lib.Dec.{leb}
 use native.Mathlib.Omega.{arith}
 use borrow.Author.Tests.{leb-true, eqb-true}
 use Rattle.lists.specs.Lists.{all}
-use Rattle.lists.proofs.Tests.{and-left, and-right, never}
+use Rattle.lists.proofs.Tests.{and-right, never}
 use Rattle.text.specs.Words.{Word}
 use Rattle.text.specs.Written.{bytesOf, isToken}
 use Rattle.forms.specs.Said.{says}
 use Rattle.keywords.specs.Arguments.{argumentOf}
 use Rattle.model.specs.Model.{Vertices, Direction, Open, State, curves}
 use Rattle.model.specs.Statements.{Statement, smoothing, material, type, degree, end, passed}
-use Rattle.model.specs.Parse.{Parsed, fine, fault, then, Keyword, a-vertex, an-element, a-body, parm, trim, hole, ends, cstype, deg, g, s, usemtl, over, Value, direction, whole, basis, name, nothing, within, counted, formOf, allowed, valuesOf, saidOf, placed, directionOf, directionSaid, checked, finished, seenIn, parse, outside, inBody, isV, saysV, complete, countsAgree, inRange}
-use Rattle.tidying.proofs.Words.{Fitting, Found, values-fit, then-fine, placed-fine}
-use Rattle.tidying.proofs.Standing.{seenOf, Fine, Ends}
-use Rattle.tidying.proofs.Fit.{Ready, must-fine, put, told, vertex-fit, element-fit, body-fit, parm-fit, loop-fits, group-fit}
+use Rattle.model.specs.Parse.{fine, Keyword, a-vertex, an-element, a-body, parm, trim, hole, ends, cstype, deg, g, s, usemtl, over, Value, direction, whole, basis, name, nothing, within, counted, formOf, allowed, valuesOf, saidOf, placed, directionOf, directionSaid, checked, finished, seenIn, parse, isV, saysV, complete, countsAgree, inRange}
+use Rattle.tidying.proofs.Words.{Fitting, values-fit, then-fine, placed-fine}
+use Rattle.tidying.proofs.Standing.{seenOf, Ends}
+use Rattle.tidying.proofs.Ready.{Ready, must-fine, put, told, vertex-fit, element-fit, body-fit, parm-fit, loop-fits, group-fit}
 
 module _ (x : State) (p : ℕ) (ws : List Word) (t : Statement) where
   abbrev X : Vertices

@@ -1,24 +1,23 @@
 -- A statement that can be printed still can after more vertices and curves; one that refers to nothing can anywhere. By cases on the forms of its words.
-use Prim.Native.Nat.{ℕ, zero, suc, _+_, _-_, _≤_, _<_}
-use mathlib.Core.Path.{_≡_, refl, sym, ap, ap₂, _∙_, subst}
+use Prim.Native.Nat.{ℕ, zero, suc, _+_, _-_, _≤_}
+use mathlib.Core.Path.{_≡_, refl, sym, ap, _∙_}
 use mathlib.Core.List.{List, [], _∷_, _++_, append-nil, append-assoc}
-use mathlib.Core.Bool.{Bool, true, false, cond, _&&_}
+use mathlib.Core.Bool.{Bool, true, false, cond}
 use lib.ListN.{length, length-append, getD}
 use lib.Dec.{leb, eqb}
 use lib.IntN.{ℤ, pos, natAbs}
 use native.Mathlib.Omega.{arith}
-use Rattle.lists.specs.Lists.{all}
 use Rattle.lists.proofs.Tests.{never}
 use Rattle.lists.proofs.Laws.{all-imp}
 use Rattle.text.specs.Words.{Word}
 use Rattle.forms.specs.Corner.{Corner}
-use Rattle.model.specs.Model.{VertexKind, geometric, texture, normal, parametric, Vertices, Free, curve, curve2, surface, Direction, Loop}
+use Rattle.model.specs.Model.{VertexKind, geometric, texture, normal, parametric, Vertices, Free, curve, curve2, surface, Direction}
 use Rattle.model.specs.Statements.{Statement, vertex, element, group, smoothing, material, type, degree, body, parameters, loop, end, passed, withVertex}
 use Rattle.model.specs.Parse.{WordForm, a-number, a-corner, a-control, a-curve, a-direction, a-type, a-rational, a-degree, a-smoothing, a-name, anything, Value, Seen, formOf, parm, given}
 use Rattle.tidying.proofs.Values.{keyOf, valuesIn}
 use Rattle.tidying.proofs.Words.{Fits, Fitting, Up, fitting-up, Small}
 use Rattle.tidying.proofs.Standing.{seenOf, wide, wideIn, Whole, Fine}
-use Rattle.tidying.proofs.Good.{Always, GoodLoops, LoopsIn}
+use Rattle.tidying.proofs.Good.{Always}
 
 -- ---- what refers to nothing
 abbrev refers : WordForm → Bool
@@ -54,11 +53,19 @@ fitting-any m n f i (x ∷ xs) r q = (fits-any m n (f i) x (r i) (q .0), fitting
 module _ (x : Vertices) (n : ℕ) where
   pub always-vertex : (k : VertexKind) (z : List ℤ) → Fine x n (vertex k z) → Always (vertex k z)
   always-vertex k z f y m =
-      record { many = f .many; fits = fitting-any (seenOf x n) (seenOf y m) (formOf (keyOf (vertex k z)) (length (valuesIn (vertex k z)))) 0 (valuesIn (vertex k z)) (λ j. refl) (f .fits); whole = f .whole }
+      record {
+        many = f .many;
+        fits = fitting-any (seenOf x n) (seenOf y m) (formOf (keyOf (vertex k z)) (length (valuesIn (vertex k z)))) 0 (valuesIn (vertex k z)) (λ j. refl) (f .fits);
+        whole = f .whole;
+      }
 
   pub always-group : (ws : List Word) → Fine x n (group ws) → Always (group ws)
   always-group ws f y m =
-      record { many = f .many; fits = fitting-any (seenOf x n) (seenOf y m) (formOf (keyOf (group ws)) (length (valuesIn (group ws)))) 0 (valuesIn (group ws)) (λ j. refl) (f .fits); whole = tt }
+      record {
+        many = f .many;
+        fits = fitting-any (seenOf x n) (seenOf y m) (formOf (keyOf (group ws)) (length (valuesIn (group ws)))) 0 (valuesIn (group ws)) (λ j. refl) (f .fits);
+        whole = tt;
+      }
 
   pub always-smoothing : (k : ℕ) → Fine x n (smoothing k) → Always (smoothing k)
   always-smoothing k f y m = record { many = f .many; fits = f .fits; whole = tt }
@@ -68,7 +75,11 @@ module _ (x : Vertices) (n : ℕ) where
 
   pub always-parameters : (d : Direction) (z : List ℤ) → Fine x n (parameters d z) → Always (parameters d z)
   always-parameters d z f y m =
-      record { many = f .many; fits = fitting-any (seenOf x n) (seenOf y m) (formOf parm (length (valuesIn (parameters d z)))) 0 (valuesIn (parameters d z)) (λ j. either (eqb j 0)) (f .fits); whole = tt }
+      record {
+        many = f .many;
+        fits = fitting-any (seenOf x n) (seenOf y m) (formOf parm (length (valuesIn (parameters d z)))) 0 (valuesIn (parameters d z)) (λ j. either (eqb j 0)) (f .fits);
+        whole = tt;
+      }
     where
       either : (b : Bool) → refers (cond b a-direction a-number) ≡ false
       either true = refl
