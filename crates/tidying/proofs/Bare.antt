@@ -32,7 +32,12 @@ bareOpening (some o) = some (bareOpen o)
 
 abbrev pub bareState : State → State
 bareState x =
-    record { model = record { vertices = x .model .vertices; elements = bareElements (x .model .elements) }; names = bareNames (x .names); form = x .form; open-body = bareOpening (x .open-body) }
+    record {
+      model = record { vertices = x .model .vertices; elements = bareElements (x .model .elements) };
+      names = bareNames (x .names);
+      form = x .form;
+      open-body = bareOpening (x .open-body);
+    }
 
 abbrev pub bareStatement : Statement → Statement
 bareStatement (vertex k z) = vertex k z
@@ -67,7 +72,9 @@ same-words [] [] h = refl
 same-words [] (w ∷ ws) h = never h
 same-words (v ∷ vs) [] h = never h
 same-words (v ∷ vs) (w ∷ ws) h =
-    ap₂ (λ (x : List ℕ) (y : List Word). record { place = 0; bytes = x } ∷ y) (same-eq (v .bytes) (w .bytes) (and-left (same (v .bytes) (w .bytes)) (sameWords vs ws) h)) (same-words vs ws (and-right (same (v .bytes) (w .bytes)) (sameWords vs ws) h))
+    ap₂ (λ (x : List ℕ) (y : List Word). record { place = 0; bytes = x } ∷ y)
+    (same-eq (v .bytes) (w .bytes) (and-left (same (v .bytes) (w .bytes)) (sameWords vs ws) h))
+    (same-words vs ws (and-right (same (v .bytes) (w .bytes)) (sameWords vs ws) h))
 
 -- a line's own words for a statement's names
 pub renamed-bare : (ws : List Word) (t : Statement) → bytesOf ws ≡ wordsAfter t → bareStatement (renamed ws t) ≡ bareStatement t

@@ -10,8 +10,8 @@ use native.Mathlib.Omega.{arith}
 use Rattle.text.specs.Words.{Word}
 use Rattle.forms.specs.Corner.{Corner}
 use Rattle.tables.specs.Bodies.{Basis}
-use Rattle.model.specs.Model.{geometric, texture, normal, parametric, Vertices, Names, Free, curve, curve2, surface, Loop, Body, Kind, plain, free, Element, Model, Form, State, curves, start}
-use Rattle.model.specs.Statements.{Statement, element, type, degree, body, loop, end, settled}
+use Rattle.model.specs.Model.{geometric, texture, normal, parametric, Vertices, Names, Free, curve, curve2, surface, along-u, Loop, Body, Kind, plain, free, Element, Model, Form, State, curves, start}
+use Rattle.model.specs.Statements.{Statement, element, type, degree, body, parameters, loop, end, settled}
 use Rattle.model.specs.Parse.{isSurface}
 use Rattle.tidying.specs.Tidied.{vertexLines, groupLines, smoothingLines, materialLines, unsettled, atLine, parameterLines, elementLines, elementsLines, tidied}
 use Rattle.tidying.specs.Agree.{bareNames, bareElement, bareElements}
@@ -75,19 +75,21 @@ module _ (x : Vertices) (es : List Element) (n : Names) (b : Body) (cs : List Co
         ends = refl;
       }
 
+  -- parm u stands in every body
+  u-here : (k : Bool) → (k || true) ≡ true
+  u-here true = refl
+  u-here false = refl
+
+  u-goes : b .vs ≡ [] → Goes (inside (filled [] [] [])) (parameters along-u (b .us) ∷ []) (inside (filled (b .us) (b .vs) []))
+  u-goes h =
+      record {
+        stand = (record { fine = g .us x (curves es); here = u-here (isSurface (u .free)) }, tt);
+        ends = ap (λ (z : List ℤ). inside (filled (b .us) z [])) (sym h);
+      }
+
   parameters-go : (k : Free) → u .free ≡ k → SecondIn k (b .vs) → Goes (inside (filled [] [] [])) (parameterLines k b) (inside (filled (b .us) (b .vs) []))
-  parameters-go curve q h =
-      record { stand = (record { fine = g .us x (curves es); here = either (isSurface (u .free)) }, tt); ends = ap (λ (z : List ℤ). inside (filled (b .us) z [])) (sym h) }
-    where
-      either : (a : Bool) → (a || true) ≡ true
-      either true = refl
-      either false = refl
-  parameters-go curve2 q h =
-      record { stand = (record { fine = g .us x (curves es); here = either (isSurface (u .free)) }, tt); ends = ap (λ (z : List ℤ). inside (filled (b .us) z [])) (sym h) }
-    where
-      either : (a : Bool) → (a || true) ≡ true
-      either true = refl
-      either false = refl
+  parameters-go curve q h = u-goes h
+  parameters-go curve2 q h = u-goes h
   parameters-go surface q h =
       record {
         stand = (
@@ -110,7 +112,8 @@ module _ (x : Vertices) (es : List Element) (n : Names) (b : Body) (cs : List Co
   no-loops [] e = record { stand = tt; ends = refl }
   no-loops (l ∷ ks) e = absurd (let z : _≡_ {A = ℕ} 0 1 = cc in omega arith)
 
-  all-loops : (k : Free) → u .free ≡ k → LoopsIn x (curves es) k (b .loops) → Goes (inside (filled (b .us) (b .vs) [])) (map loop (b .loops)) (inside (filled (b .us) (b .vs) (b .loops)))
+  all-loops : (k : Free) → u .free ≡ k → LoopsIn x (curves es) k (b .loops)
+      → Goes (inside (filled (b .us) (b .vs) [])) (map loop (b .loops)) (inside (filled (b .us) (b .vs) (b .loops)))
   all-loops curve q h = no-loops (b .loops) h
   all-loops curve2 q h = no-loops (b .loops) h
   all-loops surface q h = loops-go q [] (b .loops) h
@@ -166,7 +169,8 @@ elements-go x l (e ∷ xs) es n f g =
           (on (smoothingLines (n .smoothing) (m .smoothing)) _ _ _ _ (smoothings x es f (bareNames m .group) (n .smoothing) (m .smoothing) (bareNames n .material) (g .1 .smoothing))
           (on (materialLines (n .material) (m .material)) _ _ _ _ (materials x es f (bareNames m .group) (m .smoothing) (n .material) (m .material) (g .1 .material) (g .2))
           (on (elementLines (e .kind) (e .corners)) (elementsLines m xs) _ _ _ (kind-goes x es (bareNames m) f (e .kind) (e .corners) (g .0))
-          (subst (λ (y : List Element). Goes (at x (es ++ bareElement e ∷ []) (bareNames m) (formAfter (e .kind) f)) (elementsLines m xs) (at x y (i .names) (i .form))) (append-assoc es (bareElement e ∷ []) (bareElements xs)) (i .goes)))));
+          (subst (λ (y : List Element). Goes (at x (es ++ bareElement e ∷ []) (bareNames m) (formAfter (e .kind) f)) (elementsLines m xs) (at x y (i .names) (i .form)))
+          (append-assoc es (bareElement e ∷ []) (bareElements xs)) (i .goes)))));
     }
 
 -- ---- all of it

@@ -53,11 +53,19 @@ fitting-any m n f i (x ∷ xs) r q = (fits-any m n (f i) x (r i) (q .0), fitting
 module _ (x : Vertices) (n : ℕ) where
   pub always-vertex : (k : VertexKind) (z : List ℤ) → Fine x n (vertex k z) → Always (vertex k z)
   always-vertex k z f y m =
-      record { many = f .many; fits = fitting-any (seenOf x n) (seenOf y m) (formOf (keyOf (vertex k z)) (length (valuesIn (vertex k z)))) 0 (valuesIn (vertex k z)) (λ j. refl) (f .fits); whole = f .whole }
+      record {
+        many = f .many;
+        fits = fitting-any (seenOf x n) (seenOf y m) (formOf (keyOf (vertex k z)) (length (valuesIn (vertex k z)))) 0 (valuesIn (vertex k z)) (λ j. refl) (f .fits);
+        whole = f .whole;
+      }
 
   pub always-group : (ws : List Word) → Fine x n (group ws) → Always (group ws)
   always-group ws f y m =
-      record { many = f .many; fits = fitting-any (seenOf x n) (seenOf y m) (formOf (keyOf (group ws)) (length (valuesIn (group ws)))) 0 (valuesIn (group ws)) (λ j. refl) (f .fits); whole = tt }
+      record {
+        many = f .many;
+        fits = fitting-any (seenOf x n) (seenOf y m) (formOf (keyOf (group ws)) (length (valuesIn (group ws)))) 0 (valuesIn (group ws)) (λ j. refl) (f .fits);
+        whole = tt;
+      }
 
   pub always-smoothing : (k : ℕ) → Fine x n (smoothing k) → Always (smoothing k)
   always-smoothing k f y m = record { many = f .many; fits = f .fits; whole = tt }
@@ -67,7 +75,11 @@ module _ (x : Vertices) (n : ℕ) where
 
   pub always-parameters : (d : Direction) (z : List ℤ) → Fine x n (parameters d z) → Always (parameters d z)
   always-parameters d z f y m =
-      record { many = f .many; fits = fitting-any (seenOf x n) (seenOf y m) (formOf parm (length (valuesIn (parameters d z)))) 0 (valuesIn (parameters d z)) (λ j. either (eqb j 0)) (f .fits); whole = tt }
+      record {
+        many = f .many;
+        fits = fitting-any (seenOf x n) (seenOf y m) (formOf parm (length (valuesIn (parameters d z)))) 0 (valuesIn (parameters d z)) (λ j. either (eqb j 0)) (f .fits);
+        whole = tt;
+      }
     where
       either : (b : Bool) → refers (cond b a-direction a-number) ≡ false
       either true = refl

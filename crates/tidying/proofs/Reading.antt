@@ -44,7 +44,12 @@ step-did R x y (w ∷ ws) a h =
     let p = then-fine (keywordOf (statementOf (w .bytes)) (w .place)) _ y h in
     let q = then-fine (parse (p .0) x (w .place) ws) _ y (p .2) in
     let r = must-fine (fits R (apply (q .0) x)) 14 (w .place) _ y (q .2) in
-    inr (record { said = q .0; ready = fit x (w .place) ws (q .0) (p .0) (and-right (isToken (w .bytes)) _ a) (q .1); room = r .0; is = (let z = r .1 in let e : apply (q .0) x ≡ y = cc in sym e) })
+    inr (record {
+      said = q .0;
+      ready = fit x (w .place) ws (q .0) (p .0) (and-right (isToken (w .bytes)) _ a) (q .1);
+      room = r .0;
+      is = (let z = r .1 in let e : apply (q .0) x ≡ y = cc in sym e);
+    })
 
 pub on-read : (r : Parsed State) (f : State → Answer) (m : Model) → onParsed r f ≡ read m → (y : State) × (r ≡ fine y) × (f y ≡ read m)
 on-read (fine y) f m h = (y, refl, h)
@@ -162,7 +167,8 @@ came R n k (l ∷ ls) x m h g b f =
     let p = first R n l ls x m h in
     let e : suc k + length ls ≡ k + suc (length ls) = omega arith in
     subst (λ (j : ℕ). Came R j m) e
-    (came R n (suc k) ls (p .state) m (p .rest) (did-good R (m .vertices) x (p .state) (more R n (l ∷ ls) x m h) (p .did) g) (did-bounded R k x (p .state) (p .did) b) (did-fits R x (p .state) (p .did) f))
+    (came R n (suc k) ls (p .state) m (p .rest) (did-good R (m .vertices) x (p .state) (more R n (l ∷ ls) x m h) (p .did) g)
+    (did-bounded R k x (p .state) (p .did) b) (did-fits R x (p .state) (p .did) f))
 
 -- ---- from the start
 always-none : (x : Vertices) → Good x start
@@ -173,7 +179,11 @@ always-none x =
       vn = tt;
       vp = tt;
       elements = refl;
-      names = record { group = λ y n. record { many = refl; fits = tt; whole = tt }; smoothing = λ y n. record { many = refl; fits = ((0, refl, refl), tt); whole = tt }; material = tt };
+      names = record {
+        group = λ y n. record { many = refl; fits = tt; whole = tt };
+        smoothing = λ y n. record { many = refl; fits = ((0, refl, refl), tt); whole = tt };
+        material = tt;
+      };
       form = record { u = refl; v = refl };
       opened = tt;
     }

@@ -153,7 +153,8 @@ module _ (x : State) (p : ℕ) (ws : List Word) where
         (assemble k r cs (opened-is k (x .form) r (q .many)) a c f (q .are) (unlike-fit vs cs l (u₁ .0)) (u₂ .0) (narrowIn-fit k X vs cs l (u₃ .0)))
       where
         assemble : (k : Free) (r : List ℤ) (cs : List Corner) → Opened k (x .form) r → outside (x .open-body) ≡ true → counted (a-body k) (length xs) ≡ true
-            → Fitting (seenOf X N) (formOf (a-body k) (length xs)) 0 xs → xs ≡ map number r ++ map corner cs → uniform cs ≡ true → inForce k (x .form) (x .form .basis) ≡ true → wideIn k X cs ≡ true
+            → Fitting (seenOf X N) (formOf (a-body k) (length xs)) 0 xs → xs ≡ map number r ++ map corner cs → uniform cs ≡ true
+            → inForce k (x .form) (x .form .basis) ≡ true → wideIn k X cs ≡ true
             → Ready x (body (bodyOf k (x .form) r) cs)
         assemble k r cs o a c f e u i w =
             let b = bodyOf k (x .form) r in

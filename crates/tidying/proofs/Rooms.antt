@@ -92,7 +92,9 @@ apart a b h =
 
 pub together : (a b : Rooms) → Has a b → within a b ≡ true
 together a b h =
-    and-both (and-both (and-both (and-both (and-both (and-both (and-both (and-both (and-both (and-both (h .v) (h .vt)) (h .vn)) (h .vp)) (h .corners)) (h .elements)) (h .bodies)) (h .ranges)) (h .parameters)) (h .loops)) (h .spans)
+    let four = and-both (and-both (and-both (h .v) (h .vt)) (h .vn)) (h .vp) in
+    let seven = and-both (and-both (and-both four (h .corners)) (h .elements)) (h .bodies) in
+    and-both (and-both (and-both (and-both seven (h .ranges)) (h .parameters)) (h .loops)) (h .spans)
 
 pub fits-down : (R : Rooms) (x y : State) → NoMore x y → fits R y ≡ true → fits R x ≡ true
 unfolding fits
@@ -148,10 +150,12 @@ module _ (s : State) where
       let c = summed-add (λ (e : Element). ofKind (λ (b : Body). 1) (e .kind)) es e in
       let d = summed-add (λ (e : Element). ofKind (λ (b : Body). length (b .us) + length (b .vs)) (e .kind)) es e in
       let f = summed-add (λ (e : Element). ofKind partCount (e .kind)) es e in
-      let g : partCount (settled (o .body .free) (o .body)) ≡ partCount (o .body) = ap (λ (ls : List Loop). summed (λ l. length (l .parts)) ls) (settled-us (o .body .free) (o .body)) in
+      let g : partCount (settled (o .body .free) (o .body)) ≡ partCount (o .body) =
+      ap (λ (ls : List Loop). summed (λ l. length (l .parts)) ls) (settled-us (o .body .free) (o .body)) in
       omega arith
 
-  parameters-grow : (d : Direction) (z : List ℤ) (b : Open) → (length (b .controls) ≤ length (withBody (withParameters d z) b .controls)) × (partCount (b .body) ≤ partCount (withBody (withParameters d z) b .body))
+  parameters-grow : (d : Direction) (z : List ℤ) (b : Open)
+      → (length (b .controls) ≤ length (withBody (withParameters d z) b .controls)) × (partCount (b .body) ≤ partCount (withBody (withParameters d z) b .body))
   parameters-grow along-u z b = (omega arith, omega arith)
   parameters-grow along-v z b = (omega arith, omega arith)
 

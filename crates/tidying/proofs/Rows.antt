@@ -198,7 +198,8 @@ loops-inj (l ∷ ls) (k ∷ ks) g h e f =
     ap₂ (λ (x : Loop) (y : List Loop). x ∷ y) (loop-is l k (hole-inj (l .hole) (k .hole) (r .0)) (r .1 .parts)) (loops-inj ls ks (g .1) (h .1) (r .1 .rest) (r .1 .spans))
   where
     go : (ps qs : List Part) → 0 < length ps → 0 < length qs → partRows (beginning (l .hole)) ps ++ flat loopRow ls ≡ partRows (beginning (k .hole)) qs ++ flat loopRow ks
-        → flat spanRow ps ++ spansOf ls ≡ flat spanRow qs ++ spansOf ks → (beginning (l .hole) ≡ beginning (k .hole)) × Parts ps qs (flat loopRow ls) (flat loopRow ks) (spansOf ls) (spansOf ks)
+        → flat spanRow ps ++ spansOf ls ≡ flat spanRow qs ++ spansOf ks
+        → (beginning (l .hole) ≡ beginning (k .hole)) × Parts ps qs (flat loopRow ls) (flat loopRow ks) (spansOf ls) (spansOf ks)
     go [] qs x y e f = absurd (omega arith)
     go (p ∷ ps) [] x y e f = absurd (omega arith)
     go (p ∷ ps) (q ∷ qs) x y e f =

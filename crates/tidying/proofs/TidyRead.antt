@@ -132,12 +132,15 @@ reread R n (l ∷ ls) (t ∷ ts) x s q h y f m =
     let v : s .model .vertices ≡ x .model .vertices = ap (λ (z : State). z .model .vertices) (sym q) in
     let c : curves (s .model .elements) ≡ curves (x .model .elements) = ap (λ (z : State). curves (z .model .elements)) (sym q) ∙ curves-bare (x .model .elements) in
     let m' = small-down (s .model .vertices) (runs ts u .model .vertices) (curves (s .model .elements)) (curves (runs ts u .model .elements)) (L .more) (L .curves) m in
-    let k = step-back R x t (subst (λ (z : State). Ready z t) (sym q) (h .0)) (subst (λ (z : Vertices). Small (seenOf z (curves (x .model .elements)))) v (subst (λ (j : ℕ). Small (seenOf (s .model .vertices) j)) c m'))
+    let k = step-back R x t (subst (λ (z : State). Ready z t) (sym q) (h .0))
+    (subst (λ (z : Vertices). Small (seenOf z (curves (x .model .elements)))) v (subst (λ (j : ℕ). Small (seenOf (s .model .vertices) j)) c m'))
     (ap (λ (z : State). fits R (apply (bareStatement t) z)) q ∙ fits-down R u (runs ts u) (later ts u (h .1) .room) f) (wordsOf l) (y .1) in
     let i = reread R n ls ts (k .0) u (k .2 ∙ ap (apply (bareStatement t)) q) (h .1) (y .2) f m in
     record {
       state = i .state;
-      reads = ap (λ (b : Option ℕ). onParsed (unless b 2 (step R x (wordsOf l))) (readLines R n ls)) (y .0) ∙ ap (λ (r : Parsed State). onParsed r (readLines R n ls)) (k .1) ∙ i .reads;
+      reads = ap (λ (b : Option ℕ). onParsed (unless b 2 (step R x (wordsOf l))) (readLines R n ls)) (y .0)
+          ∙ ap (λ (r : Parsed State). onParsed r (readLines R n ls)) (k .1)
+          ∙ i .reads;
       is = i .is;
     }
 

@@ -138,7 +138,8 @@ stands [] xs = xs
 stands (w ∷ ws) [] = []
 stands (w ∷ ws) (x ∷ xs) = stand w x ∷ stands ws xs
 
-pub values-back : (n : Seen) (f : ℕ → WordForm) (i : ℕ) (ws : List Word) (xs : List Value) → Small n → Fitting n f i xs → bytesOf ws ≡ map written xs → valuesOf n f i ws ≡ fine (stands ws xs)
+pub values-back : (n : Seen) (f : ℕ → WordForm) (i : ℕ) (ws : List Word) (xs : List Value) → Small n → Fitting n f i xs → bytesOf ws ≡ map written xs
+    → valuesOf n f i ws ≡ fine (stands ws xs)
 values-back n f i [] [] s h e = refl
 values-back n f i [] (x ∷ xs) s h e = absurd (let z : _≡_ {A = ℕ} 0 1 = cc in omega arith)
 values-back n f i (w ∷ ws) [] s h e = absurd (let z : _≡_ {A = ℕ} 0 1 = cc in omega arith)
