@@ -10,7 +10,7 @@ use native.Mathlib.Omega.{arith}
 use Rattle.text.specs.Words.{Word}
 use Rattle.forms.specs.Corner.{Corner}
 use Rattle.tables.specs.Bodies.{Basis}
-use Rattle.model.specs.Model.{geometric, texture, normal, parametric, Vertices, Names, Free, curve, curve2, surface, Loop, Body, Kind, plain, free, Element, Model, Form, State, curves, start}
+use Rattle.model.specs.Model.{geometric, texture, normal, parametric, Vertices, Names, Free, curve, curve2, surface, along-u, Loop, Body, Kind, plain, free, Element, Model, Form, State, curves, start}
 use Rattle.model.specs.Statements.{Statement, element, type, degree, body, parameters, loop, end, settled}
 use Rattle.model.specs.Parse.{isSurface}
 use Rattle.tidying.specs.Tidied.{vertexLines, groupLines, smoothingLines, materialLines, unsettled, atLine, parameterLines, elementLines, elementsLines, tidied}
