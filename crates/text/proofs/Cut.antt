@@ -1,17 +1,16 @@
 -- The words of a cut line are those of the bytes it was cut from: what a byte does is the same before and after the cut, by the tests that `plain` makes.
-use Prim.Native.Nat.{ℕ, zero, suc, _+_}
-use mathlib.Core.Path.{_≡_, refl, sym, ap, ap₂, _∙_}
+use Prim.Native.Nat.{ℕ, zero, suc}
+use mathlib.Core.Path.{_≡_, refl, sym, ap, _∙_}
 use mathlib.Core.List.{List, [], _∷_}
 use mathlib.Core.Bool.{Bool, true, false, cond, _&&_, _||_}
-use mathlib.Core.Option.{Option, none, some}
 use mathlib.Core.Logic.{⊎-elim}
-use lib.ListN.{length, take, drop}
+use lib.ListN.{length, take}
 use lib.Dec.{eqb}
 use native.Mathlib.Omega.{arith}
-use Rattle.lists.proofs.Tests.{test, never, and-left, and-right}
+use Rattle.lists.proofs.Tests.{test, never, and-right}
 use Rattle.text.specs.Bytes.{isWord, isBlank, lf, lineEnd}
-use Rattle.text.specs.Lines.{Mode, gap, word, comment, join, Look, goes, ends, refused, plain, look, onward, extent}
-use Rattle.text.specs.Words.{Word, wordOf, isGap, isInWord, opens, words, refusedAt}
+use Rattle.text.specs.Lines.{Mode, gap, word, comment, join, Look, goes, ends, refused, plain, look, extent}
+use Rattle.text.specs.Words.{Word, wordOf, isGap, opens, words, refusedAt}
 
 -- two things that a byte does are not the same
 pub goes-ends : {A : Type 0} {n : Mode} → ends ≡ goes n → A

@@ -1,10 +1,10 @@
 -- The words of a line: what they are made of and where they stand, by the bytes; and the word at a place as a part of the text.
 use Prim.Native.Nat.{ℕ, zero, suc, _+_, _-_, _≤_, _<_}
 use mathlib.Core.Path.{_≡_, refl, sym, ap, _∙_, subst}
-use mathlib.Core.List.{List, [], _∷_, _++_}
-use mathlib.Core.Bool.{Bool, true, false, cond, _&&_, not}
+use mathlib.Core.List.{List, [], _∷_}
+use mathlib.Core.Bool.{Bool, true, false, cond, _&&_}
 use mathlib.Core.Logic.{⊎-elim}
-use lib.ListN.{length, take, drop, getD, drop-of-length-le, length-drop, take-append-drop}
+use lib.ListN.{length, take, drop, getD, drop-of-length-le, length-drop}
 use lib.Seq.{slice, slice-empty, slice-cons, take-add, drop-at, length-take-le, drop-cons, drop-drop}
 use lib.Dec.{eqb, leb}
 use native.Mathlib.Omega.{arith}
@@ -16,12 +16,12 @@ use Rattle.lists.proofs.Tests.{test, never, and-left, and-right, and-both}
 use Rattle.lists.proofs.Laws.{same-refl, same-eq}
 use Rattle.text.specs.Bytes.{isWord, isBlank, startsWord, lineEnd}
 use Rattle.text.specs.Lines.{Mode, gap, word, comment, join, Look, goes, ends, refused, plain, look, onward}
-use Rattle.text.specs.Words.{Word, wordOf, isGap, isInWord, opens, words}
+use Rattle.text.specs.Words.{Word, wordOf, isInWord, opens, words}
 use Rattle.text.specs.Rest.{Rest, restAt, endOf, wordAt, WordMet}
 use Rattle.text.specs.Written.{isToken}
-use Rattle.text.proofs.Cut.{words-cut, in-word}
+use Rattle.text.proofs.Cut.{goes-ends, goes-refused, words-cut, in-word}
 use Rattle.text.proofs.Places.{here}
-use Rattle.text.proofs.Walk.{word-short, rest-in, starts-word}
+use Rattle.text.proofs.Walk.{word-short, starts-word}
 
 -- ---- the word at a place, as a part of the text
 pub word-all : (l : List ℕ) → all isWord (wordOf l) ≡ true
@@ -79,19 +79,22 @@ word-run s p e h l a n =
 abbrev pub stands : List ℕ → Word → Bool
 stands s w = isToken (w .bytes) && leb (w .place + length (w .bytes)) (length s) && same (wordOf (drop (w .place) s)) (w .bytes)
 
+other : {A : Type 0} {m n : Mode} → goes m ≡ goes n → isInWord m ≡ false → isInWord n ≡ true → A
+other h a b = let z : false ≡ true = cc in never z
+
 word-tested : (w k e f g : Bool) → cond w (goes word) (cond k (goes gap) (cond e ends (cond f (cond g (goes join) refused) refused))) ≡ goes word → w ≡ true
 word-tested true k e f g h = refl
-word-tested false true e f g h = absurd (let z : isInWord gap ≡ isInWord word = (let y : gap ≡ word = cc in ap isInWord y) in let x : _≡_ {A = ℕ} 0 1 = cc in omega arith)
-word-tested false false true f g h = absurd (let x : _≡_ {A = ℕ} 0 1 = cc in omega arith)
-word-tested false false false true true h = absurd (let x : _≡_ {A = ℕ} 0 1 = cc in omega arith)
-word-tested false false false true false h = absurd (let x : _≡_ {A = ℕ} 0 1 = cc in omega arith)
-word-tested false false false false g h = absurd (let x : _≡_ {A = ℕ} 0 1 = cc in omega arith)
+word-tested false true e f g h = other h refl refl
+word-tested false false true f g h = goes-ends h
+word-tested false false false true true h = other h refl refl
+word-tested false false false true false h = goes-refused h
+word-tested false false false false g h = goes-refused h
 
 starts : (m n : Mode) (b : ℕ) (bs : List ℕ) → look m b bs ≡ goes n → opens m n ≡ true → startsWord b ≡ true
 starts gap n b bs e o =
     let w : n ≡ word = in-word gap n o in
     ⊎-elim
-    (λ (t : eqb b 35 ≡ true). let z : goes comment ≡ goes n = rw t at e in absurd (let x : _≡_ {A = ℕ} 0 1 = cc in omega arith))
+    (λ (t : eqb b 35 ≡ true). other {m = comment} {n = n} (rw t at e) refl (rw w refl))
     (λ (t : eqb b 35 ≡ false).
     let z : plain b bs ≡ goes word = (rw t at e) ∙ ap goes w in
     let y : isWord b ≡ true = word-tested (isWord b) (isBlank b) (lineEnd (b ∷ bs)) (eqb b 92) (lineEnd bs) z in
@@ -157,3 +160,22 @@ module _ (s : List ℕ) where
         let x = word-within in
         let e : w .place + length (w .bytes) ≡ endOf s (w .place) = ap (λ (l : List ℕ). w .place + length l) (sym word-bytes) in
         sym word-bytes ∙ word-slice s (w .place) (w .place + length (w .bytes)) (omega arith) e
+
+-- ---- no more words than bytes
+few-step : (m : Mode) (p b : ℕ) (bs : List ℕ) → ((n : Mode) → length (words n (suc p) bs) ≤ length bs)
+    → (k : Look) → look m b bs ≡ k → (t : Bool) → opens m (onward k (λ n. n) gap gap) ≡ t → length (words m p (b ∷ bs)) ≤ suc (length bs)
+few-step m p b bs ih (goes n) e true o = let z : length (words n (suc p) bs) ≤ length bs = ih n in rw e (rw o (omega arith))
+few-step m p b bs ih (goes n) e false o = let z : length (words n (suc p) bs) ≤ length bs = ih n in rw e (rw o (omega arith))
+few-step m p b bs ih ends e t o = rw e (omega arith)
+few-step m p b bs ih refused e t o = rw e (omega arith)
+
+few : (m : Mode) (p : ℕ) (l : List ℕ) → length (words m p l) ≤ length l
+few m p [] = omega arith
+few m p (b ∷ bs) = few-step m p b bs (λ n. few n (suc p) bs) (look m b bs) refl (opens m (onward (look m b bs) (λ n. n) gap gap)) refl
+
+pub words-few : (s : List ℕ) (at : ℕ) → length ((restAt s at) .words) ≤ length s - at
+unfolding restAt
+words-few s at =
+    let x = few gap at (drop at s) in
+    let y = length-drop at s in
+    rw (words-cut gap at (drop at s)) (omega arith)

@@ -1,18 +1,18 @@
 -- The rest of a line in any mode, one byte on: by what the byte does.
-use Prim.Native.Nat.{ℕ, zero, suc, _+_, _≤_, _<_}
+use Prim.Native.Nat.{ℕ, suc, _+_, _≤_}
 use mathlib.Core.Path.{_≡_, refl, sym, ap, _∙_}
 use mathlib.Core.List.{List, [], _∷_}
 use mathlib.Core.Bool.{Bool, true, false, cond, _&&_, _||_, not}
 use mathlib.Core.Option.{Option, none, some}
 use mathlib.Core.Logic.{_⊎_, inl, inr, ⊎-elim}
-use lib.ListN.{length, take, drop}
+use lib.ListN.{length, drop}
 use lib.Dec.{eqb}
 use native.Mathlib.Omega.{arith}
 use native.Mathlib.Nat.{add-zero}
 use borrow.Author.Tests.{eqb-true, ne-eqb, not-true}
 use Rattle.lists.proofs.Tests.{test, never, and-left, and-right}
 use Rattle.text.specs.Bytes.{isWord, isBlank, startsWord, lf, lineEnd}
-use Rattle.text.specs.Lines.{Mode, gap, word, comment, join, Look, goes, ends, refused, plain, look, onward, extent, ending}
+use Rattle.text.specs.Lines.{Mode, gap, word, comment, join, goes, ends, refused, look, onward, extent, ending}
 use Rattle.text.specs.Words.{Word, wordOf, opens, words, refusedAt}
 use Rattle.text.specs.Rest.{Rest, restAt, push}
 use Rattle.text.proofs.Cut.{words-cut, refused-cut, word-plain}

@@ -1,7 +1,7 @@
 -- 01, "Bytes, lines, words": what a byte of a text can be.
 use Prim.Native.Nat.{ℕ}
 use mathlib.Core.List.{List, [], _∷_}
-use mathlib.Core.Bool.{Bool, true, false, _&&_, _||_, not}
+use mathlib.Core.Bool.{Bool, false, _&&_, _||_, not}
 use lib.Dec.{leb, eqb}
 
 -- "Blanks are 9 and 32."

@@ -3,3 +3,4 @@ pub mod Lines
 pub mod Words
 pub mod Rest
 pub mod Written
+pub mod Examples

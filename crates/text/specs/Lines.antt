@@ -1,10 +1,10 @@
 -- 01, "Bytes, lines, words": where the joined lines of a text begin and end. A byte that is not allowed plays no part in it.
 use Prim.Native.Nat.{ℕ, zero, suc, _+_}
 use mathlib.Core.List.{List, [], _∷_}
-use mathlib.Core.Bool.{Bool, true, false, cond}
+use mathlib.Core.Bool.{cond}
 use lib.ListN.{length, take, drop}
 use lib.Dec.{eqb}
-use Rattle.text.specs.Bytes.{isBlank, isWord, lf, lineEnd}
+use Rattle.text.specs.Bytes.{isBlank, isWord, lineEnd}
 
 -- where a byte stands: between words, in a word, in a comment, in the line end after a backslash
 pub data Mode : Type 0 where

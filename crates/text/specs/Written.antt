@@ -1,8 +1,8 @@
 -- A line as it is written: "One space between words, LF after each line" (01, "The tidy text"). No words make an empty line.
 use Prim.Native.Nat.{ℕ}
 use mathlib.Core.List.{List, [], _∷_, _++_, map}
-use mathlib.Core.Bool.{Bool, true, false, _&&_}
-use mathlib.Core.Option.{Option, none, some}
+use mathlib.Core.Bool.{Bool, false, _&&_}
+use mathlib.Core.Option.{Option, none}
 use Rattle.lists.specs.Lists.{all, flat}
 use Rattle.text.specs.Bytes.{isWord, startsWord}
 use Rattle.text.specs.Lines.{Line}

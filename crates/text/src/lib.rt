@@ -1,6 +1,6 @@
 // Bytes, joined lines and words.
 ghost use mathlib.Core.Path.{_≡_};
-ghost use Prim.Native.Nat.{ℕ, _+_, _≤_, _<_};
+ghost use Prim.Native.Nat.{_+_, _≤_, _<_};
 ghost use lib.ListN.{length, getD, drop};
 ghost use mathlib.Core.Bool.{true, false};
 ghost use Rattle.text.specs.Bytes.{isBlank, isWord, startsWord, lf};
@@ -118,7 +118,7 @@ fn blank_end(text: &[u8], at: usize) -> usize
 }
 
 // What a byte between words does that is neither a blank nor the start of a word.
-pub enum Turn {
+enum Turn {
     On(usize),
     End(usize),
     Refused,

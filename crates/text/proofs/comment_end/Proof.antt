@@ -1,8 +1,6 @@
 -- The loop keeps the rest of the comment (`InComment`); each turn takes a byte off what is left.
-use mathlib.Core.Path.{_≡_, refl, sym, ap, _∙_}
 use Prim.Native.Nat.{_-_}
 use lib.ListN.{length}
-use native.Mathlib.Omega.{arith}
 use denote.Ref.{now}
 use borrow.Author.Needs.{needs}
 use Rattle.text.proofs.Loops as L
@@ -28,7 +26,10 @@ add-result : tie.Need-add-result Inv-loop μ-loop
 add-result c = search needs
 
 returns : tie.Need-returns Inv-loop μ-loop
-returns c = let start = c .before .before .before .before in let turn = c .before .before .before in L.comment-stop (now (start .args .text)) (start .args .at) (turn .loop .i) (turn .loop .inv) (c .before .before .loop-test .taken) (c .if1 .taken)
+returns c =
+    let turn = c .before .before .before in
+    let start = turn .before in
+    L.comment-stop (now (start .args .text)) (start .args .at) (turn .loop .i) (turn .loop .inv) (c .before .before .loop-test .taken) (c .if1 .taken)
 
 add-i-2 : tie.Need-add-i-2 Inv-loop μ-loop
 add-i-2 c = search needs
@@ -37,10 +38,16 @@ loop-less : tie.Need-loop-less Inv-loop μ-loop
 loop-less c = search needs
 
 loop-again : tie.Need-loop-again Inv-loop μ-loop
-loop-again c = let start = c .before .before .before .before in let turn = c .before .before .before in L.comment-turn (now (start .args .text)) (start .args .at) (turn .loop .i) (turn .loop .inv) (c .before .before .loop-test .taken) (c .if1 .left)
+loop-again c =
+    let turn = c .before .before .before in
+    let start = turn .before in
+    L.comment-turn (now (start .args .text)) (start .args .at) (turn .loop .i) (turn .loop .inv) (c .before .before .loop-test .taken) (c .if1 .left)
 
 returns-2 : tie.Need-returns-2 Inv-loop μ-loop
-returns-2 c = let start = c .before .before in let turn = c .before in L.comment-done (now (start .args .text)) (start .args .at) (turn .loop .i) (turn .loop .inv) (c .loop-test .left)
+returns-2 c =
+    let turn = c .before in
+    let start = turn .before in
+    L.comment-done (now (start .args .text)) (start .args .at) (turn .loop .i) (turn .loop .inv) (c .loop-test .left)
 
 pub comment-end-spec : {M : Type 1} → statement M
 comment-end-spec =

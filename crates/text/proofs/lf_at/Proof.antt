@@ -1,5 +1,4 @@
 -- `drop` at a place within the text or past it.
-use mathlib.Core.Path.{_≡_, refl, sym, ap, _∙_}
 use denote.Ref.{now}
 use borrow.Author.Needs.{needs}
 use Rattle.text.proofs.Places as P

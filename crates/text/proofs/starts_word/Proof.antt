@@ -1,5 +1,5 @@
 -- What `is_word` ensures, and a test.
-use mathlib.Core.Path.{_≡_, refl, sym, ap, _∙_}
+use mathlib.Core.Path.{refl, sym}
 use borrow.Author.Needs.{needs}
 use Rattle.text.proofs.starts_word.Statement.{statement}
 use Rattle.text.proofs.starts_word.Tie as tie

@@ -1,6 +1,4 @@
 -- Each answer is one law of a place between words.
-use mathlib.Core.Path.{_≡_, refl, sym, ap, _∙_}
-use native.Mathlib.Omega.{arith}
 use denote.Ref.{now}
 use borrow.Author.Needs.{needs}
 use Rattle.text.proofs.Places as P
@@ -20,10 +18,16 @@ line-end-requires : tie.Need-line-end-requires
 line-end-requires c κs = search needs
 
 add-t9 : tie.Need-add-t9
-add-t9 c = let start = c .before .before .before .before .before in let met = P.end-met (now (start .args .text)) (start .args .at) (start .pre .0) _ (c .before .line-end .ensures) (c .if2 .taken) in let last = met .to in search needs
+add-t9 c =
+    let start = c .before .before .before .before .before in
+    let met = P.end-met (now (start .args .text)) (start .args .at) (start .pre .0) _ (c .before .line-end .ensures) (c .if2 .taken) in
+    let last = met .to in
+    search needs
 
 returns-2 : tie.Need-returns-2
-returns-2 c = let start = c .before .before .before .before .before in P.end-met (now (start .args .text)) (start .args .at) (start .pre .0) _ (c .before .line-end .ensures) (c .if2 .taken)
+returns-2 c =
+    let start = c .before .before .before .before .before in
+    P.end-met (now (start .args .text)) (start .args .at) (start .pre .0) _ (c .before .line-end .ensures) (c .if2 .taken)
 
 shared-slice-read-if3 : tie.Need-shared-slice-read-if3
 shared-slice-read-if3 c = search needs
@@ -38,16 +42,26 @@ add-t13 : tie.Need-add-t13
 add-t13 c = search needs
 
 add-t14 : tie.Need-add-t14
-add-t14 c = let start = c .before .before .before .before .before .before .before .before .before in let met = P.join-met (now (start .args .text)) (start .args .at) (start .pre .0) (c .before .before .if3 .taken) _ (c .before .line-end2 .ensures) (c .if4 .taken) in let last = met .to in search needs
+add-t14 c =
+    let start = c .before .before .before .before .before .before .before .before .before in
+    let met = P.join-met (now (start .args .text)) (start .args .at) (start .pre .0) (c .before .before .if3 .taken) _ (c .before .line-end2 .ensures) (c .if4 .taken) in
+    let last = met .to in
+    search needs
 
 returns-3 : tie.Need-returns-3
-returns-3 c = let start = c .before .before .before .before .before .before .before .before .before in P.join-met (now (start .args .text)) (start .args .at) (start .pre .0) (c .before .before .if3 .taken) _ (c .before .line-end2 .ensures) (c .if4 .taken)
+returns-3 c =
+    let start = c .before .before .before .before .before .before .before .before .before in
+    P.join-met (now (start .args .text)) (start .args .at) (start .pre .0) (c .before .before .if3 .taken) _ (c .before .line-end2 .ensures) (c .if4 .taken)
 
 returns-4 : tie.Need-returns-4
-returns-4 c = let start = c .before .before .before .before .before .before .before .before .before in P.bad-back (now (start .args .text)) (start .args .at) (start .pre .0) (start .pre .1) (start .pre .2) (c .before .before .before .before .before .before .if1 .left) _ (c .before .before .before .before .before .line-end .ensures) (c .before .before .before .before .if2 .left) (c .before .before .if3 .taken) _ (c .before .line-end2 .ensures) (c .if4 .left)
+returns-4 c =
+    let start = c .before .before .before .before .before .before .before .before .before in
+    P.bad-back (now (start .args .text)) (start .args .at) (start .pre .0) (start .pre .1) (start .pre .2) (c .before .before .before .before .before .before .if1 .left) _ (c .before .before .before .before .before .line-end .ensures) (c .before .before .before .before .if2 .left) (c .before .before .if3 .taken) _ (c .before .line-end2 .ensures) (c .if4 .left)
 
 returns-5 : tie.Need-returns-5
-returns-5 c = let start = c .before .before .before .before .before .before .before in P.bad-other (now (start .args .text)) (start .args .at) (start .pre .0) (start .pre .1) (start .pre .2) (c .before .before .before .before .if1 .left) _ (c .before .before .before .line-end .ensures) (c .before .before .if2 .left) (c .if3 .left)
+returns-5 c =
+    let start = c .before .before .before .before .before .before .before in
+    P.bad-other (now (start .args .text)) (start .args .at) (start .pre .0) (start .pre .1) (start .pre .2) (c .before .before .before .before .if1 .left) _ (c .before .before .before .line-end .ensures) (c .before .before .if2 .left) (c .if3 .left)
 
 pub turn-at-spec : {M : Type 1} → statement M
 turn-at-spec =
