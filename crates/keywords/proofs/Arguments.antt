@@ -1,22 +1,18 @@
 -- The table's bytes are the rows': both are computed.
 use Prim.Native.Nat.{ℕ, _+_}
-use mathlib.Core.Path.{_≡_, refl}
+use mathlib.Core.Path.{_≡_, refl, _∙_}
 use mathlib.Core.List.{List, []}
 use mathlib.Core.Bool.{Bool, true, false, cond}
 use lib.ListN.{length, drop}
 use lib.Dec.{eqb}
 use Rattle.text.specs.Words.{wordOf}
-use Rattle.keywords.specs.Rows.{foundIn, wordAhead}
-use Rattle.keywords.specs.Arguments.{signOf, ofSign, arguments, argumentTable, argumentOf, argumentAt}
+use Rattle.keywords.specs.Rows.{foundIn, letteredIn, wordAhead}
+use Rattle.keywords.specs.Arguments.{signOf, ofSign, arguments, argumentTable, argumentOf, argumentAt, argumentBytes}
 use Rattle.keywords.specs.declared.Found.{Found}
 use Rattle.keywords.specs.declared.Argument.{Argument}
 use Rattle.keywords.specs.declared.Argument.the-variants.{Rational, BasisMatrix, Bezier, Bspline, Cardinal, Taylor, DirectionU, DirectionV, Off, Other}
 use Rattle.keywords.proofs.Compare.{word-none}
 use Rattle.keywords.proofs.Rows.{foundBy, found-kind}
-
-pub sized : length argumentTable ≡ 108
-unfolding arguments argumentTable
-sized = refl
 
 rows-found : (w : List ℕ) (at : ℕ) → foundIn 9 argumentTable w at ≡ foundBy signOf arguments w at
 unfolding arguments argumentTable
@@ -53,3 +49,12 @@ argument-found s t at f k e g l = rw (l, g, e) (found-is (wordOf (drop at s)) at
 pub argument-none : (s : List ℕ) (at : ℕ) → wordAhead (drop at s) ≡ false → Other ≡ argumentAt s at
 unfolding argumentAt
 argument-none s at h = rw (word-none (drop at s) h, no-word) refl
+
+rows-lettered : (k : Argument) → letteredIn 9 argumentTable (signOf k) ≡ argumentBytes k
+unfolding arguments argumentTable argumentBytes
+rows-lettered k = refl
+
+-- the row that is found by a kind's letter has its spelling
+pub argument-row :
+    (t : List ℕ) (from letter : ℕ) (k : Argument) → t ≡ argumentTable → wordOf (drop from t) ≡ letteredIn 9 t letter → letter ≡ signOf k → wordOf (drop from t) ≡ argumentBytes k
+argument-row t from letter k e w l = w ∙ rw (e, l) (rows-lettered k)

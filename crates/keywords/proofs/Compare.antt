@@ -4,7 +4,6 @@ use mathlib.Core.Path.{_≡_, refl, sym, ap, _∙_}
 use mathlib.Core.Logic.{⊎-elim}
 use mathlib.Core.List.{List, [], _∷_}
 use mathlib.Core.Bool.{Bool, true, false, cond, _&&_}
-use native.Mathlib.Numerals.{add-one}
 use native.Mathlib.Omega.{arith}
 use borrow.Author.Tests.{ltb-true, ltb-false, eq-eqb, ne-eqb}
 use lib.Dec.{ltb}
@@ -15,6 +14,7 @@ use Rattle.lists.proofs.Tests.{test, never}
 use Rattle.text.specs.Bytes.{isWord}
 use Rattle.text.specs.Words.{wordOf}
 use Rattle.text.specs.Rest.{endOf}
+use Rattle.text.proofs.Places as T
 use Rattle.keywords.specs.Rows.{wordAhead}
 
 word-more : (x : ℕ) (a : List ℕ) → isWord x ≡ true → wordOf (x ∷ a) ≡ x ∷ wordOf a
@@ -58,6 +58,10 @@ ahead-within s i h =
 pub ahead-is : (s : List ℕ) (i : ℕ) → wordAhead (drop i s) ≡ true → isWord (getD s i 0) ≡ true
 ahead-is s i h = sym (here s i (ahead-within s i h)) ∙ h
 
+-- a word is its first byte and the rest of it
+pub word-at : (s : List ℕ) (i : ℕ) → wordAhead (drop i s) ≡ true → wordOf (drop i s) ≡ getD s i 0 ∷ wordOf (drop (i + 1) s)
+word-at s i h = rw (T.here s i (ahead-within s i h)) (word-more (getD s i 0) (drop (i + 1) s) (ahead-is s i h))
+
 pub first-differs :
     (s t : List ℕ) (i j : ℕ) → wordAhead (drop i s) ≡ true → j < length t → (getD s i 0 ≡ getD t j 0 → ⊥) → same (wordOf (drop i s)) (wordOf (drop j t)) ≡ false
 first-differs s t i j h k n =
@@ -76,12 +80,11 @@ module _ (s : List ℕ) (at : ℕ) (t : List ℕ) (from i j : ℕ) (c : Compared
   pub turn : wordAhead (drop i s) ≡ true → j < length t → getD s i 0 ≡ getD t j 0 → Compared s at t from (i + 1) (j + 1)
   turn h k e =
       let w = ahead-is s i h in
-      let d : drop i s ≡ getD s i 0 ∷ drop (i + 1) s = rw add-one (drop-cons s i 0 (ahead-within s i h)) in
-      let f : drop j t ≡ getD s i 0 ∷ drop (j + 1) t = rw (add-one, e) (drop-cons t j 0 k) in
-      let m : wordOf (drop i s) ≡ getD s i 0 ∷ wordOf (drop (i + 1) s) = rw d (word-more (getD s i 0) (drop (i + 1) s) w) in
+      let d = T.here s i (ahead-within s i h) in
+      let f : drop j t ≡ getD s i 0 ∷ drop (j + 1) t = rw e (T.here t j k) in
       let b : same (wordOf (drop i s)) (wordOf (drop j t)) ≡ same (wordOf (drop (i + 1) s)) (wordOf (drop (j + 1) t)) =
       rw (d, f) (both-same (getD s i 0) (drop (i + 1) s) (drop (j + 1) t) w) in
-      let n = ap length m in
+      let n = ap length (word-at s i h) in
       record { rest = c .rest ∙ b; end = c .end ∙ omega arith }
 
   no : same (wordOf (drop i s)) (wordOf (drop j t)) ≡ false → at ≡ compareOf s at t from
@@ -103,8 +106,4 @@ module _ (s : List ℕ) (at : ℕ) (t : List ℕ) (from i j : ℕ) (c : Compared
       rw e (omega (arith, c .end))
 
 pub word-some : (s : List ℕ) (i : ℕ) → wordAhead (drop i s) ≡ true → i < endOf s i
-word-some s i h =
-    let d : drop i s ≡ getD s i 0 ∷ drop (suc i) s = drop-cons s i 0 (ahead-within s i h) in
-    let m : wordOf (drop i s) ≡ getD s i 0 ∷ wordOf (drop (suc i) s) = rw d (word-more (getD s i 0) (drop (suc i) s) (ahead-is s i h)) in
-    let n = ap length m in
-    omega arith
+word-some s i h = let n = ap length (word-at s i h) in omega arith

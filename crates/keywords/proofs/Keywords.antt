@@ -1,23 +1,19 @@
 -- The table's bytes are the rows': both are computed.
 use Prim.Native.Nat.{ℕ, _+_}
-use mathlib.Core.Path.{_≡_, refl}
+use mathlib.Core.Path.{_≡_, refl, _∙_}
 use mathlib.Core.List.{List, []}
 use mathlib.Core.Bool.{Bool, true, false, cond}
 use lib.ListN.{length, drop}
 use lib.Dec.{eqb}
 use Rattle.text.specs.Words.{wordOf}
-use Rattle.keywords.specs.Rows.{foundIn, wordAhead}
-use Rattle.keywords.specs.Keywords.{letterOf, ofLetter, keywords, keywordTable, statementOf, keywordAt}
+use Rattle.keywords.specs.Rows.{foundIn, letteredIn, wordAhead}
+use Rattle.keywords.specs.Keywords.{letterOf, ofLetter, keywords, keywordTable, statementOf, keywordAt, keywordOf}
 use Rattle.keywords.specs.declared.Found.{Found}
 use Rattle.keywords.specs.declared.Keyword.{Keyword}
 use Rattle.keywords.specs.declared.Statement.{Statement}
 use Rattle.keywords.specs.declared.Statement.the-variants.{Vertex, TextureVertex, VertexNormal, ParameterVertex, BodyType, Degree, Point, Line, Face, Curve, Curve2, Surface, Parameters, Trim, Hole, End, Group, Smoothing, Material, PassedOver, Refused, Unknown}
 use Rattle.keywords.proofs.Compare.{word-none}
 use Rattle.keywords.proofs.Rows.{foundBy, marked, found-kind, found-end}
-
-pub sized : length keywordTable ≡ 528
-unfolding keywords keywordTable
-sized = refl
 
 rows-found : (w : List ℕ) (at : ℕ) → foundIn 44 keywordTable w at ≡ foundBy letterOf keywords w at
 unfolding keywords keywordTable
@@ -74,3 +70,12 @@ keyword-found s t at f k e g l = rw (l, g, e, found-is (wordOf (drop at s)) at, 
 pub keyword-none : (s : List ℕ) (at : ℕ) → wordAhead (drop at s) ≡ false → record { statement = Unknown; end = at } ≡ keywordAt s at
 unfolding keywordAt
 keyword-none s at h = rw (word-none (drop at s) h, no-word) refl
+
+rows-lettered : (k : Statement) → letteredIn 44 keywordTable (letterOf k) ≡ keywordOf k
+unfolding keywords keywordTable keywordOf
+rows-lettered k = refl
+
+-- the row that is found by a kind's letter has its spelling
+pub keyword-row :
+    (t : List ℕ) (from letter : ℕ) (k : Statement) → t ≡ keywordTable → wordOf (drop from t) ≡ letteredIn 44 t letter → letter ≡ letterOf k → wordOf (drop from t) ≡ keywordOf k
+keyword-row t from letter k e w l = w ∙ rw (e, l) (rows-lettered k)

@@ -8,7 +8,7 @@ use lib.Dec.{eqb}
 use Rattle.lists.specs.Lists.{flat}
 use Rattle.text.specs.Words.{wordOf}
 use Rattle.text.specs.Rest.{endOf}
-use Rattle.keywords.specs.Rows.{Row, kindOf, kindBy, spellingOf, line}
+use Rattle.keywords.specs.Rows.{Row, rowOf, kindOr, kindBy, spellingOf, line}
 use Rattle.keywords.specs.declared.Keyword.{Keyword}
 use Rattle.keywords.specs.declared.Statement.{Statement}
 use Rattle.keywords.specs.declared.Statement.the-variants.{
@@ -123,7 +123,7 @@ keywordTable = flat (line letterOf) keywords
 
 -- "keyword unknown" where no row is spelled so
 unfoldable pub statementOf : List ℕ → Statement
-statementOf w = kindOf Unknown keywords w
+statementOf w = kindOr Unknown (rowOf keywords w)
 
 -- the bytes that a stored statement's keyword is written with
 unfoldable pub keywordOf : Statement → List ℕ

@@ -3,6 +3,7 @@ use Prim.Native.Nat.{ℕ, zero, suc, _+_, _-_}
 use Prim.Native.Char.{code}
 use Prim.Native.String.{String, [] as empty, _∷_ as _then_}
 use mathlib.Core.List.{List, [], _∷_, _++_}
+use mathlib.Core.Option.{Option, none, some}
 use mathlib.Core.Bool.{Bool, true, false, cond}
 use lib.ListN.{length, drop, getD, replicate}
 use lib.Dec.{eqb}
@@ -20,10 +21,15 @@ pub record Row (K : Type 0) : Type 0 where
   pub spelling : String
   pub kind : K
 
--- the kind of the first row that is spelled as the word w, byte by byte; other where there is none
-abbrev pub kindOf : {K : Type 0} → K → List (Row K) → List ℕ → K
-kindOf other [] w = other
-kindOf other (r ∷ rs) w = cond (same w (bytes (r .spelling))) (r .kind) (kindOf other rs w)
+-- the row that the word w finds: the first that is spelled so, byte by byte
+abbrev pub rowOf : {K : Type 0} → List (Row K) → List ℕ → Option (Row K)
+rowOf [] w = none
+rowOf (r ∷ rs) w = cond (same w (bytes (r .spelling))) (some r) (rowOf rs w)
+
+-- its kind; other where there is none
+abbrev pub kindOr : {K : Type 0} → K → Option (Row K) → K
+kindOr other none = other
+kindOr other (some r) = r .kind
 
 -- the kind whose letter in the code's table is k
 abbrev pub kindBy : {K : Type 0} → (K → ℕ) → K → List (Row K) → ℕ → K
@@ -44,6 +50,11 @@ line letter r = bytes (r .spelling) ++ (replicate (11 - length (bytes (r .spelli
 abbrev pub foundIn : ℕ → List ℕ → List ℕ → ℕ → Found
 foundIn zero t w at = record { kind = 32; end = at }
 foundIn (suc n) t w at = cond (same w (wordOf t)) (record { kind = getD t 11 0; end = at + length w }) (foundIn n (drop 12 t) w at)
+
+-- the spelling of the first of n rows of the bytes t whose letter is k
+abbrev pub letteredIn : ℕ → List ℕ → ℕ → List ℕ
+letteredIn zero t k = []
+letteredIn (suc n) t k = cond (eqb k (getD t 11 0)) (wordOf t) (letteredIn n (drop 12 t) k)
 
 -- a word byte at the front
 abbrev pub wordAhead : List ℕ → Bool

@@ -3,13 +3,13 @@ ghost use mathlib.Core.Path.{_≡_};
 ghost use mathlib.Core.Bool.{true, cond};
 ghost use Prim.Native.Nat.{_+_, _*_, _≤_};
 ghost use lib.ListN.{length, drop};
+ghost use lib.Seq.{sets};
 ghost use Rattle.lists.specs.Lists.{same};
-ghost use Rattle.text.specs.Bytes.{isWord};
 ghost use Rattle.text.specs.Words.{wordOf};
 ghost use Rattle.text.specs.Rest.{endOf};
-ghost use Rattle.keywords.specs.Rows.{foundIn, wordAhead};
-ghost use Rattle.keywords.specs.Keywords.{keywordTable, keywordAt, ofLetter};
-ghost use Rattle.keywords.specs.Arguments.{argumentTable, argumentAt, ofSign};
+ghost use Rattle.keywords.specs.Rows.{foundIn, letteredIn, wordAhead};
+ghost use Rattle.keywords.specs.Keywords.{keywordTable, keywordAt, keywordOf, letterOf, ofLetter};
+ghost use Rattle.keywords.specs.Arguments.{argumentTable, argumentAt, argumentBytes, signOf, ofSign};
 
 // A row: the spelling, blanks up to eleven bytes, the letter of its kind.
 const WIDTH: usize = 12;
@@ -140,18 +140,6 @@ pub fn argument_table() -> [u8; 108]
     ARGUMENTS
 }
 
-fn is_word(b: u8) -> bool
-    ensures { λ r. ⌜ r ≡ isWord b ⌝ }
-{
-    if b < 33 {
-        return false;
-    }
-    if 126 < b {
-        return false;
-    }
-    b != 92
-}
-
 // Whether a word byte stands at `at`.
 fn word_ahead(text: &[u8], at: usize) -> bool
     ensures { λ r. ⌜ r ≡ wordAhead (drop at (now (text .entry))) ⌝ }
@@ -159,7 +147,7 @@ fn word_ahead(text: &[u8], at: usize) -> bool
     if text.len() <= at {
         return false;
     }
-    is_word(text[at])
+    text::is_word(text[at])
 }
 
 // Where the word at `at` ends if the table's word at `from` is the same; else `at`.
@@ -286,4 +274,118 @@ pub fn argument_at(text: &[u8], at: usize, table: &[u8; 108]) -> Argument
         return argument_of(found.kind);
     }
     Argument::Other
+}
+
+fn letter_of(statement: Statement) -> u8
+    ensures { λ r. ⌜ r ≡ letterOf statement ⌝ }
+{
+    match statement {
+        Statement::Vertex => b'A',
+        Statement::TextureVertex => b'B',
+        Statement::VertexNormal => b'C',
+        Statement::ParameterVertex => b'D',
+        Statement::BodyType => b'E',
+        Statement::Degree => b'F',
+        Statement::Point => b'G',
+        Statement::Line => b'H',
+        Statement::Face => b'I',
+        Statement::Curve => b'J',
+        Statement::Curve2 => b'K',
+        Statement::Surface => b'L',
+        Statement::Parameters => b'M',
+        Statement::Trim => b'N',
+        Statement::Hole => b'O',
+        Statement::End => b'P',
+        Statement::Group => b'Q',
+        Statement::Smoothing => b'R',
+        Statement::Material => b'S',
+        Statement::PassedOver => b'-',
+        Statement::Refused => b'!',
+        Statement::Unknown => b' ',
+    }
+}
+
+fn sign_of(argument: Argument) -> u8
+    ensures { λ r. ⌜ r ≡ signOf argument ⌝ }
+{
+    match argument {
+        Argument::Rational => b'A',
+        Argument::BasisMatrix => b'B',
+        Argument::Bezier => b'C',
+        Argument::Bspline => b'D',
+        Argument::Cardinal => b'E',
+        Argument::Taylor => b'F',
+        Argument::DirectionU => b'G',
+        Argument::DirectionV => b'H',
+        Argument::Off => b'I',
+        Argument::Other => b' ',
+    }
+}
+
+// Where the table's first row with the letter starts; the table's end where there is none.
+fn row_of(table: &[u8], letter: u8, rows: usize) -> usize
+    requires { ⌜ 12 * rows ≤ length (now table) ⌝ }
+    ensures { λ r. ⌜ (r ≤ length (now (table .entry))) × (wordOf (drop r (now (table .entry))) ≡ letteredIn rows (now (table .entry)) letter) ⌝ }
+{
+    let mut from = 0;
+    let mut left = rows;
+    while 0 < left {
+        if letter == table[from + 11] {
+            return from;
+        }
+        from += WIDTH;
+        left -= 1;
+    }
+    table.len()
+}
+
+// The word at `from` of `source`, copied to `at` of `out`; the place after it.
+pub fn copy_word(source: &[u8], from: usize, out: &mut [u8], at: usize) -> usize
+    requires { ⌜ at + length (wordOf (drop from (now source))) ≤ length (now out) ⌝ }
+    ensures { λ r. ⌜ (r ≡ at + length (wordOf (drop from (now (source .entry))))) × (now (out .exit) ≡ sets (now (out .entry)) at (wordOf (drop from (now (source .entry))))) ⌝ }
+{
+    let mut i = from;
+    let mut j = at;
+    while word_ahead(source, i) {
+        out[j] = source[i];
+        i += 1;
+        j += 1;
+    }
+    j
+}
+
+// How many bytes a statement's keyword has.
+pub fn keyword_length(statement: Statement, table: &[u8; 528]) -> usize
+    requires { ⌜ now table ≡ keywordTable ⌝ }
+    ensures { λ r. ⌜ r ≡ length (keywordOf statement) ⌝ }
+{
+    let from = row_of(table, letter_of(statement), KEYWORD_ROWS);
+    text::word_end(table, from) - from
+}
+
+// A statement's keyword, written to `at` of `out`; the place after it.
+pub fn write_keyword(statement: Statement, table: &[u8; 528], out: &mut [u8], at: usize) -> usize
+    requires { ⌜ now table ≡ keywordTable ⌝ }
+    requires { ⌜ at + length (keywordOf statement) ≤ length (now out) ⌝ }
+    ensures { λ r. ⌜ (r ≡ at + length (keywordOf statement)) × (now (out .exit) ≡ sets (now (out .entry)) at (keywordOf statement)) ⌝ }
+{
+    let from = row_of(table, letter_of(statement), KEYWORD_ROWS);
+    copy_word(table, from, out, at)
+}
+
+pub fn argument_length(argument: Argument, table: &[u8; 108]) -> usize
+    requires { ⌜ now table ≡ argumentTable ⌝ }
+    ensures { λ r. ⌜ r ≡ length (argumentBytes argument) ⌝ }
+{
+    let from = row_of(table, sign_of(argument), ARGUMENT_ROWS);
+    text::word_end(table, from) - from
+}
+
+pub fn write_argument(argument: Argument, table: &[u8; 108], out: &mut [u8], at: usize) -> usize
+    requires { ⌜ now table ≡ argumentTable ⌝ }
+    requires { ⌜ at + length (argumentBytes argument) ≤ length (now out) ⌝ }
+    ensures { λ r. ⌜ (r ≡ at + length (argumentBytes argument)) × (now (out .exit) ≡ sets (now (out .entry)) at (argumentBytes argument)) ⌝ }
+{
+    let from = row_of(table, sign_of(argument), ARGUMENT_ROWS);
+    copy_word(table, from, out, at)
 }

@@ -1,38 +1,26 @@
 -- The row that the walk of the table finds is the row of the definition.
 use mathlib.Core.Path.{_≡_, refl, sym, ap, _∙_}
-use native.Mathlib.Omega.{arith}
 use denote.Ref.{now}
-use lib.ListN.{length}
-use Rattle.keywords.proofs.Arguments.{sized, argument-found, argument-none}
+use Rattle.keywords.proofs.Arguments.{argument-found, argument-none}
 use borrow.Author.Needs.{needs}
 use Rattle.keywords.proofs.argument_at.Statement.{statement}
 use Rattle.keywords.proofs.argument_at.Tie as tie
-use Rattle.keywords.proofs.argument_at.Reads as reads
-use Rattle.keywords.proofs.argument_at.Lts as lts
-use Rattle.keywords.proofs.argument_of.Reads as argument-of-reads
-use Rattle.keywords.proofs.row_at.Reads as row-at-reads
-use Rattle.keywords.proofs.word_ahead.Reads as word-ahead-reads
 
--- src/lib.rt:282:8
 word-ahead-requires : tie.Need-word-ahead-requires
 word-ahead-requires c κs = search needs
 
--- src/lib.rt:283:13
 row-at-requires : tie.Need-row-at-requires
 row-at-requires c κs =
-    (sym (c .before .before .word-ahead .ensures) ∙ c .before .if1 .taken, let e : length (now (c .before .before .before .before .args .table)) ≡ 108 = ap length (c .before .before .before .before .pre) ∙ sized in omega arith)
+    (sym (c .before .before .word-ahead .ensures) ∙ c .before .if1 .taken, search needs)
 
--- src/lib.rt:284:9
 argument-of-requires : tie.Need-argument-of-requires
 argument-of-requires c κs = search needs
 
--- src/lib.rt:284:9
 returns : tie.Need-returns
 returns c =
     let a = c .before .before .before .before .before .before .args in
     argument-found (now (a .text)) (now (a .table)) (a .at) (c .before .row-at .result) (c .argument-of .result) (c .before .before .before .before .before .before .pre) (c .before .row-at .ensures) (c .argument-of .ensures)
 
--- src/lib.rt:278:1
 returns-2 : tie.Need-returns-2
 returns-2 c =
     let a = c .before .before .before .args in

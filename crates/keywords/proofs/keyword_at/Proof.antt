@@ -1,38 +1,26 @@
 -- The row that the walk of the table finds is the row of the definition.
 use mathlib.Core.Path.{_≡_, refl, sym, ap, _∙_}
-use native.Mathlib.Omega.{arith}
 use denote.Ref.{now}
-use lib.ListN.{length}
-use Rattle.keywords.proofs.Keywords.{sized, keyword-found, keyword-none}
+use Rattle.keywords.proofs.Keywords.{keyword-found, keyword-none}
 use borrow.Author.Needs.{needs}
 use Rattle.keywords.proofs.keyword_at.Statement.{statement}
 use Rattle.keywords.proofs.keyword_at.Tie as tie
-use Rattle.keywords.proofs.keyword_at.Reads as reads
-use Rattle.keywords.proofs.keyword_at.Lts as lts
-use Rattle.keywords.proofs.row_at.Reads as row-at-reads
-use Rattle.keywords.proofs.statement_of.Reads as statement-of-reads
-use Rattle.keywords.proofs.word_ahead.Reads as word-ahead-reads
 
--- src/lib.rt:264:8
 word-ahead-requires : tie.Need-word-ahead-requires
 word-ahead-requires c κs = search needs
 
--- src/lib.rt:265:13
 row-at-requires : tie.Need-row-at-requires
 row-at-requires c κs =
-    (sym (c .before .before .word-ahead .ensures) ∙ c .before .if1 .taken, let e : length (now (c .before .before .before .before .args .table)) ≡ 528 = ap length (c .before .before .before .before .pre) ∙ sized in omega arith)
+    (sym (c .before .before .word-ahead .ensures) ∙ c .before .if1 .taken, search needs)
 
--- src/lib.rt:267:24
 statement-of-requires : tie.Need-statement-of-requires
 statement-of-requires c κs = search needs
 
--- src/lib.rt:266:9
 returns : tie.Need-returns
 returns c =
     let a = c .before .before .before .before .before .before .args in
     keyword-found (now (a .text)) (now (a .table)) (a .at) (c .before .row-at .result) (c .statement-of .result) (c .before .before .before .before .before .before .pre) (c .before .row-at .ensures) (c .statement-of .ensures)
 
--- src/lib.rt:260:1
 returns-2 : tie.Need-returns-2
 returns-2 c =
     let a = c .before .before .before .args in

@@ -1,3 +1,4 @@
+-- The rows that are left find what all of them find; a row whose first letter differs is passed.
 use Prim.Native.Nat.{_-_}
 use mathlib.Core.Path.{_≡_, refl, sym, _∙_}
 use mathlib.Core.Logic.{⊎-elim}
@@ -9,9 +10,6 @@ use Rattle.keywords.proofs.Compare.{ahead-within, first-differs}
 use Rattle.keywords.proofs.Walk.{Walked, turn, here, not-here}
 use Rattle.keywords.proofs.row_at.Statement.{statement}
 use Rattle.keywords.proofs.row_at.Tie as tie
-use Rattle.keywords.proofs.row_at.Reads as reads
-use Rattle.keywords.proofs.row_at.Lts as lts
-use Rattle.keywords.proofs.same_word.Reads as same-word-reads
 
 abbrev Inv-loop : tie.InvT-loop
 Inv-loop text at table rows first from₀ left₀ from left = Walked text at table rows from left
@@ -19,52 +17,41 @@ Inv-loop text at table rows first from₀ left₀ from left = Walked text at tab
 abbrev μ-loop : tie.MeasureT-loop
 μ-loop text at table rows first from₀ left₀ from left = left
 
--- src/lib.rt:191:17
 shared-slice-read-first : tie.Need-shared-slice-read-first Inv-loop μ-loop
 shared-slice-read-first c =
     let a = c .before .before .before .args in
     ahead-within (now (a .text)) (a .at) (c .before .before .before .pre .0)
 
--- src/lib.rt:194:5
 loop-holds : tie.Need-loop-holds Inv-loop μ-loop
 loop-holds c = record { rest = refl; room = omega (arith, c .before .before .before .pre .1) }
 
--- src/lib.rt:195:12
 shared-slice-read-if1 : tie.Need-shared-slice-read-if1 Inv-loop μ-loop
 shared-slice-read-if1 c = omega (arith, c .before .before .loop .inv .room)
 
--- src/lib.rt:196:17
 same-word-requires : tie.Need-same-word-requires Inv-loop μ-loop
 same-word-requires c κs = search needs
 
--- src/lib.rt:199:33
 add-t15 : tie.Need-add-t15 Inv-loop μ-loop
 add-t15 c = omega arith
 
--- src/lib.rt:199:27
 shared-slice-read-t17 : tie.Need-shared-slice-read-t17 Inv-loop μ-loop
 shared-slice-read-t17 c = omega arith
 
--- src/lib.rt:198:17
 returns : tie.Need-returns Inv-loop μ-loop
 returns c =
     let a = c .before .before .before .before .before .before .before .before .before .before .args in
     let l = c .before .before .before .before .before .before .loop in
     here (now (a .text)) (a .at) (now (a .table)) (a .rows) (l .from) (l .left) (l .inv) (c .before .before .before .before .before .loop-test .taken) (c .before .before .same-word .result) (c .before .before .same-word .ensures) (c .before .if2 .taken)
 
--- src/lib.rt:204:9
 add-from : tie.Need-add-from Inv-loop μ-loop
 add-from c = omega (arith, c .before .before .before .loop .inv .room)
 
--- src/lib.rt:205:9
 sub-left : tie.Need-sub-left Inv-loop μ-loop
 sub-left c = omega arith
 
--- src/lib.rt:194:5
 loop-less : tie.Need-loop-less Inv-loop μ-loop
 loop-less c = omega arith
 
--- src/lib.rt:194:5
 loop-again : tie.Need-loop-again Inv-loop μ-loop
 loop-again c =
     let a = c .before .before .before .before .before .before .before .args in
@@ -74,7 +61,6 @@ loop-again c =
     (λ w. first-differs (now (a .text)) (now (a .table)) (a .at) (l .from) (c .before .before .before .before .before .before .before .pre .0) (omega (arith, l .inv .room)) (λ e. w .left (sym e)))
     (c .if1 .came))
 
--- src/lib.rt:186:1
 returns-2 : tie.Need-returns-2 Inv-loop μ-loop
 returns-2 c =
     let l = c .before .loop in

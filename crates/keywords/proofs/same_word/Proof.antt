@@ -8,9 +8,6 @@ use lib.ListN.{length}
 use Rattle.keywords.proofs.Compare.{Compared, ahead-within, turn, short, differ, longer, done}
 use Rattle.keywords.proofs.same_word.Statement.{statement}
 use Rattle.keywords.proofs.same_word.Tie as tie
-use Rattle.keywords.proofs.same_word.Reads as reads
-use Rattle.keywords.proofs.same_word.Lts as lts
-use Rattle.keywords.proofs.word_ahead.Reads as word-ahead-reads
 
 abbrev Inv-loop : tie.InvT-loop
 Inv-loop text at table from i₀ j₀ i j = Compared text at table from i j

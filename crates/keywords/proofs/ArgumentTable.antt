@@ -1,0 +1,93 @@
+-- The fixed words after a keyword: each claim is one computed test, carried over by a law of every table.
+use Prim.Native.Nat.{ℕ, _≤_, _<_}
+use mathlib.Core.Path.{_≡_, refl, sym}
+use mathlib.Core.Logic.{_↔_}
+use mathlib.Core.List.{List, [], List·Memᴰ}
+use mathlib.Core.Option.{some}
+use mathlib.Core.Bool.{Bool, true, false}
+use native.Mathlib.Omega.{arith}
+use lib.ListN.{length, getD}
+use lib.Dec.{leb, eqb}
+use Rattle.lists.proofs.Tests.{never}
+use Rattle.keywords.specs.Rows.{Row, bytes, rowOf}
+use Rattle.keywords.specs.Arguments.{signOf, arguments, argumentOf, argumentBytes}
+use Rattle.keywords.specs.declared.Argument.{Argument}
+use Rattle.keywords.specs.declared.Argument.the-variants.{Rational, BasisMatrix, Bezier, Bspline, Cardinal, Taylor, DirectionU, DirectionV, Off, Other}
+use Rattle.keywords.proofs.Spellings.{spellings, distinct, isToken, tokens, rowsWith, finds-exactly, no-two}
+
+all-distinct : distinct arguments ≡ true
+unfolding arguments
+all-distinct = refl
+
+-- a word finds a row exactly when it is that row's spelling
+pub finds : (r : Row Argument) → List·Memᴰ r arguments → (w : List ℕ) → (rowOf arguments w ≡ some r) ↔ (w ≡ bytes (r .spelling))
+finds = finds-exactly arguments all-distinct
+
+-- no two rows share a spelling
+pub apart : (i j : ℕ) → i < j → j < length arguments → getD (spellings arguments) i [] ≡ getD (spellings arguments) j [] → ⊥
+apart = no-two arguments all-distinct
+
+-- every spelling is a word of a line
+pub all-tokens : tokens arguments ≡ true
+unfolding arguments
+all-tokens = refl
+
+-- each has one row, and there are no others
+pub one-row : (k : Argument) → leb 65 (signOf k) ≡ true → rowsWith signOf (signOf k) arguments ≡ 1
+unfolding arguments
+one-row Rational h = refl
+one-row BasisMatrix h = refl
+one-row Bezier h = refl
+one-row Bspline h = refl
+one-row Cardinal h = refl
+one-row Taylor h = refl
+one-row DirectionU h = refl
+one-row DirectionV h = refl
+one-row Off h = refl
+one-row Other h = never h
+
+pub no-others : length arguments ≡ 9
+unfolding arguments
+no-others = refl
+
+-- written and read back
+pub spelled : (k : Argument) → argumentOf (argumentBytes k) ≡ k
+unfolding arguments argumentOf argumentBytes
+spelled Rational = refl
+spelled BasisMatrix = refl
+spelled Bezier = refl
+spelled Bspline = refl
+spelled Cardinal = refl
+spelled Taylor = refl
+spelled DirectionU = refl
+spelled DirectionV = refl
+spelled Off = refl
+spelled Other = refl
+
+-- what is written is a word of a line
+pub token : (k : Argument) → eqb (signOf k) 32 ≡ false → isToken (argumentBytes k) ≡ true
+unfolding arguments argumentBytes
+token Rational h = refl
+token BasisMatrix h = refl
+token Bezier h = refl
+token Bspline h = refl
+token Cardinal h = refl
+token Taylor h = refl
+token DirectionU h = refl
+token DirectionV h = refl
+token Off h = refl
+token Other h = never (sym h)
+
+-- room for ten bytes is enough
+pub short : (k : Argument) → length (argumentBytes k) ≤ 10
+unfolding arguments argumentBytes
+short Rational = omega arith
+short BasisMatrix = omega arith
+short Bezier = omega arith
+short Bspline = omega arith
+short Cardinal = omega arith
+short Taylor = omega arith
+short DirectionU = omega arith
+short DirectionV = omega arith
+short Off = omega arith
+short Other = omega arith
