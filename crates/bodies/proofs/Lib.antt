@@ -6,3 +6,6 @@ pub mod Order
 pub mod Parms
 pub mod Closings
 pub mod Parts
+pub mod Keeping
+pub mod Says
+pub mod Ends

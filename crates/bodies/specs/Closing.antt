@@ -7,7 +7,7 @@ use lib.ListN.{length, getD}
 use lib.Dec.{eqb}
 use lib.Seq.{sets}
 use lib.IntN.{ℤ, pos}
-use Rattle.tables.specs.Bodies.{curveCount, surfaceCount}
+use Rattle.tables.specs.Bodies.{inOrder, curveCount, surfaceCount}
 use Rattle.tables.specs.declared.Used.{Used}
 use Rattle.model.specs.Model.{Body}
 use Rattle.model.specs.Statements.{settled}
@@ -35,6 +35,11 @@ agreeOf kind f u v k =
     cond (eqb kind 6)
     (surfaceCount (basisOf (f .basis)) (f .«degree_u») u (f .«degree_v») v k)
     (curveCount (basisOf (f .basis)) (f .«degree_u») u k)
+
+-- 13 along u, on a surface along v too
+abbrev pub rangedOf : ℕ → Form → List ℤ → List ℤ → ℤ → ℤ → ℤ → ℤ → Bool
+rangedOf kind f us vs a b c d =
+    inOrder (basisOf (f .basis)) (f .«degree_u») us a b && cond (eqb kind 6) (inOrder (basisOf (f .basis)) (f .«degree_v») vs c d) true
 
 -- ---- the body that the numbers stand for, its loops aside
 abbrev pub bodyFor : Form → ℕ → List ℤ → List ℤ → ℤ → ℤ → ℤ → ℤ → Body

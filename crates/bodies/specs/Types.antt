@@ -11,4 +11,4 @@ basisOf type = cond (eqb type 1) bezier (cond (eqb type 2) bspline (cond (eqb ty
 
 -- the kind whose number is 4 to 6
 abbrev pub freeOf : ℕ → Free
-freeOf kind = cond (eqb kind 4) curve (cond (eqb kind 5) curve2 surface)
+freeOf kind = cond (eqb kind 6) surface (cond (eqb kind 5) curve2 curve)
