@@ -1,0 +1,126 @@
+-- A body that passed is stored: its parameters one after the other, its record, and its range as it is settled.
+use Prim.Native.Nat.{ℕ, zero, suc, _+_, _*_, _-_, _≤_, _<_}
+use native.Mathlib.Omega.{arith}
+use mathlib.Core.Path.{_≡_, refl, sym, ap, ap₂, _∙_}
+use mathlib.Core.List.{List, [], _∷_, _++_}
+use mathlib.Core.Bool.{Bool, true, false, cond}
+use mathlib.Core.Logic.{⊎-elim}
+use borrow.Author.Tests.{ne-eqb, eqb-true, eqb-false, le-leb, lt-leb, leb-true, leb-false}
+use lib.ListN.{length, take, getD}
+use lib.Seq.{sets, take-length, length-sets}
+use lib.Dec.{eqb, leb}
+use lib.IntN.{ℤ, pos}
+use Rattle.lists.proofs.Tests.{test}
+use Rattle.tables.specs.declared.Used.{Used}
+use Rattle.model.specs.Model.{Free, Body}
+use Rattle.model.specs.Statements.{settled}
+use Rattle.model.specs.Layout.{rangeRow}
+use Rattle.state.specs.declared.Form.{Form}
+use Rattle.state.specs.declared.Open.{Open}
+use Rattle.bodies.specs.Numbers.{numbersAt}
+use Rattle.bodies.specs.Closing.{parmOf, bodyFor, bodyIn, refusalOf, Passed, judgedIs, recordOf, Kept, NotKept}
+use Rattle.bodies.specs.declared.closing.Judged.{Judged}
+use Rattle.bodies.specs.declared.closing.Judged.the-variants as judged
+use Rattle.bodies.proofs.Parts.{sets-append}
+use Rattle.bodies.proofs.Closings.{parm-none, parm-some, settled-rest}
+
+-- ---- `store_parameters`
+pub parm-take : (s : List ℕ) (at : ℕ) {n : ℕ} → n ≡ length (parmOf s at) → take n (numbersAt s at) ≡ parmOf s at
+parm-take s at {n} h =
+    ⊎-elim
+    (λ (e : eqb at 0 ≡ true).
+    let p = parm-none s at (eqb-true at 0 e) in
+    let z : n ≡ 0 = h ∙ ap length p in
+    ap (λ (k : ℕ). take k (numbersAt s at)) z ∙ sym p)
+    (λ (e : eqb at 0 ≡ false).
+    let p = parm-some s at (eqb-false at 0 e) in
+    ap (λ (k : ℕ). take k (numbersAt s at)) (h ∙ ap length p) ∙ take-length (numbersAt s at) ∙ sym p)
+    (test (eqb at 0))
+
+module _ (s t : List ℕ) (at bt : ℕ) (u v first : ℕ) (p : List ℤ) where
+  pub no-room : length p < first + u + v → (false ≡ leb (first + (u + v)) (length p)) × (p ≡ p)
+  no-room h = (sym (lt-leb (first + (u + v)) (length p) (omega arith)), refl)
+
+  pub both-stored :
+      u ≡ length (parmOf s at) → v ≡ length (parmOf t bt) → first + u + v ≤ length p → {x y : List ℤ} →
+      x ≡ sets p first (take u (numbersAt s at)) → y ≡ sets x (first + u) (take v (numbersAt t bt)) →
+      (true ≡ leb (first + (u + v)) (length p)) × (y ≡ sets p first (parmOf s at ++ parmOf t bt))
+  both-stored hu hv h {x} {y} e f = (
+    sym (le-leb (first + (u + v)) (length p) (omega arith)),
+    f
+        ∙ ap₂ (λ (l : List ℤ) (r : List ℤ). sets l (first + u) r) (e ∙ ap (sets p first) (parm-take s at hu)) (parm-take t bt hv)
+        ∙ ap (λ (k : ℕ). sets (sets p first (parmOf s at)) (first + k) (parmOf t bt)) hu
+        ∙ sym (sets-append p first (parmOf s at) (parmOf t bt)),
+  )
+
+-- ---- a record among those whose room was asked for
+pub record-put :
+    {A : Type 0} (w b : ℕ) (l : List A) (vs : List A) {m : List A} {r : Bool} → 1 ≤ b → w * b ≤ length l →
+    r ≡ leb (w * (b - 1) + w) (length l) → m ≡ cond r (sets l (w * (b - 1)) vs) l → m ≡ sets l (w * (b - 1)) vs
+record-put w b l vs {m} {r} h k e f =
+    let d : b ≡ (b - 1) + 1 = omega arith in
+    let g : w * b ≡ w * ((b - 1) + 1) = ap (λ (n : ℕ). w * n) d in
+    f ∙ ap (λ (t : Bool). cond t (sets l (w * (b - 1)) vs) l) (e ∙ le-leb (w * (b - 1) + w) (length l) (omega arith))
+
+pub row4 : {a b c d a₂ b₂ c₂ d₂ : ℤ} → a ≡ a₂ → b ≡ b₂ → c ≡ c₂ → d ≡ d₂ → _≡_ {A = List ℤ} (a ∷ b ∷ c ∷ d ∷ []) (a₂ ∷ b₂ ∷ c₂ ∷ d₂ ∷ [])
+row4 p q r s = cc
+
+-- ---- `close_body`
+pub judged-to :
+    (f : Form) (kind : ℕ) (us vs : List ℤ) {a b c d a₂ b₂ c₂ d₂ : ℤ} (k : ℕ) (r : Judged) → a₂ ≡ a → b₂ ≡ b → c₂ ≡ c → d₂ ≡ d →
+    judgedIs (bodyFor f kind us vs a₂ b₂ c₂ d₂) k r → judgedIs (bodyFor f kind us vs a b c d) k r
+judged-to f kind us vs k r p q x y j = rw (p, q, x, y) at j
+
+module _ (b : Body) (k : ℕ) (r : Judged) (j : judgedIs b k r) where
+  pub has-passed : {u v : ℕ} {s e : ℤ} → r ≡ judged.Fine u v s e → Passed b k u v s e
+  has-passed h = rw h at j
+
+  pub is-refused : {n : ℕ} → r ≡ judged.Refused n → (refusalOf b k ≡ n) × (0 < n)
+  is-refused h = rw h at j
+
+module _ (f : Form) (o : Open) (used : Used) (b : Body) (l : List ℕ) (r p : List ℤ) where
+  pub not-kept : {n : ℕ} → (refusalOf b (o .controls) ≡ n) × (0 < n) → NotKept o used b l l r r p p n
+  not-kept {n} h =
+      let e = h .0 in
+      let g = h .1 in
+      let z : eqb n 0 ≡ false = ne-eqb n 0 (λ i. absurd (omega arith)) in
+      record {
+        number = sym (ap (λ (m : ℕ). cond (eqb m 0) 14 m) e ∙ ap (λ (t : Bool). cond t 14 n) z);
+        short = λ i. absurd (omega arith);
+        same = refl;
+        same-ranges = refl;
+        same-parameters = refl;
+      }
+
+  module _ {u v : ℕ} {s e : ℤ} (w : Passed b (o .controls) u v s e) {t : Bool} {x : List ℤ} (g : t ≡ leb (used .parameters + (u + v)) (length p)) (k : x ≡ cond t (sets p (used .parameters) (b .us ++ b .vs)) p) where
+    pub no-parameters : t ≡ false → NotKept o used b l l r r p x 14
+    no-parameters h =
+        let z = leb-false (used .parameters + (u + v)) (length p) (sym g ∙ h) in
+        let hu = w .count-u in
+        let hv = w .count-v in
+        record {
+          number = sym (ap (λ (m : ℕ). cond (eqb m 0) 14 m) (w .none-wrong));
+          short = λ i. omega arith;
+          same = refl;
+          same-ranges = refl;
+          same-parameters = ap length (k ∙ ap (λ (t : Bool). cond t (sets p (used .parameters) (b .us ++ b .vs)) p) h);
+        }
+
+    pub kept :
+        t ≡ true → {m : List ℕ} {q : List ℤ} {s₂ e₂ c d : ℤ} → m ≡ sets l (9 * (used .bodies - 1)) (recordOf f o used u v) →
+        q ≡ sets r (4 * (used .bodies - 1)) (s₂ ∷ e₂ ∷ c ∷ d ∷ []) → s₂ ≡ s → e₂ ≡ e → c ≡ b .start-v → d ≡ b .end-v →
+        Kept f o used b l m r q p x u v
+    kept h {m} {q} a₁ a₂ i₁ i₂ i₃ i₄ =
+        let z = leb-true (used .parameters + (u + v)) (length p) (sym g ∙ h) in
+        let hu = w .count-u in
+        let hv = w .count-v in
+        let rest = settled-rest (b .free) b in
+        record {
+          none-wrong = w .none-wrong;
+          count-u = hu;
+          count-v = hv;
+          room = omega arith;
+          parameters = k ∙ ap (λ (t : Bool). cond t (sets p (used .parameters) (b .us ++ b .vs)) p) h;
+          body = a₁;
+          range = a₂ ∙ ap (sets r (4 * (used .bodies - 1))) (row4 (i₁ ∙ w .starts) (i₂ ∙ w .ends) (i₃ ∙ sym (rest .0)) (i₄ ∙ sym (rest .1)));
+        }

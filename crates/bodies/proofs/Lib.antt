@@ -1,0 +1,11 @@
+pub mod Tests
+pub mod Steps
+pub mod Basis
+pub mod Products
+pub mod Order
+pub mod Parms
+pub mod Closings
+pub mod Parts
+pub mod Keeping
+pub mod Says
+pub mod Ends

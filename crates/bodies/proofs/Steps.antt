@@ -1,0 +1,232 @@
+-- One step along a line's numbers, and what the loops over them keep: what is left comes, with what was passed, to what all of it comes to.
+use Prim.Native.Nat.{ℕ, zero, suc, _+_, _-_, _^_, _≤_, _<_}
+use mathlib.Core.Path.{_≡_, refl, sym, ap, ap₂, subst, _∙_}
+use mathlib.Core.List.{List, [], _∷_}
+use mathlib.Core.Bool.{Bool, true, false, _&&_, cond}
+use mathlib.Core.Option.{Option, none, some}
+use native.Mathlib.Omega.{arith}
+use lib.ListN.{length, drop, getD}
+use lib.IntN.{ℤ, pos}
+use lib.Signed.{ltZ, leZ}
+use Rattle.lists.proofs.Tests.{and-first}
+use Rattle.text.specs.Words.{Word, wordOf}
+use Rattle.text.specs.Rest.{Rest, restAt, push, wordAt, endOf, WordMet, EndMet, BadMet, gapIs}
+use Rattle.text.specs.declared.Met.{Met}
+use Rattle.text.specs.declared.Met.the-variants as met
+use Rattle.forms.specs.Said.{Said, says, wrong, ended}
+use Rattle.forms.specs.Number.{numberOf}
+use Rattle.forms.specs.Answers.{saidNumber}
+use Rattle.forms.specs.declared.number.Number.{Number}
+use Rattle.forms.specs.declared.number.Number.the-variants as number
+use Rattle.tables.specs.Bodies.{Basis, bezier, bspline, cardinal, taylor, ordered}
+use Rattle.bodies.specs.Numbers.{before, leading, numbersAt, NumberMet, NoNumber, stepIs, AllNumbers, NotAll, countedIs}
+use Rattle.bodies.specs.declared.numbers.Step.{Step}
+use Rattle.bodies.specs.declared.numbers.Step.the-variants as step
+use Rattle.bodies.specs.declared.numbers.Counted.{Counted}
+use Rattle.bodies.specs.declared.numbers.Counted.the-variants as counted
+
+-- ---- what a gap leads to
+module _ (s : List ℕ) (at : ℕ) (m : Met) (g : gapIs s at m) where
+  pub met-word : {p : ℕ} → m ≡ met.Start p → WordMet s at p
+  met-word e = rw e at g
+
+  pub met-end : {q : ℕ} → m ≡ met.End q → EndMet s at q
+  met-end e = rw e at g
+
+  pub met-bad : {p : ℕ} → m ≡ met.Bad p → BadMet s at p
+  met-bad e = rw e at g
+
+-- ---- `next_number`
+pub said-one : {A : Type 0} (x : Said A) (e k : ℕ) (z : A) → says (z, k) ≡ ended x e → (x ≡ says z) × (k ≡ e)
+said-one {A} (says y) e k z h = let a : _≡_ {A = A × ℕ} (z, k) (y, e) = cc in (ap says (sym (ap (λ (x : A × ℕ). x .0) a)), ap (λ (x : A × ℕ). x .1) a)
+said-one (wrong n) e k z h = let y : _≡_ {A = ℕ} 0 1 = cc in absurd (omega arith)
+
+said-none : (x : Said ℤ) (e n : ℕ) (zs : List ℤ) → wrong n ≡ ended x e → before x zs ≡ []
+said-none (says y) e n zs h = let y : _≡_ {A = ℕ} 0 1 = cc in absurd (omega arith)
+said-none (wrong k) e n zs h = refl
+
+module _ (s : List ℕ) (at : ℕ) where
+  pub bad-stops : {p : ℕ} → BadMet s at p → NoNumber s at
+  unfolding numbersAt
+  bad-stops b =
+      record {
+        none-here = ap leading (b .no-words);
+        word-left = λ e. let z : _≡_ {A = ℕ} 0 1 = let y = sym e ∙ b .bad-at in cc in absurd (omega arith);
+      }
+
+  module _ (p : ℕ) (w : WordMet s at p) (r : Number) (h : saidNumber r ≡ ended (numberOf (wordOf (drop p s))) (endOf s p)) where
+    pub number-steps : {z : ℤ} {e : ℕ} → r ≡ number.Value z e → NumberMet s at z e
+    number-steps {z} {e} k =
+        let j : says (z, e) ≡ ended (numberOf (wordOf (drop p s))) (endOf s p) = sym (ap saidNumber k) ∙ h in
+        let o = said-one (numberOf (wordOf (drop p s))) (endOf s p) e z j in
+        let t = w .to in
+        let f = w .from in
+        let m = w .more in
+        let d = o .1 in
+        record {
+          ahead = omega arith;
+          to = omega arith;
+          word = wordAt s p;
+          rest = w .rest ∙ ap (λ (i : ℕ). push (wordAt s p) (restAt s i)) (sym d);
+          number = o .0;
+        }
+
+    pub other-stops : {n : ℕ} → saidNumber r ≡ wrong n → NoNumber s at
+    unfolding numbersAt
+    other-stops {n} k =
+        record {
+          none-here = ap (λ (r : Rest). leading (r .words)) (w .rest) ∙ said-none (numberOf (wordOf (drop p s))) (endOf s p) n (leading ((restAt s (endOf s p)) .words)) (sym k ∙ h);
+          word-left = λ e. let z = ap (λ (r : Rest). length (r .words)) (w .rest) in omega arith;
+        }
+
+-- ---- a step's answer
+module _ (s : List ℕ) (at : ℕ) (r : Step) (g : stepIs s at r) where
+  pub step-number : {z : ℤ} {e : ℕ} → r ≡ step.Number z e → NumberMet s at z e
+  step-number e = rw e at g
+
+  pub step-end : {q : ℕ} → r ≡ step.End q → EndMet s at q
+  step-end e = rw e at g
+
+  pub step-stopped : r ≡ step.Stopped → NoNumber s at
+  step-stopped e = rw e at g
+
+-- ---- a count's answer
+module _ (s : List ℕ) (at : ℕ) (r : Counted) (g : countedIs s at r) where
+  pub counted-ended : {n q : ℕ} → r ≡ counted.Ended n q → AllNumbers s at n q
+  counted-ended e = rw e at g
+
+  pub counted-stopped : {n : ℕ} → r ≡ counted.Stopped n → NotAll s at n
+  counted-stopped e = rw e at g
+
+-- ---- the numbers of a line, step by step
+module _ (s : List ℕ) (at : ℕ) where
+  pub numbers-more : {z : ℤ} {e : ℕ} → NumberMet s at z e → numbersAt s at ≡ z ∷ numbersAt s e
+  unfolding numbersAt
+  numbers-more {z} {e} m =
+      ap (λ (r : Rest). leading (r .words)) (m .rest) ∙ ap (λ (x : Said ℤ). before x (leading ((restAt s e) .words))) (m .number)
+
+  pub numbers-over : {q : ℕ} → EndMet s at q → numbersAt s at ≡ []
+  unfolding numbersAt
+  numbers-over m = ap (λ (r : Rest). leading (r .words)) (m .rest)
+
+-- ---- `count_numbers`
+pub record Counting (s : List ℕ) (at i count : ℕ) : Type 0 where
+  pub to : i ≤ length s
+  pub small : count ≤ i
+  pub numbers : count + length (numbersAt s i) ≡ length (numbersAt s at)
+  pub words : count + length ((restAt s i) .words) ≡ length ((restAt s at) .words)
+  pub bad : (restAt s i) .bad ≡ (restAt s at) .bad
+  pub next : (restAt s i) .next ≡ (restAt s at) .next
+
+pub counting-none : (s : List ℕ) (at : ℕ) → at ≤ length s → Counting s at at 0
+counting-none s at h = record { to = h; small = omega arith; numbers = omega arith; words = omega arith; bad = refl; next = refl }
+
+module _ (s : List ℕ) (at i count : ℕ) (w : Counting s at i count) where
+  pub counting-more : {z : ℤ} {e : ℕ} → NumberMet s i z e → Counting s at e (count + 1)
+  counting-more {z} {e} m =
+      let a = m .ahead in
+      let t = m .to in
+      let b = w .small in
+      let n = ap length (numbers-more s i m) in
+      let k = ap (λ (r : Rest). length (r .words)) (m .rest) in
+      let x = w .numbers in
+      let y = w .words in
+      record {
+        to = m .to;
+        small = omega arith;
+        numbers = omega arith;
+        words = omega arith;
+        bad = sym (ap (λ (r : Rest). r .bad) (m .rest)) ∙ w .bad;
+        next = sym (ap (λ (r : Rest). r .next) (m .rest)) ∙ w .next;
+      }
+
+  pub counting-over : {q : ℕ} → EndMet s i q → AllNumbers s at count q
+  counting-over {q} m =
+      let n = ap length (numbers-over s i m) in
+      let k = ap (λ (r : Rest). length (r .words)) (m .rest) in
+      let x = w .numbers in
+      let y = w .words in
+      record {
+        count = omega arith;
+        all = omega arith;
+        good = sym (w .bad) ∙ ap (λ (r : Rest). r .bad) (m .rest);
+        next = sym (ap (λ (r : Rest). r .next) (m .rest)) ∙ w .next;
+        to = m .to;
+        small = let a = w .small in let b = w .to in omega arith;
+      }
+
+  pub counting-stops : NoNumber s i → NotAll s at count
+  counting-stops m =
+      let n = ap length (m .none-here) in
+      let x = w .numbers in
+      let y = w .words in
+      record {
+        count = omega arith;
+        fewer = λ e. let l = m .word-left (w .bad ∙ e) in omega arith;
+        small = let a = w .small in let b = w .to in omega arith;
+      }
+
+-- ---- `number_of`
+pub record Seeking (s : List ℕ) (at index i left : ℕ) : Type 0 where
+  pub to : i ≤ length s
+  pub same : getD (numbersAt s at) index (pos 0) ≡ getD (numbersAt s i) left (pos 0)
+
+module _ (s : List ℕ) (at index i left : ℕ) (w : Seeking s at index i left) where
+  pub seeking-here : {z : ℤ} {e : ℕ} → NumberMet s i z e → left ≡ 0 → z ≡ getD (numbersAt s at) index (pos 0)
+  seeking-here {z} {e} m h = sym (w .same ∙ ap₂ (λ (l : List ℤ) (k : ℕ). getD l k (pos 0)) (numbers-more s i m) h)
+
+  pub seeking-more : {z : ℤ} {e : ℕ} → NumberMet s i z e → (left ≡ 0 → ⊥) → Seeking s at index e (left - 1)
+  seeking-more {z} {e} m h =
+      let k : left ≡ suc (left - 1) = omega arith in
+      record { to = m .to; same = w .same ∙ ap₂ (λ (l : List ℤ) (k : ℕ). getD l k (pos 0)) (numbers-more s i m) k }
+
+  pub seeking-none : numbersAt s i ≡ [] → pos 0 ≡ getD (numbersAt s at) index (pos 0)
+  seeking-none e = sym (w .same ∙ ap (λ (l : List ℤ). getD l left (pos 0)) e)
+
+-- ---- the order
+two-first : (t : Basis) (a b : ℤ) (x : List ℤ) → ordered t (a ∷ b ∷ []) ≡ true → ordered t (a ∷ b ∷ x) ≡ ordered t (b ∷ x)
+two-first bezier a b x h = rw (sym (mathlib.Core.Bool.and-true (ltZ a b)) ∙ h) refl
+two-first bspline a b x h = rw (sym (mathlib.Core.Bool.and-true (leZ a b)) ∙ h) refl
+two-first cardinal a b x h = rw (sym (mathlib.Core.Bool.and-true (ltZ a b)) ∙ h) refl
+two-first taylor a b x h = rw (sym (mathlib.Core.Bool.and-true (ltZ a b)) ∙ h) refl
+
+two-never : (t : Basis) (a b : ℤ) (x : List ℤ) → ordered t (a ∷ b ∷ []) ≡ false → ordered t (a ∷ b ∷ x) ≡ false
+two-never bezier a b x h = rw (sym (mathlib.Core.Bool.and-true (ltZ a b)) ∙ h) refl
+two-never bspline a b x h = rw (sym (mathlib.Core.Bool.and-true (leZ a b)) ∙ h) refl
+two-never cardinal a b x h = rw (sym (mathlib.Core.Bool.and-true (ltZ a b)) ∙ h) refl
+two-never taylor a b x h = rw (sym (mathlib.Core.Bool.and-true (ltZ a b)) ∙ h) refl
+
+pub ordered-none : (t : Basis) → ordered t [] ≡ true
+ordered-none bezier = refl
+ordered-none bspline = refl
+ordered-none cardinal = refl
+ordered-none taylor = refl
+
+ordered-one : (t : Basis) (a : ℤ) → ordered t (a ∷ []) ≡ true
+ordered-one bezier a = refl
+ordered-one bspline a = refl
+ordered-one cardinal a = refl
+ordered-one taylor a = refl
+
+pub record Rising (t : Basis) (s : List ℕ) (at : ℕ) (first : ℤ) (i : ℕ) (last : ℤ) : Type 0 where
+  pub to : i ≤ length s
+  pub same : ordered t (first ∷ numbersAt s at) ≡ ordered t (last ∷ numbersAt s i)
+
+module _ (t : Basis) (s : List ℕ) (at : ℕ) (first : ℤ) (i : ℕ) (last : ℤ) (w : Rising t s at first i last) where
+  pub rising-over : numbersAt s i ≡ [] → true ≡ ordered t (first ∷ numbersAt s at)
+  rising-over e = sym (w .same ∙ ap (λ (x : List ℤ). ordered t (last ∷ x)) e ∙ ordered-one t last)
+
+  -- y is z as it is handed on
+  module _ {y z : ℤ} {e : ℕ} (m : NumberMet s i z e) (f : y ≡ z) {r : Bool} (h : r ≡ ordered t (last ∷ y ∷ [])) where
+    on : ordered t (first ∷ numbersAt s at) ≡ ordered t (last ∷ y ∷ numbersAt s e)
+    on = w .same ∙ ap (λ (x : List ℤ). ordered t (last ∷ x)) (numbers-more s i m) ∙ ap (λ (x : ℤ). ordered t (last ∷ x ∷ numbersAt s e)) (sym f)
+
+    pub rising-more : r ≡ true → Rising t s at first e y
+    rising-more k = record { to = m .to; same = on ∙ two-first t last y (numbersAt s e) (sym h ∙ k) }
+
+    pub rising-fails : r ≡ false → false ≡ ordered t (first ∷ numbersAt s at)
+    rising-fails k = sym (on ∙ two-never t last y (numbersAt s e) (sym h ∙ k))
+
+pub ordered-on :
+    (t : Basis) (s : List ℕ) (at : ℕ) {y z : ℤ} {e : ℕ} {r : Bool} → NumberMet s at z e → y ≡ z → r ≡ ordered t (y ∷ numbersAt s e) → r ≡ ordered t (numbersAt s at)
+ordered-on t s at {y} {z} {e} m f h = h ∙ ap (λ (x : ℤ). ordered t (x ∷ numbersAt s e)) f ∙ ap (ordered t) (sym (numbers-more s at m))

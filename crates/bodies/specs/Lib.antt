@@ -1,0 +1,5 @@
+pub mod Types
+pub mod Numbers
+pub mod Parm
+pub mod Loops
+pub mod Closing
