@@ -2,7 +2,7 @@
 use Prim.Native.Nat.{ℕ, zero, suc, _+_, _≤_, _<_}
 use mathlib.Core.Path.{_≡_, refl, sym, ap, _∙_}
 use mathlib.Core.List.{List, [], _∷_, _++_}
-use mathlib.Core.Bool.{Bool, true, false}
+use mathlib.Core.Bool.{Bool, true, false, cond}
 use mathlib.Core.Logic.{⊎-elim}
 use lib.ListN.{length, drop, drop-of-length-le}
 use lib.Seq.{drop-drop}
@@ -13,7 +13,7 @@ use Rattle.lists.proofs.Tests.{and-left, and-right, test, never}
 use Rattle.text.specs.Bytes.{isWord}
 use Rattle.text.specs.Words.{wordOf}
 use Rattle.forms.specs.Digits.{isDigit, digits}
-use Rattle.forms.specs.Straight.{first, over, run, past}
+use Rattle.forms.specs.Straight.{first, over, run, past, front}
 
 pub word-on : (l : List ℕ) → isWord (first l) ≡ true → false ≡ over (wordOf l)
 word-on [] h = h
@@ -29,15 +29,6 @@ digit-word b h =
     let m = leb-true b 57 (and-right (leb 48 b) (leb b 57) h) in
     rw (le-leb 33 b (omega arith), le-leb b 126 (omega arith), ne-eqb b 92 (omega arith)) refl
 
--- the word at l: its first digits, and the word after them
-pub word-run : (l : List ℕ) → wordOf l ≡ run l ++ wordOf (past l)
-word-run [] = refl
-word-run (b ∷ bs) =
-    ⊎-elim
-    (λ (t : isDigit b ≡ true). rw (t, digit-word b t) (ap (λ (r : List ℕ). b ∷ r) (word-run bs)))
-    (λ (t : isDigit b ≡ false). rw t refl)
-    (test (isDigit b))
-
 -- where the digits stop no digit stands
 pub past-digit : (l : List ℕ) → isDigit (first (past l)) ≡ false
 past-digit [] = refl
@@ -52,18 +43,42 @@ over-nil : (l : List ℕ) → over l ≡ true → l ≡ []
 over-nil [] h = refl
 over-nil (b ∷ bs) h = never h
 
+-- what passes a test that digits pass: the digits at the front, and what passes after them
+module _ (f : ℕ → Bool) (fd : (b : ℕ) → isDigit b ≡ true → f b ≡ true) where
+  pub front-run : (l : List ℕ) → front f l ≡ run l ++ front f (past l)
+  front-run [] = refl
+  front-run (b ∷ bs) =
+      ⊎-elim
+      (λ (t : isDigit b ≡ true). rw (t, fd b t) (ap (λ (r : List ℕ). b ∷ r) (front-run bs)))
+      (λ (t : isDigit b ≡ false). rw t refl)
+      (test (isDigit b))
+
+  pub front-all : (l : List ℕ) → over (front f (past l)) ≡ true → front f l ≡ run l
+  front-all l o = front-run l ∙ ap (λ (r : List ℕ). run l ++ r) (over-nil (front f (past l)) o) ∙ append-nil (run l)
+
+  pub front-not : (l : List ℕ) → over (front f (past l)) ≡ false → digits (front f l) ≡ false
+  front-not [] o = o
+  front-not (b ∷ bs) o =
+      ⊎-elim
+      (λ (t : isDigit b ≡ true). let p = rw t at o in rw (fd b t, t) (front-not bs p))
+      (λ (t : isDigit b ≡ false).
+      let p = rw t at o in
+      ⊎-elim (λ (u : f b ≡ true). rw (u, t) refl) (λ (u : f b ≡ false). let q = rw u at p in never (sym q)) (test (f b)))
+      (test (isDigit b))
+
+-- the word is what passes `isWord`
+pub word-front : (l : List ℕ) → wordOf l ≡ front isWord l
+word-front [] = refl
+word-front (b ∷ bs) = ap (λ (r : List ℕ). cond (isWord b) (b ∷ r) []) (word-front bs)
+
+pub word-run : (l : List ℕ) → wordOf l ≡ run l ++ wordOf (past l)
+word-run l = word-front l ∙ front-run isWord digit-word l ∙ ap (λ (r : List ℕ). run l ++ r) (sym (word-front (past l)))
+
 pub word-all : (l : List ℕ) → over (wordOf (past l)) ≡ true → wordOf l ≡ run l
-word-all l o = word-run l ∙ ap (λ (r : List ℕ). run l ++ r) (over-nil (wordOf (past l)) o) ∙ append-nil (run l)
+word-all l o = word-front l ∙ front-all isWord digit-word l (ap over (sym (word-front (past l))) ∙ o)
 
 pub word-not : (l : List ℕ) → over (wordOf (past l)) ≡ false → digits (wordOf l) ≡ false
-word-not [] o = o
-word-not (b ∷ bs) o =
-    ⊎-elim
-    (λ (t : isDigit b ≡ true). let p = rw t at o in rw (digit-word b t, t) (word-not bs p))
-    (λ (t : isDigit b ≡ false).
-    let p = rw t at o in
-    ⊎-elim (λ (u : isWord b ≡ true). rw (u, t) refl) (λ (u : isWord b ≡ false). let q = rw u at p in never (sym q)) (test (isWord b)))
-    (test (isDigit b))
+word-not l o = ap digits (word-front l) ∙ front-not isWord digit-word l (ap over (sym (word-front (past l))) ∙ o)
 
 -- a word byte at the front starts the word
 pub on-word : (l : List ℕ) → over (wordOf l) ≡ false → wordOf l ≡ first l ∷ wordOf (drop 1 l)

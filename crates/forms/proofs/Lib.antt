@@ -6,3 +6,7 @@ pub mod Decimals
 pub mod Saids
 pub mod Numbers
 pub mod Signs
+pub mod Pieces
+pub mod References
+pub mod Corners
+pub mod Patterns

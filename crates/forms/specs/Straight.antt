@@ -2,13 +2,18 @@
 use Prim.Native.Nat.{ℕ, _+_, _-_, _*_, _/_, _^_, _≤_, min}
 use mathlib.Core.Path.{_≡_}
 use mathlib.Core.List.{List, [], _∷_}
-use mathlib.Core.Bool.{Bool, true, false, cond, _&&_}
+use mathlib.Core.Bool.{Bool, true, false, cond, _&&_, not}
 use lib.ListN.{length, take, drop}
 use lib.Dec.{leb, eqb}
 use lib.IntN.{ℤ}
 use Rattle.text.specs.Words.{wordOf}
 use Rattle.forms.specs.Said.{Said, says, wrong, must}
-use Rattle.forms.specs.Digits.{isDigit, digits, natOf}
+use Rattle.text.specs.Bytes.{isWord}
+use Rattle.forms.specs.Digits.{isDigit, digits, natOf, negative, unminus}
+use Rattle.forms.specs.Reference.{isReference, item, refer}
+use Rattle.forms.specs.Corner.{Corner, formed}
+use Rattle.forms.specs.declared.reference.Part.{Part}
+use Rattle.forms.specs.declared.reference.Part.the-variants.{Of, Malformed}
 use Rattle.forms.specs.Number.{before, after, decimal, inRange}
 
 -- the byte at the front; past the end of the text LF, which ends a word too
@@ -62,3 +67,47 @@ pointed n a u = must (digits u && leb 1 (n + length u)) 6 (says (natOf a (take 7
 
 abbrev pub settleOf : Bool → ℕ → Said ℤ
 settleOf minus t = inRange minus ((t + 5) / 10)
+
+-- ---- references and corners
+-- the bytes at the front that pass the test
+abbrev pub front : (ℕ → Bool) → List ℕ → List ℕ
+front f [] = []
+front f (b ∷ bs) = cond (f b) (b ∷ front f bs) []
+
+-- a part of a corner goes to a slash or to the end of its word
+abbrev pub isPiece : ℕ → Bool
+isPiece b = isWord b && not (eqb b 47)
+
+abbrev pub piece : List ℕ → List ℕ
+piece l = front isPiece l
+
+-- the digits of a reference at the front of l
+abbrev pub places : List ℕ → List ℕ
+places l = run (unminus l)
+
+-- an optional minus and 1 to 10 digits stand at `at`, whatever follows them: the number of what they refer to, 0 for nothing
+pub record PartRead (count : ℕ) (s : List ℕ) (at number end : ℕ) : Type 0 where
+  pub to : end ≤ length s
+  pub some : 1 ≤ length (places (drop at s))
+  pub few : length (places (drop at s)) ≤ 10
+  pub number-is : number ≡ item (negative (drop at s)) count (natOf 0 (places (drop at s)))
+  pub end-is : end ≡ at + (cond (negative (drop at s)) 1 0 + length (places (drop at s)))
+
+abbrev pub partIs : ℕ → List ℕ → ℕ → Part → Type 0
+partIs count s at (Of number end) = PartRead count s at number end
+partIs count s at Malformed = (leb 1 (length (places (drop at s))) && leb (length (places (drop at s))) 10) ≡ false
+
+-- a corner from its second part on, after the vertex v; and from its third part on, `there` when all before it are
+abbrev pub third : Bool → ℕ → Bool → ℕ → ℕ → List (List ℕ) → Said Corner
+third normal count there v vt [] = wrong 6
+third normal count there v vt (d ∷ []) =
+    formed (normal && isReference d) (there && leb 1 (refer count d)) (record { v = v; vt = vt; vn = refer count d })
+third normal count there v vt (d ∷ e ∷ ps) = wrong 6
+
+abbrev pub second : ℕ → ℕ → Bool → Bool → ℕ → List (List ℕ) → Said Corner
+second nvt nvn texture normal v [] = wrong 6
+second nvt nvn texture normal v (b ∷ []) =
+    formed (texture && isReference b) (leb 1 v && leb 1 (refer nvt b)) (record { v = v; vt = refer nvt b; vn = 0 })
+second nvt nvn texture normal v ([] ∷ d ∷ ps) = third normal nvn (leb 1 v) v 0 (d ∷ ps)
+second nvt nvn texture normal v ((x ∷ b) ∷ d ∷ ps) =
+    must (texture && isReference (x ∷ b)) 6 (third normal nvn (leb 1 v && leb 1 (refer nvt (x ∷ b))) v (refer nvt (x ∷ b)) (d ∷ ps))
