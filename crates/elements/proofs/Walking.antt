@@ -4,11 +4,10 @@ use mathlib.Core.Path.{_≡_, refl, sym, ap, subst, _∙_}
 use mathlib.Core.Bool.{Bool, true, false, cond}
 use mathlib.Core.List.{List, [], _∷_, _++_, append-assoc, append-nil}
 use mathlib.Core.Option.{Option, none, some}
-use lib.ListN.{length, drop, set, length-append}
+use lib.ListN.{length, drop, length-append}
 use lib.Seq.{sets, length-sets}
 use lib.Dec.{leb}
 use borrow.Author.Tests.{leb-true, leb-false}
-use native.Mathlib.Nat.{add-zero}
 use native.Mathlib.Omega.{arith}
 use Rattle.lists.specs.Lists.{flat}
 use Rattle.text.specs.Words.{Word, wordOf}
@@ -24,13 +23,8 @@ use Rattle.model.specs.Parse.{onSaid}
 use Rattle.forms.proofs.Saids.{ended-says, ended-wrong}
 use Rattle.tables.proofs.Flat.{flat-append, length-flat}
 use Rattle.model.specs.Layout.{cornerRow}
+use Rattle.vertices.proofs.Walking.{sets-append}
 use Rattle.elements.specs.Corners.{control, patternOf, follows, Found, ahead, onCorner, cornersWalk, TookCorners, StoppedCorners}
-
-pub sets-append : {A : Type 0} (l : List A) (i : ℕ) (xs ys : List A) → sets l i (xs ++ ys) ≡ sets (sets l i xs) (i + length xs) ys
-sets-append l i [] ys = ap (λ (k : ℕ). sets l k ys) (sym (add-zero i))
-sets-append l i (x ∷ xs) ys =
-    let e : suc i + length xs ≡ i + suc (length xs) = omega arith in
-    sets-append (set l i x) (suc i) xs ys ∙ ap (λ (k : ℕ). sets (sets (set l i x) (suc i) xs) k ys) e
 
 pub length-corners : (cs : List Corner) → length (flat cornerRow cs) ≡ 3 * length cs
 length-corners = length-flat cornerRow 3 (λ c. refl)

@@ -1,4 +1,6 @@
-// Elements: the corners of a line into a table, and the lines of p, l and f.
+// Elements: the corners of a line into a table, the lines of p, l and f, and below them those of curv, curv2 and surf.
+pub mod body;
+
 use forms::corner::CornerWord;
 use forms::reference::Reference;
 use state::Names;
@@ -212,7 +214,7 @@ pub enum Element {
 }
 
 // The corners of the line from `at` on and the element's record, with the number of its body.
-fn take_corners(
+pub fn take_corners(
     text: &[u8],
     at: usize,
     rule: Rule,
