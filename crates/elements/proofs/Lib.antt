@@ -3,3 +3,9 @@ pub mod Taking
 pub mod Bodies
 pub mod Controls
 pub mod BodyLines
+pub mod Patterns
+pub mod Values
+pub mod Parse
+pub mod Ranges
+pub mod Wide
+pub mod ParseBody
