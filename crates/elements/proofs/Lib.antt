@@ -9,3 +9,4 @@ pub mod Parse
 pub mod Ranges
 pub mod Wide
 pub mod ParseBody
+pub mod Records
