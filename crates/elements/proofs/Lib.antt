@@ -1,0 +1,12 @@
+pub mod Walking
+pub mod Taking
+pub mod Bodies
+pub mod Controls
+pub mod BodyLines
+pub mod Patterns
+pub mod Values
+pub mod Parse
+pub mod Ranges
+pub mod Wide
+pub mod ParseBody
+pub mod Records
