@@ -1,1 +1,5 @@
 pub mod Going
+pub mod Steps
+pub mod Vertices
+pub mod Stepped
+pub mod Elements
