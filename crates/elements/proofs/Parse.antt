@@ -16,32 +16,11 @@ use Rattle.state.specs.State.{usedIn}
 use Rattle.model.specs.Model.{Shape, point, line, face, State}
 use Rattle.model.specs.Statements.{Statement, element}
 use Rattle.model.specs.Parse.{Parsed, fine, fault, then, must, unless, an-element, a-corner, parts, outside, fewest, Value, corner, formOf, valuesOf, cornersOf, unlike, seenIn, parse}
-use Rattle.vertices.proofs.Closed.{faulty}
+use Rattle.model.proofs.Parsed.{fine-is, must-fine, unless-fine, then-fine}
 use Rattle.elements.specs.Corners.{cornerSaid, cornersWalk}
 use Rattle.elements.specs.Elements.{ruleOf, elementSaid}
 use Rattle.elements.proofs.Taking.{enough, of-enough}
 use Rattle.elements.proofs.Values as W
-
--- ---- a refusal or what follows
-pub must-fine : {A : Type 0} (b : Bool) (n p : ℕ) (y : Parsed A) (a : A) → must b n p y ≡ fine a → (b ≡ true) × (y ≡ fine a)
-must-fine true n p y a e = (refl, e)
-must-fine false n p y a e = faulty e
-
-pub unless-fine : {A : Type 0} (o : Option ℕ) (n : ℕ) (y : Parsed A) (a : A) → unless o n y ≡ fine a → (o ≡ none) × (y ≡ fine a)
-unless-fine none n y a e = (refl, e)
-unless-fine (some p) n y a e = faulty e
-
-pub record Then {A C : Type 0} (y : Parsed A) (f : A → Parsed C) (c : C) : Type 0 where
-  pub first : A
-  pub is : y ≡ fine first
-  pub after : f first ≡ fine c
-
-pub then-fine : {A C : Type 0} (y : Parsed A) (f : A → Parsed C) (c : C) → then y f ≡ fine c → Then y f c
-then-fine (fine a) f c e = record { first = a; is = refl; after = e }
-then-fine (fault n p) f c e = faulty e
-
-pub fine-same : {A : Type 0} {a b : A} → fine a ≡ fine b → a ≡ b
-fine-same h = cc
 
 pub corners-map : (cs : List Corner) → cornersOf (map corner cs) ≡ cs
 corners-map [] = refl
@@ -96,16 +75,16 @@ parse-said k x n r key t u good e =
     let a = must-fine (outside (x .open-body)) 10 key (must (leb (fewest k) (length ws)) 5 key (then values told)) t e in
     let b = must-fine (leb (fewest k) (length ws)) 5 key (then values told) t (a .1) in
     let c = then-fine values told t (b .1) in
-    let v = W.valued h (seenIn x) (λ i. a-corner (parts k)) 0 (reads k x) ws (r .next) (c .first) (c .is) in
+    let v = W.valued h (seenIn x) (λ i. a-corner (parts k)) 0 (reads k x) ws (r .next) (c .0) (c .1) in
     let cs = v .corners in
-    let these : cornersOf (c .first) ≡ cs = ap cornersOf (v .whole) ∙ corners-map cs in
-    let d = unless-fine (unlike ws (cornersOf (c .first))) 9 (fine (element k (cornersOf (c .first)))) t (c .after) in
+    let these : cornersOf (c .0) ≡ cs = ap cornersOf (v .whole) ∙ corners-map cs in
+    let d = unless-fine (unlike ws (cornersOf (c .0))) 9 (fine (element k (cornersOf (c .0)))) t (c .2) in
     let alone : unlike ws cs ≡ none = ap (unlike ws) (sym these) ∙ d .0 in
     let many = leb-true (fewest k) (length ws) (b .0) in
     let same = v .counted in
     let walk : cornersWalk h 0 r ≡ some (cs, r .next) = rw good (v .alone alone) in
     record {
       corners = cs;
-      is = sym (fine-same (d .1)) ∙ ap (element k) these;
+      is = sym (fine-is (d .1)) ∙ ap (element k) these;
       said = ap (λ (m : Used). elementSaid (ruleOf k) m r) u ∙ enough (fewest k) (cornersWalk h 0 r) cs (r .next) walk (omega arith);
     }

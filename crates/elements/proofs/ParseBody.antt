@@ -27,7 +27,7 @@ use Rattle.elements.specs.Bodies.{controlsOf, ruleFor, formInForce, cont
 use Rattle.elements.proofs.Taking.{enough, of-enough}
 use Rattle.elements.proofs.Controls.{wide-some, some-wide}
 use Rattle.elements.proofs.BodyLines.{of-body, to-body}
-use Rattle.elements.proofs.Parse.{must-fine, unless-fine, then-fine, fine-same}
+use Rattle.model.proofs.Parsed.{fine-is, must-fine, unless-fine, then-fine}
 use Rattle.elements.proofs.Wide.{Given, in-force, wide-narrow, narrow-wide}
 use Rattle.elements.proofs.Values as W
 use Rattle.elements.proofs.Ranges as R
@@ -114,14 +114,14 @@ module _ (k : Free) (x : State) (n : Used) (g : Form) (vp : List ℤ) (u : n ≡
       let b = must-fine (leb (m + fewestControls k) (length ws)) 5 key (then values told) s (a .1) in
       let c = then-fine values told s (b .1) in
       let many = leb-true (m + fewestControls k) (length ws) (b .0) in
-      let range = R.back (seenIn x) (formIs k) m 0 (numbers k x) ws (r .bad) (r .next) (c .first) (omega arith) (c .is) in
+      let range = R.back (seenIn x) (formIs k) m 0 (numbers k x) ws (r .bad) (r .next) (c .0) (omega arith) (c .1) in
       let w = W.valued h (seenIn x) (formIs k) (0 + m) (controls k x) after (r .next) (range .others) (range .values) in
       let cs = w .corners in
       let zs = range .range in
-      let all : c .first ≡ map number zs ++ map corner cs = range .is ∙ ap (λ (l : List Value). map number zs ++ l) (w .whole) in
-      let these : cs ≡ cornersOf (c .first) = sym (ap cornersOf all ∙ R.corners-after zs cs) in
-      let those : zs ≡ numbersOf (c .first) = sym (ap numbersOf all ∙ R.numbers-before zs cs) in
-      let begun : opened k x key after cs zs ≡ fine s = ap₂ (λ (p : List Corner) (q : List ℤ). opened k x key after p q) these those ∙ c .after in
+      let all : c .0 ≡ map number zs ++ map corner cs = range .is ∙ ap (λ (l : List Value). map number zs ++ l) (w .whole) in
+      let these : cs ≡ cornersOf (c .0) = sym (ap cornersOf all ∙ R.corners-after zs cs) in
+      let those : zs ≡ numbersOf (c .0) = sym (ap numbersOf all ∙ R.numbers-before zs cs) in
+      let begun : opened k x key after cs zs ≡ fine s = ap₂ (λ (p : List Corner) (q : List ℤ). opened k x key after p q) these those ∙ c .2 in
       let last : Parsed Statement = fine (body (bodyOf k (x .form) zs) cs) in
       let wide : Parsed Statement = unless (narrowIn k (x .model .vertices) after cs) 12 last in
       let d1 = unless-fine (unlike after cs) 9 (must (inForce k (x .form) (x .form .basis)) 11 key wide) s begun in
@@ -136,7 +136,7 @@ module _ (k : Free) (x : State) (n : Used) (g : Form) (vp : List ℤ) (u : n ≡
       record {
         range = zs;
         corners = cs;
-        is = sym (fine-same (d3 .1));
+        is = sym (fine-is (d3 .1));
         said =
             ap₂ (λ (p : Used) (q : Form). bodySaid k p q vp r) u v
             ∙ to-body (formInForce k (formIn (x .form))) (numbersWalk m r) (controlsSaid k (usedIn x) vp) zs (R.whole after (r .bad) (r .next)) cs (r .next)
