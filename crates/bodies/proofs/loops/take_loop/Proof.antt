@@ -1,14 +1,13 @@
 -- The loop keeps the parts done, stored, and what is left of the line (`Looping`); each part takes bytes off it.
-use mathlib.Core.Path.{_≡_, refl, sym, ap, _∙_}
+use mathlib.Core.Path.{refl}
 use native.Mathlib.Omega.{arith}
 use denote.Ref.{now}
 use borrow.Author.Needs.{needs}
-use Rattle.bodies.proofs.Steps as S
 use Rattle.bodies.proofs.Parts as L
 use Rattle.bodies.proofs.Looping as K
 use Prim.Native.Nat.{_-_}
 use lib.ListN.{length}
-use mathlib.Core.List.{List, [], _∷_}
+use mathlib.Core.List.{[], _∷_}
 use mir.Syntax.{w32}
 use mir.Val.{toZ, ofZ}
 use borrow.Author.Tests.{not-true, not-false}
