@@ -1,29 +1,25 @@
 -- The counts of a body's parameters, and the loop that stores them: what is left to store completes what was stored.
-use Prim.Native.Nat.{ℕ, zero, suc, _+_, _-_, _≤_, _<_}
+use Prim.Native.Nat.{ℕ, suc, _+_, _-_, _≤_, _<_}
 use native.Mathlib.Nat.{add-zero, sub-zero}
 use native.Mathlib.Omega.{arith}
 use mathlib.Core.Path.{_≡_, refl, sym, ap, ap₂, _∙_}
 use mathlib.Core.List.{List, [], _∷_}
 use mathlib.Core.Bool.{Bool, true, false, cond, _&&_, not, and-true}
-use mathlib.Core.Logic.{_⊎_, ⊎-elim}
-use borrow.Author.Tests.{ne-eqb, eq-eqb, eqb-true, eqb-false, not-true, leb-true, leb-false}
+use mathlib.Core.Logic.{⊎-elim}
+use borrow.Author.Tests.{ne-eqb, eq-eqb, eqb-true, eqb-false, not-true}
 use lib.ListN.{length, take, set, length-set}
 use lib.Seq.{sets, take-nil}
-use lib.Dec.{eqb, leb, eqb·suc-zero}
+use lib.Dec.{eqb, eqb·suc-zero}
 use lib.IntN.{ℤ}
 use Rattle.lists.proofs.Tests.{and-left, and-right, test, never}
-use Rattle.tables.specs.Bodies.{Basis, low, high, inOrder, curveCount, surfaceCount}
-use Rattle.tables.specs.declared.Used.{Used}
+use Rattle.tables.specs.Bodies.{low, high, inOrder, curveCount, surfaceCount}
 use Rattle.model.specs.Model.{Free, curve, curve2, surface, Body}
 use Rattle.model.specs.Statements.{settled}
 use Rattle.model.specs.Parse.{some?, complete, countsAgree, inRange}
-use Rattle.model.specs.Layout.{rangeRow}
 use Rattle.state.specs.declared.Form.{Form}
-use Rattle.state.specs.declared.Open.{Open}
 use Rattle.bodies.specs.Numbers.{numbersAt, NumberMet}
 use Rattle.bodies.specs.Types.{basisOf, freeOf}
-use Rattle.bodies.specs.Closing.{parmOf, completeOf, agreeOf, rangedOf, bodyFor, bodyIn, refusalOf, Passed, judgedIs, recordOf, Kept, NotKept}
-use Rattle.bodies.specs.declared.closing.Judged.{Judged}
+use Rattle.bodies.specs.Closing.{parmOf, completeOf, agreeOf, rangedOf, bodyFor, judgedIs}
 use Rattle.bodies.specs.declared.closing.Judged.the-variants as judged
 use Rattle.bodies.proofs.Steps.{numbers-more}
 

@@ -1,12 +1,12 @@
 -- The end of a body: the numbers that the code holds against each other are the body's, so its verdict is that of 01's order, and its rows are the body's.
-use Prim.Native.Nat.{ℕ, zero, suc, _+_, _*_, _-_, _≤_, _<_}
+use Prim.Native.Nat.{ℕ, _+_, _*_, _-_, _≤_, _<_}
 use native.Mathlib.Omega.{arith}
 use mathlib.Core.Path.{_≡_, refl, sym, ap, ap₂, _∙_}
-use mathlib.Core.List.{List, [], _∷_, _++_}
+use mathlib.Core.List.{List, [], _++_}
 use mathlib.Core.Bool.{Bool, true, false, cond}
 use mathlib.Core.Logic.{⊎-elim}
 use mathlib.Core.Option.{some}
-use borrow.Author.Tests.{eqb-true, eqb-false, ne-eqb}
+use borrow.Author.Tests.{eqb-true, eqb-false}
 use lib.ListN.{length, getD}
 use lib.Seq.{sets}
 use lib.Dec.{eqb}
@@ -17,14 +17,14 @@ use Rattle.tables.specs.declared.Used.{Used}
 use Rattle.model.specs.Model.{Free, curve, curve2, surface, Body}
 use Rattle.model.specs.Model as model
 use Rattle.model.specs.Statements.{end, settled}
-use Rattle.model.specs.Parse.{Parsed, fine, fault, must, complete, countsAgree, inRange, finished}
+use Rattle.model.specs.Parse.{fine, fault, must, complete, countsAgree, inRange, finished}
 use Rattle.model.specs.Room.{partCount}
-use Rattle.model.specs.Layout.{flag, freeNumber, firstPart, bodyRow, rangeRow, parameterRow}
+use Rattle.model.specs.Layout.{flag, freeNumber, bodyRow, rangeRow, parameterRow}
 use Rattle.state.specs.declared.Form.{Form}
 use Rattle.state.specs.declared.Open.{Open}
 use Rattle.state.specs.State.{ParmAt}
 use Rattle.bodies.specs.Types.{basisOf, freeOf}
-use Rattle.bodies.specs.Closing.{parmOf, bodyFor, bodyIn, refusalOf, recordOf, Kept, NotKept}
+use Rattle.bodies.specs.Closing.{parmOf, bodyIn, refusalOf, recordOf, Kept, NotKept}
 use Rattle.bodies.proofs.Closings.{parm-none, parm-some}
 use Rattle.bodies.proofs.Parms.{kept-is}
 

@@ -1,27 +1,25 @@
 -- A body that passed is stored: its parameters one after the other, its record, and its range as it is settled.
-use Prim.Native.Nat.{ℕ, zero, suc, _+_, _*_, _-_, _≤_, _<_}
+use Prim.Native.Nat.{ℕ, _+_, _*_, _-_, _≤_, _<_}
 use native.Mathlib.Omega.{arith}
 use mathlib.Core.Path.{_≡_, refl, sym, ap, ap₂, _∙_}
 use mathlib.Core.List.{List, [], _∷_, _++_}
 use mathlib.Core.Bool.{Bool, true, false, cond}
 use mathlib.Core.Logic.{⊎-elim}
 use borrow.Author.Tests.{ne-eqb, eqb-true, eqb-false, le-leb, lt-leb, leb-true, leb-false}
-use lib.ListN.{length, take, getD}
-use lib.Seq.{sets, take-length, length-sets}
+use lib.ListN.{length, take}
+use lib.Seq.{sets, take-length}
 use lib.Dec.{eqb, leb}
-use lib.IntN.{ℤ, pos}
+use lib.IntN.{ℤ}
 use Rattle.lists.proofs.Tests.{test}
 use Rattle.tables.specs.declared.Used.{Used}
-use Rattle.model.specs.Model.{Free, Body}
-use Rattle.model.specs.Statements.{settled}
-use Rattle.model.specs.Layout.{rangeRow}
+use Rattle.model.specs.Model.{Body}
 use Rattle.state.specs.declared.Form.{Form}
 use Rattle.state.specs.declared.Open.{Open}
 use Rattle.bodies.specs.Numbers.{numbersAt}
-use Rattle.bodies.specs.Closing.{parmOf, bodyFor, bodyIn, refusalOf, Passed, judgedIs, recordOf, Kept, NotKept}
+use Rattle.bodies.specs.Closing.{parmOf, bodyFor, refusalOf, Passed, judgedIs, recordOf, Kept, NotKept}
 use Rattle.bodies.specs.declared.closing.Judged.{Judged}
 use Rattle.bodies.specs.declared.closing.Judged.the-variants as judged
-use Rattle.bodies.proofs.Parts.{sets-append}
+use Rattle.bodies.proofs.Looping.{sets-append}
 use Rattle.bodies.proofs.Closings.{parm-none, parm-some, settled-rest}
 
 -- ---- `store_parameters`

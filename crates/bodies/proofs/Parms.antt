@@ -1,5 +1,5 @@
 -- A parm line: its direction, then its numbers; and the walk of `state`, which says the same of the numbers.
-use Prim.Native.Nat.{ℕ, zero, suc, _+_, _≤_, _<_}
+use Prim.Native.Nat.{ℕ, zero, suc, _≤_, _<_}
 use mathlib.Core.Path.{_≡_, refl, sym, ap, subst, _∙_}
 use mathlib.Core.List.{List, [], _∷_}
 use mathlib.Core.Bool.{Bool, true, false, _||_, not}
@@ -9,7 +9,7 @@ use lib.ListN.{length, drop}
 use lib.IntN.{ℤ}
 use Rattle.lists.proofs.Tests.{never}
 use Rattle.text.specs.Words.{Word, wordOf}
-use Rattle.text.specs.Rest.{Rest, restAt, push, wordAt, endOf, WordMet, EndMet, BadMet}
+use Rattle.text.specs.Rest.{Rest, restAt, wordAt, endOf, WordMet, EndMet}
 use Rattle.forms.specs.Said.{Said, says, wrong}
 use Rattle.forms.specs.Number.{numberOf}
 use Rattle.keywords.specs.declared.Argument.{Argument}
@@ -17,7 +17,7 @@ use Rattle.keywords.specs.declared.Argument.the-variants.{Rational, BasisMatrix
 use Rattle.keywords.specs.Arguments.{argumentOf, argumentAt}
 use Rattle.model.specs.Model.{Direction, along-u, along-v}
 use Rattle.model.specs.Parse.{directionOf, isV}
-use Rattle.state.specs.Numbers.{Walk, ended, full, stuck, onto, onNumber, numbersFrom, numbersWalk}
+use Rattle.state.specs.Numbers.{Walk, ended, full, stuck, onto, onNumber, numbersFrom}
 use Rattle.state.specs.State.{ParmAt}
 use Rattle.bodies.specs.Numbers.{before, leading, numbersAt, AllNumbers, NotAll}
 use Rattle.bodies.specs.Parm.{wayOf, RowTaken, rowIs, ParmLine, along, ParmTaken, parmIs}

@@ -1,15 +1,15 @@
 -- What the lines of a body's statements say by 01's order of refusals is what the code finds in its own.
-use Prim.Native.Nat.{ℕ, zero, suc, _+_, _*_, _%_, _≤_, _<_}
+use Prim.Native.Nat.{ℕ, suc, _*_, _%_}
 use native.Mathlib.Omega.{arith}
-use mathlib.Core.Path.{_≡_, refl, sym, ap, ap₂, subst, _∙_}
+use mathlib.Core.Path.{_≡_, refl, sym, ap, _∙_}
 use mathlib.Core.List.{List, [], _∷_}
 use mathlib.Core.Bool.{Bool, true, false, cond, _&&_, _||_, not}
 use mathlib.Core.Option.{Option, none, some}
-use borrow.Author.Tests.{le-leb, leb-true, lt-ltb, ltb-true, eq-eqb, eqb-true, ne-eqb}
-use lib.ListN.{length, drop, getD}
-use lib.Dec.{eqb, leb, ltb, eqb·suc-zero}
-use lib.IntN.{ℤ, pos}
-use Rattle.lists.proofs.Tests.{and-left, and-right, and-both, never, test}
+use borrow.Author.Tests.{le-leb, leb-true, lt-ltb, ltb-true, eq-eqb, eqb-true}
+use lib.ListN.{length}
+use lib.Dec.{eqb, ltb, eqb·suc-zero}
+use lib.IntN.{ℤ}
+use Rattle.lists.proofs.Tests.{and-left, and-right, and-both, never}
 use Rattle.text.specs.Words.{Word}
 use Rattle.text.specs.Rest.{Rest}
 use Rattle.forms.specs.Said.{Said, says, wrong}
@@ -18,7 +18,7 @@ use Rattle.forms.specs.Reference.{referenceOf}
 use Rattle.keywords.specs.Arguments.{argumentOf}
 use Rattle.model.specs.Model.{Direction, Part, Open, State, curves}
 use Rattle.model.specs.Statements.{Statement, parameters, loop}
-use Rattle.model.specs.Parse.{Parsed, fine, fault, then, must, Keyword, parm, trim, hole, isSurface, isV, directionOf, saysV, inBody, allowed, counted, WordForm, a-number, a-curve, a-direction, formOf, Value, number, whole, direction, onSaid, directionSaid, Seen, saidOf, placed, valuesOf, numbersOf, wholesOf, directionIn, partsOf, checked, seenIn, parse}
+use Rattle.model.specs.Parse.{Parsed, fine, fault, then, must, Keyword, parm, trim, hole, isSurface, isV, directionOf, saysV, inBody, allowed, counted, WordForm, a-number, a-curve, formOf, Value, number, whole, direction, onSaid, directionSaid, Seen, placed, valuesOf, numbersOf, wholesOf, partsOf, checked, seenIn, parse}
 use Rattle.bodies.specs.Numbers.{before, leading}
 use Rattle.bodies.specs.Parm.{ParmLine}
 use Rattle.bodies.specs.Loops.{onPart, parts, LoopLine}

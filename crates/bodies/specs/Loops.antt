@@ -1,8 +1,8 @@
 -- 01: "trim, hole a positive multiple of three (two numbers, a curv2 number)": the parts of a loop's line, and what the code finds of them.
-use Prim.Native.Nat.{ℕ, suc, _+_, _*_, _≤_, _<_}
+use Prim.Native.Nat.{ℕ, _+_, _*_, _≤_, _<_}
 use mathlib.Core.Path.{_≡_}
 use mathlib.Core.List.{List, [], _∷_}
-use mathlib.Core.Bool.{Bool, true, false, cond}
+use mathlib.Core.Bool.{Bool, cond}
 use mathlib.Core.Option.{none, some}
 use mathlib.Core.Logic.{_⊎_}
 use lib.ListN.{length}
@@ -15,7 +15,7 @@ use Rattle.text.specs.Rest.{Rest, restAt, push, EndMet}
 use Rattle.forms.specs.Said.{Said, says, wrong}
 use Rattle.forms.specs.Number.{numberOf}
 use Rattle.forms.specs.Reference.{referenceOf}
-use Rattle.model.specs.Model.{Part, Loop}
+use Rattle.model.specs.Model.{Part}
 use Rattle.model.specs.Layout.{beginning, loopRow, spanRow}
 use Rattle.bodies.specs.declared.loops.Curve.{Curve}
 use Rattle.bodies.specs.declared.loops.Curve.the-variants as curve

@@ -1,12 +1,12 @@
 -- The numbers of a line from a place between words on, and what the code finds of them.
-use Prim.Native.Nat.{ℕ, suc, _≤_, _<_}
+use Prim.Native.Nat.{ℕ, _≤_, _<_}
 use mathlib.Core.Path.{_≡_}
 use mathlib.Core.List.{List, [], _∷_}
-use mathlib.Core.Option.{Option, none, some}
+use mathlib.Core.Option.{none}
 use lib.ListN.{length}
 use lib.IntN.{ℤ}
 use Rattle.text.specs.Words.{Word}
-use Rattle.text.specs.Rest.{Rest, restAt, push, EndMet}
+use Rattle.text.specs.Rest.{restAt, push, EndMet}
 use Rattle.forms.specs.Said.{Said, says, wrong}
 use Rattle.forms.specs.Number.{numberOf}
 use Rattle.bodies.specs.declared.numbers.Step.{Step}

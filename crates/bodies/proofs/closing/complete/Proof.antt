@@ -1,6 +1,6 @@
 -- By the tests.
-use mathlib.Core.Path.{_≡_, refl, sym}
-use borrow.Author.Tests.{ne-eqb, eq-eqb}
+use mathlib.Core.Path.{refl}
+use borrow.Author.Tests.{ne-eqb}
 use Rattle.bodies.proofs.closing.complete.Statement.{statement}
 use Rattle.bodies.proofs.closing.complete.Tie as tie
 

@@ -1,14 +1,5 @@
 -- By the kind.
-use mathlib.Core.Path.{_≡_, refl, sym, ap, _∙_}
-use native.Mathlib.Omega.{arith}
-use denote.Ref.{now}
-use lib.ListN.{length}
-use lib.IntN.{ℤ}
-use mathlib.Core.List.{List}
-use borrow.Author.Needs.{needs}
 use borrow.Author.Tests.{ne-eqb}
-use Rattle.bodies.specs.Closing.{parmOf}
-use Rattle.bodies.proofs.Steps as S
 use Rattle.bodies.proofs.Closings as C
 use Rattle.bodies.proofs.closing.counts_agree.Statement.{statement}
 use Rattle.bodies.proofs.closing.counts_agree.Tie as tie

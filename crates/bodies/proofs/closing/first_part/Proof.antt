@@ -1,12 +1,7 @@
 -- By the test.
-use mathlib.Core.Path.{_≡_, refl, sym, ap, _∙_}
-use native.Mathlib.Omega.{arith}
-use denote.Ref.{now}
+use mathlib.Core.Path.{refl}
 use borrow.Author.Needs.{needs}
 use borrow.Author.Tests.{ne-eqb}
-use mir.Facts.{toZ-ofZ}
-use Rattle.bodies.proofs.Tests.{failed, passed, fitted}
-use Rattle.bodies.proofs.Closings as C
 use Rattle.bodies.proofs.closing.first_part.Statement.{statement}
 use Rattle.bodies.proofs.closing.first_part.Tie as tie
 

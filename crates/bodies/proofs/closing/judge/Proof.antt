@@ -3,11 +3,9 @@ use mathlib.Core.Path.{_≡_, refl, sym, ap, _∙_}
 use native.Mathlib.Omega.{arith}
 use denote.Ref.{now}
 use borrow.Author.Needs.{needs}
-use borrow.Author.Tests.{ne-eqb}
 use mir.Facts.{toZ-ofZ}
 use Rattle.bodies.proofs.Tests.{failed, passed, fitted}
 use Rattle.bodies.proofs.Closings as C
-use Prim.Native.Nat.{_≤_}
 use mathlib.Core.List.{List}
 use mathlib.Core.Bool.{cond}
 use lib.ListN.{length}
@@ -16,7 +14,7 @@ use lib.IntN.{ℤ}
 use Rattle.tables.specs.Bodies.{low, high}
 use Rattle.bodies.specs.Types.{basisOf}
 use Rattle.bodies.specs.Numbers.{numbersAt}
-use Rattle.bodies.specs.Closing.{parmOf, rangedOf}
+use Rattle.bodies.specs.Closing.{parmOf}
 use Rattle.bodies.proofs.closing.judge.Statement.{statement}
 use Rattle.bodies.proofs.closing.judge.Tie as tie
 

@@ -1,12 +1,8 @@
 -- Along u, then along v where there is one.
-use mathlib.Core.Path.{_≡_, refl, sym, ap, _∙_}
-use native.Mathlib.Omega.{arith}
-use denote.Ref.{now}
-use borrow.Author.Needs.{needs}
+use mathlib.Core.Path.{refl}
 use borrow.Author.Tests.{ne-eqb}
 use mir.Facts.{toZ-ofZ}
-use Rattle.bodies.proofs.Tests.{failed, passed, fitted}
-use Rattle.bodies.proofs.Closings as C
+use Rattle.bodies.proofs.Tests.{failed, passed}
 use Rattle.bodies.proofs.closing.ranged.Statement.{statement}
 use Rattle.bodies.proofs.closing.ranged.Tie as tie
 

@@ -1,6 +1,5 @@
 -- Enough controls, then their number.
 use borrow.Author.Needs.{needs}
-use mathlib.Core.Path.{_≡_, refl, sym}
 use Rattle.tables.specs.Bodies.{curveCount}
 use Rattle.bodies.proofs.Tests.{failed, passed}
 use Rattle.bodies.proofs.counts.curve_count.Statement.{statement}

@@ -1,6 +1,5 @@
 -- Enough controls each way, then their product.
 use borrow.Author.Needs.{needs}
-use mathlib.Core.Path.{_≡_, refl, sym}
 use Rattle.tables.specs.Bodies.{surfaceCount}
 use Rattle.bodies.proofs.Tests.{failed, passed}
 use Rattle.bodies.proofs.counts.surface_count.Statement.{statement}

@@ -1,13 +1,13 @@
 -- The loop keeps the parts done, stored, and what is left of the line (`Looping`); each part takes bytes off it.
-use mathlib.Core.Path.{_≡_, refl, sym, ap, _∙_}
+use mathlib.Core.Path.{refl}
 use native.Mathlib.Omega.{arith}
 use denote.Ref.{now}
 use borrow.Author.Needs.{needs}
-use Rattle.bodies.proofs.Steps as S
 use Rattle.bodies.proofs.Parts as L
+use Rattle.bodies.proofs.Looping as K
 use Prim.Native.Nat.{_-_}
 use lib.ListN.{length}
-use mathlib.Core.List.{List, [], _∷_}
+use mathlib.Core.List.{[], _∷_}
 use mir.Syntax.{w32}
 use mir.Val.{toZ, ofZ}
 use borrow.Author.Tests.{not-true, not-false}
@@ -16,7 +16,7 @@ use Rattle.bodies.proofs.loops.take_loop.Statement.{statement}
 use Rattle.bodies.proofs.loops.take_loop.Tie as tie
 
 abbrev Inv-loop : tie.InvT-loop
-Inv-loop text at hole curves used loops₀ spans₀ i₀ place₀ count₀ loops spans i place count = L.Looping text at hole curves used loops₀ spans₀ loops spans i place count
+Inv-loop text at hole curves used loops₀ spans₀ i₀ place₀ count₀ loops spans i place count = K.Looping text at hole curves used loops₀ spans₀ loops spans i place count
 
 abbrev μ-loop : tie.MeasureT-loop
 μ-loop text at hole curves used loops₀ spans₀ i₀ place₀ count₀ loops spans i place count = length text - i
@@ -27,7 +27,7 @@ mul-place c = search needs
 loop-holds : tie.Need-loop-holds Inv-loop μ-loop
 loop-holds c =
     let start = c .before .before in
-    L.looping-none (now (start .args .text)) (start .args .at) (start .args .hole) (start .args .curves) (start .args .used) (now (start .args .loops)) (now (start .args .spans)) (start .pre .0)
+    K.looping-none (now (start .args .text)) (start .args .at) (start .args .hole) (start .args .curves) (start .args .used) (now (start .args .loops)) (now (start .args .spans)) (start .pre .0)
 
 next-part-requires : tie.Need-next-part-requires Inv-loop μ-loop
 next-part-requires c κs =
@@ -53,7 +53,7 @@ returns c =
     let next-part = enum-told .before .before in
     let loop = next-part .before in
     let start = loop .before .before .before in
-    L.looping-stops (now (start .args .text)) (start .args .at) (start .args .hole) (start .args .curves) (start .args .used) (now (start .args .loops)) (now (start .args .spans)) (loop .loop .loops) (loop .loop .spans) (loop .loop .i) (loop .loop .place) (loop .loop .count) (loop .loop .inv) (L.part-none (start .args .curves) (now (start .args .text)) (loop .loop .i) (next-part .next-part .result) (next-part .next-part .ensures) (enum-told .enum-told .given .1))
+    K.looping-stops (now (start .args .text)) (start .args .at) (start .args .hole) (start .args .curves) (start .args .used) (now (start .args .loops)) (now (start .args .spans)) (loop .loop .loops) (loop .loop .spans) (loop .loop .i) (loop .loop .place) (loop .loop .count) (loop .loop .inv) (L.part-none (start .args .curves) (now (start .args .text)) (loop .loop .i) (next-part .next-part .result) (next-part .next-part .ensures) (enum-told .enum-told .given .1))
 
 enum-known-q : tie.Need-enum-known-q Inv-loop μ-loop
 enum-known-q c = search needs
@@ -75,7 +75,7 @@ returns-2 c =
     let next-part = q .before .before in
     let loop = next-part .before in
     let start = loop .before .before .before in
-    L.looping-empty (now (start .args .text)) (start .args .at) (start .args .hole) (start .args .curves) (start .args .used) (now (start .args .loops)) (now (start .args .spans)) (loop .loop .loops) (loop .loop .spans) (loop .loop .i) (loop .loop .place) (loop .loop .count) (loop .loop .inv) (L.part-end (start .args .curves) (now (start .args .text)) (loop .loop .i) (next-part .next-part .result) (next-part .next-part .ensures) (q .q .given .1)) (if1 .if1 .taken)
+    K.looping-empty (now (start .args .text)) (start .args .at) (start .args .hole) (start .args .curves) (start .args .used) (now (start .args .loops)) (now (start .args .spans)) (loop .loop .loops) (loop .loop .spans) (loop .loop .i) (loop .loop .place) (loop .loop .count) (loop .loop .inv) (L.part-end (start .args .curves) (now (start .args .text)) (loop .loop .i) (next-part .next-part .result) (next-part .next-part .ensures) (q .q .given .1)) (if1 .if1 .taken)
 
 same-length-5 : tie.Need-same-length-5 Inv-loop μ-loop
 same-length-5 c =
@@ -94,7 +94,7 @@ returns-3 c =
     let next-part = q .before .before in
     let loop = next-part .before in
     let start = loop .before .before .before in
-    L.looping-over (now (start .args .text)) (start .args .at) (start .args .hole) (start .args .curves) (start .args .used) (now (start .args .loops)) (now (start .args .spans)) (loop .loop .loops) (loop .loop .spans) (loop .loop .i) (loop .loop .place) (loop .loop .count) (loop .loop .inv) (L.part-end (start .args .curves) (now (start .args .text)) (loop .loop .i) (next-part .next-part .result) (next-part .next-part .ensures) (q .q .given .1)) (if1 .if1 .left)
+    K.looping-over (now (start .args .text)) (start .args .at) (start .args .hole) (start .args .curves) (start .args .used) (now (start .args .loops)) (now (start .args .spans)) (loop .loop .loops) (loop .loop .spans) (loop .loop .i) (loop .loop .place) (loop .loop .count) (loop .loop .inv) (L.part-end (start .args .curves) (now (start .args .text)) (loop .loop .i) (next-part .next-part .result) (next-part .next-part .ensures) (q .q .given .1)) (if1 .if1 .left)
 
 enum-known-from : tie.Need-enum-known-from Inv-loop μ-loop
 enum-known-from c = search needs
@@ -114,7 +114,7 @@ same-length-7 c =
     let next-part = from .before .before in
     let loop = next-part .before in
     let start = loop .before .before .before in
-    L.no-room (now (start .args .text)) (start .args .at) (start .args .hole) (start .args .curves) (start .args .used) (now (start .args .loops)) (now (start .args .spans)) (loop .loop .loops) (loop .loop .spans) (loop .loop .i) (loop .loop .place) (loop .loop .count) (loop .loop .inv) _ _ (L.part-found (start .args .curves) (now (start .args .text)) (loop .loop .i) (next-part .next-part .result) (next-part .next-part .ensures) (from .from .given .1)) ((begins-with .begins-with .result) ∷ (from .from .given .0 .1 .1 .0) ∷ []) (put2-u32 .put2-u32 .ensures .0) (put2-u32 .put2-u32 .ensures .1) (not-true _ (if2 .if2 .taken)) .same
+    K.no-room (now (start .args .text)) (start .args .at) (start .args .hole) (start .args .curves) (start .args .used) (now (start .args .loops)) (now (start .args .spans)) (loop .loop .loops) (loop .loop .spans) (loop .loop .i) (loop .loop .place) (loop .loop .count) (loop .loop .inv) _ _ (L.part-found (start .args .curves) (now (start .args .text)) (loop .loop .i) (next-part .next-part .result) (next-part .next-part .ensures) (from .from .given .1)) ((begins-with .begins-with .result) ∷ (from .from .given .0 .1 .1 .0) ∷ []) (put2-u32 .put2-u32 .ensures .0) (put2-u32 .put2-u32 .ensures .1) (not-true _ (if2 .if2 .taken)) .same
 
 same-length-8 : tie.Need-same-length-8 Inv-loop μ-loop
 same-length-8 c =
@@ -125,7 +125,7 @@ same-length-8 c =
     let next-part = from .before .before in
     let loop = next-part .before in
     let start = loop .before .before .before in
-    L.no-room (now (start .args .text)) (start .args .at) (start .args .hole) (start .args .curves) (start .args .used) (now (start .args .loops)) (now (start .args .spans)) (loop .loop .loops) (loop .loop .spans) (loop .loop .i) (loop .loop .place) (loop .loop .count) (loop .loop .inv) _ _ (L.part-found (start .args .curves) (now (start .args .text)) (loop .loop .i) (next-part .next-part .result) (next-part .next-part .ensures) (from .from .given .1)) ((begins-with .begins-with .result) ∷ (from .from .given .0 .1 .1 .0) ∷ []) (put2-u32 .put2-u32 .ensures .0) (put2-u32 .put2-u32 .ensures .1) (not-true _ (if2 .if2 .taken)) .same-spans
+    K.no-room (now (start .args .text)) (start .args .at) (start .args .hole) (start .args .curves) (start .args .used) (now (start .args .loops)) (now (start .args .spans)) (loop .loop .loops) (loop .loop .spans) (loop .loop .i) (loop .loop .place) (loop .loop .count) (loop .loop .inv) _ _ (L.part-found (start .args .curves) (now (start .args .text)) (loop .loop .i) (next-part .next-part .result) (next-part .next-part .ensures) (from .from .given .1)) ((begins-with .begins-with .result) ∷ (from .from .given .0 .1 .1 .0) ∷ []) (put2-u32 .put2-u32 .ensures .0) (put2-u32 .put2-u32 .ensures .1) (not-true _ (if2 .if2 .taken)) .same-spans
 
 returns-4 : tie.Need-returns-4 Inv-loop μ-loop
 returns-4 c =
@@ -136,7 +136,7 @@ returns-4 c =
     let next-part = from .before .before in
     let loop = next-part .before in
     let start = loop .before .before .before in
-    L.no-room (now (start .args .text)) (start .args .at) (start .args .hole) (start .args .curves) (start .args .used) (now (start .args .loops)) (now (start .args .spans)) (loop .loop .loops) (loop .loop .spans) (loop .loop .i) (loop .loop .place) (loop .loop .count) (loop .loop .inv) _ _ (L.part-found (start .args .curves) (now (start .args .text)) (loop .loop .i) (next-part .next-part .result) (next-part .next-part .ensures) (from .from .given .1)) ((begins-with .begins-with .result) ∷ (from .from .given .0 .1 .1 .0) ∷ []) (put2-u32 .put2-u32 .ensures .0) (put2-u32 .put2-u32 .ensures .1) (not-true _ (if2 .if2 .taken))
+    K.no-room (now (start .args .text)) (start .args .at) (start .args .hole) (start .args .curves) (start .args .used) (now (start .args .loops)) (now (start .args .spans)) (loop .loop .loops) (loop .loop .spans) (loop .loop .i) (loop .loop .place) (loop .loop .count) (loop .loop .inv) _ _ (L.part-found (start .args .curves) (now (start .args .text)) (loop .loop .i) (next-part .next-part .result) (next-part .next-part .ensures) (from .from .given .1)) ((begins-with .begins-with .result) ∷ (from .from .given .0 .1 .1 .0) ∷ []) (put2-u32 .put2-u32 .ensures .0) (put2-u32 .put2-u32 .ensures .1) (not-true _ (if2 .if2 .taken))
 
 put2-i32-requires : tie.Need-put2-i32-requires Inv-loop μ-loop
 put2-i32-requires c κs = search needs
@@ -152,7 +152,7 @@ same-length-9 c =
     let next-part = from .before .before in
     let loop = next-part .before in
     let start = loop .before .before .before in
-    L.no-room-spans (now (start .args .text)) (start .args .at) (start .args .hole) (start .args .curves) (start .args .used) (now (start .args .loops)) (now (start .args .spans)) (loop .loop .loops) (loop .loop .spans) (loop .loop .i) (loop .loop .place) (loop .loop .count) (loop .loop .inv) _ _ (L.part-found (start .args .curves) (now (start .args .text)) (loop .loop .i) (next-part .next-part .result) (next-part .next-part .ensures) (from .from .given .1)) (begins-with .begins-with .result) (from .from .given .0 .1 .1 .0) (put2-u32 .put2-u32 .ensures .0) (put2-u32 .put2-u32 .ensures .1) (not-false _ (if2 .if2 .left)) ((toZ w32 (ofZ w32 (from .from .given .0 .0))) ∷ (toZ w32 (ofZ w32 (from .from .given .0 .1 .0))) ∷ []) (put2-i32 .put2-i32 .ensures .0) (put2-i32 .put2-i32 .ensures .1) (not-true _ (if3 .if3 .taken)) .same
+    K.no-room-spans (now (start .args .text)) (start .args .at) (start .args .hole) (start .args .curves) (start .args .used) (now (start .args .loops)) (now (start .args .spans)) (loop .loop .loops) (loop .loop .spans) (loop .loop .i) (loop .loop .place) (loop .loop .count) (loop .loop .inv) _ _ (L.part-found (start .args .curves) (now (start .args .text)) (loop .loop .i) (next-part .next-part .result) (next-part .next-part .ensures) (from .from .given .1)) (begins-with .begins-with .result) (from .from .given .0 .1 .1 .0) (put2-u32 .put2-u32 .ensures .0) (put2-u32 .put2-u32 .ensures .1) (not-false _ (if2 .if2 .left)) ((toZ w32 (ofZ w32 (from .from .given .0 .0))) ∷ (toZ w32 (ofZ w32 (from .from .given .0 .1 .0))) ∷ []) (put2-i32 .put2-i32 .ensures .0) (put2-i32 .put2-i32 .ensures .1) (not-true _ (if3 .if3 .taken)) .same
 
 same-length-10 : tie.Need-same-length-10 Inv-loop μ-loop
 same-length-10 c =
@@ -165,7 +165,7 @@ same-length-10 c =
     let next-part = from .before .before in
     let loop = next-part .before in
     let start = loop .before .before .before in
-    L.no-room-spans (now (start .args .text)) (start .args .at) (start .args .hole) (start .args .curves) (start .args .used) (now (start .args .loops)) (now (start .args .spans)) (loop .loop .loops) (loop .loop .spans) (loop .loop .i) (loop .loop .place) (loop .loop .count) (loop .loop .inv) _ _ (L.part-found (start .args .curves) (now (start .args .text)) (loop .loop .i) (next-part .next-part .result) (next-part .next-part .ensures) (from .from .given .1)) (begins-with .begins-with .result) (from .from .given .0 .1 .1 .0) (put2-u32 .put2-u32 .ensures .0) (put2-u32 .put2-u32 .ensures .1) (not-false _ (if2 .if2 .left)) ((toZ w32 (ofZ w32 (from .from .given .0 .0))) ∷ (toZ w32 (ofZ w32 (from .from .given .0 .1 .0))) ∷ []) (put2-i32 .put2-i32 .ensures .0) (put2-i32 .put2-i32 .ensures .1) (not-true _ (if3 .if3 .taken)) .same-spans
+    K.no-room-spans (now (start .args .text)) (start .args .at) (start .args .hole) (start .args .curves) (start .args .used) (now (start .args .loops)) (now (start .args .spans)) (loop .loop .loops) (loop .loop .spans) (loop .loop .i) (loop .loop .place) (loop .loop .count) (loop .loop .inv) _ _ (L.part-found (start .args .curves) (now (start .args .text)) (loop .loop .i) (next-part .next-part .result) (next-part .next-part .ensures) (from .from .given .1)) (begins-with .begins-with .result) (from .from .given .0 .1 .1 .0) (put2-u32 .put2-u32 .ensures .0) (put2-u32 .put2-u32 .ensures .1) (not-false _ (if2 .if2 .left)) ((toZ w32 (ofZ w32 (from .from .given .0 .0))) ∷ (toZ w32 (ofZ w32 (from .from .given .0 .1 .0))) ∷ []) (put2-i32 .put2-i32 .ensures .0) (put2-i32 .put2-i32 .ensures .1) (not-true _ (if3 .if3 .taken)) .same-spans
 
 returns-5 : tie.Need-returns-5 Inv-loop μ-loop
 returns-5 c =
@@ -178,7 +178,7 @@ returns-5 c =
     let next-part = from .before .before in
     let loop = next-part .before in
     let start = loop .before .before .before in
-    L.no-room-spans (now (start .args .text)) (start .args .at) (start .args .hole) (start .args .curves) (start .args .used) (now (start .args .loops)) (now (start .args .spans)) (loop .loop .loops) (loop .loop .spans) (loop .loop .i) (loop .loop .place) (loop .loop .count) (loop .loop .inv) _ _ (L.part-found (start .args .curves) (now (start .args .text)) (loop .loop .i) (next-part .next-part .result) (next-part .next-part .ensures) (from .from .given .1)) (begins-with .begins-with .result) (from .from .given .0 .1 .1 .0) (put2-u32 .put2-u32 .ensures .0) (put2-u32 .put2-u32 .ensures .1) (not-false _ (if2 .if2 .left)) ((toZ w32 (ofZ w32 (from .from .given .0 .0))) ∷ (toZ w32 (ofZ w32 (from .from .given .0 .1 .0))) ∷ []) (put2-i32 .put2-i32 .ensures .0) (put2-i32 .put2-i32 .ensures .1) (not-true _ (if3 .if3 .taken))
+    K.no-room-spans (now (start .args .text)) (start .args .at) (start .args .hole) (start .args .curves) (start .args .used) (now (start .args .loops)) (now (start .args .spans)) (loop .loop .loops) (loop .loop .spans) (loop .loop .i) (loop .loop .place) (loop .loop .count) (loop .loop .inv) _ _ (L.part-found (start .args .curves) (now (start .args .text)) (loop .loop .i) (next-part .next-part .result) (next-part .next-part .ensures) (from .from .given .1)) (begins-with .begins-with .result) (from .from .given .0 .1 .1 .0) (put2-u32 .put2-u32 .ensures .0) (put2-u32 .put2-u32 .ensures .1) (not-false _ (if2 .if2 .left)) ((toZ w32 (ofZ w32 (from .from .given .0 .0))) ∷ (toZ w32 (ofZ w32 (from .from .given .0 .1 .0))) ∷ []) (put2-i32 .put2-i32 .ensures .0) (put2-i32 .put2-i32 .ensures .1) (not-true _ (if3 .if3 .taken))
 
 add-place : tie.Need-add-place Inv-loop μ-loop
 add-place c =
@@ -191,7 +191,7 @@ add-place c =
     let next-part = from .before .before in
     let loop = next-part .before in
     let start = loop .before .before .before in
-    let b = L.fits-spans (now (start .args .text)) (start .args .at) (start .args .hole) (start .args .curves) (start .args .used) (now (start .args .loops)) (now (start .args .spans)) (loop .loop .loops) (loop .loop .spans) (loop .loop .i) (loop .loop .place) (loop .loop .count) (loop .loop .inv) _ _ (L.part-found (start .args .curves) (now (start .args .text)) (loop .loop .i) (next-part .next-part .result) (next-part .next-part .ensures) (from .from .given .1)) (begins-with .begins-with .result) (from .from .given .0 .1 .1 .0) (put2-u32 .put2-u32 .ensures .0) (put2-u32 .put2-u32 .ensures .1) (not-false _ (if2 .if2 .left)) (put2-i32 .put2-i32 .ensures .0) (not-false _ (if3 .if3 .left)) in let x = b .0 in record { fits = omega (arith, start .good) }
+    let b = K.fits-spans (now (start .args .text)) (start .args .at) (start .args .hole) (start .args .curves) (start .args .used) (now (start .args .loops)) (now (start .args .spans)) (loop .loop .loops) (loop .loop .spans) (loop .loop .i) (loop .loop .place) (loop .loop .count) (loop .loop .inv) _ _ (L.part-found (start .args .curves) (now (start .args .text)) (loop .loop .i) (next-part .next-part .result) (next-part .next-part .ensures) (from .from .given .1)) (begins-with .begins-with .result) (from .from .given .0 .1 .1 .0) (put2-u32 .put2-u32 .ensures .0) (put2-u32 .put2-u32 .ensures .1) (not-false _ (if2 .if2 .left)) (put2-i32 .put2-i32 .ensures .0) (not-false _ (if3 .if3 .left)) in let x = b .0 in record { fits = omega (arith, start .good) }
 
 add-count : tie.Need-add-count Inv-loop μ-loop
 add-count c =
@@ -219,7 +219,7 @@ loop-again c =
     let next-part = from .before .before in
     let loop = next-part .before in
     let start = loop .before .before .before in
-    L.looping-more (now (start .args .text)) (start .args .at) (start .args .hole) (start .args .curves) (start .args .used) (now (start .args .loops)) (now (start .args .spans)) (loop .loop .loops) (loop .loop .spans) (loop .loop .i) (loop .loop .place) (loop .loop .count) (loop .loop .inv) _ _ (L.part-found (start .args .curves) (now (start .args .text)) (loop .loop .i) (next-part .next-part .result) (next-part .next-part .ensures) (from .from .given .1)) (begins-with .begins-with .result) (from .from .given .0 .1 .1 .0) (put2-u32 .put2-u32 .ensures .0) (put2-u32 .put2-u32 .ensures .1) (not-false _ (if2 .if2 .left)) (toZ w32 (ofZ w32 (from .from .given .0 .0))) (toZ w32 (ofZ w32 (from .from .given .0 .1 .0))) (put2-i32 .put2-i32 .ensures .0) (put2-i32 .put2-i32 .ensures .1) (not-false _ (if3 .if3 .left)) (begins-with .begins-with .ensures) refl (fitted (known-told2 .known-told2 .given .0 .1)) (fitted (known-told2 .known-told2 .given .1 .0 .1))
+    K.looping-more (now (start .args .text)) (start .args .at) (start .args .hole) (start .args .curves) (start .args .used) (now (start .args .loops)) (now (start .args .spans)) (loop .loop .loops) (loop .loop .spans) (loop .loop .i) (loop .loop .place) (loop .loop .count) (loop .loop .inv) _ _ (L.part-found (start .args .curves) (now (start .args .text)) (loop .loop .i) (next-part .next-part .result) (next-part .next-part .ensures) (from .from .given .1)) (begins-with .begins-with .result) (from .from .given .0 .1 .1 .0) (put2-u32 .put2-u32 .ensures .0) (put2-u32 .put2-u32 .ensures .1) (not-false _ (if2 .if2 .left)) (toZ w32 (ofZ w32 (from .from .given .0 .0))) (toZ w32 (ofZ w32 (from .from .given .0 .1 .0))) (put2-i32 .put2-i32 .ensures .0) (put2-i32 .put2-i32 .ensures .1) (not-false _ (if3 .if3 .left)) (begins-with .begins-with .ensures) refl (fitted (known-told2 .known-told2 .given .0 .1)) (fitted (known-told2 .known-told2 .given .1 .0 .1))
 
 pub take-loop-spec : {M : Type 1} → statement M
 take-loop-spec =

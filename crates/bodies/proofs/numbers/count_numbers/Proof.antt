@@ -1,6 +1,5 @@
 -- The loop keeps the numbers and words passed (`Counting`); each word takes bytes off what is left.
 use Prim.Native.Nat.{_-_}
-use mathlib.Core.Path.{_≡_, refl, sym, ap, _∙_}
 use native.Mathlib.Omega.{arith}
 use lib.ListN.{length}
 use denote.Ref.{now}

@@ -1,12 +1,8 @@
 -- No number, or the first with those that follow it.
-use mathlib.Core.Path.{_≡_, refl, sym, ap, _∙_}
-use native.Mathlib.Omega.{arith}
+use mathlib.Core.Path.{sym, ap, _∙_}
 use denote.Ref.{now}
 use borrow.Author.Needs.{needs}
 use Rattle.bodies.proofs.Steps as S
-use mathlib.Core.Bool.{true}
-use mathlib.Core.List.{List}
-use lib.IntN.{ℤ}
 use Rattle.tables.specs.Bodies.{ordered}
 use Rattle.bodies.specs.Types.{basisOf}
 use Rattle.bodies.proofs.Tests.{fitted}

@@ -1,10 +1,8 @@
 -- The gap's three answers; at a word, what it says as a number.
-use mathlib.Core.Path.{_≡_, refl, sym, ap, _∙_}
+use mathlib.Core.Path.{ap}
 use native.Mathlib.Omega.{arith}
 use denote.Ref.{now}
 use Rattle.forms.specs.Answers.{saidNumber}
-use Rattle.forms.specs.declared.number.Number.the-variants as number
-use Rattle.bodies.specs.Numbers.{stepIs}
 use Rattle.bodies.proofs.Tests.{fitted}
 use Rattle.bodies.proofs.Steps as S
 use borrow.Author.Needs.{needs}

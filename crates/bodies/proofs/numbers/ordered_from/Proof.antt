@@ -1,6 +1,6 @@
 -- The loop keeps that the last number, with those that are left, is in order exactly when all are (`Rising`).
 use Prim.Native.Nat.{_-_}
-use mathlib.Core.Path.{_≡_, refl, sym, ap, _∙_}
+use mathlib.Core.Path.{refl}
 use native.Mathlib.Omega.{arith}
 use lib.ListN.{length}
 use denote.Ref.{now}

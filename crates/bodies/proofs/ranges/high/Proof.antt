@@ -1,12 +1,12 @@
 -- A bspline's at knot k; the others' at the last parameter.
-use mathlib.Core.Path.{_≡_, refl, sym, ap, _∙_}
+use mathlib.Core.Path.{_≡_, sym, ap, _∙_}
 use native.Mathlib.Omega.{arith}
 use denote.Ref.{now}
 use borrow.Author.Needs.{needs}
 use Rattle.bodies.specs.Numbers.{numbersAt}
-use Rattle.bodies.proofs.Basis.{low-other, high-other}
+use Rattle.bodies.proofs.Basis.{high-other}
 use Rattle.bodies.proofs.Tests.{fitted}
-use Prim.Native.Nat.{ℕ, _+_, _-_}
+use Prim.Native.Nat.{ℕ, _-_}
 use lib.ListN.{length, getD}
 use lib.IntN.{pos}
 use Rattle.bodies.proofs.ranges.high.Statement.{statement}

@@ -1,5 +1,4 @@
 -- The order, then the range from below, in itself and from above.
-use mathlib.Core.Path.{_≡_, refl, sym, _∙_}
 use borrow.Author.Needs.{needs}
 use mir.Facts.{toZ-ofZ}
 use Rattle.tables.specs.Bodies.{inOrder}

@@ -1,10 +1,9 @@
 -- A bspline's at knot n; the others' at the first parameter.
-use mathlib.Core.Path.{_≡_, refl, sym, ap, _∙_}
-use native.Mathlib.Omega.{arith}
+use mathlib.Core.Path.{sym, _∙_}
 use denote.Ref.{now}
 use borrow.Author.Needs.{needs}
 use Rattle.bodies.specs.Numbers.{numbersAt}
-use Rattle.bodies.proofs.Basis.{low-other, high-other}
+use Rattle.bodies.proofs.Basis.{low-other}
 use Rattle.bodies.proofs.Tests.{fitted}
 use Rattle.bodies.proofs.ranges.low.Statement.{statement}
 use Rattle.bodies.proofs.ranges.low.Tie as tie
