@@ -1,18 +1,17 @@
 // The refusal of a line that was given up, found by walking 01's order; once a file.
 mod rules; // what each statement asks of its words
 mod word; // what is wrong with a word
+mod walk; // the first word at fault
+mod held; // what is held against a line whose words have their forms
 
+use crate::held::held_fault;
 use crate::rules::Forms;
 use crate::rules::Held;
-use crate::rules::WordForm;
 use crate::rules::allowed;
 use crate::rules::counted;
-use crate::rules::form_at;
 use crate::rules::rules_of;
-use crate::word::Heard;
+use crate::walk::first_fault;
 use crate::word::Seen;
-use crate::word::word_fault;
-use forms::corner::CornerWord;
 use keywords::Argument;
 use keywords::Statement;
 use state::Form;
@@ -20,247 +19,18 @@ use state::State;
 use text::Met;
 use text::Scan;
 ghost use mathlib.Core.Path.{_≡_};
-ghost use mathlib.Core.List.{_∷_};
 ghost use Prim.Native.Nat.{_≤_};
-ghost use lib.ListN.{length, drop};
-ghost use Rattle.text.specs.Rest.{restAt, wordAt, endOf};
+ghost use lib.ListN.{length};
+ghost use Rattle.text.specs.Rest.{restAt};
 ghost use Rattle.keywords.specs.Keywords.{keywordTable};
 ghost use Rattle.keywords.specs.Arguments.{argumentTable};
 ghost use Rattle.model.specs.Parse.{isV, directionOf, saysV};
-ghost use Rattle.blame.specs.Faults.{seenBy, faultIn, patternFault, inForceBy, bodyFault, heldFault, wordsFault, lineFault, unknownBy, statementFault};
+ghost use Rattle.blame.specs.Faults.{seenBy, wordsFault, lineFault, unknownBy, statementFault};
 ghost use Rattle.blame.specs.Blame.{BlameIs};
 
 pub enum Refusal {
     Refused { number: u32, place: usize },
     Nothing,
-}
-
-// The first word from `at` on that is not of its form, the forms being those of a line of `words` words.
-fn first_fault(
-    text: &[u8],
-    at: usize,
-    forms: Forms,
-    words: usize,
-    seen: Seen,
-    vp: &[i32],
-    argument_table: &[u8; 108],
-) -> Refusal
-    requires { ⌜ at ≤ length (now text) ⌝ }
-    requires { ⌜ now «argument_table» ≡ argumentTable ⌝ }
-    ensures { λ r. ⌜ r ≡ faultIn (seenBy seen) (now (vp .entry)) forms words 0 ((restAt (now (text .entry)) at) .words) ⌝ }
-{
-    let mut i = at;
-    let mut index: usize = 0;
-    loop {
-        match text::gap(text, i) {
-            Met::Start(p) => {
-                let form = form_at(forms, words, index);
-                match word_fault(text, p, form, seen, vp, argument_table) {
-                    Heard::Wrong(number) => {
-                        return Refusal::Refused {
-                            number: number,
-                            place: p,
-                        };
-                    }
-                    Heard::Well => {
-                        i = text::word_end(text, p);
-                        index += 1;
-                    }
-                }
-            }
-            Met::End(_) => {
-                return Refusal::Nothing;
-            }
-            Met::Bad(_) => {
-                return Refusal::Nothing;
-            }
-        }
-    }
-}
-
-// The place after the first `count` words, where the line has so many.
-fn skip(text: &[u8], at: usize, count: usize) -> usize
-    requires { ⌜ at ≤ length (now text) ⌝ }
-    ensures { λ r. ⌜ (r ≤ length (now (text .entry))) × ((restAt (now (text .entry)) r) .words ≡ drop count ((restAt (now (text .entry)) at) .words)) ⌝ }
-{
-    let mut i = at;
-    let mut left = count;
-    while 0 < left {
-        match text::gap(text, i) {
-            Met::Start(p) => {
-                i = text::word_end(text, p);
-                left -= 1;
-            }
-            Met::End(_) => {
-                return i;
-            }
-            Met::Bad(_) => {
-                return i;
-            }
-        }
-    }
-    i
-}
-
-// 9, of the corners after the first, which is the word at `at`.
-fn pattern_from(
-    text: &[u8],
-    at: usize,
-    texture: bool,
-    normal: bool,
-    seen: Seen,
-    vp: &[i32],
-    argument_table: &[u8; 108],
-) -> Refusal
-    requires { ⌜ at ≤ length (now text) ⌝ }
-    requires { ⌜ endOf (now text) at ≤ length (now text) ⌝ }
-    requires { ⌜ now «argument_table» ≡ argumentTable ⌝ }
-    ensures { λ r. ⌜ r ≡ patternFault (seenBy seen) (now (vp .entry)) texture normal (wordAt (now (text .entry)) at ∷ (restAt (now (text .entry)) (endOf (now (text .entry)) at)) .words) ⌝ }
-{
-    match forms::corner::corner_at(text, at, seen.v, seen.vt, seen.vn, texture, normal) {
-        CornerWord::Of { v: _, vt, vn, end } => first_fault(
-            text,
-            end,
-            Forms::All(WordForm::Alike {
-                texture: texture,
-                normal: normal,
-                bare: vt == 0,
-                flat: vn == 0,
-            }),
-            0,
-            seen,
-            vp,
-            argument_table,
-        ),
-        CornerWord::Malformed => Refusal::Nothing,
-        CornerWord::Missing => Refusal::Nothing,
-    }
-}
-
-// 9, of the corners from `at` on.
-fn pattern_fault(
-    text: &[u8],
-    at: usize,
-    texture: bool,
-    normal: bool,
-    seen: Seen,
-    vp: &[i32],
-    argument_table: &[u8; 108],
-) -> Refusal
-    requires { ⌜ at ≤ length (now text) ⌝ }
-    requires { ⌜ now «argument_table» ≡ argumentTable ⌝ }
-    ensures { λ r. ⌜ r ≡ patternFault (seenBy seen) (now (vp .entry)) texture normal ((restAt (now (text .entry)) at) .words) ⌝ }
-{
-    match text::gap(text, at) {
-        Met::Start(p) => pattern_from(text, p, texture, normal, seen, vp, argument_table),
-        Met::End(_) => Refusal::Nothing,
-        Met::Bad(_) => Refusal::Nothing,
-    }
-}
-
-// Whether a type is set and the degrees that it needs; 01: "Cardinal needs no deg".
-fn in_force(surface: bool, form: Form) -> bool
-    ensures { λ r. ⌜ r ≡ inForceBy surface form ⌝ }
-{
-    if form.basis == 0 {
-        return false;
-    }
-    if form.basis == 3 {
-        return true;
-    }
-    if surface {
-        if form.degree_u == 0 {
-            return false;
-        }
-        return 1 <= form.degree_v;
-    }
-    1 <= form.degree_u
-}
-
-// 9 and 11 of a curv or surf line, its controls from `at` on.
-fn body_fault(
-    text: &[u8],
-    key: usize,
-    at: usize,
-    surface: bool,
-    form: Form,
-    seen: Seen,
-    vp: &[i32],
-    argument_table: &[u8; 108],
-) -> Refusal
-    requires { ⌜ at ≤ length (now text) ⌝ }
-    requires { ⌜ now «argument_table» ≡ argumentTable ⌝ }
-    ensures { λ r. ⌜ r ≡ bodyFault (seenBy seen) (now (vp .entry)) form key surface ((restAt (now (text .entry)) at) .words) ⌝ }
-{
-    match pattern_fault(text, at, surface, surface, seen, vp, argument_table) {
-        Refusal::Refused { number, place } => Refusal::Refused {
-            number: number,
-            place: place,
-        },
-        Refusal::Nothing => {
-            if in_force(surface, form) {
-                return Refusal::Nothing;
-            }
-            Refusal::Refused {
-                number: 11,
-                place: key,
-            }
-        }
-    }
-}
-
-// 9, 11 and 12 of a line whose words have their forms.
-fn held_fault(
-    text: &[u8],
-    key: usize,
-    at: usize,
-    held: Held,
-    form: Form,
-    seen: Seen,
-    vp: &[i32],
-    argument_table: &[u8; 108],
-) -> Refusal
-    requires { ⌜ at ≤ length (now text) ⌝ }
-    requires { ⌜ now «argument_table» ≡ argumentTable ⌝ }
-    ensures { λ r. ⌜ r ≡ heldFault (seenBy seen) (now (vp .entry)) form key held ((restAt (now (text .entry)) at) .words) ⌝ }
-{
-    match held {
-        Held::Nothing => Refusal::Nothing,
-        Held::Corners { texture, normal } => pattern_fault(
-            text,
-            at,
-            texture,
-            normal,
-            seen,
-            vp,
-            argument_table,
-        ),
-        Held::Curve => {
-            let controls = skip(text, at, 2);
-            body_fault(text, key, controls, false, form, seen, vp, argument_table)
-        }
-        Held::Surface => {
-            let controls = skip(text, at, 4);
-            body_fault(text, key, controls, true, form, seen, vp, argument_table)
-        }
-        Held::Curve2 => {
-            if in_force(false, form) {
-                return first_fault(
-                    text,
-                    at,
-                    Forms::All(WordForm::Wide),
-                    0,
-                    seen,
-                    vp,
-                    argument_table,
-                );
-            }
-            Refusal::Refused {
-                number: 11,
-                place: key,
-            }
-        }
-    }
 }
 
 // The words of a line from the left, and then what is held against the line.

@@ -9,8 +9,8 @@ use Rattle.blame.specs.declared.rules.WordForm.the-variants.{Wide}
 use mathlib.Core.Bool.{true, false}
 use Rattle.blame.proofs.Steps as S
 use borrow.Author.Needs.{needs}
-use Rattle.blame.proofs.held_fault.Statement.{statement}
-use Rattle.blame.proofs.held_fault.Tie as tie
+use Rattle.blame.proofs.held.held_fault.Statement.{statement}
+use Rattle.blame.proofs.held.held_fault.Tie as tie
 
 enum-told : tie.Need-enum-told
 enum-told c = search needs

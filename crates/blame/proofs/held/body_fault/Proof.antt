@@ -6,8 +6,8 @@ use Rattle.blame.specs.Faults.{inForceBy, owed}
 use Rattle.blame.specs.declared.Refusal.the-variants.{Nothing}
 use Rattle.blame.proofs.Steps as S
 use borrow.Author.Needs.{needs}
-use Rattle.blame.proofs.body_fault.Statement.{statement}
-use Rattle.blame.proofs.body_fault.Tie as tie
+use Rattle.blame.proofs.held.body_fault.Statement.{statement}
+use Rattle.blame.proofs.held.body_fault.Tie as tie
 
 pattern-fault-requires : tie.Need-pattern-fault-requires
 pattern-fault-requires c κs = search needs

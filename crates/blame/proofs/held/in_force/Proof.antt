@@ -3,8 +3,8 @@ use mathlib.Core.Path.{_≡_, refl, sym, ap, _∙_}
 use Prim.Native.Nat.{_<_}
 use borrow.Author.Tests.{eq-eqb, ne-eqb, le-leb, lt-leb}
 use native.Mathlib.Omega.{arith}
-use Rattle.blame.proofs.in_force.Statement.{statement}
-use Rattle.blame.proofs.in_force.Tie as tie
+use Rattle.blame.proofs.held.in_force.Statement.{statement}
+use Rattle.blame.proofs.held.in_force.Tie as tie
 
 returns : tie.Need-returns
 returns c = let f = c .before .before .args .form in rw (eq-eqb (f .basis) 0 (c .if1 .taken)) refl

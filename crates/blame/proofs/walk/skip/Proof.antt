@@ -7,8 +7,8 @@ use native.Mathlib.Omega.{arith}
 use denote.Ref.{now}
 use Rattle.text.proofs.Found as F
 use Rattle.blame.proofs.Walks as W
-use Rattle.blame.proofs.skip.Statement.{statement}
-use Rattle.blame.proofs.skip.Tie as tie
+use Rattle.blame.proofs.walk.skip.Statement.{statement}
+use Rattle.blame.proofs.walk.skip.Tie as tie
 
 abbrev Inv-loop : tie.InvT-loop
 Inv-loop text at count i₀ left₀ i left = W.Skipping text at count i left

@@ -10,8 +10,8 @@ use Rattle.blame.proofs.Walks as W
 use Rattle.text.specs.Rest.{wordAt}
 use Rattle.blame.proofs.Words.{by-form}
 use Rattle.blame.specs.Faults.{seenBy}
-use Rattle.blame.proofs.first_fault.Statement.{statement}
-use Rattle.blame.proofs.first_fault.Tie as tie
+use Rattle.blame.proofs.walk.first_fault.Statement.{statement}
+use Rattle.blame.proofs.walk.first_fault.Tie as tie
 
 abbrev Inv-loop : tie.InvT-loop
 Inv-loop text at forms words seen vp argument-table i₀ index₀ i index = W.Faulting (seenBy seen) vp forms words text at i index

@@ -7,8 +7,8 @@ use Rattle.blame.specs.Faults.{patternFault}
 use Rattle.text.proofs.Found as F
 use Rattle.blame.proofs.Walks as W
 use borrow.Author.Needs.{needs}
-use Rattle.blame.proofs.pattern_fault.Statement.{statement}
-use Rattle.blame.proofs.pattern_fault.Tie as tie
+use Rattle.blame.proofs.held.pattern_fault.Statement.{statement}
+use Rattle.blame.proofs.held.pattern_fault.Tie as tie
 
 gap-requires : tie.Need-gap-requires
 gap-requires c κs = search needs

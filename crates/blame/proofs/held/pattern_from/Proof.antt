@@ -5,8 +5,8 @@ use denote.Ref.{now}
 use Rattle.blame.specs.Faults.{seenBy}
 use Rattle.blame.proofs.Steps as S
 use borrow.Author.Needs.{needs}
-use Rattle.blame.proofs.pattern_from.Statement.{statement}
-use Rattle.blame.proofs.pattern_from.Tie as tie
+use Rattle.blame.proofs.held.pattern_from.Statement.{statement}
+use Rattle.blame.proofs.held.pattern_from.Tie as tie
 
 corner-at-requires : tie.Need-corner-at-requires
 corner-at-requires c κs = search needs
