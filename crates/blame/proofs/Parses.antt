@@ -1,0 +1,159 @@
+-- A line's fault in the code's numbers is the parser's refusal: by the statement, each row of the rules held against the parser's own words.
+use Prim.Native.Nat.{ℕ, zero, suc, _+_, _-_, _*_, _%_, _≤_, _<_}
+use mathlib.Core.Path.{_≡_, refl, sym, ap, _∙_}
+use mathlib.Core.List.{List, [], _∷_}
+use mathlib.Core.Bool.{Bool, true, false, cond, _&&_, _||_, not}
+use mathlib.Core.Option.{Option, none, some}
+use lib.ListN.{length, drop, getD}
+use lib.Dec.{leb, ltb, eqb}
+use lib.IntN.{ℤ, pos, natAbs}
+use native.Mathlib.Omega.{arith}
+use borrow.Author.Tests.{ne-eqb, leb-true, le-ltb, lt-ltb}
+use Rattle.lists.proofs.Tests.{and-left, and-right, test}
+use mathlib.Core.Logic.{⊎-elim}
+use Rattle.text.specs.Words.{Word}
+use Rattle.forms.specs.Said.{Said, says, wrong}
+use Rattle.forms.specs.Said as said
+use Rattle.forms.specs.Digits.{natOf, negative, unminus}
+use Rattle.forms.specs.Reference.{isReference, item, refer, referenceOf}
+use Rattle.keywords.specs.declared.Statement.{Statement}
+use Rattle.keywords.specs.declared.Statement.the-variants.{Vertex, TextureVertex, VertexNormal, ParameterVertex, BodyType, Degree, Point, Line, Face, Curve, Curve2, Surface, Parameters, Trim, Hole, End, Group, Smoothing, Material, PassedOver, Refused as Unrecorded, Unknown}
+use Rattle.tables.specs.Bodies.{Basis, bezier, bspline, cardinal, taylor}
+use Rattle.model.specs.Model as model
+use Rattle.model.specs.Model.{geometric, texture, normal, parametric, point, line, face, Free, curve, curve2, surface}
+use Rattle.model.specs.Statements as statements
+use Rattle.model.specs.Parse as parse
+use Rattle.model.specs.Parse.{Parsed, fine, fault, then, must, unless, Keyword, a-vertex, an-element, a-body, parm, trim, hole, ends, cstype, deg, g, s, usemtl, over, valuesOf, Value}
+use Rattle.model.specs.Read.{keywordOf}
+use Rattle.state.specs.State.{formIn, noOpen, openIs, OpenIs}
+use Rattle.state.specs.declared.Open.{Open}
+use Rattle.blame.specs.declared.rules.WordForm.{WordForm}
+use Rattle.blame.specs.declared.rules.WordForm.the-variants as form
+use Rattle.blame.specs.declared.rules.Rules.{Rules}
+use Rattle.blame.specs.declared.Refusal.{Refusal}
+use Rattle.blame.specs.declared.Refusal.the-variants.{Refused, Nothing}
+use Rattle.blame.specs.Rules.{formBy, allowedBy, countedBy, rulesOf}
+use Rattle.blame.specs.Faults.{heard, onHeard, saidBy, givenBy, faultIn, inForceBy, owed, orElse, bodyFault, heldFault, lineBy, lineFault, unknownBy, knownFault}
+use Rattle.blame.specs.Blame.{blameOf, checkedBefore, parseBefore, GivenIn}
+use Rattle.blame.proofs.Values.{blameAt, skip-values, pattern-walk, bare-unlike, narrow-walk}
+
+-- ---- the parser's steps, each as a refusal
+pub must-blame : (b : Bool) (n p : ℕ) {q : Refusal} (r : Parsed statements.Statement) → q ≡ blameOf r → owed b n p q ≡ blameOf (must b n p r)
+must-blame true n p r h = h
+must-blame false n p r h = refl
+
+pub then-blame : (v : Parsed (List Value)) (u : List Value → Parsed statements.Statement) (h : Refusal) → ((xs : List Value) → v ≡ fine xs → h ≡ blameOf (u xs)) → orElse (blameOf v) h ≡ blameOf (then v u)
+then-blame (fine xs) u h k = k xs refl
+then-blame (fault n p) u h k = refl
+
+pub unless-blame : (o : Option ℕ) (n : ℕ) {q : Refusal} (r : Parsed statements.Statement) → q ≡ blameOf r → orElse (blameAt n o) q ≡ blameOf (unless o n r)
+unless-blame none n r h = h
+unless-blame (some p) n r h = refl
+
+pub last-blame : (o : Option ℕ) (n : ℕ) (t : statements.Statement) → blameAt n o ≡ blameOf (unless o n (fine t))
+last-blame none n t = refl
+last-blame (some p) n t = refl
+
+-- ---- the words
+module _ (n : parse.Seen) (t : List ℤ) where
+  cons-blame : (y : Said Value) (v : Parsed (List Value)) (p : ℕ) → onHeard (heard y) p (blameOf v) ≡ blameOf (then (parse.placed y p) (λ x. then v (λ xs. fine (x ∷ xs))))
+  cons-blame (says x) (fine xs) p = refl
+  cons-blame (says x) (fault m q) p = refl
+  cons-blame (wrong m) v p = refl
+
+  pub words-blame : (r : Rules) (f : ℕ → parse.WordForm) (m : ℕ) → ((i : ℕ) (w : Word) → saidBy n t (formBy (r .forms) m i) w ≡ parse.saidOf n (f i) w)
+      → (i : ℕ) (ws : List Word) → faultIn n t (r .forms) m i ws ≡ blameOf (valuesOf n f i ws)
+  words-blame r f m h i [] = refl
+  words-blame r f m h i (w ∷ ws) =
+      ap (λ (y : Said Value). onHeard (heard y) (w .place) (faultIn n t (r .forms) m (suc i) ws)) (h i w)
+      ∙ ap (onHeard (heard (parse.saidOf n (f i) w)) (w .place)) (words-blame r f m h (suc i) ws)
+      ∙ cons-blame (parse.saidOf n (f i) w) (valuesOf n f (suc i) ws) (w .place)
+
+  pub by-cond : (b : Bool) (x y : WordForm) (x′ y′ : parse.WordForm) (w : Word) → saidBy n t x w ≡ parse.saidOf n x′ w → saidBy n t y w ≡ parse.saidOf n y′ w → saidBy n t (cond b x y) w ≡ parse.saidOf n (cond b x′ y′) w
+  by-cond true x y x′ y′ w h k = h
+  by-cond false x y x′ y′ w h k = k
+
+-- ---- where a statement may stand
+module _ (text : List ℕ) where
+  pub outside-is : (o : Option model.Open) (c : Open) → openIs text o c → eqb (c .kind) 0 ≡ parse.outside o
+  outside-is none c h = rw h refl
+  outside-is (some o) c h = rw (h .kind) (by (o .body .free))
+    where
+      by : (k : Free) → eqb (Rattle.model.specs.Layout.freeNumber k) 0 ≡ false
+      by curve = refl
+      by curve2 = refl
+      by surface = refl
+
+  pub inside-is : (o : Option model.Open) (c : Open) (f : Free → Bool) (b : ℕ → Bool) → b 0 ≡ false → ((k : Free) → b (Rattle.model.specs.Layout.freeNumber k) ≡ f k) → openIs text o c → b (c .kind) ≡ parse.inBody o f
+  inside-is none c f b z k h = ap (λ (y : Open). b (y .kind)) h ∙ z
+  inside-is (some o) c f b z k h = ap b (h .kind) ∙ k (o .body .free)
+
+pub body-kind : (k : Free) → not (eqb (Rattle.model.specs.Layout.freeNumber k) 0) ≡ true
+body-kind curve = refl
+body-kind curve2 = refl
+body-kind surface = refl
+
+pub surface-kind : (k : Free) → eqb (Rattle.model.specs.Layout.freeNumber k) 6 ≡ parse.isSurface k
+surface-kind curve = refl
+surface-kind curve2 = refl
+surface-kind surface = refl
+
+pub parm-kind : (v : Bool) (k : Free) → (not (eqb (Rattle.model.specs.Layout.freeNumber k) 0) && (eqb (Rattle.model.specs.Layout.freeNumber k) 6 || not v)) ≡ (parse.isSurface k || not v)
+parm-kind v curve = refl
+parm-kind v curve2 = refl
+parm-kind v surface = refl
+
+-- ---- 11
+pub curve-force : (f : model.Form) (o : Option Basis) → o ≡ f .basis → inForceBy false (formIn f) ≡ parse.inForce curve f (f .basis)
+curve-force f none e = rw (← e) refl
+curve-force f (some bezier) e = rw (← e) refl
+curve-force f (some bspline) e = rw (← e) refl
+curve-force f (some cardinal) e = rw (← e) refl
+curve-force f (some taylor) e = rw (← e) refl
+
+pub curve2-force : (f : model.Form) (o : Option Basis) → o ≡ f .basis → inForceBy false (formIn f) ≡ parse.inForce curve2 f (f .basis)
+curve2-force f none e = rw (← e) refl
+curve2-force f (some bezier) e = rw (← e) refl
+curve2-force f (some bspline) e = rw (← e) refl
+curve2-force f (some cardinal) e = rw (← e) refl
+curve2-force f (some taylor) e = rw (← e) refl
+
+pub surface-force : (f : model.Form) (o : Option Basis) → o ≡ f .basis → inForceBy true (formIn f) ≡ parse.inForce surface f (f .basis)
+surface-force f none e = rw (← e) refl
+surface-force f (some bezier) e = rw (← e) refl
+surface-force f (some bspline) e = rw (← e) refl
+surface-force f (some cardinal) e = rw (← e) refl
+surface-force f (some taylor) e = rw (← e) refl
+
+-- ---- 12: a reference is one of what there are
+item-within : (back : Bool) (count k : ℕ) → item back count k ≤ count
+item-within back count k = by (leb 1 k && leb k count) refl back
+  where
+    by : (b : Bool) → b ≡ (leb 1 k && leb k count) → (r : Bool) → cond b (cond r (count + 1 - k) k) 0 ≤ count
+    by true e true = let l = leb-true 1 k (and-left (leb 1 k) (leb k count) (sym e)) in omega arith
+    by true e false = leb-true k count (and-right (leb 1 k) (leb k count) (sym e))
+    by false e r = omega arith
+
+must-says : (a b : Bool) (r k : ℕ) → said.must a 6 (said.must b 8 (says r)) ≡ says k → (b ≡ true) × (r ≡ k)
+must-says true true r k e = (refl, cc)
+must-says true false r k e = absurd (let z : _≡_ {A = ℕ} 0 1 = cc in omega arith)
+must-says false b r k e = absurd (let z : _≡_ {A = ℕ} 0 1 = cc in omega arith)
+
+reference-within : (count : ℕ) (w : List ℕ) (k : ℕ) → referenceOf count w ≡ says k → (1 ≤ k) × (k ≤ count)
+unfolding referenceOf refer
+reference-within count w k e =
+    let r = item (negative w) count (natOf 0 (unminus w)) in
+    let h = must-says (isReference w) (leb 1 r) r k e in
+    let a = leb-true 1 r (h .0) in
+    let b = item-within (negative w) count (natOf 0 (unminus w)) in
+    let d : r ≡ k = h .1 in
+    (omega arith, omega arith)
+
+pub given-same : (t : List ℤ) (vps : List (List ℤ)) (count : ℕ) → count ≡ length vps → GivenIn vps t → (k : ℕ) (w : List ℕ) → referenceOf count w ≡ says k → givenBy t k ≡ leb 2 (parse.given vps k)
+given-same t vps count c h k w e =
+    let b = reference-within count w k e in
+    let x = b .0 in
+    let y = b .1 in
+    let z : k ≡ 0 → ⊥ = λ q. omega arith in
+    let l : k - 1 < length vps = omega arith in
+    rw (ne-eqb k 0 z) (ap (λ (q : ℤ). leb 2 (natAbs q)) (h (k - 1) l))

@@ -1,0 +1,90 @@
+-- 2, and then the line; its fault is the parser's (`statement-blame`).
+use mathlib.Core.Path.{_≡_, refl, sym, ap, _∙_}
+use native.Mathlib.Omega.{arith}
+use denote.Ref.{now}
+use Rattle.text.proofs.Found as F
+use Rattle.blame.proofs.Walks as W
+use Rattle.blame.proofs.Lines as L
+use borrow.Author.Needs.{needs}
+use Rattle.blame.proofs.blame.Statement.{statement}
+use Rattle.blame.proofs.blame.Tie as tie
+
+scan-line-requires : tie.Need-scan-line-requires
+scan-line-requires c κs = search needs
+
+enum-known-p : tie.Need-enum-known-p
+enum-known-p c = search needs
+
+enum-known-count : tie.Need-enum-known-count
+enum-known-count c = search needs
+
+gap-requires : tie.Need-gap-requires
+gap-requires c κs = search needs
+
+enum-known-p-2 : tie.Need-enum-known-p-2
+enum-known-p-2 c = search needs
+
+sub-statement-fault : tie.Need-sub-statement-fault
+sub-statement-fault c =
+    let start = c .before .before .before .before .before .before .before .before .before .before .before .before in
+    let a = start .args in
+    let words = W.start-words (now (a .text)) (a .at) _ (c .before .before .before .gap .ensures) (c .before .p2 .given .1) in
+    L.some-word (now (a .text)) (a .at) _ (c .before .before .before .before .before .before .before .scan-line .ensures) (c .before .before .before .before .before .count .given .1) words
+
+statement-fault-requires : tie.Need-statement-fault-requires
+statement-fault-requires c κs =
+    let start = c .before .before .before .before .before .before .before .before .before .before .before .before in
+    let a = start .args in
+    let met = F.word-found (now (a .text)) (a .at) _ (c .before .before .before .gap .ensures) (c .before .p2 .given .1) in
+    let more = met .more in
+    let to = met .to in
+    (omega arith, (start .pre .1 .0, start .pre .1 .1))
+
+enum-told : tie.Need-enum-told
+enum-told c = search needs
+
+enum-told-2 : tie.Need-enum-told-2
+enum-told-2 c = search needs
+
+returns : tie.Need-returns
+returns c =
+    λ x is held.
+    let a = c .before .before .before .before .before .before .before .before .args in
+    L.blame-bad (now (a .text)) (a .at) _ (c .before .before .before .scan-line .ensures) x (c .before .p .given .1)
+
+returns-2 : tie.Need-returns-2
+returns-2 c =
+    λ x is held.
+    let a = c .before .before .before .before .before .before .before .before .before .before .before .before .before .args in
+    let words = W.start-words (now (a .text)) (a .at) _ (c .before .before .before .before .gap .ensures) (c .before .before .p2 .given .1) in
+    L.blame-line (now (a .text)) (a .at) _ (c .before .before .before .before .before .before .before .before .scan-line .ensures) (c .before .before .before .before .before .before .count .given .1) (a .state) (now (a .vp)) (c .before .before .p2 .given .0 .0) x is held words (c .statement-fault .ensures)
+
+returns-3 : tie.Need-returns-3
+returns-3 c =
+    λ x is held.
+    let a = c .before .before .before .before .before .before .before .before .before .before .before .args in
+    L.blame-none (now (a .text)) (a .at) _ (c .before .before .before .before .before .before .scan-line .ensures) (c .before .before .before .before .count .given .1) x (W.end-words (now (a .text)) (a .at) _ (c .before .before .gap .ensures) (c .enum-told .given .1))
+
+returns-4 : tie.Need-returns-4
+returns-4 c =
+    λ x is held.
+    let a = c .before .before .before .before .before .before .before .before .before .before .before .args in
+    L.blame-none (now (a .text)) (a .at) _ (c .before .before .before .before .before .before .scan-line .ensures) (c .before .before .before .before .count .given .1) x (W.bad-words (now (a .text)) (a .at) _ (c .before .before .gap .ensures) (c .enum-told2 .given .1))
+
+pub blame-spec : {M : Type 1} → statement M
+blame-spec =
+    tie.close
+    (tie.spec
+    scan-line-requires
+    enum-known-p
+    enum-known-count
+    gap-requires
+    enum-known-p-2
+    sub-statement-fault
+    statement-fault-requires
+    enum-told
+    enum-told-2
+    returns
+    returns-2
+    returns-3
+    returns-4)

@@ -1,0 +1,260 @@
+// The refusal of a line that was given up, found by walking 01's order; once a file.
+mod rules; // what each statement asks of its words
+mod word; // what is wrong with a word
+mod walk; // the first word at fault
+mod held; // what is held against a line whose words have their forms
+
+use crate::held::held_fault;
+use crate::rules::Forms;
+use crate::rules::Held;
+use crate::rules::allowed;
+use crate::rules::counted;
+use crate::rules::rules_of;
+use crate::walk::first_fault;
+use crate::word::Seen;
+use keywords::Argument;
+use keywords::Statement;
+use state::Form;
+use state::State;
+use text::Met;
+use text::Scan;
+ghost use mathlib.Core.Path.{_≡_};
+ghost use Prim.Native.Nat.{_≤_};
+ghost use lib.ListN.{length};
+ghost use Rattle.text.specs.Rest.{restAt};
+ghost use Rattle.keywords.specs.Keywords.{keywordTable};
+ghost use Rattle.keywords.specs.Arguments.{argumentTable};
+ghost use Rattle.model.specs.Parse.{isV, directionOf, saysV};
+ghost use Rattle.blame.specs.Faults.{seenBy, wordsFault, lineFault, unknownBy, statementFault};
+ghost use Rattle.blame.specs.Blame.{BlameIs};
+
+pub enum Refusal {
+    Refused { number: u32, place: usize },
+    Nothing,
+}
+
+// The words of a line from the left, and then what is held against the line.
+fn words_fault(
+    text: &[u8],
+    key: usize,
+    at: usize,
+    forms: Forms,
+    held: Held,
+    words: usize,
+    form: Form,
+    seen: Seen,
+    vp: &[i32],
+    argument_table: &[u8; 108],
+) -> Refusal
+    requires { ⌜ at ≤ length (now text) ⌝ }
+    requires { ⌜ now «argument_table» ≡ argumentTable ⌝ }
+    ensures { λ r. ⌜ r ≡ wordsFault (seenBy seen) (now (vp .entry)) form key forms held words ((restAt (now (text .entry)) at) .words) ⌝ }
+{
+    match first_fault(text, at, forms, words, seen, vp, argument_table) {
+        Refusal::Refused { number, place } => Refusal::Refused {
+            number: number,
+            place: place,
+        },
+        Refusal::Nothing => held_fault(text, key, at, held, form, seen, vp, argument_table),
+    }
+}
+
+fn is_v(argument: Argument) -> bool
+    ensures { λ r. ⌜ r ≡ isV (directionOf argument) ⌝ }
+{
+    match argument {
+        Argument::Rational => false,
+        Argument::BasisMatrix => false,
+        Argument::Bezier => false,
+        Argument::Bspline => false,
+        Argument::Cardinal => false,
+        Argument::Taylor => false,
+        Argument::DirectionU => false,
+        Argument::DirectionV => true,
+        Argument::Off => false,
+        Argument::Other => false,
+    }
+}
+
+// Whether the line's words from `at` on begin with a parm's direction v.
+fn says_v(text: &[u8], at: usize, argument_table: &[u8; 108]) -> bool
+    requires { ⌜ at ≤ length (now text) ⌝ }
+    requires { ⌜ now «argument_table» ≡ argumentTable ⌝ }
+    ensures { λ r. ⌜ r ≡ saysV ((restAt (now (text .entry)) at) .words) ⌝ }
+{
+    match text::gap(text, at) {
+        Met::Start(p) => {
+            let argument = keywords::argument_at(text, p, argument_table);
+            is_v(argument)
+        }
+        Met::End(_) => false,
+        Met::Bad(_) => false,
+    }
+}
+
+// The refusal of a known statement's line, `at` just after its keyword: 10, 5, and then its words.
+fn line_fault(
+    text: &[u8],
+    key: usize,
+    at: usize,
+    words: usize,
+    statement: Statement,
+    kind: u32,
+    form: Form,
+    seen: Seen,
+    vp: &[i32],
+    argument_table: &[u8; 108],
+) -> Refusal
+    requires { ⌜ at ≤ length (now text) ⌝ }
+    requires { ⌜ now «argument_table» ≡ argumentTable ⌝ }
+    ensures { λ r. ⌜ r ≡ lineFault (seenBy seen) (now (vp .entry)) form kind key statement words ((restAt (now (text .entry)) at) .words) ⌝ }
+{
+    let rules = rules_of(statement);
+    let standing = rules.standing;
+    let count = rules.count;
+    let forms = rules.forms;
+    let held = rules.held;
+    let v = says_v(text, at, argument_table);
+    if allowed(standing, kind, v) {
+        if counted(count, words) {
+            return words_fault(
+                text,
+                key,
+                at,
+                forms,
+                held,
+                words,
+                form,
+                seen,
+                vp,
+                argument_table,
+            );
+        }
+        return Refusal::Refused {
+            number: 5,
+            place: key,
+        };
+    }
+    Refusal::Refused {
+        number: 10,
+        place: key,
+    }
+}
+
+// 3 and 4; 0 for a statement that is known and not refused.
+fn unknown(statement: Statement) -> u32
+    ensures { λ r. ⌜ r ≡ unknownBy statement ⌝ }
+{
+    match statement {
+        Statement::Vertex => 0,
+        Statement::TextureVertex => 0,
+        Statement::VertexNormal => 0,
+        Statement::ParameterVertex => 0,
+        Statement::BodyType => 0,
+        Statement::Degree => 0,
+        Statement::Point => 0,
+        Statement::Line => 0,
+        Statement::Face => 0,
+        Statement::Curve => 0,
+        Statement::Curve2 => 0,
+        Statement::Surface => 0,
+        Statement::Parameters => 0,
+        Statement::Trim => 0,
+        Statement::Hole => 0,
+        Statement::End => 0,
+        Statement::Group => 0,
+        Statement::Smoothing => 0,
+        Statement::Material => 0,
+        Statement::PassedOver => 0,
+        Statement::Refused => 4,
+        Statement::Unknown => 3,
+    }
+}
+
+// The refusal of the line whose keyword is the word at `key` and has `words` words after it.
+fn statement_fault(
+    text: &[u8],
+    key: usize,
+    words: usize,
+    kind: u32,
+    form: Form,
+    seen: Seen,
+    vp: &[i32],
+    keyword_table: &[u8; 528],
+    argument_table: &[u8; 108],
+) -> Refusal
+    requires { ⌜ key ≤ length (now text) ⌝ }
+    requires { ⌜ now «keyword_table» ≡ keywordTable ⌝ }
+    requires { ⌜ now «argument_table» ≡ argumentTable ⌝ }
+    ensures { λ r. ⌜ r ≡ statementFault (seenBy seen) (now (vp .entry)) form kind (now (text .entry)) key words ⌝ }
+{
+    let keyword = keywords::keyword_at(text, key, keyword_table);
+    let statement = keyword.statement;
+    let number = unknown(statement);
+    if number == 0 {
+        let at = text::word_end(text, key);
+        return line_fault(
+            text,
+            key,
+            at,
+            words,
+            statement,
+            kind,
+            form,
+            seen,
+            vp,
+            argument_table,
+        );
+    }
+    Refusal::Refused {
+        number: number,
+        place: key,
+    }
+}
+
+// The refusal of the line that starts at `at`, but for 14 and what `end` finds in its body.
+pub fn blame(
+    text: &[u8],
+    at: usize,
+    state: State,
+    vp: &[i32],
+    keyword_table: &[u8; 528],
+    argument_table: &[u8; 108],
+) -> Refusal
+    requires { ⌜ at ≤ length (now text) ⌝ }
+    requires { ⌜ now «keyword_table» ≡ keywordTable ⌝ }
+    requires { ⌜ now «argument_table» ≡ argumentTable ⌝ }
+    ensures { λ r. ⌜ BlameIs (now (text .entry)) at state (now (vp .entry)) r ⌝ }
+{
+    let used = state.used;
+    let open = state.open;
+    let form = state.form;
+    let seen = Seen {
+        v: used.v,
+        vt: used.vt,
+        vn: used.vn,
+        vp: used.vp,
+        curves: state.curves,
+    };
+    match text::scan_line(text, at) {
+        Scan::Bad(p) => Refusal::Refused {
+            number: 2,
+            place: p,
+        },
+        Scan::Good { count, next: _ } => match text::gap(text, at) {
+            Met::Start(p) => statement_fault(
+                text,
+                p,
+                count - 1,
+                open.kind,
+                form,
+                seen,
+                vp,
+                keyword_table,
+                argument_table,
+            ),
+            Met::End(_) => Refusal::Nothing,
+            Met::Bad(_) => Refusal::Nothing,
+        },
+    }
+}

@@ -1,0 +1,52 @@
+-- By what the line goes on with.
+use mathlib.Core.Path.{_≡_, refl, sym, ap, _∙_}
+use native.Mathlib.Omega.{arith}
+use denote.Ref.{now}
+use borrow.Author.Needs.{needs}
+use Rattle.text.specs.Rest.{restAt}
+use Rattle.text.proofs.Found as F
+use Rattle.settings.specs.Steps.{groupTaken}
+use Rattle.settings.proofs.Lines as L
+use Rattle.settings.proofs.Groups as G
+use Rattle.settings.proofs.take_group.Statement.{statement}
+use Rattle.settings.proofs.take_group.Tie as tie
+
+gap-requires : tie.Need-gap-requires
+gap-requires c κs = search needs
+
+enum-known-p : tie.Need-enum-known-p
+enum-known-p c = search needs
+
+group-from-requires : tie.Need-group-from-requires
+group-from-requires c κs =
+    let start = c .before .before .before .before .before in
+    let a = start .args in
+    let met = F.word-found (now (a .text)) (a .at) _ (c .before .before .before .gap .ensures) (c .before .p .given .1) in
+    (met .more, met .to, start .pre .1)
+
+enum-known-q : tie.Need-enum-known-q
+enum-known-q c = search needs
+
+enum-told : tie.Need-enum-told
+enum-told c = search needs
+
+returns : tie.Need-returns
+returns c =
+    let a = c .before .before .before .before .before .before .args in
+    c .group-from .ensures ∙ sym (ap (groupTaken (a .names)) (L.start-rest (now (a .text)) (a .at) _ (c .before .before .before .before .gap .ensures) (c .before .before .p .given .1)))
+
+returns-2 : tie.Need-returns-2
+returns-2 c =
+    let a = c .before .before .before .before .before .args in
+    sym (ap (groupTaken (a .names)) (L.end-rest (now (a .text)) (a .at) _ (c .before .before .before .gap .ensures) (c .before .q .given .1)))
+
+returns-3 : tie.Need-returns-3
+returns-3 c =
+    let a = c .before .before .before .before .args in
+    let bad = L.bad-rest (now (a .text)) (a .at) _ (c .before .before .gap .ensures) (c .enum-told .given .1) in
+    G.group-empty (a .names) (restAt (now (a .text)) (a .at)) (bad .0) (bad .1)
+
+pub take-group-spec : {M : Type 1} → statement M
+take-group-spec =
+    tie.close
+    (tie.spec gap-requires enum-known-p group-from-requires enum-known-q enum-told returns returns-2 returns-3)
