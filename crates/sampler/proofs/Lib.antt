@@ -1,0 +1,6 @@
+pub mod Places
+pub mod Rowed
+pub mod Searched
+pub mod Grids
+pub mod Written
+pub mod Steps

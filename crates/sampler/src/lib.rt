@@ -1,0 +1,5 @@
+// Points on curves and surfaces, alone and in runs.
+mod controls;
+mod rows;
+mod runs;
+mod search;
