@@ -9,7 +9,7 @@ use lib.IntN.{ℤ}
 use lib.Dec.{leb, eqb}
 use borrow.Author.Tests.{le-leb, lt-leb, leb-true, ne-eqb, eqb-false}
 use native.Mathlib.Omega.{arith}
-use Rattle.lists.proofs.Tests.{and-left, and-right, and-both, test}
+use Rattle.lists.proofs.Tests.{and-left, and-right, and-second, test}
 use Rattle.text.specs.Words.{wordOf}
 use Rattle.forms.specs.Said.{Said, says, wrong, must}
 use Rattle.forms.specs.Digits.{isDigit, digits, natOf, negative}
@@ -57,10 +57,6 @@ before-other (b ∷ bs) c t h e₁ e₂ =
 length-zero : (l : List ℕ) → length l ≡ 0 → l ≡ []
 length-zero [] h = refl
 length-zero (b ∷ bs) h = absurd (omega arith)
-
-and-no : (a : Bool) → (a && false) ≡ false
-and-no true = refl
-and-no false = refl
 
 -- ---- the cases of a word of digits
 pub at-point : (d u : List ℕ) → digits d ≡ true → magnitudeOf (d ++ 46 ∷ u) ≡ pointed (length d) (cap (natOf 0 d)) u
@@ -131,7 +127,7 @@ module _ (w : List ℕ) where
   number-bad h =
       ⊎-elim
       (λ (t : decimal (unsigned w) ≡ true). let z : _≡_ {A = ℕ} 0 1 = (let y = rw t at h in cc) in absurd (omega arith))
-      (λ (t : decimal (unsigned w) ≡ false). rw (t, and-no (leb (length w) 64)) refl)
+      (λ (t : decimal (unsigned w) ≡ false). rw (and-second (leb (length w) 64) t) refl)
       (test (decimal (unsigned w)))
 
   exact : decimal (unsigned w) ≡ true → (minus : Bool) → settleOf minus (tenMillionths (unsigned w)) ≡ inRange minus (nearest (numerator (unsigned w)) (denominator (unsigned w)))

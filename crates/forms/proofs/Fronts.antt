@@ -35,7 +35,7 @@ past-digit [] = refl
 past-digit (b ∷ bs) =
     ⊎-elim (λ (t : isDigit b ≡ true). rw t (past-digit bs)) (λ (t : isDigit b ≡ false). rw t t) (test (isDigit b))
 
-append-nil : (l : List ℕ) → l ++ [] ≡ l
+pub append-nil : (l : List ℕ) → l ++ [] ≡ l
 append-nil [] = refl
 append-nil (b ∷ bs) = ap (λ (r : List ℕ). b ∷ r) (append-nil bs)
 

@@ -11,3 +11,8 @@ pub mod References
 pub mod Corners
 pub mod Patterns
 pub mod Wholes
+pub mod Numerals
+pub mod NumbersBack
+pub mod WholesBack
+pub mod CornersBack
+pub mod Tokens

@@ -24,9 +24,6 @@ and-true : (a : Bool) → (a && true) ≡ a
 and-true true = refl
 and-true false = refl
 
-and-false : (a : Bool) → (a && false) ≡ false
-and-false a = and-second a refl
-
 and-assoc : (a b c : Bool) → ((a && b) && c) ≡ (a && (b && c))
 and-assoc true b c = refl
 and-assoc false b c = refl
@@ -88,7 +85,7 @@ module _ (normal : Bool) (nvn : ℕ) (there : Bool) (v vt : ℕ) where
 
         pub normal-missing : number ≡ 0 → Says (wrong 8)
         normal-missing z =
-            let e : (there && leb 1 number) ≡ false = rw z (and-false there) in
+            let e : (there && leb 1 number) ≡ false = rw z (and-second there refl) in
             sym (ap (λ (x : Said Corner). ended x (endOf s at)) (found ∙ ap (λ (x : Bool). must x 8 (says (record { v = v; vt = vt; vn = number }))) e))
 
         pub normal-of : (number ≡ 0 → ⊥) → (r : Said (Corner × ℕ)) → r ≡ ended (must there 8 (says (record { v = v; vt = vt; vn = number }))) end → Says r

@@ -5,5 +5,7 @@ pub mod Reference
 pub mod Corner
 pub mod Degree
 pub mod Written
+pub mod Fits
 pub mod Answers
 pub mod Straight
+pub mod Examples

@@ -1,1 +1,3 @@
 mod Examples
+pub mod Parsed
+pub mod Values

@@ -1,0 +1,21 @@
+-- Every row of the table holds: computed from the definitions.
+use mathlib.Core.Path.{_≡_, refl}
+use mathlib.Core.Bool.{true}
+use Rattle.lists.specs.Lists.{all}
+use Rattle.text.specs.Lines.{linesOf}
+use Rattle.forms.specs.Digits.{whole}
+use Rattle.forms.specs.Number.{decimal, numerator, denominator, nearest, numberOf}
+use Rattle.forms.specs.Reference.{isReference, refer, referenceOf}
+use Rattle.forms.specs.Corner.{cornerOf}
+use Rattle.keywords.specs.Keywords.{keywords, statementOf}
+use Rattle.model.specs.Room.{fits}
+use Rattle.model.specs.Parse.{parse}
+use Rattle.model.specs.Read.{statement, readOf}
+use Rattle.whole.specs.Round.{rounded, between}
+use Rattle.curves.specs.Directions.{lastWhere, segment, span, chosen}
+use Rattle.curves.specs.Sampled.{pyramid, lowAt, highAt, partAt, gapAt, firstControl, curveSampled}
+use Rattle.cases.specs.Table.{holds, table}
+
+pub claim : all holds table ≡ true
+unfolding table linesOf whole decimal numerator denominator nearest numberOf isReference refer referenceOf cornerOf keywords statementOf fits parse statement readOf rounded between lastWhere segment span chosen pyramid lowAt highAt partAt gapAt firstControl curveSampled
+claim = refl

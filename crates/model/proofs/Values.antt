@@ -1,0 +1,52 @@
+-- The values of a line are as many as its words, and no kind of them is more.
+use Prim.Native.Nat.{ℕ, zero, suc, _+_, _*_, _≤_, _<_}
+use mathlib.Core.Path.{_≡_, refl, sym, ap, _∙_}
+use mathlib.Core.List.{List, [], _∷_, _++_}
+use native.Mathlib.Omega.{arith}
+use lib.ListN.{length, drop}
+use lib.IntN.{ℤ}
+use Rattle.text.specs.Words.{Word}
+use Rattle.model.specs.Parse.{Parsed, fine, fault, then, placed, WordForm, Value, number, corner, whole, direction, basis, name, nothing, Seen, saidOf, valuesOf, numbersOf, cornersOf, wholesOf, namesOf, partsOf}
+use Rattle.model.proofs.Parsed.{then-fine, fine-is}
+
+pub values-length : (n : Seen) (f : ℕ → WordForm) (i : ℕ) (ws : List Word) (xs : List Value) → valuesOf n f i ws ≡ fine xs → length xs ≡ length ws
+values-length n f i [] xs h = let z : [] ≡ xs = fine-is h in ap length (sym z)
+values-length n f i (w ∷ ws) xs h =
+    let p = then-fine (placed (saidOf n (f i) w) (w .place)) _ xs h in
+    let q = then-fine (valuesOf n f (suc i) ws) _ xs (p .2) in
+    let z : p .0 ∷ q .0 ≡ xs = fine-is (q .2) in
+    ap length (sym z) ∙ ap suc (values-length n f (suc i) ws (q .0) (q .1))
+
+pub numbers-few : (xs : List Value) → length (numbersOf xs) ≤ length xs
+numbers-few [] = omega arith
+numbers-few (number z ∷ xs) = let i = numbers-few xs in omega arith
+numbers-few (corner c ∷ xs) = let i = numbers-few xs in omega arith
+numbers-few (whole k ∷ xs) = let i = numbers-few xs in omega arith
+numbers-few (direction d ∷ xs) = let i = numbers-few xs in omega arith
+numbers-few (basis t ∷ xs) = let i = numbers-few xs in omega arith
+numbers-few (name w ∷ xs) = let i = numbers-few xs in omega arith
+numbers-few (nothing ∷ xs) = let i = numbers-few xs in omega arith
+
+pub corners-few : (xs : List Value) → length (cornersOf xs) ≤ length xs
+corners-few [] = omega arith
+corners-few (number z ∷ xs) = let i = corners-few xs in omega arith
+corners-few (corner c ∷ xs) = let i = corners-few xs in omega arith
+corners-few (whole k ∷ xs) = let i = corners-few xs in omega arith
+corners-few (direction d ∷ xs) = let i = corners-few xs in omega arith
+corners-few (basis t ∷ xs) = let i = corners-few xs in omega arith
+corners-few (name w ∷ xs) = let i = corners-few xs in omega arith
+corners-few (nothing ∷ xs) = let i = corners-few xs in omega arith
+
+pub wholes-few : (xs : List Value) → length (wholesOf xs) ≤ length xs
+wholes-few [] = omega arith
+wholes-few (number z ∷ xs) = let i = wholes-few xs in omega arith
+wholes-few (corner c ∷ xs) = let i = wholes-few xs in omega arith
+wholes-few (whole k ∷ xs) = let i = wholes-few xs in omega arith
+wholes-few (direction d ∷ xs) = let i = wholes-few xs in omega arith
+wholes-few (basis t ∷ xs) = let i = wholes-few xs in omega arith
+wholes-few (name w ∷ xs) = let i = wholes-few xs in omega arith
+wholes-few (nothing ∷ xs) = let i = wholes-few xs in omega arith
+
+pub parts-length : (zs : List ℤ) (ks : List ℕ) → length (partsOf zs ks) ≡ length ks
+parts-length zs [] = refl
+parts-length zs (k ∷ ks) = ap suc (parts-length (drop 2 zs) ks)

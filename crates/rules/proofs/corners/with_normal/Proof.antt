@@ -1,0 +1,17 @@
+-- Each kind by its own test.
+use mathlib.Core.Path.{_≡_, refl}
+use borrow.Author.Tests.{eq-eqb, ne-eqb}
+use Rattle.rules.specs.Corners.{withNormal}
+use Rattle.rules.proofs.corners.with_normal.Statement.{statement}
+use Rattle.rules.proofs.corners.with_normal.Tie as tie
+
+returns : tie.Need-returns
+unfolding withNormal
+returns c = rw (eq-eqb _ _ (c .if1 .taken))
+
+returns-2 : tie.Need-returns-2
+unfolding withNormal
+returns-2 c = rw (ne-eqb _ _ (c .if1 .left))
+
+pub with-normal-spec : {M : Type 1} → statement M
+with-normal-spec = tie.close (tie.spec returns returns-2)

@@ -1,0 +1,35 @@
+-- 01, "Records" and "Bodies": a body's type, degrees, parameters and ranges.
+use Prim.Native.Nat.{ℕ, _+_, _*_, _-_}
+use mathlib.Core.List.{List}
+use mathlib.Core.Bool.{Bool, true, cond, not, _&&_, _||_}
+use lib.ListN.{length}
+use lib.Dec.{leb, eqb}
+use lib.IntN.{ℤ, pos}
+use lib.Signed.{leZ}
+use Rattle.tables.specs.Tables.{Tables}
+use Rattle.tables.specs.Records.{Body, parametersU, parametersV}
+use Rattle.tables.specs.Bodies.{Basis, bezier, bspline, cardinal, taylor, low, high, inOrder, curveCount, surfaceCount}
+use Rattle.tables.specs.declared.Used.{Used}
+use Rattle.rules.specs.Numbers.{smallRun, eqZ}
+
+-- the type whose number is 1 to 4
+abbrev pub basisOf : ℕ → Basis
+basisOf type = cond (eqb type 1) bezier (cond (eqb type 2) bspline (cond (eqb type 3) cardinal taylor))
+
+-- "Degree: 1 to 3 digits, 1 to 20, else 7"; "Cardinal needs no deg; its degree is 3"
+unfoldable pub degreeObeys : ℕ → ℕ → Bool
+degreeObeys type n = leb 1 n && leb n 20 && (not (eqb type 3) || eqb n 3)
+
+-- "type, rational or not, degrees"; "a curve's v entries are 0"
+unfoldable pub typeObeys : Bool → ℕ → ℕ → ℕ → ℕ → Bool
+typeObeys surface type rational m n =
+    leb 1 type && leb type 4 && leb rational 1 && degreeObeys type m && cond surface (degreeObeys type n) (eqb n 0)
+
+-- "parm u or v, then 2 or more": p parameters along u and q along v, one after the other from `first` on
+unfoldable pub parametersObey : Bool → List ℤ → ℕ → ℕ → ℕ → ℕ → Bool
+parametersObey surface l used first p q =
+    leb (first + (p + q)) used && smallRun l first (p + q) && leb 2 p && cond surface (leb 2 q) (eqb q 0)
+
+-- "A curv2's range is the widest allowed"
+unfoldable pub widest : Bool → Basis → ℕ → List ℤ → ℤ → ℤ → Bool
+widest curv2 t n x start end = not curv2 || leZ start (low t n x) && leZ (high t n x) end

@@ -1,0 +1,8 @@
+pub mod Numbers
+pub mod Vertices
+pub mod Corners
+pub mod Directions
+pub mod Loops
+pub mod Bodies
+pub mod Rules
+pub mod Lent

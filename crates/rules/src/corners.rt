@@ -1,0 +1,178 @@
+ghost use mathlib.Core.Path.{_≡_};
+ghost use mathlib.Core.List.{[]};
+ghost use Prim.Native.Nat.{_+_, _*_, _≤_};
+ghost use lib.ListN.{length};
+ghost use Rattle.tables.specs.Records.{cornerAt};
+ghost use Rattle.rules.specs.Corners.{leastCorners, withTexture, withNormal, attributeObeys, pointObeys, cornerObeys, eachCorner, cornersObey};
+ghost use Rattle.rules.specs.Lent.{lent, asCorner};
+use crate::vertices::control;
+use crate::vertices::vertex;
+use tables::Used;
+
+pub struct Corner {
+    pub v: u32,
+    pub vt: u32,
+    pub vn: u32,
+}
+
+// Corner k of those that begin at the number `first`: the one place that knows how corners lie.
+fn corner_at(corners: &[u32], first: usize, k: usize) -> Corner
+    requires { ⌜ first + 3 * k + 3 ≤ length (now corners) ⌝ }
+    ensures { λ r. ⌜ asCorner r ≡ cornerAt (lent [] [] [] [] (now (corners .entry)) [] [] [] [] [] []) first k ⌝ }
+{
+    let at = first + 3 * k;
+    Corner {
+        v: corners[at],
+        vt: corners[at + 1],
+        vn: corners[at + 2],
+    }
+}
+
+fn least_corners(kind: u32) -> u32
+    ensures { λ r. ⌜ r ≡ leastCorners kind ⌝ }
+{
+    if kind == 1 {
+        return 1;
+    }
+    if kind == 6 {
+        return 1;
+    }
+    if kind == 3 {
+        return 3;
+    }
+    2
+}
+
+fn with_normal(kind: u32) -> bool
+    ensures { λ r. ⌜ r ≡ withNormal kind ⌝ }
+{
+    if kind == 3 {
+        return true;
+    }
+    kind == 6
+}
+
+fn with_texture(kind: u32) -> bool
+    ensures { λ r. ⌜ r ≡ withTexture kind ⌝ }
+{
+    if kind == 2 {
+        return true;
+    }
+    with_normal(kind)
+}
+
+// A corner's vt or vn number, 0 for none, beside the first corner's.
+fn attribute(allowed: bool, values: &[i32], used: u32, first: u32, number: u32) -> bool
+    ensures { λ r. ⌜ r ≡ attributeObeys allowed (now (values .entry)) used first number ⌝ }
+{
+    if number == 0 {
+        return first == 0;
+    }
+    if !allowed {
+        return false;
+    }
+    if first == 0 {
+        return false;
+    }
+    vertex(values, 3, used, number)
+}
+
+fn point(used: Used, v: &[i32], vp: &[i32], kind: u32, number: u32) -> bool
+    ensures { λ r. ⌜ r ≡ pointObeys used (now (v .entry)) (now (vp .entry)) kind number ⌝ }
+{
+    if kind == 5 {
+        return control(vp, used.vp, number);
+    }
+    vertex(v, 4, used.v, number)
+}
+
+fn corner_obeys(
+    used: Used,
+    v: &[i32],
+    vt: &[i32],
+    vn: &[i32],
+    vp: &[i32],
+    kind: u32,
+    first: Corner,
+    own: Corner,
+) -> bool
+    ensures { λ r. ⌜ r ≡ cornerObeys used (lent (now (v .entry)) (now (vt .entry)) (now (vn .entry)) (now (vp .entry)) [] [] [] [] [] [] []) kind (asCorner first) (asCorner own) ⌝ }
+{
+    if !point(used, v, vp, kind, own.v) {
+        return false;
+    }
+    if !attribute(with_texture(kind), vt, used.vt, first.vt, own.vt) {
+        return false;
+    }
+    attribute(with_normal(kind), vn, used.vn, first.vn, own.vn)
+}
+
+fn each_corner(
+    used: Used,
+    v: &[i32],
+    vt: &[i32],
+    vn: &[i32],
+    vp: &[i32],
+    corners: &[u32],
+    kind: u32,
+    first: usize,
+    count: usize,
+) -> bool
+    requires { ⌜ (1 ≤ count) × (first + 3 * count ≤ length (now corners)) ⌝ }
+    ensures { λ r. ⌜ r ≡ eachCorner used (lent (now (v .entry)) (now (vt .entry)) (now (vn .entry)) (now (vp .entry)) (now (corners .entry)) [] [] [] [] [] []) kind first count ⌝ }
+{
+    let lead = corner_at(corners, first, 0);
+    let mut k = 0;
+    while k < count {
+        if !corner_obeys(
+            used,
+            v,
+            vt,
+            vn,
+            vp,
+            kind,
+            lead,
+            corner_at(corners, first, k),
+        ) {
+            return false;
+        }
+        k += 1;
+    }
+    true
+}
+
+pub fn corners_obey(
+    used: Used,
+    v: &[i32],
+    vt: &[i32],
+    vn: &[i32],
+    vp: &[i32],
+    corners: &[u32],
+    kind: u32,
+    first: u32,
+    count: u32,
+) -> bool
+    ensures { λ r. ⌜ r ≡ cornersObey used (lent (now (v .entry)) (now (vt .entry)) (now (vn .entry)) (now (vp .entry)) (now (corners .entry)) [] [] [] [] [] []) kind first count ⌝ }
+{
+    let end = first as usize + 3 * count as usize;
+    if (used.corners as usize) < end {
+        return false;
+    }
+    if corners.len() < end {
+        return false;
+    }
+    if count < least_corners(kind) {
+        return false;
+    }
+    each_corner(
+        used,
+        v,
+        vt,
+        vn,
+        vp,
+        corners,
+        kind,
+        first as usize,
+        count as usize,
+    )
+}

@@ -1,0 +1,98 @@
+// Refusal 15: whether one element's records, and every vertex that they name, obey the rules and lie within the used and the lent entries.
+ghost use mathlib.Core.Path.{_≡_};
+ghost use mathlib.Core.Bool.{cond};
+ghost use Prim.Native.Nat.{_≤_};
+ghost use lib.Dec.{eqb};
+ghost use Rattle.rules.specs.Rules.{obeys, curvesAmong};
+ghost use Rattle.rules.specs.Lent.{lent};
+use crate::bodies::body_obeys;
+use crate::corners::corners_obey;
+use tables::Used;
+
+mod bodies;
+mod corners;
+mod directions;
+mod loops;
+mod numbers;
+mod vertices;
+
+// The element at `index`, with `curves` curv2 elements before it.
+pub fn obeys(
+    used: Used,
+    v: &[i32],
+    vt: &[i32],
+    vn: &[i32],
+    vp: &[i32],
+    corners: &[u32],
+    elements: &[u32],
+    bodies: &[u32],
+    ranges: &[i32],
+    parameters: &[i32],
+    loops: &[u32],
+    spans: &[i32],
+    index: u32,
+    curves: u32,
+) -> bool
+    ensures { λ r. ⌜ r ≡ obeys used (lent (now (v .entry)) (now (vt .entry)) (now (vn .entry)) (now (vp .entry)) (now (corners .entry)) (now (elements .entry)) (now (bodies .entry)) (now (ranges .entry)) (now (parameters .entry)) (now (loops .entry)) (now (spans .entry))) curves index ⌝ }
+{
+    let at = 9 * index as usize;
+    if elements.len() < at + 9 {
+        return false;
+    }
+    let kind = elements[at];
+    if kind < 1 {
+        return false;
+    }
+    if 6 < kind {
+        return false;
+    }
+    if 65535 < elements[at + 4] {
+        return false;
+    }
+    let count = elements[at + 2];
+    if !corners_obey(used, v, vt, vn, vp, corners, kind, elements[at + 1], count) {
+        return false;
+    }
+    let body = elements[at + 3];
+    if kind <= 3 {
+        return body == 0;
+    }
+    body_obeys(
+        used,
+        bodies,
+        ranges,
+        parameters,
+        loops,
+        spans,
+        curves,
+        kind,
+        count,
+        body,
+    )
+}
+
+fn curve_or_none(kind: u32) -> u32
+    ensures { λ r. ⌜ (r ≡ cond (eqb kind 5) 1 0) × (r ≤ 1) ⌝ }
+{
+    if kind == 5 {
+        return 1;
+    }
+    0
+}
+
+// How many curv2 elements stand at indices below `index`.
+pub fn curves_before(elements: &[u32], index: u32) -> u32
+    ensures { λ r. ⌜ r ≡ curvesAmong (now (elements .entry)) index ⌝ }
+{
+    let mut before = 0;
+    let mut i = 0;
+    while i < index {
+        let at = 9 * i as usize;
+        if elements.len() <= at {
+            return before;
+        }
+        before += curve_or_none(elements[at]);
+        i += 1;
+    }
+    before
+}

@@ -1,0 +1,38 @@
+ghost use mathlib.Core.Path.{_≡_};
+ghost use Rattle.rules.specs.Numbers.{small, smallRun, eqZ};
+
+// Whether x is at most 2,000,000,000 millionths from zero.
+pub fn small(x: i32) -> bool
+    ensures { λ r. ⌜ r ≡ small x ⌝ }
+{
+    if x < -2_000_000_000 {
+        return false;
+    }
+    x <= 2_000_000_000
+}
+
+pub fn same(a: i32, b: i32) -> bool
+    ensures { λ r. ⌜ r ≡ eqZ a b ⌝ }
+{
+    a == b
+}
+
+// Whether `count` numbers from `first` on are lent and in range.
+pub fn small_run(values: &[i32], first: usize, count: usize) -> bool
+    ensures { λ r. ⌜ r ≡ smallRun (now (values .entry)) first count ⌝ }
+{
+    if values.len() < count {
+        return false;
+    }
+    if values.len() - count < first {
+        return false;
+    }
+    let mut k = 0;
+    while k < count {
+        if !small(values[first + k]) {
+            return false;
+        }
+        k += 1;
+    }
+    true
+}

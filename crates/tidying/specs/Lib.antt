@@ -1,0 +1,3 @@
+pub mod Tidied
+pub mod Printed
+pub mod Agree

@@ -1,0 +1,118 @@
+-- 01, "The tidy text": the words of each statement's line, and the text. "One space between words, LF after each line".
+use Prim.Native.Nat.{ℕ, zero, suc}
+use mathlib.Core.List.{List, [], _∷_, _++_, map}
+use mathlib.Core.Bool.{Bool, true, false, cond}
+use lib.ListN.{take}
+use lib.IntN.{ℤ, natAbs}
+use Rattle.lists.specs.Lists.{flat}
+use Rattle.text.specs.Words.{Word}
+use Rattle.text.specs.Written.{bytesOf, writtenLines}
+use Rattle.forms.specs.Corner.{Corner}
+use Rattle.forms.specs.Written.{writtenWhole, writtenNumber, writtenCorner}
+use Rattle.keywords.specs.Keywords.{keywordOf}
+use Rattle.keywords.specs.Arguments.{argumentBytes}
+use Rattle.keywords.specs.declared.Argument.{Argument}
+use Rattle.keywords.specs.declared.Argument.the-variants.{Rational, Bezier, Bspline, Cardinal, Taylor, DirectionU, DirectionV}
+use Rattle.keywords.specs.declared.Statement.{Statement as Keyword}
+use Rattle.keywords.specs.declared.Statement.the-variants.{Vertex, TextureVertex, VertexNormal, ParameterVertex, BodyType, Degree, Point, Line, Face, Curve, Curve2, Surface, Parameters, Trim, Hole, End, Group, Smoothing, Material, PassedOver}
+use Rattle.tables.specs.Bodies.{Basis, bezier, bspline, cardinal, taylor}
+use Rattle.model.specs.Model.{VertexKind, geometric, texture, normal, parametric, Shape, point, line, face, Free, curve, curve2, surface, Direction, along-u, along-v, Part, Loop, Body, Model}
+use Rattle.model.specs.Statements.{Statement, vertex, element, group, smoothing, material, type, degree, body, parameters, loop, end, passed}
+use Rattle.tidying.specs.Tidied.{tidied}
+
+-- ---- the keyword
+abbrev pub vertexKeyword : VertexKind → Keyword
+vertexKeyword geometric = Vertex
+vertexKeyword texture = TextureVertex
+vertexKeyword normal = VertexNormal
+vertexKeyword parametric = ParameterVertex
+
+abbrev pub shapeKeyword : Shape → Keyword
+shapeKeyword point = Point
+shapeKeyword line = Line
+shapeKeyword face = Face
+
+abbrev pub freeKeyword : Free → Keyword
+freeKeyword curve = Curve
+freeKeyword curve2 = Curve2
+freeKeyword surface = Surface
+
+abbrev pub loopKeyword : Bool → Keyword
+loopKeyword false = Trim
+loopKeyword true = Hole
+
+abbrev pub keywordIn : Statement → Keyword
+keywordIn (vertex k z) = vertexKeyword k
+keywordIn (element k cs) = shapeKeyword k
+keywordIn (group ws) = Group
+keywordIn (smoothing n) = Smoothing
+keywordIn (material w) = Material
+keywordIn (type r t) = BodyType
+keywordIn (degree m n) = Degree
+keywordIn (body b cs) = freeKeyword (b .free)
+keywordIn (parameters d z) = Parameters
+keywordIn (loop l) = loopKeyword (l .hole)
+keywordIn end = End
+keywordIn passed = PassedOver
+
+-- ---- the words after it
+
+-- "v, vt, vn (every coordinate), vp (those given)": the record of a vp begins with how many were given
+abbrev pub coordinates : VertexKind → List ℤ → List ℤ
+coordinates geometric z = z
+coordinates texture z = z
+coordinates normal z = z
+coordinates parametric [] = []
+coordinates parametric (n ∷ z) = take (natAbs n) z
+
+-- "of two the first is rat; the last is a type"
+abbrev pub basisArgument : Basis → Argument
+basisArgument bezier = Bezier
+basisArgument bspline = Bspline
+basisArgument cardinal = Cardinal
+basisArgument taylor = Taylor
+
+abbrev pub typeWords : Bool → Basis → List (List ℕ)
+typeWords true t = argumentBytes Rational ∷ argumentBytes (basisArgument t) ∷ []
+typeWords false t = argumentBytes (basisArgument t) ∷ []
+
+-- "deg (one number on a curve, two on a surface)": a curve's v degree is 0
+abbrev pub degreeWords : ℕ → ℕ → List (List ℕ)
+degreeWords m zero = writtenWhole m ∷ []
+degreeWords m (suc n) = writtenWhole m ∷ writtenWhole (suc n) ∷ []
+
+-- the range on a body's line: two numbers on a curve, four on a surface, none on a curv2
+abbrev pub rangeOf : Free → Body → List ℤ
+rangeOf curve b = b .start-u ∷ b .end-u ∷ []
+rangeOf curve2 b = []
+rangeOf surface b = b .start-u ∷ b .end-u ∷ b .start-v ∷ b .end-v ∷ []
+
+abbrev pub directionArgument : Direction → Argument
+directionArgument along-u = DirectionU
+directionArgument along-v = DirectionV
+
+-- "two numbers, a curv2 number"
+abbrev pub partWords : Part → List (List ℕ)
+partWords p = writtenNumber (p .from) ∷ writtenNumber (p .to) ∷ writtenWhole (p .curve) ∷ []
+
+-- a control of a curv2 has the first place alone, so that its corner is written as its number
+abbrev pub wordsAfter : Statement → List (List ℕ)
+wordsAfter (vertex k z) = map writtenNumber (coordinates k z)
+wordsAfter (element k cs) = map writtenCorner cs
+wordsAfter (group ws) = bytesOf ws
+wordsAfter (smoothing n) = writtenWhole n ∷ []
+wordsAfter (material w) = w .bytes ∷ []
+wordsAfter (type r t) = typeWords r t
+wordsAfter (degree m n) = degreeWords m n
+wordsAfter (body b cs) = map writtenNumber (rangeOf (b .free) b) ++ map writtenCorner cs
+wordsAfter (parameters d z) = argumentBytes (directionArgument d) ∷ map writtenNumber z
+wordsAfter (loop l) = flat partWords (l .parts)
+wordsAfter end = []
+wordsAfter passed = []
+
+abbrev pub printed : Statement → List (List ℕ)
+printed t = keywordOf (keywordIn t) ∷ wordsAfter t
+
+-- ---- "One space between words, LF after each line"
+unfoldable pub tidyText : Model → List ℕ
+tidyText m = writtenLines (map printed (tidied m))

@@ -1,0 +1,6 @@
+pub mod Walking
+pub mod Closed
+pub mod Rows
+pub mod Taking
+pub mod Parse
+pub mod Examples

@@ -1,0 +1,85 @@
+-- v, vt, vn, vp: what the rest of a line says as a vertex of a kind, its record and where the next line starts.
+use Prim.Native.Nat.{ℕ, _+_, _*_, _≤_, _<_}
+use mathlib.Core.Path.{_≡_}
+use mathlib.Core.Bool.{Bool, true, false, cond}
+use mathlib.Core.List.{List, [], _∷_}
+use mathlib.Core.Option.{Option, none, some}
+use lib.ListN.{length}
+use lib.Dec.{eqb}
+use lib.IntN.{ℤ, pos}
+use lib.Seq.{sets}
+use Rattle.text.specs.Rest.{Rest, restAt}
+use Rattle.tables.specs.Records.{vWidth, vtWidth, vnWidth, vpWidth}
+use Rattle.model.specs.Model.{VertexKind, geometric, texture, normal, parametric}
+use Rattle.model.specs.Parse.{recordOf}
+use Rattle.vertices.specs.Into.{rowSaid}
+use Rattle.vertices.specs.declared.Kind.{Kind}
+use Rattle.vertices.specs.declared.Kind.the-variants.{Geometric, Texture, Normal, Parametric}
+use Rattle.vertices.specs.declared.Layout.{Layout}
+use Rattle.vertices.specs.declared.Vertex.{Vertex}
+use Rattle.vertices.specs.declared.Vertex.the-variants.{Taken, GaveUp}
+
+abbrev pub kindOf : Kind → VertexKind
+kindOf Geometric = geometric
+kindOf Texture = texture
+kindOf Normal = normal
+kindOf Parametric = parametric
+
+-- "v 3 or 4; vt, vp 1 to 3; vn 3"
+abbrev pub least : VertexKind → ℕ
+least geometric = 3
+least texture = 1
+least normal = 3
+least parametric = 1
+
+abbrev pub most : VertexKind → ℕ
+most geometric = 4
+most texture = 3
+most normal = 3
+most parametric = 3
+
+-- the numbers of a record: "v holds x y z w"; "vt three"; "vn three"; "vp the count given and u v w"
+abbrev pub width : VertexKind → ℕ
+width geometric = vWidth
+width texture = vtWidth
+width normal = vnWidth
+width parametric = vpWidth
+
+-- "vp the count given and u v w": how many numbers of the record stand before those of the line
+abbrev pub lead : VertexKind → ℕ
+lead geometric = 0
+lead texture = 0
+lead normal = 0
+lead parametric = 1
+
+abbrev pub layoutOf : VertexKind → Layout
+layoutOf k = record { least = least k; most = most k; width = width k; lead = lead k }
+
+-- what the code stores before the line's numbers, in a record of width n: what is absent is 0, and the last of four 1.000000
+abbrev pub blank : ℕ → List ℤ
+blank n = cond (eqb n 4) (pos 0 ∷ pos 0 ∷ pos 0 ∷ pos 1000000 ∷ []) (pos 0 ∷ pos 0 ∷ pos 0 ∷ [])
+
+-- ---- what a line says: as many numbers as the kind has, and no more, as the record that `parse` gives
+abbrev pub recorded : VertexKind → Option (List ℤ × ℕ) → Option (List ℤ × ℕ)
+recorded k none = none
+recorded k (some p) = some (recordOf k (p .0), p .1)
+
+abbrev pub vertexSaid : VertexKind → Rest → Option (List ℤ × ℕ)
+vertexSaid k r = recorded k (rowSaid (least k) (most k) r)
+
+-- ---- what `take_vertex` answers; the table held l and then holds m
+-- the record stands where the used ones end
+pub record TakenVertex (k : VertexKind) (s : List ℕ) (at used : ℕ) (l m : List ℤ) (next : ℕ) : Type 0 where
+  pub row : List ℤ
+  pub said : vertexSaid k (restAt s at) ≡ some (row, next)
+  pub room : width k * used + width k ≤ length l
+  pub stored : m ≡ sets l (width k * used) row
+
+-- whatever vertex the line is has no room
+pub record NoVertex (k : VertexKind) (s : List ℕ) (at used : ℕ) (l m : List ℤ) : Type 0 where
+  pub same : length m ≡ length l
+  pub short : (z : List ℤ) (q : ℕ) → vertexSaid k (restAt s at) ≡ some (z, q) → length l < width k * used + width k
+
+abbrev pub vertexIs : VertexKind → List ℕ → ℕ → ℕ → List ℤ → List ℤ → Vertex → Type 0
+vertexIs k s at used l m (Taken q) = TakenVertex k s at used l m q
+vertexIs k s at used l m GaveUp = NoVertex k s at used l m
