@@ -1,28 +1,24 @@
 -- What an element that obeys the rules gives, fact by fact: each test taken out of its `&&`.
 use Prim.Native.Nat.{ℕ, _+_, _*_, _-_, _<_, _≤_}
-use mathlib.Core.Path.{_≡_, refl}
+use mathlib.Core.Path.{_≡_}
 use mathlib.Core.List.{List}
-use mathlib.Core.Bool.{Bool, true, false, cond, _&&_}
-use borrow.Author.Tests.{leb-true, lt-leb, eq-eqb, ne-eqb}
+use mathlib.Core.Bool.{Bool, true, cond, _&&_}
+use borrow.Author.Tests.{leb-true, eq-eqb, ne-eqb}
 use lib.Dec.{leb, eqb}
-use lib.ListN.{length, getD}
+use lib.ListN.{length}
 use lib.IntN.{ℤ, pos}
 use lib.Signed.{leZ}
 use Rattle.lists.proofs.Tests.{and-left, and-right}
 use Rattle.tables.specs.Tables.{Tables}
-use Rattle.tables.specs.Records.{Body, bodyAt, cornerAt, elementAt, parametersU, parametersV, valueAt}
+use Rattle.tables.specs.Records.{Body, cornerAt, valueAt}
 use Rattle.tables.specs.Bodies.{inOrder, curveCount, surfaceCount}
 use Rattle.tables.specs.declared.Used.{Used}
-use Rattle.rules.specs.Numbers.{allBelow}
-use Rattle.rules.specs.Vertices.{vertexObeys, parameterVertexObeys, controlObeys}
-use Rattle.rules.specs.Corners.{leastCorners, withTexture, withNormal, attributeObeys, pointObeys, cornerObeys, eachCorner, cornersObey}
-use Rattle.rules.specs.Directions.{basisOf, degreeObeys, typeObeys, parametersObey, widest}
-use Rattle.rules.specs.Loops.{loopsObey}
-use Rattle.rules.specs.Bodies.{flatObeys, curveObeys, directionsObey, surfaceObeys, recordObeys, bodyObeys}
-use Rattle.rules.specs.Rules.{obeys, elementObeys}
+use Rattle.rules.specs.Vertices.{parameterVertexObeys, controlObeys}
+use Rattle.rules.specs.Corners.{leastCorners, withTexture, attributeObeys, pointObeys, cornerObeys, eachCorner, cornersObey}
+use Rattle.rules.specs.Directions.{basisOf, degreeObeys, typeObeys, widest}
+use Rattle.rules.specs.Bodies.{curveObeys, directionsObey}
 use Rattle.rules.proofs.Below.{below-at}
 use Rattle.rules.proofs.OneVertex.{Vertex, vertex-facts, parameter-facts}
-use Rattle.rules.proofs.OneBody.{Run, run-facts}
 
 -- ---- corners
 pub record Corners (used : Used) (t : Tables) (kind first count : ℕ) : Type 0 where

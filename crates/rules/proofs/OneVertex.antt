@@ -1,9 +1,9 @@
 -- A vertex that obeys its rules: what its tests say, one by one.
 use Prim.Native.Nat.{ℕ, _+_, _*_, _-_, _<_, _≤_}
 use native.Mathlib.Omega.{arith}
-use mathlib.Core.Path.{_≡_, refl}
+use mathlib.Core.Path.{_≡_}
 use mathlib.Core.List.{List}
-use mathlib.Core.Bool.{Bool, true, false, _&&_, _||_, and-true, and-false}
+use mathlib.Core.Bool.{true, false, _&&_, _||_, and-true, and-false}
 use lib.ListN.{length, getD}
 use lib.Dec.{leb}
 use lib.IntN.{ℤ, pos}
@@ -11,7 +11,7 @@ use lib.Signed.{ltZ, leZ}
 use borrow.Author.Tests.{leb-true}
 use Rattle.lists.proofs.Tests.{and-left, and-right}
 use Rattle.rules.specs.Numbers.{small, smallRun, eqZ}
-use Rattle.rules.specs.Vertices.{vertexObeys, givenObeys, parameterVertexObeys, controlObeys}
+use Rattle.rules.specs.Vertices.{vertexObeys, givenObeys, parameterVertexObeys}
 use Rattle.rules.proofs.Runs.{run-lent, run-small}
 use Rattle.rules.proofs.Order.{lt-no-le, no-lt-le, least}
 

@@ -2,8 +2,7 @@
 use Prim.Native.Nat.{ℕ, _*_, _<_, _≤_}
 use native.Mathlib.Nat.{mul-le-mul, lt-of-le-of-lt}
 use native.Mathlib.Omega.{arith}
-use mathlib.Core.Path.{_≡_}
-use mir.Syntax.{w32, w64}
+use mir.Syntax.{w64}
 use mir.Val.{Fits}
 
 pub product : (a b : ℕ) → a ≤ 4294967296 → b < 4294967296 → a * b ≤ 18446744069414584320

@@ -6,7 +6,7 @@ use lib.ListN.{length}
 use lib.Dec.{leb, eqb}
 use lib.IntN.{ℤ}
 use Rattle.tables.specs.Tables.{Tables}
-use Rattle.tables.specs.Records.{Corner, cornerAt, cornerWidth, vWidth, vtWidth, vnWidth, pointKind, lineKind, faceKind, curve2Kind, surfaceKind}
+use Rattle.tables.specs.Records.{Corner, cornerAt, cornerWidth, vWidth, vtWidth, pointKind, lineKind, faceKind, curve2Kind, surfaceKind}
 use Rattle.tables.specs.declared.Used.{Used}
 use Rattle.rules.specs.Numbers.{allBelow}
 use Rattle.rules.specs.Vertices.{vertexObeys, controlObeys}
@@ -22,7 +22,7 @@ withNormal kind = eqb kind faceKind || eqb kind surfaceKind
 unfoldable pub withTexture : ℕ → Bool
 withTexture kind = eqb kind lineKind || withNormal kind
 
--- a corner's vt or vn number k, "0 for none"; "All corners of a line share one pattern": none where the first corner has none
+-- a corner's vt or vn number k (both have three numbers), "0 for none"; "All corners of a line share one pattern": none where the first corner has none
 unfoldable pub attributeObeys : Bool → List ℤ → ℕ → ℕ → ℕ → Bool
 attributeObeys allowed l used first k =
     cond (eqb k 0) (eqb first 0) (allowed && not (eqb first 0) && vertexObeys vtWidth l used k)

@@ -1,16 +1,12 @@
 -- 01, "Records" and "Bodies": a body's type, degrees, parameters and ranges.
-use Prim.Native.Nat.{ℕ, _+_, _*_, _-_}
+use Prim.Native.Nat.{ℕ, _+_}
 use mathlib.Core.List.{List}
-use mathlib.Core.Bool.{Bool, true, cond, not, _&&_, _||_}
-use lib.ListN.{length}
+use mathlib.Core.Bool.{Bool, cond, not, _&&_, _||_}
 use lib.Dec.{leb, eqb}
-use lib.IntN.{ℤ, pos}
+use lib.IntN.{ℤ}
 use lib.Signed.{leZ}
-use Rattle.tables.specs.Tables.{Tables}
-use Rattle.tables.specs.Records.{Body, parametersU, parametersV}
-use Rattle.tables.specs.Bodies.{Basis, bezier, bspline, cardinal, taylor, low, high, inOrder, curveCount, surfaceCount}
-use Rattle.tables.specs.declared.Used.{Used}
-use Rattle.rules.specs.Numbers.{smallRun, eqZ}
+use Rattle.tables.specs.Bodies.{Basis, bezier, bspline, cardinal, taylor, low, high}
+use Rattle.rules.specs.Numbers.{smallRun}
 
 -- the type whose number is 1 to 4
 abbrev pub basisOf : ℕ → Basis

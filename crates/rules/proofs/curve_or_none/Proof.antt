@@ -1,5 +1,4 @@
 -- One kind, or another.
-use mathlib.Core.Path.{_≡_, refl}
 use borrow.Author.Tests.{eq-eqb, ne-eqb}
 use native.Mathlib.Omega.{arith}
 use Rattle.rules.proofs.curve_or_none.Statement.{statement}

@@ -1,7 +1,7 @@
 -- The invariant: the curv2 elements below i are counted, and there are at most i.
 use borrow.Author.Needs.{needs}
-use mathlib.Core.Path.{_≡_, refl, sym, _∙_}
-use Prim.Native.Nat.{_+_, _*_, _-_, _≤_}
+use mathlib.Core.Path.{_≡_, refl, _∙_}
+use Prim.Native.Nat.{_-_, _≤_}
 use Rattle.rules.specs.Rules.{curvesAmong}
 use Rattle.rules.proofs.OneBody.{curves-more, curves-past}
 use native.Mathlib.Omega.{arith}

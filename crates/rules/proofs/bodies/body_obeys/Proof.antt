@@ -1,6 +1,5 @@
 -- The body's number and its entries, then its record.
 use borrow.Author.Needs.{needs}
-use mathlib.Core.Path.{_≡_, refl}
 use borrow.Author.Tests.{le-leb, lt-leb}
 use Rattle.rules.specs.Bodies.{bodyObeys}
 use Rattle.rules.proofs.bodies.body_obeys.Statement.{statement}

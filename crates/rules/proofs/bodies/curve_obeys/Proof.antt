@@ -1,6 +1,5 @@
 -- The controls, the order, the range and the entries that a curve lacks, each by its own test.
 use borrow.Author.Needs.{needs}
-use mathlib.Core.Path.{_≡_, refl}
 use native.Mathlib.Nat.{add-zero}
 use Rattle.rules.specs.Bodies.{curveObeys}
 use Rattle.rules.proofs.Tests.{failed, passed, fitted}

@@ -1,5 +1,4 @@
 -- The range of a degree, then the cardinal's own.
-use mathlib.Core.Path.{_≡_, refl}
 use borrow.Author.Tests.{le-leb, lt-leb, eq-eqb, ne-eqb}
 use Rattle.rules.specs.Directions.{degreeObeys}
 use Rattle.rules.proofs.bodies.degree_obeys.Statement.{statement}

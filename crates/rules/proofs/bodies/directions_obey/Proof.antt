@@ -1,6 +1,5 @@
 -- The controls, then the order along u and along v.
 use borrow.Author.Needs.{needs}
-use mathlib.Core.Path.{_≡_, refl}
 use native.Mathlib.Nat.{add-zero}
 use Rattle.rules.specs.Bodies.{directionsObey}
 use Rattle.rules.proofs.Tests.{failed, passed, fitted}

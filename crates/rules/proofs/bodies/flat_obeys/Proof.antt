@@ -1,6 +1,5 @@
 -- Each of the four entries by its own test.
 use borrow.Author.Needs.{needs}
-use mathlib.Core.Path.{_≡_, refl}
 use borrow.Author.Tests.{eq-eqb, ne-eqb}
 use Rattle.rules.specs.Bodies.{flatObeys}
 use Rattle.rules.proofs.Tests.{failed, passed, fitted}

@@ -1,6 +1,5 @@
 -- The run against the used entries, then against the lent ones, then each direction's count.
 use borrow.Author.Needs.{needs}
-use mathlib.Core.Path.{_≡_, refl}
 use borrow.Author.Tests.{le-leb, lt-leb}
 use Rattle.rules.specs.Directions.{parametersObey}
 use Rattle.rules.proofs.Tests.{failed, passed}

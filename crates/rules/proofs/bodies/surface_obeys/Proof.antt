@@ -1,6 +1,6 @@
 -- The two runs are those of the body's record; the loops look at their own tables.
 use borrow.Author.Needs.{needs}
-use mathlib.Core.Path.{_≡_, refl, sym, _∙_}
+use mathlib.Core.Path.{_∙_}
 use mathlib.Core.List.{[]}
 use native.Mathlib.Nat.{add-sub-cancel-left}
 use Rattle.rules.specs.Bodies.{surfaceObeys}

@@ -1,6 +1,5 @@
 -- Each number by its own test.
 use borrow.Author.Needs.{needs}
-use mathlib.Core.Path.{_≡_, refl}
 use borrow.Author.Tests.{le-leb, lt-leb}
 use Rattle.rules.specs.Directions.{typeObeys}
 use Rattle.rules.proofs.Tests.{failed, passed}

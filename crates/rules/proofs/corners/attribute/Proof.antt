@@ -1,6 +1,5 @@
 -- A missing number, and one that is there, each beside the first corner's.
 use borrow.Author.Needs.{needs}
-use mathlib.Core.Path.{_≡_, refl}
 use borrow.Author.Tests.{eq-eqb, ne-eqb, not-true, not-false}
 use Rattle.rules.specs.Corners.{attributeObeys}
 use Rattle.rules.proofs.corners.attribute.Statement.{statement}

@@ -1,6 +1,5 @@
 -- The three numbers of a corner, each by its own test.
 use borrow.Author.Needs.{needs}
-use mathlib.Core.Path.{_≡_, refl}
 use Rattle.rules.specs.Corners.{cornerObeys}
 use Rattle.rules.proofs.Tests.{failed, passed}
 use Rattle.rules.proofs.corners.corner_obeys.Statement.{statement}

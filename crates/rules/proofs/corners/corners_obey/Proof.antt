@@ -1,6 +1,5 @@
 -- The run's end against the used and the lent entries, the least count, then the corners.
 use borrow.Author.Needs.{needs}
-use mathlib.Core.Path.{_≡_, refl, sym}
 use Prim.Native.Nat.{_≤_}
 use borrow.Author.Tests.{le-leb, lt-leb}
 use Rattle.rules.specs.Corners.{leastCorners, cornersObey}

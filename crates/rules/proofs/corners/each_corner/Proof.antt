@@ -1,9 +1,9 @@
 -- The invariant: the first corner is read, and each corner passed obeys.
 use borrow.Author.Needs.{needs}
 use mathlib.Core.Path.{_≡_, refl, sym}
-use mathlib.Core.Bool.{Bool, true, false}
+use mathlib.Core.Bool.{true}
 use mathlib.Core.List.{[]}
-use Prim.Native.Nat.{ℕ, _+_, _-_, _≤_}
+use Prim.Native.Nat.{_-_, _≤_}
 use Rattle.tables.specs.Tables.{Tables}
 use Rattle.tables.specs.Records.{cornerAt}
 use Rattle.rules.specs.Numbers.{allBelow}

@@ -1,5 +1,4 @@
 -- Each kind by its own test.
-use mathlib.Core.Path.{_≡_, refl}
 use borrow.Author.Tests.{eq-eqb, ne-eqb}
 use Rattle.rules.specs.Corners.{leastCorners}
 use Rattle.rules.proofs.corners.least_corners.Statement.{statement}

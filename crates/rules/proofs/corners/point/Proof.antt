@@ -1,6 +1,5 @@
 -- A curv2 names a vp, every other kind a v.
 use borrow.Author.Needs.{needs}
-use mathlib.Core.Path.{_≡_, refl}
 use borrow.Author.Tests.{eq-eqb, ne-eqb}
 use Rattle.rules.specs.Corners.{pointObeys}
 use Rattle.rules.proofs.corners.point.Statement.{statement}

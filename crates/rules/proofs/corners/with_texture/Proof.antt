@@ -1,6 +1,5 @@
 -- A line, or a kind that has normals too.
 use borrow.Author.Needs.{needs}
-use mathlib.Core.Path.{_≡_, refl}
 use borrow.Author.Tests.{eq-eqb, ne-eqb}
 use Rattle.rules.specs.Corners.{withTexture}
 use Rattle.rules.proofs.corners.with_texture.Statement.{statement}

@@ -1,7 +1,6 @@
 -- Each type by its own test; products of numbers of 32 bits fit.
 use borrow.Author.Needs.{needs}
-use mathlib.Core.Path.{_≡_, refl, sym}
-use Prim.Native.Nat.{_+_, _*_, _-_, _≤_}
+use Prim.Native.Nat.{_+_, _-_}
 use borrow.Author.Tests.{ne-eqb}
 use Rattle.rules.proofs.Products.{product, product-fits}
 use Rattle.rules.proofs.Basis.{knots-enough}

@@ -1,6 +1,5 @@
 -- Enough controls, then their number.
 use borrow.Author.Needs.{needs}
-use mathlib.Core.Path.{_≡_, refl, sym}
 use Rattle.tables.specs.Bodies.{curveCount}
 use Rattle.rules.proofs.Tests.{failed, passed}
 use Rattle.rules.proofs.directions.curve_count.Statement.{statement}

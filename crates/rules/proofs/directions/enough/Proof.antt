@@ -1,6 +1,6 @@
 -- A bspline by its own rule; the others always.
 use borrow.Author.Needs.{needs}
-use mathlib.Core.Path.{_≡_, refl, sym}
+use mathlib.Core.Path.{sym}
 use Rattle.rules.proofs.Basis.{enough-other, enough-knots}
 use Rattle.rules.proofs.directions.enough.Statement.{statement}
 use Rattle.rules.proofs.directions.enough.Tie as tie

@@ -1,5 +1,5 @@
 -- Knots by ≤, the parameters of the other types by <.
-use mathlib.Core.Path.{_≡_, refl, sym}
+use mathlib.Core.Path.{sym}
 use mathlib.Core.Bool.{and-true}
 use lib.Signed.{leZ}
 use mir.Facts.{toZ-ofZ}

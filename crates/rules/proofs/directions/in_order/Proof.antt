@@ -1,6 +1,5 @@
 -- The order, then the range from below, in itself and from above.
 use borrow.Author.Needs.{needs}
-use mathlib.Core.Path.{_≡_, refl, sym, _∙_}
 use mir.Facts.{toZ-ofZ}
 use Rattle.tables.specs.Bodies.{inOrder}
 use Rattle.rules.proofs.Tests.{failed, passed, fitted}

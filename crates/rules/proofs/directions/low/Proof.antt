@@ -1,6 +1,6 @@
 -- A bspline's at knot n; the others' at the first parameter.
 use borrow.Author.Needs.{needs}
-use mathlib.Core.Path.{_≡_, refl, sym, _∙_}
+use mathlib.Core.Path.{sym}
 use lib.ListN.{length}
 use Rattle.rules.proofs.Tests.{fitted}
 use Rattle.rules.proofs.Basis.{knots-enough, low-other}

@@ -1,11 +1,8 @@
 -- The invariant: what is left is in order exactly where all of it is.
 use borrow.Author.Needs.{needs}
 use mathlib.Core.Path.{_≡_, refl, sym, _∙_}
-use mathlib.Core.Bool.{Bool, true, false, _&&_}
-use mathlib.Core.List.{_∷_, []}
-use Prim.Native.Nat.{ℕ, _+_, _-_, _≤_}
-use lib.ListN.{length, drop, getD}
-use lib.IntN.{pos}
+use Prim.Native.Nat.{_-_, _≤_}
+use lib.ListN.{length, drop}
 use Rattle.tables.specs.Bodies.{ordered}
 use Rattle.rules.specs.Directions.{basisOf}
 use Rattle.rules.proofs.Tests.{failed, passed, fitted}

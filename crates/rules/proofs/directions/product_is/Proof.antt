@@ -1,9 +1,7 @@
 -- A factor past the number makes the product 0 or past it; two that are not past it fit.
 use borrow.Author.Needs.{needs}
-use mathlib.Core.Path.{_≡_, refl, sym}
-use Prim.Native.Nat.{_*_}
+use mathlib.Core.Path.{sym}
 use native.Mathlib.Nat.{mul-comm}
-use lib.Dec.{eqb}
 use Rattle.rules.proofs.Products.{product-fits}
 use Rattle.rules.proofs.Basis.{product-none, product-nothing, product-over}
 use native.Mathlib.Omega.{arith}

@@ -1,6 +1,5 @@
 -- Enough controls each way, then their product.
 use borrow.Author.Needs.{needs}
-use mathlib.Core.Path.{_≡_, refl, sym}
 use Rattle.tables.specs.Bodies.{surfaceCount}
 use Rattle.rules.proofs.Tests.{failed, passed}
 use Rattle.rules.proofs.directions.surface_count.Statement.{statement}

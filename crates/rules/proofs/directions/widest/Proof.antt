@@ -1,6 +1,5 @@
 -- Only a curv2 is asked, and of it both ends.
 use borrow.Author.Needs.{needs}
-use mathlib.Core.Path.{_≡_, refl, sym, _∙_}
 use borrow.Author.Tests.{not-true, not-false}
 use mir.Facts.{toZ-ofZ}
 use Rattle.rules.specs.Directions.{widest}

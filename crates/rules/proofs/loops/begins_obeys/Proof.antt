@@ -1,5 +1,4 @@
 -- The first part and the later ones, by its number.
-use mathlib.Core.Path.{_≡_, refl}
 use borrow.Author.Tests.{le-leb, lt-leb, eq-eqb, ne-eqb}
 use Rattle.rules.specs.Loops.{beginsObeys}
 use Rattle.rules.proofs.loops.begins_obeys.Statement.{statement}

@@ -1,9 +1,8 @@
 -- The invariant: each part passed obeys.
 use mathlib.Core.Path.{_≡_, refl, sym}
-use mathlib.Core.Bool.{Bool, true, false}
+use mathlib.Core.Bool.{true}
 use mathlib.Core.List.{[]}
-use Prim.Native.Nat.{ℕ, _+_, _-_, _≤_}
-use Rattle.tables.specs.Tables.{Tables}
+use Prim.Native.Nat.{_-_, _≤_}
 use Rattle.rules.specs.Numbers.{allBelow}
 use Rattle.rules.specs.Lent.{lent}
 use Rattle.rules.proofs.Tests.{failed, passed}

@@ -1,6 +1,5 @@
 -- No parts, or a run of them within the used and the lent entries.
 use borrow.Author.Needs.{needs}
-use mathlib.Core.Path.{_≡_, refl}
 use borrow.Author.Tests.{le-leb, lt-leb, eq-eqb, ne-eqb}
 use Rattle.rules.specs.Loops.{loopsObey}
 use Rattle.rules.proofs.loops.loops_obey.Statement.{statement}

@@ -1,6 +1,5 @@
 -- The part's four numbers, each by its own test.
 use borrow.Author.Needs.{needs}
-use mathlib.Core.Path.{_≡_, refl}
 use native.Mathlib.Nat.{add-zero}
 use borrow.Author.Tests.{le-leb, lt-leb}
 use Rattle.rules.specs.Loops.{partObeys}

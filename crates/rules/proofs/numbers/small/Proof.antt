@@ -1,5 +1,5 @@
 -- The two sides of the range, each by its own test.
-use mathlib.Core.Path.{_≡_, sym}
+use mathlib.Core.Path.{sym}
 use mir.Facts.{toZ-ofZ}
 use Rattle.rules.proofs.Small.{small-below, small-above}
 use Rattle.rules.proofs.numbers.small.Statement.{statement}

@@ -1,7 +1,7 @@
 -- The invariant: the run is lent, and each number passed is in range.
 use mathlib.Core.Path.{_≡_, refl, sym}
-use mathlib.Core.Bool.{true, false}
-use Prim.Native.Nat.{ℕ, _+_, _-_, _≤_}
+use mathlib.Core.Bool.{true}
+use Prim.Native.Nat.{_+_, _-_, _≤_}
 use lib.ListN.{length, getD}
 use lib.IntN.{pos}
 use Rattle.rules.specs.Numbers.{small, allBelow}

@@ -1,6 +1,6 @@
 -- The count given decides which of the two defaults are asked.
 use borrow.Author.Needs.{needs}
-use mathlib.Core.Path.{_≡_, refl, sym, _∙_}
+use mathlib.Core.Path.{sym, _∙_}
 use mir.Facts.{toZ-ofZ}
 use Rattle.rules.proofs.Tests.{failed, passed}
 use Rattle.rules.proofs.OneVertex.{given-none, given-many, given-three, given-fewer, given-two, given-one}

@@ -1,8 +1,6 @@
 -- What the vertex's test says of its entries lends the reads.
 use borrow.Author.Needs.{needs}
 use native.Mathlib.Nat.{add-zero}
-use mathlib.Core.Path.{_≡_, refl}
-use Prim.Native.Nat.{_+_, _*_, _-_}
 use Rattle.rules.specs.Vertices.{parameterVertexObeys}
 use Rattle.rules.proofs.Tests.{failed, passed, fitted}
 use Rattle.rules.proofs.OneVertex.{Vertex, vertex-facts}

@@ -1,6 +1,5 @@
 -- Each test in turn; the run is the callee's.
 use borrow.Author.Needs.{needs}
-use mathlib.Core.Path.{_≡_, refl}
 use borrow.Author.Tests.{le-leb, lt-leb}
 use Rattle.rules.specs.Vertices.{vertexObeys}
 use Rattle.rules.proofs.Products.{product-fits}
