@@ -91,7 +91,7 @@ module _ (R : Rooms) (s : List ℕ) (c : State) (t : Tables) (at : ℕ) (go : Go
       let a = next-ahead s at h in
       let b = next-to s at (let g : at ≤ length s = omega arith in g) in
       let f : readLines R (length s) (linesAt s at) (go .now) ≡ readLines R (length s) (linesAt s q) (n .after) =
-            on R s at (go .now) h ∙ ap (λ p. onParsed p (readLines R (length s) (linesAt s ((restAt s at) .next)))) (n .said) ∙ ap (λ (k : ℕ). readLines R (length s) (linesAt s k) (n .after)) (sym e) in
+      on R s at (go .now) h ∙ ap (λ p. onParsed p (readLines R (length s) (linesAt s ((restAt s at) .next)))) (n .said) ∙ ap (λ (k : ℕ). readLines R (length s) (linesAt s k) (n .after)) (sym e) in
       (record { to = (let g : q ≤ length s = (let z = b .1 in omega arith) in g); now = n .after; holds = n .holds; same = go .same ∙ f }, (let g : at < q = omega arith in g))
 
   pub going-stops : (u : Tables) (n p : ℕ) → lineIs s at c t u (Stopped n p) → readLines R (length s) (linesAt s 0) start ≡ refused n p
@@ -119,7 +119,7 @@ used-is x e =
   where
     rows : {v vt vn vp c c′ e e′ b b′ p l l′ : ℕ} → c ≡ c′ → e ≡ e′ → b ≡ b′ → l ≡ l′
         → _≡_ {A = Used} (record { v = v; vt = vt; vn = vn; vp = vp; corners = c; elements = e; bodies = b; parameters = p; loops = l })
-          (record { v = v; vt = vt; vn = vn; vp = vp; corners = c′; elements = e′; bodies = b′; parameters = p; loops = l′ })
+        (record { v = v; vt = vt; vn = vn; vp = vp; corners = c′; elements = e′; bodies = b′; parameters = p; loops = l′ })
     rows a b c d = cc
 
 image-is : (R : Rooms) (x : model.State) → x .open-body ≡ none → imageOf R x ≡ tablesOf R (x .model)

@@ -6,7 +6,8 @@ use mathlib.Core.List.{[]}
 use mathlib.Core.Bool.{Bool, true, false, cond, _||_}
 use lib.Dec.{eqb}
 use Rattle.tables.specs.Tables.{Tables}
-use Rattle.tables.specs.Records.{Corner, cornerAt}
+use Rattle.tables.specs.Records.{cornerAt}
+use Rattle.tables.specs.declared.Corner.{Corner}
 use Rattle.tables.specs.declared.Used.{Used}
 use Rattle.rules.specs.Numbers.{allBelow}
 use Rattle.rules.specs.Corners.{leastCorners, cornerObeys, eachCorner}

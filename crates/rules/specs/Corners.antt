@@ -6,7 +6,8 @@ use lib.ListN.{length}
 use lib.Dec.{leb, eqb}
 use lib.IntN.{ℤ}
 use Rattle.tables.specs.Tables.{Tables}
-use Rattle.tables.specs.Records.{Corner, cornerAt, cornerWidth, vWidth, vtWidth, pointKind, lineKind, faceKind, curve2Kind, surfaceKind}
+use Rattle.tables.specs.Records.{cornerAt, cornerWidth, vWidth, vtWidth, pointKind, lineKind, faceKind, curve2Kind, surfaceKind}
+use Rattle.tables.specs.declared.Corner.{Corner}
 use Rattle.tables.specs.declared.Used.{Used}
 use Rattle.rules.specs.Numbers.{allBelow}
 use Rattle.rules.specs.Vertices.{vertexObeys, controlObeys}

@@ -3,7 +3,7 @@ use Prim.Native.Nat.{ℕ}
 use mathlib.Core.List.{List}
 use lib.IntN.{ℤ}
 use Rattle.tables.specs.Tables.{Tables}
-use Rattle.tables.specs.Records as records
+use Rattle.tables.specs.declared.Corner as records
 use Rattle.rules.specs.declared.corners.Corner.{Corner}
 
 -- the eleven lent slices as one value

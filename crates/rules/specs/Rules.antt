@@ -5,7 +5,8 @@ use mathlib.Core.Bool.{Bool, cond, _&&_}
 use lib.ListN.{length}
 use lib.Dec.{leb, eqb}
 use Rattle.tables.specs.Tables.{Tables}
-use Rattle.tables.specs.Records.{Element, elementAt, numberAt, elementWidth, faceKind, curve2Kind, surfaceKind}
+use Rattle.tables.specs.Records.{elementAt, numberAt, elementWidth, faceKind, curve2Kind, surfaceKind}
+use Rattle.tables.specs.declared.Element.{Element}
 use Rattle.tables.specs.declared.Used.{Used}
 use Rattle.rules.specs.Corners.{cornersObey}
 use Rattle.rules.specs.Bodies.{bodyObeys}

@@ -4,3 +4,8 @@ pub mod Searched
 pub mod Grids
 pub mod Written
 pub mod Steps
+pub mod Ranges
+pub mod Obeyed
+pub mod Refusals
+pub mod Entries
+pub mod Demanded
