@@ -9,3 +9,4 @@ pub mod Obeyed
 pub mod Refusals
 pub mod Entries
 pub mod Demanded
+pub mod Runners

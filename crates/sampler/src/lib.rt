@@ -1,13 +1,16 @@
 // Points on curves and surfaces, alone and in runs.
 ghost use mathlib.Core.Path.{_≡_};
 ghost use Rattle.tables.specs.Tables.{tables};
-ghost use Rattle.sampler.specs.Answers.{refusalOf, pointOnCurve};
+ghost use Rattle.sampler.specs.Answers.{refusalOf, pointOnCurve, runOnCurve, pointsAfter};
+ghost use lib.ListN.{length};
 use crate::points::curve_point;
 use crate::records::along_of;
+use crate::records::axes_of;
 use crate::records::is_carried;
 use crate::records::is_wanted;
 use crate::records::number_at;
 use crate::records::value_at;
+use crate::runs::write_run;
 use rules::curves_before;
 use rules::obeys;
 use tables::Used;
@@ -156,4 +159,88 @@ pub fn point_on_curve(
         along,
         t,
     )
+}
+
+// A run of `steps` steps on a curv or curv2: its points fill the table from entry `at` on, counted in numbers.
+pub fn run_on_curve(
+    used: Used,
+    v: &[i32],
+    vt: &[i32],
+    vn: &[i32],
+    vp: &[i32],
+    corners: &[u32],
+    elements: &[u32],
+    bodies: &[u32],
+    ranges: &[i32],
+    parameters: &[i32],
+    loops: &[u32],
+    spans: &[i32],
+    element: u32,
+    steps: u32,
+    points: &mut [i32],
+    at: usize,
+) -> Ran
+    ensures { λ r. ⌜ (r ≡ runOnCurve used (tables (now (v .entry)) (now (vt .entry)) (now (vn .entry)) (now (vp .entry)) (now (corners .entry)) (now (elements .entry)) (now (bodies .entry)) (now (ranges .entry)) (now (parameters .entry)) (now (loops .entry)) (now (spans .entry))) element steps at (length (now (points .entry)))) × (now (points .exit) ≡ pointsAfter used (tables (now (v .entry)) (now (vt .entry)) (now (vn .entry)) (now (vp .entry)) (now (corners .entry)) (now (elements .entry)) (now (bodies .entry)) (now (ranges .entry)) (now (parameters .entry)) (now (loops .entry)) (now (spans .entry))) element steps at (now (points .entry))) ⌝ }
+{
+    let refused = refusal(
+        false,
+        used,
+        v,
+        vt,
+        vn,
+        vp,
+        corners,
+        elements,
+        bodies,
+        ranges,
+        parameters,
+        loops,
+        spans,
+        element,
+    );
+    if refused != 0 {
+        return Ran::Refused { number: refused };
+    }
+    if steps < 1 {
+        return Ran::Refused { number: 19 };
+    }
+    if 65536 < steps {
+        return Ran::Refused { number: 19 };
+    }
+    let i = element as usize - 1;
+    let kind = number_at(elements, 9, i, 0);
+    let numbers = axes_of(kind) * (steps as usize + 1);
+    if points.len() < numbers {
+        return Ran::Refused { number: 16 };
+    }
+    if points.len() - numbers < at {
+        return Ran::Refused { number: 16 };
+    }
+    let first = number_at(elements, 9, i, 1) as usize;
+    let body = number_at(elements, 9, i, 3) as usize - 1;
+    let start = value_at(ranges, 4, body, 0);
+    let end = value_at(ranges, 4, body, 1);
+    let count = number_at(bodies, 9, body, 5);
+    let along = along_of(
+        number_at(bodies, 9, body, 0),
+        number_at(bodies, 9, body, 2),
+        count,
+    );
+    let from = number_at(bodies, 9, body, 4) as usize;
+    let to = from + count as usize;
+    let x = &parameters[from..to];
+    write_run(
+        &mut points[at..],
+        kind,
+        v,
+        vp,
+        corners,
+        first,
+        x,
+        along,
+        start,
+        end,
+        steps,
+    );
+    Ran::Filled { numbers }
 }

@@ -6,6 +6,7 @@ ghost use lib.ListN.{length};
 ghost use Rattle.tables.specs.Records.{numberAt, valueAt};
 ghost use Rattle.sampler.specs.Points.{alongOf};
 ghost use Rattle.sampler.specs.Answers.{wanted, carried};
+ghost use Rattle.sampler.specs.Inner.{axesBy};
 use crate::rows::Along;
 
 // Number k of the record of `width` numbers at index i.
@@ -66,4 +67,14 @@ pub fn along_of(basis: u32, degree: u32, count: u32) -> Along
         degree: n,
         controls: n * (p - 1) + 1,
     }
+}
+
+// A curv2 has u v, every other kind x y z.
+pub fn axes_of(kind: u32) -> usize
+    ensures { λ r. ⌜ (r ≡ axesBy kind) × (r ≤ 3) ⌝ }
+{
+    if kind == 5 {
+        return 2;
+    }
+    3
 }

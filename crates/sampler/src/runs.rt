@@ -1,12 +1,15 @@
 ghost use mathlib.Core.Path.{_≡_};
+ghost use mathlib.Core.Bool.{cond};
 ghost use mathlib.Core.List.{_++_};
 ghost use Prim.Native.Nat.{_+_, _*_, _≤_, _<_};
+ghost use lib.Dec.{eqb};
 ghost use lib.ListN.{length, drop};
 ghost use lib.Signed.{_≤ℤ_};
 ghost use Rattle.whole.specs.Round.{Small};
 ghost use Rattle.sampler.specs.Places.{On};
 ghost use Rattle.sampler.specs.Controls.{Held};
 ghost use Rattle.sampler.specs.Runs.{parameterAt, pointAt, pointsUpto, Ranged};
+ghost use Rattle.sampler.specs.Inner.{runBy, axesBy};
 use crate::controls::coordinate;
 use crate::rows::Along;
 use crate::search::find;
@@ -81,5 +84,41 @@ pub fn write_points(
             chosen,
         );
         j += 1;
+    }
+}
+
+// The points of a run on a curv, or on a curv2 where the kind is 5.
+pub fn write_run(
+    points: &mut [i32],
+    kind: u32,
+    v: &[i32],
+    vp: &[i32],
+    corners: &[u32],
+    first: usize,
+    x: &[i32],
+    along: Along,
+    start: i32,
+    end: i32,
+    steps: u32,
+)
+    requires { ⌜ Held (cond (eqb kind 5) (now vp) (now v)) (now corners) first (along .controls) × Ranged along (now x) start end × (0 < steps) × (steps ≤ 65536) × (axesBy kind * (steps + 1) ≤ length (now points)) ⌝ }
+    ensures { λ r. ⌜ now (points .exit) ≡ runBy kind (now (v .entry)) (now (vp .entry)) (now (corners .entry)) first along (now (x .entry)) start end steps ++ drop (axesBy kind * (steps + 1)) (now (points .entry)) ⌝ }
+{
+    if kind == 5 {
+        write_points(
+            points,
+            vp,
+            corners,
+            first,
+            1,
+            2,
+            x,
+            along,
+            start,
+            end,
+            steps,
+        );
+    } else {
+        write_points(points, v, corners, first, 0, 3, x, along, start, end, steps);
     }
 }
