@@ -1,0 +1,159 @@
+-- Demand 3 on curves: the refusals are passed one by one, and what is handed out is the rounded rule at rules that hold.
+use mathlib.Core.Path.{_≡_, refl, sym, ap, _∙_, subst}
+use mathlib.Core.Bool.{Bool, true, false, cond, _&&_, _||_}
+use mathlib.Core.Logic.{_⊎_, inl, inr, ⊎-elim}
+use mathlib.Core.List.{List, [], _∷_, _++_}
+use Prim.Native.Nat.{ℕ, zero, suc, _+_, _*_, _-_, _≤_, _<_}
+use native.Mathlib.Nat.{not-suc-le-zero, eq-or-lt-of-le, le-of-suc-le-suc, mul-le-mul-left}
+use native.Mathlib.Omega.{arith}
+use borrow.Author.Tests.{le-leb}
+use lib.Dec.{leb, eqb}
+use lib.ListN.{length, getD, take, drop, List·getD-append}
+use lib.Seq.{length-take-le, getD-append-add}
+use lib.IntN.{ℤ, pos}
+use lib.Signed.{_≤ℤ_, leZ}
+use Rattle.lists.proofs.Tests.{test}
+use Rattle.whole.proofs.Order.{le-yes}
+use Rattle.whole.specs.Fractions.{Close}
+use Rattle.tables.specs.Tables.{Tables}
+use Rattle.tables.specs.Records.{Body}
+use Rattle.tables.specs.declared.Used.{Used}
+use Rattle.tables.specs.declared.Element.{Element}
+use Rattle.rules.specs.Rules.{curvesBefore}
+use Rattle.rules.proofs.Element.{obeys-facts}
+use Rattle.curves.specs.Exact.{curveExact}
+use Rattle.curves.proofs.CurveNear.{curve-near}
+use Rattle.sampler.specs.Runs.{joined, listed, parameterAt}
+use Rattle.sampler.specs.Points.{directionU, controlOf, axesOf, curveAt, runNumbers}
+use Rattle.sampler.specs.Answers.{wanted, carried, elementOf, bodyOf, refusalOf, coordinatesIn, refusalIn, runRefusalIn, curvePoint, pointOnCurve, runOnCurve, pointsAfter}
+use Rattle.sampler.specs.Demand3.{Curve, OnCurve, CurveAnswer, PointsOnCurves, RunAnswer, RunsOnCurves}
+use Rattle.sampler.specs.declared.Ran.the-variants as ran
+use Rattle.sampler.proofs.Obeyed.{granted, curved}
+use Rattle.sampler.proofs.Refusals.{none-given}
+use Rattle.sampler.proofs.Steps.{parameter-from, parameter-upto}
+use Rattle.sampler.proofs.Written.{joined-length, listed-length}
+
+curve-wanted : (kind : ℕ) → (kind ≡ 4) ⊎ (kind ≡ 5) → wanted false kind ≡ true
+curve-wanted kind (inl e) = rw e
+curve-wanted kind (inr e) = rw e
+
+plain-carried : (rational type : ℕ) → rational ≡ 0 → (type ≡ 1) ⊎ (type ≡ 2) → carried rational type ≡ true
+plain-carried rational type e (inl h) = rw (e, h)
+plain-carried rational type e (inr h) = rw (e, h)
+
+module _ {used : Used} {t : Tables} {number : ℕ} (c : Curve used t number) where
+  curve-given : refusalOf false used t number ≡ 0
+  curve-given =
+      let o = obeys-facts used t (curvesBefore t (number - 1)) (number - 1) (c .obeyed) in
+      let l : 9 * number ≤ length (t .elements) = omega (arith, o .lent-one, c .some) in
+      sym (none-given false used t number (c .some) (c .in-use) l (curve-wanted (elementOf t number .kind) (c .kind)) (c .obeyed)
+      (plain-carried (bodyOf t number .rational) (bodyOf t number .type) (c .plain) (c .type)))
+
+  -- the rounded rule is near the exact value, at every parameter of the range
+  curve-close : (p : ℤ) → bodyOf t number .start-u ≤ℤ p → p ≤ℤ bodyOf t number .end-u → (axis : ℕ) → OnCurve t number p axis (curveAt t (elementOf t number) (bodyOf t number) p axis)
+  unfolding curveAt
+  curve-close p a b axis =
+      curve-near (directionU t (bodyOf t number)) p (curved used t number (granted false used t number curve-given) .ranged .sound p a b .rules) (controlOf t (elementOf t number) axis)
+
+  ordered : bodyOf t number .start-u ≤ℤ bodyOf t number .end-u
+  ordered = curved used t number (granted false used t number curve-given) .ranged .ordered
+
+-- ---- lists by their places
+joined-at : (w : ℕ) (f : ℕ → List ℤ) → ((i : ℕ) → length (f i) ≡ w) → (n j k : ℕ) → j < n → k < w → getD (joined n f) (w * j + k) (pos 0) ≡ getD (f j) k (pos 0)
+joined-at w f h zero j k a b = absurd (not-suc-le-zero a)
+joined-at w f h (suc n) j k a b = go (eq-or-lt-of-le (le-of-suc-le-suc a)) (λ l. joined-at w f h n j k l b)
+  where
+    long : length (joined n f) ≡ w * n
+    long = joined-length w n f h
+
+    go : (j ≡ n) ⊎ (j < n) → (j < n → getD (joined n f) (w * j + k) (pos 0) ≡ getD (f j) k (pos 0)) → getD (joined n f ++ f n) (w * j + k) (pos 0) ≡ getD (f j) k (pos 0)
+    go (inl e) r =
+        subst (λ (q : ℕ). getD (joined n f ++ f n) (w * q + k) (pos 0) ≡ getD (f q) k (pos 0)) (sym e)
+        (ap (λ (q : ℕ). getD (joined n f ++ f n) (q + k) (pos 0)) (sym long) ∙ getD-append-add (joined n f) (f n) k (pos 0))
+    go (inr l) r =
+        let m : w * j + k < length (joined n f) = omega (arith, long, mul-le-mul-left w l) in
+        List·getD-append (joined n f) (f n) (pos 0) (w * j + k) m ∙ r l
+
+listed-at : (n k : ℕ) (f : ℕ → ℤ) → k < n → getD (listed n f) k (pos 0) ≡ f k
+listed-at n k f h =
+    let e : k ≡ 1 * k + 0 = omega arith in
+    ap (λ (q : ℕ). getD (listed n f) q (pos 0)) e ∙ joined-at 1 (λ i. f i ∷ []) (λ i. refl) n k 0 h (omega arith)
+
+-- ---- a point alone
+coordinates-are : (t : Tables) (e : Element) (b : Body) (p : ℤ) (q : Bool) → eqb (e .kind) 5 ≡ q
+    → (coordinatesIn (curvePoint t e b p) ≡ listed (axesOf e) (curveAt t e b p)) × (refusalIn (curvePoint t e b p) ≡ 0)
+unfolding curvePoint
+coordinates-are t e b p true h = simp h (refl, refl)
+coordinates-are t e b p false h = simp h (refl, refl)
+
+answer-is : {used : Used} {t : Tables} {number : ℕ} → Curve used t number → (p : ℤ) → bodyOf t number .start-u ≤ℤ p → p ≤ℤ bodyOf t number .end-u
+    → pointOnCurve used t number p ≡ curvePoint t (elementOf t number) (bodyOf t number) p
+unfolding pointOnCurve
+answer-is {used} {t} {number} c p a b = rw (curve-given c, le-yes (bodyOf t number .start-u) p a, le-yes p (bodyOf t number .end-u) b)
+
+pub points-on-curves : PointsOnCurves
+points-on-curves used t number p c a b =
+    let e = elementOf t number in
+    let m = bodyOf t number in
+    let s = answer-is c p a b in
+    let k = coordinates-are t e m p (eqb (e .kind) 5) refl in
+    let l = ap coordinatesIn s ∙ k .0 in
+    record {
+      given = ap refusalIn s ∙ k .1;
+      axes = ap length l ∙ listed-length (axesOf e) (curveAt t e m p);
+      near = λ axis h. subst (OnCurve t number p axis) (sym (ap (λ (q : List ℤ). getD q axis (pos 0)) l ∙ listed-at (axesOf e) axis (curveAt t e m p) h)) (curve-close c p a b axis);
+    }
+
+-- ---- a run
+module _ {used : Used} {t : Tables} {number : ℕ} (c : Curve used t number) (steps at : ℕ) (points : List ℤ)
+    (some : 1 ≤ steps) (most : steps ≤ 65536) (room : at + axesOf (elementOf t number) * (steps + 1) ≤ length points) where
+  abbrev e : Element
+  e = elementOf t number
+
+  abbrev m : Body
+  m = bodyOf t number
+
+  filled : runOnCurve used t number steps at (length points) ≡ ran.Filled (axesOf e * (steps + 1))
+  unfolding runOnCurve
+  filled = rw (curve-given c, le-leb 1 steps some, le-leb steps 65536 most, le-leb (at + axesOf e * (steps + 1)) (length points) room)
+
+  after : pointsAfter used t number steps at points ≡ take at points ++ (runNumbers t e m steps ++ drop (axesOf e * (steps + 1)) (drop at points))
+  unfolding pointsAfter
+  after = rw filled
+
+  abbrev f : ℕ → List ℤ
+  f j = listed (axesOf e) (curveAt t e m (parameterAt (m .start-u) (m .end-u) steps j))
+
+  long : (j : ℕ) → length (f j) ≡ axesOf e
+  long j = listed-length (axesOf e) (curveAt t e m (parameterAt (m .start-u) (m .end-u) steps j))
+
+  number-is : (j axis : ℕ) → j ≤ steps → axis < axesOf e → getD (runNumbers t e m steps) (axesOf e * j + axis) (pos 0) ≡ curveAt t e m (parameterAt (m .start-u) (m .end-u) steps j) axis
+  unfolding runNumbers
+  number-is j axis h k = joined-at (axesOf e) f long (steps + 1) j axis (omega arith) k ∙ listed-at (axesOf e) axis (curveAt t e m (parameterAt (m .start-u) (m .end-u) steps j)) k
+
+  numbers-long : length (runNumbers t e m steps) ≡ axesOf e * (steps + 1)
+  unfolding runNumbers
+  numbers-long = joined-length (axesOf e) (steps + 1) f long
+
+  there : (j axis : ℕ) → j ≤ steps → axis < axesOf e
+      → getD (pointsAfter used t number steps at points) (at + (axesOf e * j + axis)) (pos 0) ≡ curveAt t e m (parameterAt (m .start-u) (m .end-u) steps j) axis
+  there j axis h k =
+      let rest = drop (axesOf e * (steps + 1)) (drop at points) in
+      let i = axesOf e * j + axis in
+      let front : length (take at points) ≡ at = length-take-le at points (omega arith) in
+      let l : i < length (runNumbers t e m steps) = omega (arith, numbers-long, mul-le-mul-left (axesOf e) h) in
+      ap (λ (q : List ℤ). getD q (at + i) (pos 0)) after
+      ∙ ap (λ (q : ℕ). getD (take at points ++ (runNumbers t e m steps ++ rest)) (q + i) (pos 0)) (sym front)
+      ∙ getD-append-add (take at points) (runNumbers t e m steps ++ rest) i (pos 0)
+      ∙ List·getD-append (runNumbers t e m steps) rest (pos 0) i l
+      ∙ number-is j axis h k
+
+pub runs-on-curves : RunsOnCurves
+runs-on-curves used t number steps at points c some most room =
+    let m = bodyOf t number in
+    record {
+      given = ap runRefusalIn (filled c steps at points some most room);
+      near = λ j axis h k. subst (OnCurve t number (parameterAt (m .start-u) (m .end-u) steps j) axis) (sym (there c steps at points some most room j axis h k))
+          (curve-close c (parameterAt (m .start-u) (m .end-u) steps j) (parameter-from (m .start-u) (m .end-u) (ordered c) steps j)
+          (parameter-upto (m .start-u) (m .end-u) (ordered c) steps j h) axis);
+    }

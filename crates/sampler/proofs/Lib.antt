@@ -1,0 +1,12 @@
+pub mod Places
+pub mod Rowed
+pub mod Searched
+pub mod Grids
+pub mod Written
+pub mod Steps
+pub mod Ranges
+pub mod Obeyed
+pub mod Refusals
+pub mod Entries
+pub mod Demanded
+pub mod Runners

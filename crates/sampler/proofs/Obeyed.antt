@@ -1,0 +1,177 @@
+-- What an element that obeys gives the sampler: its records are lent, its controls held, its ranges those of a curve or a surface.
+use mathlib.Core.Path.{_≡_, refl, sym, ap, _∙_, subst}
+use mathlib.Core.Bool.{Bool, true, false, cond, _&&_, _||_}
+use mathlib.Core.Logic.{_⊎_, inl, inr, ⊎-elim}
+use mathlib.Core.List.{List}
+use Prim.Native.Nat.{ℕ, zero, suc, _+_, _*_, _-_, _≤_, _<_}
+use native.Mathlib.Omega.{arith}
+use borrow.Author.Tests.{leb-true, eqb-true, ne-eqb, eq-eqb}
+use lib.Dec.{leb, eqb}
+use lib.ListN.{length, getD, take, drop, length-drop}
+use lib.Seq.{length-take-le, getD-take, getD-drop}
+use lib.IntN.{ℤ, pos}
+use Rattle.lists.proofs.Tests.{and-left, and-right, test, never}
+use Rattle.whole.specs.Round.{Small}
+use Rattle.tables.specs.Tables.{Tables}
+use Rattle.tables.specs.Records.{Body, bodyAt, elementAt, cornerAt, parametersU, parametersV}
+use Rattle.tables.specs.Bodies.{enough, controls, inOrder, curveCount, surfaceCount}
+use Rattle.tables.specs.declared.Used.{Used}
+use Rattle.tables.specs.declared.Element.{Element}
+use Rattle.rules.specs.Numbers.{small}
+use Rattle.rules.specs.Directions.{basisOf}
+use Rattle.rules.specs.Rules.{obeys, curvesBefore}
+use Rattle.rules.specs.Bodies.{bodyObeys}
+use Rattle.rules.proofs.OneVertex.{Vertex}
+use Rattle.rules.proofs.OneBody.{Run, run-v}
+use Rattle.rules.proofs.Facts.{Corners, corner-vertex, corner-control, Curve, Surface, degree-facts}
+use Rattle.rules.proofs.Element.{Recorded, recorded, curve-of, surface-of, Obeys, obeys-facts, body-of}
+use Rattle.rules.proofs.Basis.{curve-enough, surface-enough-u, surface-enough-v}
+use Rattle.curves.specs.Directions.{at}
+use Rattle.sampler.specs.Controls.{controlAt, Held}
+use Rattle.sampler.specs.Runs.{Ranged}
+use Rattle.sampler.specs.Points.{alongOf}
+use Rattle.sampler.specs.Answers.{wanted, carried, elementOf, bodyOf, refusalOf}
+use Rattle.sampler.proofs.Ranges.{ranged-of}
+
+is-small : (z : ℤ) → small z ≡ true → Small z
+unfolding small
+is-small z h = leb-true _ 2000000000 h
+
+held-by : (values : List ℤ) (corners : List ℕ) (used first count : ℕ) → first + 3 * count ≤ length corners
+    → ((i : ℕ) → i < count → Vertex 4 values used (getD corners (first + 3 * i) 0)) → Held values corners first count
+unfolding controlAt
+held-by values corners used first count w f = record {
+  within = w;
+  named = λ i l. f i l .some;
+  there = λ i l. f i l .lent;
+  small = λ i k l m. is-small _ (f i l .small k m);
+}
+
+module _ (used : Used) (t : Tables) (kind first count : ℕ) (c : Corners used t kind first count) where
+  pub held-plane : kind ≡ 5 → Held (t .vp) (t .corners) first count
+  held-plane e = held-by (t .vp) (t .corners) (used .vp) first count (c .lent-run) (λ i l. corner-control used t kind first count c i l e)
+
+  pub held-space : (kind ≡ 5 → ⊥) → Held (t .v) (t .corners) first count
+  held-space f = held-by (t .v) (t .corners) (used .v) first count (c .lent-run) (λ i l. corner-vertex used t kind first count c i l f)
+
+  pub held-either : Held (cond (eqb kind 5) (t .vp) (t .v)) (t .corners) first count
+  held-either = ⊎-elim (λ e. rw e (held-plane (eqb-true kind 5 e))) (λ e. rw e (held-space (λ k. never (sym e ∙ eq-eqb kind 5 k)))) (test (eqb kind 5))
+
+-- a run of parameters
+module _ (l : List ℤ) (first n : ℕ) (h : first + n ≤ length l) where
+  pub part-length : length (take n (drop first l)) ≡ n
+  part-length = length-take-le n (drop first l) (omega (arith, length-drop first l))
+
+  part-small : ((k : ℕ) → k < n → small (getD l (first + k) (pos 0)) ≡ true) → (i : ℕ) → i < length (take n (drop first l)) → Small (at (take n (drop first l)) i)
+  part-small f i m =
+      let k : i < n = omega (arith, part-length) in
+      rw (getD-take n (drop first l) i (pos 0) k, getD-drop first l i (pos 0)) (is-small (getD l (first + i) (pos 0)) (f i k))
+
+  pub part-ranged : (type m : ℕ) (s e : ℤ) → (type ≡ 1) ⊎ (type ≡ 2) → m ≤ 20 → 2 ≤ n → ((k : ℕ) → k < n → small (getD l (first + k) (pos 0)) ≡ true)
+      → enough (basisOf type) m n ≡ true → inOrder (basisOf type) m (take n (drop first l)) s e ≡ true → Ranged (alongOf type m n) (take n (drop first l)) s e
+  part-ranged type m s e c few many f g o =
+      ranged-of m (take n (drop first l)) s e (omega (arith, part-length)) few (part-small f) type n c part-length g o
+
+-- the two types that are sampled
+pub types : (rational type : ℕ) → carried rational type ≡ true → (type ≡ 1) ⊎ (type ≡ 2)
+types rational type h = go (eqb type 1) refl (and-right (eqb rational 0) (eqb type 1 || eqb type 2) h)
+  where
+    go : (q : Bool) → eqb type 1 ≡ q → (q || eqb type 2) ≡ true → (type ≡ 1) ⊎ (type ≡ 2)
+    go true e k = inl (eqb-true type 1 e)
+    go false e k = inr (eqb-true type 2 k)
+
+-- the type's count of controls is that of the rules
+pub same-controls : (type n p : ℕ) → (type ≡ 1) ⊎ (type ≡ 2) → controls (basisOf type) n p ≡ alongOf type n p .controls
+same-controls type n p (inl e) = rw e
+same-controls type n p (inr e) = rw e
+
+-- no refusal up to 18
+pub record Granted (surface : Bool) (used : Used) (t : Tables) (number : ℕ) : Type 0 where
+  pub some : 1 ≤ number
+  pub lent : 9 * number ≤ length (t .elements)
+  pub kind : wanted surface (elementOf t number .kind) ≡ true
+  pub obeyed : obeys used t (curvesBefore t (number - 1)) (number - 1) ≡ true
+  pub type : (bodyOf t number .type ≡ 1) ⊎ (bodyOf t number .type ≡ 2)
+
+five : (a b c d e : Bool) → _≡_ {A = ℕ} (cond a (cond b (cond c (cond d (cond e 0 18) 15) 17) 15) 17) 0 → (a ≡ true) × (b ≡ true) × (c ≡ true) × (d ≡ true) × (e ≡ true)
+five true true true true true h = (refl, refl, refl, refl, refl)
+five true true true true false h = absurd (omega arith)
+five true true true false e h = absurd (omega arith)
+five true true false d e h = absurd (omega arith)
+five true false c d e h = absurd (omega arith)
+five false b c d e h = absurd (omega arith)
+
+pub granted : (surface : Bool) (used : Used) (t : Tables) (number : ℕ) → refusalOf surface used t number ≡ 0 → Granted surface used t number
+unfolding refusalOf
+granted surface used t number h =
+    let b = bodyOf t number in
+    let f = five (leb 1 number && leb number (used .elements)) (leb (9 * number) (length (t .elements))) (wanted surface (elementOf t number .kind))
+    (obeys used t (curvesBefore t (number - 1)) (number - 1)) (carried (b .rational) (b .type)) h in
+    record {
+      some = leb-true 1 number (and-left (leb 1 number) (leb number (used .elements)) (f .0));
+      lent = leb-true (9 * number) (length (t .elements)) (f .1);
+      kind = f .2;
+      obeyed = f .3;
+      type = types (b .rational) (b .type) (f .4);
+    }
+
+pub curve-kinds : (kind : ℕ) → wanted false kind ≡ true → (4 ≤ kind) × (kind ≡ 6 → ⊥)
+curve-kinds kind h = go (eqb kind 4) refl h
+  where
+    go : (q : Bool) → eqb kind 4 ≡ q → (q || eqb kind 5) ≡ true → (4 ≤ kind) × (kind ≡ 6 → ⊥)
+    go true e k = let s = eqb-true kind 4 e in (omega arith, λ n. omega arith)
+    go false e k = let s = eqb-true kind 5 k in (omega arith, λ n. omega arith)
+
+-- the records of a body that an element names
+pub record Lent (t : Tables) (e : Element) : Type 0 where
+  pub some : 1 ≤ e .body
+  pub body : 9 * (e .body - 1) + 9 ≤ length (t .bodies)
+  pub range : 4 * (e .body - 1) + 4 ≤ length (t .ranges)
+  pub run : bodyAt t (e .body - 1) .first-parameter + (bodyAt t (e .body - 1) .count-u + bodyAt t (e .body - 1) .count-v) ≤ length (t .parameters)
+
+-- a curve that is granted
+pub record Curved (t : Tables) (e : Element) (b : Body) : Type 0 where
+  pub lent : Lent t e
+  pub held : Held (cond (eqb (e .kind) 5) (t .vp) (t .v)) (t .corners) (e .first) (alongOf (b .type) (b .degree-u) (b .count-u) .controls)
+  pub ranged : Ranged (alongOf (b .type) (b .degree-u) (b .count-u)) (parametersU t b) (b .start-u) (b .end-u)
+  pub many : 2 ≤ b .count-u
+  pub few : b .degree-u ≤ 20
+  pub knots : eqb (b .type) 2 ≡ true → b .degree-u + 1 ≤ b .count-u
+
+pub lent-of : {used : Used} {t : Tables} {e : Element} → Recorded used t (e .kind) (e .body) → Lent t e
+lent-of {used} {t} {e} r = record {
+  some = r .some;
+  body = omega (arith, r .some, r .lent-body);
+  range = omega (arith, r .some, r .lent-range);
+  run = r .run .lent-ones;
+}
+
+knots-of : (type n p : ℕ) → enough (basisOf type) n p ≡ true → eqb type 2 ≡ true → n + 1 ≤ p
+knots-of type n p h e =
+    let k : leb (n + 1) (p - n - 1) ≡ true = subst (λ (q : ℕ). enough (basisOf q) n p ≡ true) (eqb-true type 2 e) h in
+    omega (arith, leb-true (n + 1) (p - n - 1) k)
+
+pub curved : (used : Used) (t : Tables) (number : ℕ) → Granted false used t number → Curved t (elementOf t number) (bodyOf t number)
+unfolding curveCount
+curved used t number g =
+    let i = number - 1 in
+    let e = elementOf t number in
+    let b = bodyOf t number in
+    let n = curvesBefore t i in
+    let o = obeys-facts used t n i (g .obeyed) in
+    let k = curve-kinds (e .kind) (g .kind) in
+    let h = body-of o (k .0) in
+    let r = recorded used t n (e .kind) (e .count) (e .body) h in
+    let c = curve-of used t n (e .kind) (e .count) (e .body) h (k .1) in
+    let enough-there = curve-enough (basisOf (b .type)) (b .degree-u) (b .count-u) (e .count) (c .counted) in
+    let same = eqb-true (e .count) (controls (basisOf (b .type)) (b .degree-u) (b .count-u)) (and-right (enough (basisOf (b .type)) (b .degree-u) (b .count-u)) _ (c .counted))
+    ∙ same-controls (b .type) (b .degree-u) (b .count-u) (g .type) in
+    record {
+      lent = lent-of r;
+      held = subst (λ (q : ℕ). Held (cond (eqb (e .kind) 5) (t .vp) (t .v)) (t .corners) (e .first) q) same (held-either used t (e .kind) (e .first) (e .count) (o .corners));
+      ranged = part-ranged (t .parameters) (b .first-parameter) (b .count-u) (omega (arith, r .run .lent-ones)) (b .type) (b .degree-u) (b .start-u) (b .end-u) (g .type)
+          (r .typed .degree-u .most) (r .run .along-u) (λ j l. r .run .small-ones j (omega arith)) enough-there (c .in-order);
+      many = r .run .along-u;
+      few = r .typed .degree-u .most;
+      knots = knots-of (b .type) (b .degree-u) (b .count-u) enough-there;
+    }

@@ -1,0 +1,120 @@
+-- The answers of a run by the tests that lead to each, and the numbers of the lent parts as those of the tables.
+use mathlib.Core.Path.{_≡_, refl, sym, ap, ap₂, _∙_}
+use mathlib.Core.Bool.{Bool, true, false, cond, _&&_}
+use mathlib.Core.List.{List, [], _∷_, _++_, append-nil}
+use Prim.Native.Nat.{ℕ, zero, suc, _+_, _*_, _-_, _≤_, _<_}
+use native.Mathlib.Omega.{arith}
+use borrow.Author.Tests.{ne-eqb, le-leb, lt-leb}
+use borrow.Rule.Slice.PartMut.{putMid}
+use lib.Dec.{leb, eqb}
+use lib.IntN.{ℤ}
+use lib.ListN.{length, take, drop, length-drop}
+use lib.Seq.{take-all, drop-length}
+use Rattle.lists.proofs.Tests.{and-first, and-second}
+use Rattle.tables.specs.Tables.{Tables}
+use Rattle.tables.specs.Records.{Body, parametersU}
+use Rattle.tables.specs.declared.Used.{Used}
+use Rattle.tables.specs.declared.Element.{Element}
+use Rattle.curves.specs.Sampled.{curveSampled}
+use Rattle.sampler.specs.Places.{direction}
+use Rattle.sampler.specs.Controls.{controlAt, Held}
+use Rattle.sampler.specs.Runs.{joined, listed, parameterAt, pointAt, pointsUpto, Ranged}
+use Rattle.sampler.specs.Points.{alongOf, axesOf, curveAt, runNumbers}
+use Rattle.sampler.specs.Answers.{elementOf, bodyOf, refusalOf, runRefusalIn, runOnCurve, pointsAfter}
+use Rattle.sampler.specs.Inner.{runBy, axesBy}
+use Rattle.sampler.specs.declared.rows.Along.{Along}
+use Rattle.sampler.specs.declared.Ran.{Ran}
+use Rattle.sampler.specs.declared.Ran.the-variants as ran
+use Rattle.sampler.proofs.Obeyed.{Curved}
+use Rattle.sampler.proofs.Entries.{Read, run-is, plane-coordinate, space-coordinate}
+
+joined-cong : (n : ℕ) (f g : ℕ → List ℤ) → ((i : ℕ) → f i ≡ g i) → joined n f ≡ joined n g
+joined-cong zero f g h = refl
+joined-cong (suc n) f g h = ap₂ (λ (a b : List ℤ). a ++ b) (joined-cong n f g h) (h n)
+
+listed-cong : (n : ℕ) (f g : ℕ → ℤ) → ((i : ℕ) → f i ≡ g i) → listed n f ≡ listed n g
+listed-cong n f g h = joined-cong n (λ i. f i ∷ []) (λ i. g i ∷ []) (λ i. ap (λ (z : ℤ). z ∷ []) (h i))
+
+run-numbers : (t : Tables) (e : Element) (b : Body) (steps : ℕ) (q : Bool) → eqb (e .kind) 5 ≡ q
+    → runBy (e .kind) (t .v) (t .vp) (t .corners) (e .first) (alongOf (b .type) (b .degree-u) (b .count-u)) (parametersU t b) (b .start-u) (b .end-u) steps ≡ runNumbers t e b steps
+unfolding runBy runNumbers pointsUpto pointAt
+run-numbers t e b steps true h =
+    rw h (joined-cong (steps + 1) _ _ (λ j. listed-cong 2 _ _ (λ k. plane-coordinate t e b (parameterAt (b .start-u) (b .end-u) steps j) k h)))
+run-numbers t e b steps false h =
+    rw h (joined-cong (steps + 1) _ _ (λ j. listed-cong 3 _ _ (λ k. space-coordinate t e b (parameterAt (b .start-u) (b .end-u) steps j) k h)))
+
+after-refused : (used : Used) (t : Tables) (number steps at : ℕ) (points : List ℤ) (r : ℕ) → (r ≡ 0 → ⊥)
+    → ran.Refused r ≡ runOnCurve used t number steps at (length points) → points ≡ pointsAfter used t number steps at points
+unfolding pointsAfter
+after-refused used t number steps at points r h e = rw (sym e, ne-eqb r 0 h)
+
+module _ (used : Used) (t : Tables) (number steps at : ℕ) (points : List ℤ) where
+  abbrev pub Same : Ran → List ℤ → Type 0
+  Same r last = (r ≡ runOnCurve used t number steps at (length points)) × (last ≡ pointsAfter used t number steps at points)
+
+  both : (r : ℕ) → (r ≡ 0 → ⊥) → ran.Refused r ≡ runOnCurve used t number steps at (length points) → Same (ran.Refused r) points
+  both r h e = (e, after-refused used t number steps at points r h e)
+
+  refused-is : {r : ℕ} → r ≡ refusalOf false used t number → (r ≡ 0 → ⊥) → ran.Refused r ≡ runOnCurve used t number steps at (length points)
+  unfolding runOnCurve
+  refused-is {r} e h = rw (sym e, ne-eqb r 0 h)
+
+  pub run-refused : {r : ℕ} → r ≡ refusalOf false used t number → (r ≡ 0 → ⊥) → Same (ran.Refused r) points
+  run-refused {r} e h = both r h (refused-is e h)
+
+  module _ (granted : refusalOf false used t number ≡ 0) where
+    steps-is : (leb 1 steps && leb steps 65536) ≡ false → ran.Refused 19 ≡ runOnCurve used t number steps at (length points)
+    unfolding runOnCurve
+    steps-is h = rw (granted, h)
+
+    pub run-steps : (leb 1 steps && leb steps 65536) ≡ false → Same (ran.Refused 19) points
+    run-steps h = both 19 (λ e. omega arith) (steps-is h)
+
+    pub run-none : steps < 1 → Same (ran.Refused 19) points
+    run-none h = run-steps (and-first (leb steps 65536) (lt-leb 1 steps h))
+
+    pub run-many : 65536 < steps → Same (ran.Refused 19) points
+    run-many h = run-steps (and-second (leb 1 steps) (lt-leb steps 65536 h))
+
+    module _ (some : 1 ≤ steps) (most : steps ≤ 65536) where
+      room-is : length points < at + axesOf (elementOf t number) * (steps + 1) → ran.Refused 16 ≡ runOnCurve used t number steps at (length points)
+      unfolding runOnCurve
+      room-is h = rw (granted, le-leb 1 steps some, le-leb steps 65536 most, lt-leb (at + axesOf (elementOf t number) * (steps + 1)) (length points) h)
+
+      pub run-room : length points < at + axesOf (elementOf t number) * (steps + 1) → Same (ran.Refused 16) points
+      run-room h = both 16 (λ e. omega arith) (room-is h)
+
+      module _ (room : at + axesOf (elementOf t number) * (steps + 1) ≤ length points) where
+        filled-is : ran.Filled (axesOf (elementOf t number) * (steps + 1)) ≡ runOnCurve used t number steps at (length points)
+        unfolding runOnCurve
+        filled-is = rw (granted, le-leb 1 steps some, le-leb steps 65536 most, le-leb (at + axesOf (elementOf t number) * (steps + 1)) (length points) room)
+
+        after-filled : take at points ++ (runNumbers t (elementOf t number) (bodyOf t number) steps ++ drop (axesOf (elementOf t number) * (steps + 1)) (drop at points))
+            ≡ pointsAfter used t number steps at points
+        unfolding pointsAfter
+        after-filled = rw (sym filled-is)
+
+        -- the part from `at` on was lent
+        pub run-filled : {last : List ℤ} → last ≡ runNumbers t (elementOf t number) (bodyOf t number) steps
+            ++ drop (axesOf (elementOf t number) * (steps + 1)) (take (length points - at) (drop at points))
+            → Same (ran.Filled (axesOf (elementOf t number) * (steps + 1))) (putMid at (length points - at) points last)
+        run-filled {last} e =
+            (filled-is, ap (λ (q : List ℤ). take at points ++ (last ++ q)) none ∙ ap (λ (q : List ℤ). take at points ++ q) (append-nil last ∙ e ∙ ap (λ (q : List ℤ). runNumbers t (elementOf t number) (bodyOf t number) steps ++ drop (axesOf (elementOf t number) * (steps + 1)) q) every) ∙ after-filled)
+          where
+            rest : length (drop at points) ≡ length points - at
+            rest = length-drop at points
+
+            every : take (length points - at) (drop at points) ≡ drop at points
+            every = take-all (length points - at) (drop at points) (omega (arith, rest))
+
+            none : drop (length points - at) (drop at points) ≡ []
+            none = ap (λ (k : ℕ). drop k (drop at points)) (sym rest) ∙ drop-length (drop at points)
+
+module _ {t : Tables} {e : Element} {b : Body} {kind first from count : ℕ} {a : Along} (r : Read t e b kind first from count a) where
+  pub run-asked : (s f : ℤ) → s ≡ b .start-u → f ≡ b .end-u → Curved t e b
+      → Held (cond (eqb kind 5) (t .vp) (t .v)) (t .corners) first (a .controls) × Ranged a (take (from + count - from) (drop from (t .parameters))) s f
+  run-asked s f k l c = rw (run-is r, k, l, r .kind-is, r .first-is, r .along-is) (c .held, c .ranged)
+
+  pub run-read : (s f : ℤ) (steps : ℕ) → s ≡ b .start-u → f ≡ b .end-u
+      → runBy kind (t .v) (t .vp) (t .corners) first a (take (from + count - from) (drop from (t .parameters))) s f steps ≡ runNumbers t e b steps
+  run-read s f steps k l = rw (run-is r, k, l, r .kind-is, r .first-is, r .along-is) (run-numbers t e b steps (eqb (e .kind) 5) refl)

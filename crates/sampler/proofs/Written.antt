@@ -1,0 +1,72 @@
+-- What a run has written stands before what the slice held from there on.
+use mathlib.Core.Path.{_≡_, refl, sym, ap, ap₂, _∙_}
+use mathlib.Core.List.{List, [], _∷_, _++_, append-assoc, append-nil}
+use Prim.Native.Nat.{ℕ, zero, suc, _+_, _*_, _-_, _≤_, _<_}
+use native.Mathlib.Numerals.{add-one}
+use native.Mathlib.Omega.{arith}
+use lib.ListN.{length, getD, set, take, drop, length-append, length-drop}
+use lib.Seq.{drop-cons, set-at, append-snoc, take-at, drop-at, drop-drop, take-all, drop-length}
+use borrow.Rule.Slice.PartMut.{putMid}
+use lib.IntN.{ℤ, pos}
+use Rattle.curves.specs.Sampled.{curveSampled}
+use Rattle.sampler.specs.Places.{direction}
+use Rattle.sampler.specs.Controls.{controlAt}
+use Rattle.sampler.specs.Runs.{joined, listed, parameterAt, pointAt, pointsUpto}
+use Rattle.sampler.specs.declared.rows.Along.{Along}
+
+pub joined-length : (w n : ℕ) (f : ℕ → List ℤ) → ((i : ℕ) → length (f i) ≡ w) → length (joined n f) ≡ w * n
+joined-length w zero f h = omega arith
+joined-length w (suc n) f h = length-append (joined n f) (f n) ∙ (let a = joined-length w n f h in let b = h n in omega arith)
+
+pub listed-length : (n : ℕ) (f : ℕ → ℤ) → length (listed n f) ≡ n
+listed-length n f = joined-length 1 n (λ i. f i ∷ []) (λ i. refl) ∙ omega arith
+
+-- one coordinate more
+pub stored : (f : ℕ → ℤ) (l : List ℤ) (k : ℕ) (z : ℤ) → k < length l → z ≡ f k → set (listed k f ++ drop k l) k z ≡ listed (k + 1) f ++ drop (k + 1) l
+stored f l k z h e =
+    rw (add-one, drop-cons l k (pos 0) h, e)
+    (set-at (listed k f) (getD l k (pos 0)) (drop (suc k) l) (f k) k (listed-length k f) ∙ sym (append-snoc (listed k f) (f k) (drop (suc k) l)))
+
+-- one point more: what was written before, then the point, then the rest
+pub pasted : (f : ℕ → List ℤ) (l : List ℤ) (w j : ℕ) {now rest : List ℤ} → ((i : ℕ) → length (f i) ≡ w)
+    → now ≡ joined j f ++ drop (w * j) l → rest ≡ f j ++ drop w (drop (w * j) now)
+    → take (w * j) now ++ rest ≡ joined (j + 1) f ++ drop (w * (j + 1)) l
+pasted f l w j {now} {rest} h a b =
+    let m = joined-length w j f h in
+    let t : take (w * j) now ≡ joined j f = ap (take (w * j)) a ∙ take-at (joined j f) (drop (w * j) l) (w * j) m in
+    let d : drop (w * j) now ≡ drop (w * j) l = ap (drop (w * j)) a ∙ drop-at (joined j f) (drop (w * j) l) (w * j) m in
+    let r : rest ≡ f j ++ drop (w * suc j) l =
+    b ∙ ap (λ (q : List ℤ). f j ++ drop w q) d ∙ ap (λ (q : List ℤ). f j ++ q) (drop-drop w (w * j) l ∙ ap (λ (q : ℕ). drop q l) (let e : w * j + w ≡ w * suc j = omega arith in e)) in
+    rw (add-one, t, r) (sym (append-assoc (joined j f) (f j) (drop (w * suc j) l)))
+
+-- the same where the slice's part from there on was lent
+pub lent-pasted : (f : ℕ → List ℤ) (l : List ℤ) (w j : ℕ) {now last : List ℤ} → ((i : ℕ) → length (f i) ≡ w) → w * j ≤ length now
+    → now ≡ joined j f ++ drop (w * j) l → last ≡ f j ++ drop w (take (length now - w * j) (drop (w * j) now))
+    → putMid (w * j) (length now - w * j) now last ≡ joined (j + 1) f ++ drop (w * (j + 1)) l
+lent-pasted f l w j {now} {last} h r a b =
+    ap (λ (q : List ℤ). take (w * j) now ++ (last ++ q)) none ∙ ap (λ (q : List ℤ). take (w * j) now ++ q) (append-nil last)
+    ∙ pasted f l w j h a (b ∙ ap (λ (q : List ℤ). f j ++ drop w q) every)
+  where
+    rest : length (drop (w * j) now) ≡ length now - w * j
+    rest = length-drop (w * j) now
+
+    every : take (length now - w * j) (drop (w * j) now) ≡ drop (w * j) now
+    every = take-all (length now - w * j) (drop (w * j) now) (omega (arith, rest))
+
+    none : drop (length now - w * j) (drop (w * j) now) ≡ []
+    none = ap (λ (k : ℕ). drop k (drop (w * j) now)) (sym rest) ∙ drop-length (drop (w * j) now)
+
+pub run-length : (f : ℕ → List ℤ) (l : List ℤ) (w j : ℕ) → ((i : ℕ) → length (f i) ≡ w) → w * j ≤ length l → length (joined j f ++ drop (w * j) l) ≡ length l
+run-length f l w j h k =
+    length-append (joined j f) (drop (w * j) l) ∙ (let a = joined-length w j f h in let b = length-drop (w * j) l in omega arith)
+
+pub point-length : (values : List ℤ) (corners : List ℕ) (first axis axes : ℕ) (along : Along) (x : List ℤ) (t : ℤ)
+    → length (pointAt values corners first axis axes along x t) ≡ axes
+unfolding pointAt
+point-length values corners first axis axes along x t = listed-length axes (λ k. curveSampled (direction along x) t (controlAt values corners first (axis + k)))
+
+pub upto-is : (values : List ℤ) (corners : List ℕ) (first axis axes : ℕ) (along : Along) (x : List ℤ) (start end : ℤ) (steps j : ℕ)
+    → pointsUpto values corners first axis axes along x start end steps j
+    ≡ joined j (λ i. pointAt values corners first axis axes along x (parameterAt start end steps i))
+unfolding pointsUpto
+upto-is values corners first axis axes along x start end steps j = refl

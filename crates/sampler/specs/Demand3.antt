@@ -1,0 +1,54 @@
+-- Demand 3 on curves: given room, a point is handed out, alone or as one of a run, and each of its coordinates differs from the exact value by at most n/2 millionths.
+use mathlib.Core.Path.{_≡_}
+use mathlib.Core.Bool.{true}
+use mathlib.Core.Logic.{_⊎_}
+use mathlib.Core.List.{List}
+use Prim.Native.Nat.{ℕ, _+_, _*_, _-_, _≤_, _<_}
+use lib.ListN.{length, getD}
+use lib.IntN.{ℤ, pos}
+use lib.Signed.{_≤ℤ_}
+use Rattle.whole.specs.Fractions.{Close}
+use Rattle.tables.specs.Tables.{Tables}
+use Rattle.tables.specs.Records.{curveKind, curve2Kind, surfaceKind}
+use Rattle.tables.specs.declared.Used.{Used}
+use Rattle.rules.specs.Rules.{obeys, curvesBefore}
+use Rattle.curves.specs.Exact.{curveExact, surfaceExact}
+use Rattle.sampler.specs.Runs.{parameterAt}
+use Rattle.sampler.specs.Points.{directionU, controlOf, axesOf}
+use Rattle.sampler.specs.Answers.{elementOf, bodyOf, refusalIn, coordinatesIn, runRefusalIn, pointOnCurve, runOnCurve, pointsAfter}
+
+-- "any non-rational Bezier or B-spline curve .. in tables that obey the rules": "tables obey the rules where nothing that 15 names is wrong for that element"
+pub record Curve (used : Used) (t : Tables) (number : ℕ) : Type 0 where
+  pub some : 1 ≤ number
+  pub in-use : number ≤ used .elements
+  pub kind : (elementOf t number .kind ≡ curveKind) ⊎ (elementOf t number .kind ≡ curve2Kind)
+  pub obeyed : obeys used t (curvesBefore t (number - 1)) (number - 1) ≡ true
+  pub plain : bodyOf t number .rational ≡ 0
+  pub type : (bodyOf t number .type ≡ 1) ⊎ (bodyOf t number .type ≡ 2)
+
+-- z is at most n/2 from the exact value at p on that axis
+abbrev pub OnCurve : Tables → (number : ℕ) (p : ℤ) (axis : ℕ) → ℤ → Type 0
+OnCurve t number p axis z = Close z (curveExact (directionU t (bodyOf t number)) p (controlOf t (elementOf t number) axis)) (bodyOf t number .degree-u)
+
+pub record CurveAnswer (used : Used) (t : Tables) (number : ℕ) (p : ℤ) : Type 0 where
+  pub given : refusalIn (pointOnCurve used t number p) ≡ 0
+  pub axes : length (coordinatesIn (pointOnCurve used t number p)) ≡ axesOf (elementOf t number)
+  pub near : (axis : ℕ) → axis < axesOf (elementOf t number) → OnCurve t number p axis (getD (coordinatesIn (pointOnCurve used t number p)) axis (pos 0))
+
+-- "Take as parameter any whole number of millionths inside its stated range": "start to end, both included"
+abbrev pub PointsOnCurves : Type 0
+PointsOnCurves =
+    (used : Used) (t : Tables) (number : ℕ) (p : ℤ) → Curve used t number → bodyOf t number .start-u ≤ℤ p → p ≤ℤ bodyOf t number .end-u
+    → CurveAnswer used t number p
+
+pub record RunAnswer (used : Used) (t : Tables) (number steps at : ℕ) (points : List ℤ) : Type 0 where
+  pub given : runRefusalIn (runOnCurve used t number steps at (length points)) ≡ 0
+  pub near : (j axis : ℕ) → j ≤ steps → axis < axesOf (elementOf t number)
+      → OnCurve t number (parameterAt (bodyOf t number .start-u) (bodyOf t number .end-u) steps j) axis
+      (getD (pointsAfter used t number steps at points) (at + (axesOf (elementOf t number) * j + axis)) (pos 0))
+
+-- "In a run of 1 to 65,536 steps the demand holds at every j = 0..N, each point held against the exact value at its own parameter."
+abbrev pub RunsOnCurves : Type 0
+RunsOnCurves =
+    (used : Used) (t : Tables) (number steps at : ℕ) (points : List ℤ) → Curve used t number → 1 ≤ steps → steps ≤ 65536
+    → at + axesOf (elementOf t number) * (steps + 1) ≤ length points → RunAnswer used t number steps at points

@@ -1,0 +1,31 @@
+-- The points as the functions below the entry points make them, from the parts of the tables that they are lent.
+use mathlib.Core.Bool.{cond}
+use mathlib.Core.List.{List}
+use Prim.Native.Nat.{ℕ, _+_}
+use lib.Dec.{eqb}
+use lib.IntN.{ℤ}
+use Rattle.curves.specs.Sampled.{curveSampled}
+use Rattle.sampler.specs.Places.{direction}
+use Rattle.sampler.specs.Controls.{controlAt}
+use Rattle.sampler.specs.Runs.{pointsUpto}
+use Rattle.sampler.specs.declared.rows.Along.{Along}
+use Rattle.sampler.specs.declared.Sampled.{Sampled}
+use Rattle.sampler.specs.declared.Sampled.the-variants as sampled
+
+abbrev pub coordinateBy : List ℤ → List ℕ → (first : ℕ) → Along → List ℤ → (t : ℤ) (axis : ℕ) → ℤ
+coordinateBy values corners first along x t axis = curveSampled (direction along x) t (controlAt values corners first axis)
+
+unfoldable pub pointBy : (kind : ℕ) → List ℤ → List ℤ → List ℕ → (first : ℕ) → Along → List ℤ → (t : ℤ) → Sampled
+pointBy kind v vp corners first along x t =
+    cond (eqb kind 5)
+    (sampled.Plane (coordinateBy vp corners first along x t 1) (coordinateBy vp corners first along x t 2))
+    (sampled.Space (coordinateBy v corners first along x t 0) (coordinateBy v corners first along x t 1) (coordinateBy v corners first along x t 2))
+
+abbrev pub axesBy : (kind : ℕ) → ℕ
+axesBy kind = cond (eqb kind 5) 2 3
+
+unfoldable pub runBy : (kind : ℕ) → List ℤ → List ℤ → List ℕ → (first : ℕ) → Along → List ℤ → (start end : ℤ) (steps : ℕ) → List ℤ
+runBy kind v vp corners first along x start end steps =
+    cond (eqb kind 5)
+    (pointsUpto vp corners first 1 2 along x start end steps (steps + 1))
+    (pointsUpto v corners first 0 3 along x start end steps (steps + 1))

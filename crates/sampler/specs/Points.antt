@@ -1,0 +1,48 @@
+-- 01, "How a point is made", over the tables: an element's directions, its controls and its points.
+use mathlib.Core.Bool.{Bool, cond, _&&_, _||_}
+use mathlib.Core.List.{List, [], _∷_}
+use Prim.Native.Nat.{ℕ, _+_, _*_, _-_}
+use lib.Dec.{leb, eqb}
+use lib.ListN.{length}
+use lib.IntN.{ℤ}
+use Rattle.tables.specs.Tables.{Tables}
+use Rattle.tables.specs.Records.{Body, cornerAt, valueAt, vWidth, vpWidth, parametersU, parametersV, curve2Kind}
+use Rattle.tables.specs.Bodies.{bezier, bspline, controls}
+use Rattle.tables.specs.declared.Element.{Element}
+use Rattle.curves.specs.Directions.{Direction}
+use Rattle.curves.specs.Sampled.{curveSampled, surfaceSampled}
+use Rattle.sampler.specs.Places.{direction}
+use Rattle.sampler.specs.Runs.{joined, listed, parameterAt}
+use Rattle.sampler.specs.declared.rows.Along.{Along}
+
+-- "Controls k along one direction, from p parameters and degree n", of the two types that are sampled
+abbrev pub alongOf : (type n p : ℕ) → Along
+alongOf type n p = record { basis = type; degree = n; controls = controls (cond (eqb type 2) bspline bezier) n p }
+
+abbrev pub directionU : Tables → Body → Direction
+directionU t b = direction (alongOf (b .type) (b .degree-u) (b .count-u)) (parametersU t b)
+
+abbrev pub directionV : Tables → Body → Direction
+directionV t b = direction (alongOf (b .type) (b .degree-v) (b .count-v)) (parametersV t b)
+
+-- "the control's number on that axis": "surf and curv give x y z, curv2 u v"; a vp record holds u and v after the count given
+unfoldable pub controlOf : Tables → Element → (axis i : ℕ) → ℤ
+controlOf t e axis i =
+    cond (eqb (e .kind) curve2Kind)
+    (valueAt vpWidth (t .vp) (cornerAt t (e .first) i .v - 1) (1 + axis))
+    (valueAt vWidth (t .v) (cornerAt t (e .first) i .v - 1) axis)
+
+abbrev pub axesOf : Element → ℕ
+axesOf e = cond (eqb (e .kind) curve2Kind) 2 3
+
+-- one coordinate of a curve's point
+unfoldable pub curveAt : Tables → Element → Body → (p : ℤ) (axis : ℕ) → ℤ
+curveAt t e b p axis = curveSampled (directionU t b) p (controlOf t e axis)
+
+-- "A surface has k_u times k_v controls, u varying fastest"
+unfoldable pub surfaceAt : Tables → Element → Body → (p q : ℤ) (axis : ℕ) → ℤ
+surfaceAt t e b p q axis = surfaceSampled (directionU t b) (directionV t b) p q (λ i j. controlOf t e axis (j * directionU t b .controls + i))
+
+-- the numbers of a run's points, one point after the other
+unfoldable pub runNumbers : Tables → Element → Body → (steps : ℕ) → List ℤ
+runNumbers t e b steps = joined (steps + 1) (λ j. listed (axesOf e) (curveAt t e b (parameterAt (b .start-u) (b .end-u) steps j)))

@@ -1,0 +1,124 @@
+ghost use mathlib.Core.Path.{_≡_};
+ghost use mathlib.Core.Bool.{cond};
+ghost use Prim.Native.Nat.{_+_, _*_, _-_, _≤_, _<_};
+ghost use lib.Dec.{eqb};
+ghost use Rattle.whole.specs.Round.{Small};
+ghost use Rattle.curves.specs.Sampled.{curveSampled, surfaceSampled};
+ghost use Rattle.sampler.specs.Places.{direction, On};
+ghost use Rattle.sampler.specs.Rows.{Gathered};
+ghost use Rattle.sampler.specs.Controls.{controlAt, Held, Reached};
+use crate::rows::Along;
+use crate::rows::Row;
+use crate::rows::pyramid;
+
+// Number `axis` of the vertex that control i names, of `count` controls from the corner number `first` on.
+fn control(
+    values: &[i32],
+    corners: &[u32],
+    first: usize,
+    count: usize,
+    axis: usize,
+    i: usize,
+) -> i32
+    requires { ⌜ Held (now values) (now corners) first count × (axis < 4) × (i < count) ⌝ }
+    ensures { λ z. ⌜ (z ≡ controlAt (now (values .entry)) (now (corners .entry)) first axis i) × Small z ⌝ }
+{
+    let vertex = corners[first + 3 * i] as usize;
+    values[4 * (vertex - 1) + axis]
+}
+
+// Controls from to from + n.
+fn gather(
+    values: &[i32],
+    corners: &[u32],
+    first: usize,
+    count: usize,
+    axis: usize,
+    from: usize,
+    n: usize,
+) -> Row
+    requires { ⌜ Held (now values) (now corners) first count × (axis < 4) × (from + n < count) × (n ≤ 20) ⌝ }
+    ensures { λ r. ⌜ Gathered r (λ j. controlAt (now (values .entry)) (now (corners .entry)) first axis (from + j)) n ⌝ }
+{
+    let mut numbers = [0i32; 21];
+    let mut j = 0;
+    while j <= n {
+        numbers[j] = control(values, corners, first, count, axis, from + j);
+        j += 1;
+    }
+    Row {
+        values: numbers,
+        count: n + 1,
+    }
+}
+
+// The first of the n + 1 controls that a point is made from.
+fn first_control(along: Along, chosen: usize) -> usize
+    requires { ⌜ Reached along chosen ⌝ }
+    ensures { λ r. ⌜ r ≡ cond (eqb (along .basis) 2) (chosen - along .degree) (chosen * along .degree) ⌝ }
+{
+    if along.basis == 2 {
+        return chosen - along.degree;
+    }
+    chosen * along.degree
+}
+
+// One coordinate of a curve's point at t.
+pub fn coordinate(
+    values: &[i32],
+    corners: &[u32],
+    first: usize,
+    axis: usize,
+    x: &[i32],
+    along: Along,
+    t: i32,
+    chosen: usize,
+) -> i32
+    requires { ⌜ Held (now values) (now corners) first (along .controls) × (axis < 4) × On along (now x) t chosen ⌝ }
+    ensures { λ z. ⌜ (z ≡ curveSampled (direction along (now (x .entry))) t (controlAt (now (values .entry)) (now (corners .entry)) first axis)) × Small z ⌝ }
+{
+    let from = first_control(along, chosen);
+    let row = gather(
+        values,
+        corners,
+        first,
+        along.controls,
+        axis,
+        from,
+        along.degree,
+    );
+    pyramid(row, x, along, t, chosen)
+}
+
+// One coordinate of a surface's point at s and t: u first along each row, then v.
+pub fn across(
+    values: &[i32],
+    corners: &[u32],
+    first: usize,
+    axis: usize,
+    x: &[i32],
+    u: Along,
+    s: i32,
+    across_u: usize,
+    y: &[i32],
+    v: Along,
+    t: i32,
+    across_v: usize,
+) -> i32
+    requires { ⌜ Held (now values) (now corners) first (u .controls * v .controls) × (axis < 4) × On u (now x) s «across_u» × On v (now y) t «across_v» ⌝ }
+    ensures { λ z. ⌜ (z ≡ surfaceSampled (direction u (now (x .entry))) (direction v (now (y .entry))) s t (λ i j. controlAt (now (values .entry)) (now (corners .entry)) first axis (j * u .controls + i))) × Small z ⌝ }
+{
+    let top = first_control(v, across_v);
+    let mut numbers = [0i32; 21];
+    let mut j = 0;
+    while j <= v.degree {
+        let row = first + 3 * ((top + j) * u.controls);
+        numbers[j] = coordinate(values, corners, row, axis, x, u, s, across_u);
+        j += 1;
+    }
+    let row = Row {
+        values: numbers,
+        count: v.degree + 1,
+    };
+    pyramid(row, y, v, t, across_v)
+}

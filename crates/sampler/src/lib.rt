@@ -1,0 +1,246 @@
+// Points on curves and surfaces, alone and in runs.
+ghost use mathlib.Core.Path.{_≡_};
+ghost use Rattle.tables.specs.Tables.{tables};
+ghost use Rattle.sampler.specs.Answers.{refusalOf, pointOnCurve, runOnCurve, pointsAfter};
+ghost use lib.ListN.{length};
+use crate::points::curve_point;
+use crate::records::along_of;
+use crate::records::axes_of;
+use crate::records::is_carried;
+use crate::records::is_wanted;
+use crate::records::number_at;
+use crate::records::value_at;
+use crate::runs::write_run;
+use rules::curves_before;
+use rules::obeys;
+use tables::Used;
+
+mod controls;
+mod points;
+mod records;
+mod rows;
+mod runs;
+mod search;
+
+pub enum Sampled {
+    Space { x: i32, y: i32, z: i32 },
+    Plane { u: i32, v: i32 },
+    Refused { number: u32 },
+}
+
+// How many numbers a run wrote, or why it wrote none.
+pub enum Ran {
+    Filled { numbers: usize },
+    Refused { number: u32 },
+}
+
+// 17, 15 and 18, in this order; 0 where none of them is given.
+fn refusal(
+    surface: bool,
+    used: Used,
+    v: &[i32],
+    vt: &[i32],
+    vn: &[i32],
+    vp: &[i32],
+    corners: &[u32],
+    elements: &[u32],
+    bodies: &[u32],
+    ranges: &[i32],
+    parameters: &[i32],
+    loops: &[u32],
+    spans: &[i32],
+    element: u32,
+) -> u32
+    ensures { λ r. ⌜ r ≡ refusalOf surface used (tables (now (v .entry)) (now (vt .entry)) (now (vn .entry)) (now (vp .entry)) (now (corners .entry)) (now (elements .entry)) (now (bodies .entry)) (now (ranges .entry)) (now (parameters .entry)) (now (loops .entry)) (now (spans .entry))) element ⌝ }
+{
+    if element < 1 {
+        return 17;
+    }
+    if used.elements < element {
+        return 17;
+    }
+    if elements.len() < 9 * element as usize {
+        return 15;
+    }
+    let index = element - 1;
+    let i = index as usize;
+    if !is_wanted(surface, number_at(elements, 9, i, 0)) {
+        return 17;
+    }
+    let curves = curves_before(elements, index);
+    if !obeys(
+        used,
+        v,
+        vt,
+        vn,
+        vp,
+        corners,
+        elements,
+        bodies,
+        ranges,
+        parameters,
+        loops,
+        spans,
+        index,
+        curves,
+    ) {
+        return 15;
+    }
+    let body = number_at(elements, 9, i, 3) as usize - 1;
+    if !is_carried(number_at(bodies, 9, body, 1), number_at(bodies, 9, body, 0)) {
+        return 18;
+    }
+    0
+}
+
+// The point at t of the curv or curv2 of that number, counted from 1 over all elements.
+pub fn point_on_curve(
+    used: Used,
+    v: &[i32],
+    vt: &[i32],
+    vn: &[i32],
+    vp: &[i32],
+    corners: &[u32],
+    elements: &[u32],
+    bodies: &[u32],
+    ranges: &[i32],
+    parameters: &[i32],
+    loops: &[u32],
+    spans: &[i32],
+    element: u32,
+    t: i32,
+) -> Sampled
+    ensures { λ r. ⌜ r ≡ pointOnCurve used (tables (now (v .entry)) (now (vt .entry)) (now (vn .entry)) (now (vp .entry)) (now (corners .entry)) (now (elements .entry)) (now (bodies .entry)) (now (ranges .entry)) (now (parameters .entry)) (now (loops .entry)) (now (spans .entry))) element t ⌝ }
+{
+    let refused = refusal(
+        false,
+        used,
+        v,
+        vt,
+        vn,
+        vp,
+        corners,
+        elements,
+        bodies,
+        ranges,
+        parameters,
+        loops,
+        spans,
+        element,
+    );
+    if refused != 0 {
+        return Sampled::Refused { number: refused };
+    }
+    let i = element as usize - 1;
+    let body = number_at(elements, 9, i, 3) as usize - 1;
+    if t < value_at(ranges, 4, body, 0) {
+        return Sampled::Refused { number: 19 };
+    }
+    if value_at(ranges, 4, body, 1) < t {
+        return Sampled::Refused { number: 19 };
+    }
+    let count = number_at(bodies, 9, body, 5);
+    let along = along_of(
+        number_at(bodies, 9, body, 0),
+        number_at(bodies, 9, body, 2),
+        count,
+    );
+    let from = number_at(bodies, 9, body, 4) as usize;
+    let to = from + count as usize;
+    let x = &parameters[from..to];
+    let first = number_at(elements, 9, i, 1) as usize;
+    curve_point(
+        number_at(elements, 9, i, 0),
+        v,
+        vp,
+        corners,
+        first,
+        x,
+        along,
+        t,
+    )
+}
+
+// A run of `steps` steps on a curv or curv2: its points fill the table from entry `at` on, counted in numbers.
+pub fn run_on_curve(
+    used: Used,
+    v: &[i32],
+    vt: &[i32],
+    vn: &[i32],
+    vp: &[i32],
+    corners: &[u32],
+    elements: &[u32],
+    bodies: &[u32],
+    ranges: &[i32],
+    parameters: &[i32],
+    loops: &[u32],
+    spans: &[i32],
+    element: u32,
+    steps: u32,
+    points: &mut [i32],
+    at: usize,
+) -> Ran
+    ensures { λ r. ⌜ (r ≡ runOnCurve used (tables (now (v .entry)) (now (vt .entry)) (now (vn .entry)) (now (vp .entry)) (now (corners .entry)) (now (elements .entry)) (now (bodies .entry)) (now (ranges .entry)) (now (parameters .entry)) (now (loops .entry)) (now (spans .entry))) element steps at (length (now (points .entry)))) × (now (points .exit) ≡ pointsAfter used (tables (now (v .entry)) (now (vt .entry)) (now (vn .entry)) (now (vp .entry)) (now (corners .entry)) (now (elements .entry)) (now (bodies .entry)) (now (ranges .entry)) (now (parameters .entry)) (now (loops .entry)) (now (spans .entry))) element steps at (now (points .entry))) ⌝ }
+{
+    let refused = refusal(
+        false,
+        used,
+        v,
+        vt,
+        vn,
+        vp,
+        corners,
+        elements,
+        bodies,
+        ranges,
+        parameters,
+        loops,
+        spans,
+        element,
+    );
+    if refused != 0 {
+        return Ran::Refused { number: refused };
+    }
+    if steps < 1 {
+        return Ran::Refused { number: 19 };
+    }
+    if 65536 < steps {
+        return Ran::Refused { number: 19 };
+    }
+    let i = element as usize - 1;
+    let kind = number_at(elements, 9, i, 0);
+    let numbers = axes_of(kind) * (steps as usize + 1);
+    if points.len() < numbers {
+        return Ran::Refused { number: 16 };
+    }
+    if points.len() - numbers < at {
+        return Ran::Refused { number: 16 };
+    }
+    let first = number_at(elements, 9, i, 1) as usize;
+    let body = number_at(elements, 9, i, 3) as usize - 1;
+    let start = value_at(ranges, 4, body, 0);
+    let end = value_at(ranges, 4, body, 1);
+    let count = number_at(bodies, 9, body, 5);
+    let along = along_of(
+        number_at(bodies, 9, body, 0),
+        number_at(bodies, 9, body, 2),
+        count,
+    );
+    let from = number_at(bodies, 9, body, 4) as usize;
+    let to = from + count as usize;
+    let x = &parameters[from..to];
+    write_run(
+        &mut points[at..],
+        kind,
+        v,
+        vp,
+        corners,
+        first,
+        x,
+        along,
+        start,
+        end,
+        steps,
+    );
+    Ran::Filled { numbers }
+}

@@ -1,0 +1,38 @@
+ghost use mathlib.Core.Path.{_≡_};
+ghost use mathlib.Core.Bool.{cond};
+ghost use lib.Dec.{eqb};
+ghost use Rattle.sampler.specs.Places.{Sound};
+ghost use Rattle.sampler.specs.Controls.{Held};
+ghost use Rattle.sampler.specs.Inner.{pointBy};
+use crate::Sampled;
+use crate::controls::coordinate;
+use crate::rows::Along;
+use crate::search::find;
+
+// The point at t of a curv, or of a curv2 where the kind is 5.
+pub fn curve_point(
+    kind: u32,
+    v: &[i32],
+    vp: &[i32],
+    corners: &[u32],
+    first: usize,
+    x: &[i32],
+    along: Along,
+    t: i32,
+) -> Sampled
+    requires { ⌜ Held (cond (eqb kind 5) (now vp) (now v)) (now corners) first (along .controls) × Sound along (now x) t ⌝ }
+    ensures { λ r. ⌜ r ≡ pointBy kind (now (v .entry)) (now (vp .entry)) (now (corners .entry)) first along (now (x .entry)) t ⌝ }
+{
+    let chosen = find(x, along, t);
+    if kind == 5 {
+        return Sampled::Plane {
+            u: coordinate(vp, corners, first, 1, x, along, t, chosen),
+            v: coordinate(vp, corners, first, 2, x, along, t, chosen),
+        };
+    }
+    Sampled::Space {
+        x: coordinate(v, corners, first, 0, x, along, t, chosen),
+        y: coordinate(v, corners, first, 1, x, along, t, chosen),
+        z: coordinate(v, corners, first, 2, x, along, t, chosen),
+    }
+}

@@ -1,0 +1,124 @@
+ghost use mathlib.Core.Path.{_≡_};
+ghost use mathlib.Core.Bool.{cond};
+ghost use mathlib.Core.List.{_++_};
+ghost use Prim.Native.Nat.{_+_, _*_, _≤_, _<_};
+ghost use lib.Dec.{eqb};
+ghost use lib.ListN.{length, drop};
+ghost use lib.Signed.{_≤ℤ_};
+ghost use Rattle.whole.specs.Round.{Small};
+ghost use Rattle.sampler.specs.Places.{On};
+ghost use Rattle.sampler.specs.Controls.{Held};
+ghost use Rattle.sampler.specs.Runs.{parameterAt, pointAt, pointsUpto, Ranged};
+ghost use Rattle.sampler.specs.Inner.{runBy, axesBy};
+use crate::controls::coordinate;
+use crate::rows::Along;
+use crate::search::find;
+use crate::search::search;
+use whole::apart;
+
+// The parameter of point j of a run: at most 65,536 times 4,000,000,000 is multiplied out.
+fn parameter_at(start: i32, end: i32, steps: u32, j: u32) -> i32
+    requires { ⌜ (start ≤ℤ end) × Small start × Small end × (0 < steps) × (steps ≤ 65536) × (j ≤ steps) ⌝ }
+    ensures { λ t. ⌜ (t ≡ parameterAt start end steps j) × Small t ⌝ }
+{
+    let part = j as u64 * apart(start, end) / steps as u64;
+    (start as i64 + part as i64) as i32
+}
+
+// The coordinates of a curve's point at t, at the front of what is lent.
+fn write_point(
+    points: &mut [i32],
+    values: &[i32],
+    corners: &[u32],
+    first: usize,
+    axis: usize,
+    axes: usize,
+    x: &[i32],
+    along: Along,
+    t: i32,
+    chosen: usize,
+)
+    requires { ⌜ Held (now values) (now corners) first (along .controls) × (axis + axes ≤ 4) × On along (now x) t chosen × (axes ≤ length (now points)) ⌝ }
+    ensures { λ r. ⌜ now (points .exit) ≡ pointAt (now (values .entry)) (now (corners .entry)) first axis axes along (now (x .entry)) t ++ drop axes (now (points .entry)) ⌝ }
+{
+    let mut k = 0;
+    while k < axes {
+        points[k] = coordinate(values, corners, first, axis + k, x, along, t, chosen);
+        k += 1;
+    }
+}
+
+// The points of a run, at the front of what is lent; each search goes on from the segment or span before.
+pub fn write_points(
+    points: &mut [i32],
+    values: &[i32],
+    corners: &[u32],
+    first: usize,
+    axis: usize,
+    axes: usize,
+    x: &[i32],
+    along: Along,
+    start: i32,
+    end: i32,
+    steps: u32,
+)
+    requires { ⌜ Held (now values) (now corners) first (along .controls) × (axis + axes ≤ 4) × Ranged along (now x) start end × (0 < steps) × (steps ≤ 65536) × (axes * (steps + 1) ≤ length (now points)) ⌝ }
+    ensures { λ r. ⌜ now (points .exit) ≡ pointsUpto (now (values .entry)) (now (corners .entry)) first axis axes along (now (x .entry)) start end steps (steps + 1) ++ drop (axes * (steps + 1)) (now (points .entry)) ⌝ }
+{
+    let mut chosen = find(x, along, start);
+    let mut j = 0;
+    while j <= steps {
+        let t = parameter_at(start, end, steps, j);
+        chosen = search(x, along, t, chosen, chosen + 1);
+        let at = axes * j as usize;
+        write_point(
+            &mut points[at..],
+            values,
+            corners,
+            first,
+            axis,
+            axes,
+            x,
+            along,
+            t,
+            chosen,
+        );
+        j += 1;
+    }
+}
+
+// The points of a run on a curv, or on a curv2 where the kind is 5.
+pub fn write_run(
+    points: &mut [i32],
+    kind: u32,
+    v: &[i32],
+    vp: &[i32],
+    corners: &[u32],
+    first: usize,
+    x: &[i32],
+    along: Along,
+    start: i32,
+    end: i32,
+    steps: u32,
+)
+    requires { ⌜ Held (cond (eqb kind 5) (now vp) (now v)) (now corners) first (along .controls) × Ranged along (now x) start end × (0 < steps) × (steps ≤ 65536) × (axesBy kind * (steps + 1) ≤ length (now points)) ⌝ }
+    ensures { λ r. ⌜ now (points .exit) ≡ runBy kind (now (v .entry)) (now (vp .entry)) (now (corners .entry)) first along (now (x .entry)) start end steps ++ drop (axesBy kind * (steps + 1)) (now (points .entry)) ⌝ }
+{
+    if kind == 5 {
+        write_points(
+            points,
+            vp,
+            corners,
+            first,
+            1,
+            2,
+            x,
+            along,
+            start,
+            end,
+            steps,
+        );
+    } else {
+        write_points(points, v, corners, first, 0, 3, x, along, start, end, steps);
+    }
+}
