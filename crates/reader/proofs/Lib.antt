@@ -3,3 +3,4 @@ pub mod Steps
 pub mod Vertices
 pub mod Stepped
 pub mod Elements
+pub mod Settings
