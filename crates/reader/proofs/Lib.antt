@@ -4,3 +4,4 @@ pub mod Vertices
 pub mod Stepped
 pub mod Elements
 pub mod Settings
+pub mod Parameters
