@@ -5,3 +5,4 @@ pub mod Stepped
 pub mod Elements
 pub mod Settings
 pub mod Parameters
+pub mod Loops
