@@ -4,3 +4,4 @@ pub mod Values
 pub mod Steps
 pub mod Parses
 pub mod Lines
+pub mod Before

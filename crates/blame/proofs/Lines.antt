@@ -1,16 +1,16 @@
 -- The theorem of `blame`: by the statement, its row of the rules against the parser's words.
-use Prim.Native.Nat.{ℕ, zero, suc, _+_, _-_, _%_, _≤_, _<_}
+use Prim.Native.Nat.{ℕ, _+_, _-_, _%_, _≤_, _<_}
 use mathlib.Core.Path.{_≡_, refl, sym, ap, _∙_}
 use mathlib.Core.List.{List, [], _∷_}
 use mathlib.Core.Bool.{Bool, true, false, cond, _&&_, _||_, not}
-use mathlib.Core.Option.{Option, none, some}
+use mathlib.Core.Option.{Option, none}
 use lib.ListN.{length, drop}
-use lib.Dec.{leb, ltb, eqb}
+use lib.Dec.{ltb, eqb}
 use lib.IntN.{ℤ}
 use native.Mathlib.Omega.{arith}
 use borrow.Author.Tests.{le-ltb, lt-ltb}
 use Rattle.text.specs.Words.{Word, wordOf}
-use Rattle.text.specs.Rest.{Rest, restAt, wordAt, endOf, scanOf}
+use Rattle.text.specs.Rest.{restAt, wordAt, endOf, scanOf}
 use Rattle.text.specs.declared.Scan.{Scan}
 use Rattle.text.specs.declared.Scan.the-variants as scan
 use Rattle.text.proofs.Scans.{scan-good, scan-fault}
@@ -22,7 +22,7 @@ use Rattle.model.specs.Model as model
 use Rattle.model.specs.Model.{geometric, texture, normal, parametric, point, line, face, Free, curve, curve2, surface}
 use Rattle.model.specs.Statements as statements
 use Rattle.model.specs.Parse as parse
-use Rattle.model.specs.Parse.{Parsed, fine, fault, then, must, unless, Keyword, a-vertex, an-element, a-body, parm, trim, hole, ends, cstype, deg, g, s, usemtl, over, valuesOf, Value, cornersOf, unlike}
+use Rattle.model.specs.Parse.{fine, then, must, unless, Keyword, a-vertex, an-element, a-body, parm, trim, hole, ends, cstype, deg, g, s, usemtl, over, valuesOf, Value, cornersOf, unlike}
 use Rattle.model.specs.Read.{keywordOf}
 use Rattle.state.specs.State.{formIn, openIs, StateIs}
 use Rattle.state.specs.declared.Open.{Open}
@@ -40,9 +40,6 @@ use Rattle.blame.proofs.Values.{blameAt, skip-values, pattern-walk, bar
 use Rattle.blame.proofs.Parses.{must-blame, then-blame, unless-blame, last-blame, words-blame, by-cond, outside-is, inside-is, body-kind, surface-kind, parm-kind, curve-force, curve2-force, surface-force, given-same}
 
 module _ (text : List ℕ) (t : List ℤ) (key : ℕ) (x : model.State) (c : Open) (open-is : openIs text (x .open-body) c) (given-in : GivenIn (x .model .vertices .vp) t) (ws : List Word) where
-  seen : parse.Seen
-  seen = parse.seenIn x
-
   -- the row r comes to the parser's words of kw
   line-blame : (r : Rules) (kw : Keyword)
       → allowedBy (r .standing) (c .kind) (parse.saysV ws) ≡ parse.allowed kw (x .open-body) ws

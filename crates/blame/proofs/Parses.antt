@@ -1,41 +1,36 @@
 -- A line's fault in the code's numbers is the parser's refusal: by the statement, each row of the rules held against the parser's own words.
-use Prim.Native.Nat.{ℕ, zero, suc, _+_, _-_, _*_, _%_, _≤_, _<_}
+use Prim.Native.Nat.{ℕ, suc, _+_, _-_, _≤_, _<_}
 use mathlib.Core.Path.{_≡_, refl, sym, ap, _∙_}
 use mathlib.Core.List.{List, [], _∷_}
 use mathlib.Core.Bool.{Bool, true, false, cond, _&&_, _||_, not}
 use mathlib.Core.Option.{Option, none, some}
-use lib.ListN.{length, drop, getD}
-use lib.Dec.{leb, ltb, eqb}
-use lib.IntN.{ℤ, pos, natAbs}
+use lib.ListN.{length}
+use lib.Dec.{leb, eqb}
+use lib.IntN.{ℤ, natAbs}
 use native.Mathlib.Omega.{arith}
-use borrow.Author.Tests.{ne-eqb, leb-true, le-ltb, lt-ltb}
-use Rattle.lists.proofs.Tests.{and-left, and-right, test}
-use mathlib.Core.Logic.{⊎-elim}
+use borrow.Author.Tests.{ne-eqb, leb-true}
+use Rattle.lists.proofs.Tests.{and-left, and-right}
 use Rattle.text.specs.Words.{Word}
 use Rattle.forms.specs.Said.{Said, says, wrong}
 use Rattle.forms.specs.Said as said
 use Rattle.forms.specs.Digits.{natOf, negative, unminus}
 use Rattle.forms.specs.Reference.{isReference, item, refer, referenceOf}
 use Rattle.keywords.specs.declared.Statement.{Statement}
-use Rattle.keywords.specs.declared.Statement.the-variants.{Vertex, TextureVertex, VertexNormal, ParameterVertex, BodyType, Degree, Point, Line, Face, Curve, Curve2, Surface, Parameters, Trim, Hole, End, Group, Smoothing, Material, PassedOver, Refused as Unrecorded, Unknown}
 use Rattle.tables.specs.Bodies.{Basis, bezier, bspline, cardinal, taylor}
 use Rattle.model.specs.Model as model
-use Rattle.model.specs.Model.{geometric, texture, normal, parametric, point, line, face, Free, curve, curve2, surface}
+use Rattle.model.specs.Model.{Free, curve, curve2, surface}
 use Rattle.model.specs.Statements as statements
 use Rattle.model.specs.Parse as parse
-use Rattle.model.specs.Parse.{Parsed, fine, fault, then, must, unless, Keyword, a-vertex, an-element, a-body, parm, trim, hole, ends, cstype, deg, g, s, usemtl, over, valuesOf, Value}
-use Rattle.model.specs.Read.{keywordOf}
-use Rattle.state.specs.State.{formIn, noOpen, openIs, OpenIs}
+use Rattle.model.specs.Parse.{Parsed, fine, fault, then, must, unless, valuesOf, Value}
+use Rattle.state.specs.State.{formIn, openIs}
 use Rattle.state.specs.declared.Open.{Open}
 use Rattle.blame.specs.declared.rules.WordForm.{WordForm}
-use Rattle.blame.specs.declared.rules.WordForm.the-variants as form
 use Rattle.blame.specs.declared.rules.Rules.{Rules}
 use Rattle.blame.specs.declared.Refusal.{Refusal}
-use Rattle.blame.specs.declared.Refusal.the-variants.{Refused, Nothing}
-use Rattle.blame.specs.Rules.{formBy, allowedBy, countedBy, rulesOf}
-use Rattle.blame.specs.Faults.{heard, onHeard, saidBy, givenBy, faultIn, inForceBy, owed, orElse, bodyFault, heldFault, lineBy, lineFault, unknownBy, knownFault}
-use Rattle.blame.specs.Blame.{blameOf, checkedBefore, parseBefore, GivenIn}
-use Rattle.blame.proofs.Values.{blameAt, skip-values, pattern-walk, bare-unlike, narrow-walk}
+use Rattle.blame.specs.Rules.{formBy}
+use Rattle.blame.specs.Faults.{heard, onHeard, saidBy, givenBy, faultIn, inForceBy, owed, orElse}
+use Rattle.blame.specs.Blame.{blameOf, GivenIn}
+use Rattle.blame.proofs.Values.{blameAt}
 
 -- ---- the parser's steps, each as a refusal
 pub must-blame : (b : Bool) (n p : ℕ) {q : Refusal} (r : Parsed statements.Statement) → q ≡ blameOf r → owed b n p q ≡ blameOf (must b n p r)

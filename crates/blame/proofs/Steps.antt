@@ -1,15 +1,14 @@
 -- The code's steps put together: what each answer says of the definition in its order.
-use Prim.Native.Nat.{ℕ, _-_, _≤_}
+use Prim.Native.Nat.{ℕ}
 use mathlib.Core.Path.{_≡_, refl, sym, ap, _∙_}
-use mathlib.Core.List.{List, [], _∷_}
-use mathlib.Core.Bool.{Bool, true, false, cond}
-use lib.ListN.{length, drop}
+use mathlib.Core.List.{List, _∷_}
+use mathlib.Core.Bool.{Bool, true, false}
+use lib.ListN.{drop}
 use lib.IntN.{ℤ}
-use lib.Dec.{eqb}
 use borrow.Author.Tests.{eq-eqb, ne-eqb}
 use Rattle.text.specs.Words.{Word, wordOf}
 use Rattle.text.specs.Rest.{restAt, wordAt, endOf}
-use Rattle.forms.specs.Said.{Said, says, wrong, ended}
+use Rattle.forms.specs.Said.{Said, wrong, ended}
 use Rattle.forms.specs.Corner.{Corner, cornerOf}
 use Rattle.forms.specs.Answers.{saidCorner}
 use Rattle.forms.specs.declared.corner.CornerWord.{CornerWord}
@@ -25,7 +24,7 @@ use Rattle.blame.specs.declared.rules.Rules.{Rules}
 use Rattle.blame.specs.declared.Refusal.{Refusal}
 use Rattle.blame.specs.declared.Refusal.the-variants.{Refused, Nothing}
 use Rattle.blame.specs.Rules.{allowedBy, countedBy, rulesOf}
-use Rattle.blame.specs.Faults.{faultIn, alikeForms, onFirst, patternFault, owed, orElse, heldFault, wordsFault, lineBy, lineFault, unknownBy, knownFault, statementFault}
+use Rattle.blame.specs.Faults.{faultIn, alikeForms, onFirst, patternFault, owed, orElse, heldFault, wordsFault, lineBy, lineFault, unknownBy, statementFault}
 
 -- ---- one after the other
 pub or-nothing : {x y q : Refusal} → Nothing ≡ x → q ≡ y → q ≡ orElse x y

@@ -1,12 +1,12 @@
 -- Words that all have their forms: their values one by one, and 9 and 12 of their corners.
-use Prim.Native.Nat.{ℕ, zero, suc, _+_, _-_, _*_, _≤_, _<_}
+use Prim.Native.Nat.{ℕ, zero, suc, _+_, _≤_, _<_}
 use mathlib.Core.Path.{_≡_, refl, sym, ap, _∙_}
 use mathlib.Core.List.{List, [], _∷_}
 use mathlib.Core.Bool.{Bool, true, false, cond, _&&_}
 use mathlib.Core.Option.{Option, none, some}
-use lib.ListN.{length, drop, getD}
+use lib.ListN.{drop}
 use lib.Dec.{leb, eqb}
-use lib.IntN.{ℤ, pos, natAbs}
+use lib.IntN.{ℤ}
 use native.Mathlib.Omega.{arith}
 use Rattle.text.specs.Words.{Word}
 use Rattle.forms.specs.Said.{Said, says, wrong}
@@ -18,7 +18,7 @@ use Rattle.blame.specs.declared.rules.WordForm.the-variants as form
 use Rattle.blame.specs.declared.rules.Forms.the-variants as forms
 use Rattle.blame.specs.declared.Refusal.{Refusal}
 use Rattle.blame.specs.declared.Refusal.the-variants.{Refused, Nothing}
-use Rattle.blame.specs.Faults.{heard, onHeard, saidBy, faultIn, alikeSaid, alikeForms, onFirst, patternFault, wideSaid, givenBy}
+use Rattle.blame.specs.Faults.{heard, onHeard, faultIn, alikeSaid, alikeForms, onFirst, patternFault, wideSaid, givenBy}
 
 -- a word that must not be there
 abbrev pub blameAt : ℕ → Option ℕ → Refusal

@@ -5,29 +5,21 @@ use mathlib.Core.List.{List, [], _∷_}
 use mathlib.Core.Bool.{Bool}
 use lib.ListN.{length, drop}
 use lib.IntN.{ℤ}
-use lib.Dec.{eqb}
 use native.Mathlib.Omega.{arith}
 use native.Mathlib.Numerals.{add-one}
-use Rattle.text.specs.Words.{Word, wordOf}
+use Rattle.text.specs.Words.{Word}
 use Rattle.text.specs.Rest.{Rest, restAt, wordAt, endOf, WordMet, EndMet, BadMet, gapIs}
 use Rattle.text.specs.declared.Met.{Met}
 use Rattle.text.specs.declared.Met.the-variants.{Start, End, Bad}
 use Rattle.text.proofs.Found.{word-found, end-found, bad-found}
-use Rattle.forms.specs.Said.{Said, says, wrong, ended}
-use Rattle.forms.specs.Corner.{Corner}
-use Rattle.forms.specs.Answers.{saidCorner}
-use Rattle.forms.specs.declared.corner.CornerWord.{CornerWord}
-use Rattle.forms.specs.declared.corner.CornerWord.the-variants as corner
-use Rattle.forms.proofs.Saids.{ended-says, ended-wrong}
-use Rattle.keywords.specs.Arguments.{argumentOf, argumentAt}
+use Rattle.keywords.specs.Arguments.{argumentAt}
 use Rattle.model.specs.Parse as parse
 use Rattle.blame.specs.declared.word.Heard.{Heard}
 use Rattle.blame.specs.declared.word.Heard.the-variants.{Well, Wrong}
 use Rattle.blame.specs.declared.rules.Forms.{Forms}
-use Rattle.blame.specs.declared.Refusal.{Refusal}
 use Rattle.blame.specs.declared.Refusal.the-variants.{Refused, Nothing}
 use Rattle.blame.specs.Rules.{formBy}
-use Rattle.blame.specs.Faults.{heard, saidBy, onHeard, faultIn, alikeForms, onFirst}
+use Rattle.blame.specs.Faults.{heard, saidBy, onHeard, faultIn}
 
 -- ---- no word is left
 module _ (s : List ℕ) (i : ℕ) (r : Met) (m : gapIs s i r) where

@@ -4,13 +4,12 @@ use mathlib.Core.Path.{_≡_, refl, sym, ap, _∙_}
 use mathlib.Core.List.{List, [], _∷_}
 use mathlib.Core.Bool.{Bool, true, false, cond}
 use lib.ListN.{length, getD, drop}
-use lib.Dec.{leb, eqb, ltb, leb·suc-suc}
+use lib.Dec.{leb, eqb, leb·suc-suc}
 use lib.IntN.{ℤ, pos, negsuc, natAbs}
 use lib.Signed.{ltZ}
 use native.Mathlib.Omega.{arith}
 use borrow.Author.Tests.{ltb-true, ltb-false, le-leb, lt-leb}
 use Rattle.text.specs.Words.{Word, wordOf}
-use Rattle.text.specs.Rest.{wordAt}
 use Rattle.forms.specs.Said.{Said, says, wrong, ended}
 use Rattle.forms.specs.Corner.{Corner, agree}
 use Rattle.forms.specs.Answers.{saidCorner, saidReference}

@@ -1,12 +1,11 @@
 -- What a line is refused for, but for room (14) and what `end` finds in its body (11, 12, 13): the parser's own words, without those.
-use Prim.Native.Nat.{ℕ, suc, _*_, _<_}
+use Prim.Native.Nat.{ℕ, _*_, _<_}
 use mathlib.Core.Path.{_≡_}
 use mathlib.Core.List.{List, [], _∷_}
-use mathlib.Core.Bool.{Bool, true, false, cond}
 use lib.ListN.{length, getD}
 use lib.IntN.{ℤ, pos}
 use Rattle.text.specs.Words.{Word}
-use Rattle.text.specs.Rest.{Rest, restAt}
+use Rattle.text.specs.Rest.{restAt}
 use Rattle.keywords.specs.Keywords.{statementOf}
 use Rattle.model.specs.Model as model
 use Rattle.model.specs.Statements.{Statement, end, passed}

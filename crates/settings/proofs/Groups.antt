@@ -2,14 +2,14 @@
 use Prim.Native.Nat.{ℕ, _+_, _-_, _≤_, _<_}
 use mathlib.Core.Path.{_≡_, refl, sym, ap, _∙_}
 use mathlib.Core.List.{List, [], _∷_}
-use mathlib.Core.Bool.{Bool, true, false, cond}
-use mathlib.Core.Option.{Option, none, some}
+use mathlib.Core.Bool.{true, false, cond}
+use mathlib.Core.Option.{none, some}
 use lib.ListN.{length, drop}
 use native.Mathlib.Omega.{arith}
 use Rattle.lists.specs.Lists.{all}
 use Rattle.text.specs.Words.{Word, wordOf}
 use Rattle.text.specs.Rest.{Rest, restAt, push, wordAt, endOf, WordMet}
-use Rattle.forms.specs.Said.{Said, says, wrong}
+use Rattle.forms.specs.Said.{says, wrong}
 use Rattle.forms.specs.Degree.{nameOf}
 use Rattle.model.specs.Layout.{lastEnd}
 use Rattle.state.specs.declared.Names.{Names}

@@ -1,11 +1,10 @@
 -- What the code finds in a line, on lists: by what the line goes on with, and by what a word says.
-use Prim.Native.Nat.{ℕ, _+_, _≤_, _<_}
-use mathlib.Core.Path.{_≡_, refl, sym, ap, ap₂, _∙_}
+use Prim.Native.Nat.{ℕ}
+use mathlib.Core.Path.{_≡_, refl, sym, ap, _∙_}
 use mathlib.Core.List.{List, [], _∷_}
-use mathlib.Core.Bool.{Bool, true, false, cond}
+use mathlib.Core.Bool.{Bool, true, false}
 use mathlib.Core.Option.{Option, none, some}
 use lib.ListN.{length, drop}
-use lib.Dec.{eqb}
 use borrow.Author.Tests.{eq-eqb, ne-eqb}
 use Rattle.text.specs.Words.{Word, wordOf}
 use Rattle.text.specs.Rest.{Rest, restAt, push, wordAt, endOf, WordMet, EndMet, BadMet, gapIs}
@@ -29,9 +28,8 @@ use Rattle.settings.specs.declared.Alone.{Alone}
 use Rattle.settings.specs.declared.Alone.the-variants as alone
 use Rattle.settings.specs.declared.TakenForm.{TakenForm}
 use Rattle.settings.specs.declared.TakenForm.the-variants as form
-use Rattle.settings.specs.declared.TakenNames.{TakenNames}
 use Rattle.settings.specs.declared.TakenNames.the-variants as names
-use Rattle.settings.specs.Steps.{single, onSingle, onSaid, AloneAt, aloneIs, basisOr, isRational, typed, lastType, typeTaken, degreed, secondDegree, degreeWords, degreeRest, degreeTaken, smoothed, smoothingTaken, withMaterial, materialTaken}
+use Rattle.settings.specs.Steps.{single, AloneAt, aloneIs, basisOr, isRational, typed, lastType, typeTaken, degreed, secondDegree, degreeRest, degreeTaken, smoothed, smoothingTaken, withMaterial, materialTaken}
 
 -- ---- what the line goes on with
 module _ (s : List ℕ) (at : ℕ) (r : Met) (m : gapIs s at r) where

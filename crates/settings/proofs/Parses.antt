@@ -20,17 +20,14 @@ use Rattle.keywords.specs.declared.Argument.{Argument}
 use Rattle.keywords.specs.declared.Argument.the-variants.{Rational, BasisMatrix, Bezier, Bspline, Cardinal, Taylor, DirectionU, DirectionV, Off, Other}
 use Rattle.model.specs.Model as model
 use Rattle.model.specs.Statements as statements
-use Rattle.model.specs.Layout.{Run, runOf}
 use Rattle.model.specs.Parse as parse
-use Rattle.model.specs.Parse.{Parsed, fine, fault, then, must, cstype, deg, g, s, usemtl, counted, within, valuesOf, Value, Seen, a-name, placed, namesOf, parse, seenIn, outside}
+use Rattle.model.specs.Parse.{Parsed, fine, fault, then, cstype, deg, g, s, usemtl, within, valuesOf, Value, Seen, a-name, placed, namesOf, parse, seenIn, outside}
 use Rattle.state.specs.State.{formIn, namesIn}
 use Rattle.state.specs.declared.Form.{Form}
 use Rattle.state.specs.declared.Names.{Names}
-use Rattle.settings.specs.declared.TakenForm.{TakenForm}
 use Rattle.settings.specs.declared.TakenForm.the-variants as form
-use Rattle.settings.specs.declared.TakenNames.{TakenNames}
 use Rattle.settings.specs.declared.TakenNames.the-variants as names
-use Rattle.settings.specs.Steps.{onSaid, formTaken, namesTaken, isName, isRational, typeWords, degreeWords, firstDegree, typeTaken, degreeTaken, smoothingTaken, materialTaken, grouped, groupTaken, withGroup, withMaterial}
+use Rattle.settings.specs.Steps.{onSaid, formTaken, namesTaken, isName, isRational, typeWords, firstDegree, typeTaken, degreeTaken, smoothingTaken, materialTaken, groupTaken, withMaterial}
 
 and-false : (b : Bool) → (b && false) ≡ false
 and-false true = refl

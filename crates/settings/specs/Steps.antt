@@ -1,5 +1,5 @@
 -- What the code finds in the rest of a cstype, deg, s or usemtl line, in its own order; proofs/ say that it is what the parser finds.
-use Prim.Native.Nat.{ℕ, _-_, _<_, _≤_}
+use Prim.Native.Nat.{ℕ, _<_, _≤_}
 use mathlib.Core.Path.{_≡_}
 use mathlib.Core.List.{List, [], _∷_}
 use mathlib.Core.Bool.{Bool, true, false, cond}

@@ -1,5 +1,4 @@
 -- 2, and then the line; its fault is the parser's (`statement-blame`).
-use mathlib.Core.Path.{_≡_, refl, sym, ap, _∙_}
 use native.Mathlib.Omega.{arith}
 use denote.Ref.{now}
 use Rattle.text.proofs.Found as F

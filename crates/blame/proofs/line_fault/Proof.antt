@@ -1,5 +1,4 @@
 -- 10, 5, and then the words.
-use mathlib.Core.Path.{_≡_, refl, sym, ap, _∙_}
 use denote.Ref.{now}
 use Rattle.blame.specs.Faults.{seenBy}
 use Rattle.text.specs.Rest.{restAt}

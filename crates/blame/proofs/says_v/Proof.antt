@@ -1,9 +1,7 @@
 -- By what the line goes on with.
-use mathlib.Core.Path.{_≡_, refl, sym, ap, _∙_}
-use native.Mathlib.Omega.{arith}
+use mathlib.Core.Path.{sym, ap, _∙_}
 use denote.Ref.{now}
 use Rattle.model.specs.Parse.{isV, directionOf, saysV}
-use Rattle.text.proofs.Found as F
 use Rattle.blame.proofs.Walks as W
 use borrow.Author.Needs.{needs}
 use Rattle.blame.proofs.says_v.Statement.{statement}

@@ -1,5 +1,4 @@
 -- 3 and 4, and then the line.
-use mathlib.Core.Path.{_≡_, refl, sym, ap, _∙_}
 use denote.Ref.{now}
 use Rattle.blame.specs.Faults.{seenBy}
 use Rattle.blame.proofs.Steps as S

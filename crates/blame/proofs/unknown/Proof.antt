@@ -1,5 +1,5 @@
 -- Each statement is told by its arm.
-use mathlib.Core.Path.{_≡_, refl, sym, ap, _∙_}
+use mathlib.Core.Path.{refl}
 use borrow.Author.Needs.{needs}
 use Rattle.blame.proofs.unknown.Statement.{statement}
 use Rattle.blame.proofs.unknown.Tie as tie

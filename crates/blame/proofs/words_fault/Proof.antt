@@ -1,5 +1,5 @@
 -- The words, and then what is held against them.
-use mathlib.Core.Path.{_≡_, refl, sym, ap, _∙_}
+use mathlib.Core.Path.{sym, _∙_}
 use denote.Ref.{now}
 use Rattle.blame.specs.Faults.{seenBy}
 use Rattle.text.specs.Rest.{restAt}

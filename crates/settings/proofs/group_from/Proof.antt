@@ -1,5 +1,5 @@
 -- The loop keeps the run of the names that are left (`Grouping`); each name takes bytes off what is left.
-use mathlib.Core.Path.{_≡_, refl, sym, ap, _∙_}
+use mathlib.Core.Path.{refl}
 use Prim.Native.Nat.{_-_}
 use lib.ListN.{length, drop}
 use native.Mathlib.Omega.{arith}

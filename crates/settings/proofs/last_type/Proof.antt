@@ -1,6 +1,5 @@
 -- By the only word, as a type.
-use mathlib.Core.Path.{_≡_, refl, sym, ap, _∙_}
-use native.Mathlib.Omega.{arith}
+use mathlib.Core.Path.{_∙_}
 use denote.Ref.{now}
 use Rattle.settings.proofs.Lines as L
 use borrow.Author.Needs.{needs}

@@ -1,12 +1,9 @@
 -- By the only word, as a name.
-use mathlib.Core.Path.{_≡_, refl, sym, ap, _∙_}
-use Prim.Native.Nat.{_-_}
-use lib.ListN.{length}
 use native.Mathlib.Omega.{arith}
 use denote.Ref.{now}
 use lib.ListN.{drop}
 use Rattle.text.specs.Words.{wordOf}
-use Rattle.text.specs.Rest.{restAt, endOf}
+use Rattle.text.specs.Rest.{endOf}
 use Rattle.forms.specs.Degree.{nameOf}
 use Rattle.settings.proofs.Lines as L
 use borrow.Author.Needs.{needs}

@@ -1,7 +1,5 @@
 -- 9, and then 11.
-use mathlib.Core.Path.{_≡_, refl, sym, ap, _∙_}
-use denote.Ref.{now}
-use Rattle.blame.specs.Faults.{seenBy}
+use mathlib.Core.Path.{refl, sym, _∙_}
 use Rattle.blame.specs.Faults.{inForceBy, owed}
 use Rattle.blame.specs.declared.Refusal.the-variants.{Nothing}
 use Rattle.blame.proofs.Steps as S

@@ -1,5 +1,5 @@
 -- By what is held against the line.
-use mathlib.Core.Path.{_≡_, refl, sym, ap, _∙_}
+use mathlib.Core.Path.{refl, sym, ap, _∙_}
 use denote.Ref.{now}
 use Rattle.blame.specs.Faults.{seenBy}
 use Rattle.text.specs.Rest.{restAt}

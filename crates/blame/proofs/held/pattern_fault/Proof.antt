@@ -1,5 +1,5 @@
 -- By what the line goes on with.
-use mathlib.Core.Path.{_≡_, refl, sym, ap, _∙_}
+use mathlib.Core.Path.{sym, ap, _∙_}
 use native.Mathlib.Omega.{arith}
 use denote.Ref.{now}
 use Rattle.blame.specs.Faults.{seenBy}

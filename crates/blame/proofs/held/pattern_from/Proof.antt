@@ -1,5 +1,5 @@
 -- By the first corner.
-use mathlib.Core.Path.{_≡_, refl, sym, ap, _∙_}
+use mathlib.Core.Path.{refl}
 use native.Mathlib.Omega.{arith}
 use denote.Ref.{now}
 use Rattle.blame.specs.Faults.{seenBy}

@@ -1,6 +1,6 @@
 -- By the arm, and by the kind.
-use mathlib.Core.Path.{_≡_, refl, sym, ap, _∙_}
-use borrow.Author.Tests.{eq-eqb, ne-eqb, le-leb, lt-leb, lt-ltb, le-ltb}
+use mathlib.Core.Path.{refl}
+use borrow.Author.Tests.{ne-eqb}
 use borrow.Author.Needs.{needs}
 use Rattle.blame.proofs.rules.allowed.Statement.{statement}
 use Rattle.blame.proofs.rules.allowed.Tie as tie

@@ -1,5 +1,5 @@
 -- Each statement is told by its arm, and its row made by the call there.
-use mathlib.Core.Path.{_≡_, refl, sym, ap, _∙_}
+use mathlib.Core.Path.{sym, ap, _∙_}
 use Rattle.blame.specs.Rules.{rulesOf}
 use borrow.Author.Needs.{needs}
 use Rattle.blame.proofs.rules.rules_of.Statement.{statement}

@@ -1,5 +1,5 @@
 -- The loop keeps the fault of the words that are left (`Faulting`); each word takes bytes off what is left.
-use mathlib.Core.Path.{_≡_, refl, sym, ap, _∙_}
+use mathlib.Core.Path.{refl, sym, _∙_}
 use borrow.Author.Needs.{needs}
 use Prim.Native.Nat.{_-_}
 use lib.ListN.{length}

@@ -1,5 +1,5 @@
 -- By the answer of the reader, and by the two tests of its parts.
-use mathlib.Core.Path.{_≡_, refl, sym, ap, _∙_}
+use mathlib.Core.Path.{refl, sym, _∙_}
 use denote.Ref.{now}
 use lib.ListN.{drop}
 use Rattle.text.specs.Words.{wordOf}

@@ -1,5 +1,5 @@
 -- By where the record stands.
-use mathlib.Core.Path.{_≡_, refl, sym, ap, _∙_}
+use mathlib.Core.Path.{refl, ap, _∙_}
 use denote.Ref.{now}
 use lib.Dec.{leb}
 use Prim.Native.Nat.{_*_, _-_}

@@ -1,5 +1,5 @@
 -- By the form: its own function finds the fault.
-use mathlib.Core.Path.{_≡_, refl, sym, ap, _∙_}
+use mathlib.Core.Path.{refl, _∙_}
 use denote.Ref.{now}
 use lib.ListN.{drop}
 use Rattle.text.specs.Words.{wordOf}
