@@ -54,7 +54,7 @@ begins R s =
     record {
       state = record { used = refl; curves = refl; names = refl; form = refl; open-body = refl };
       image = refl;
-      wide = record { rows = λ k. rows k };
+      wide = record { rows = λ k. rows k; counts = tt };
       room = parts-fit R start (record { v = omega arith; vt = omega arith; vn = omega arith; vp = omega arith; corners = omega arith; elements = omega arith; bodies = omega arith; ranges = omega arith; parameters = omega arith; loops = omega arith; spans = omega arith });
       bounded = record { v = omega arith; vt = omega arith; vn = omega arith; vp = omega arith; corners = omega arith; elements = omega arith; bodies = omega arith; parameters = omega arith; parts = omega arith };
       body = tt;

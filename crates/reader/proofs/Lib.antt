@@ -1,6 +1,7 @@
 pub mod Going
 pub mod Steps
 pub mod Vertices
+pub mod Given
 pub mod Stepped
 pub mod Elements
 pub mod Settings
