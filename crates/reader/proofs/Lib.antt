@@ -1,3 +1,4 @@
+pub mod Opened
 pub mod Going
 pub mod Steps
 pub mod Vertices
