@@ -1,12 +1,12 @@
 -- The table of vp against the model's: each record of it begins where four times as many numbers end, with how many were given. By the rows.
-use Prim.Native.Nat.{ℕ, zero, suc, _+_, _*_, _-_, _≤_, _<_}
+use Prim.Native.Nat.{ℕ, zero, suc, _+_, _*_, _-_}
 use mathlib.Core.Path.{_≡_, refl, sym, ap, _∙_}
 use mathlib.Core.List.{List, [], _∷_, _++_}
 use native.Mathlib.Omega.{arith}
 use lib.ListN.{length, getD, List·getD-append}
 use lib.Seq.{getD-append-add}
 use lib.IntN.{ℤ, pos, natAbs}
-use Rattle.lists.specs.Lists.{flat, filled}
+use Rattle.lists.specs.Lists.{flat}
 use Rattle.tables.specs.Tables.{Tables}
 use Rattle.tables.proofs.Filled.{getD-filled}
 use Rattle.model.specs.Model as model
@@ -14,7 +14,7 @@ use Rattle.model.specs.Room.{Rooms}
 use Rattle.model.specs.Layout.{itself}
 use Rattle.state.specs.declared.State.{State}
 use Rattle.state.specs.Image.{imageOf}
-use Rattle.state.proofs.Images.{Counted, AllCounted, Wide}
+use Rattle.state.proofs.Images.{AllCounted}
 use Rattle.blame.specs.Blame.{GivenIn}
 use Rattle.elements.proofs.Wide.{Given}
 use Rattle.reader.specs.Holding.{Holds}

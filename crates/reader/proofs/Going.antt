@@ -3,7 +3,7 @@ use Prim.Native.Nat.{ℕ, zero, suc, _+_, _*_, _-_, _≤_, _<_}
 use mathlib.Core.Path.{_≡_, refl, sym, ap, ap₂, _∙_, subst}
 use mathlib.Core.List.{List, [], _∷_, _++_, append-nil}
 use mathlib.Core.Bool.{Bool, true, false, cond}
-use mathlib.Core.Option.{Option, none, some}
+use mathlib.Core.Option.{Option, none}
 use native.Mathlib.Omega.{arith}
 use borrow.Author.Tests.{le-leb, lt-leb}
 use lib.ListN.{length}
@@ -17,13 +17,13 @@ use Rattle.text.proofs.LineByLine.{lines-start, lines-on, lines-end, line-words
 use Rattle.tables.specs.Tables.{Tables}
 use Rattle.tables.specs.declared.Used.{Used}
 use Rattle.model.specs.Model as model
-use Rattle.model.specs.Model.{Model, Element, start}
+use Rattle.model.specs.Model.{Element, start}
 use Rattle.model.specs.Parse.{Parsed, fine, fault, unless}
 use Rattle.model.specs.Room.{Rooms, summed, ofKind, partCount, fits}
 use Rattle.model.specs.Read.{Answer, read, refused, step, finish, onParsed, readLines, readOf}
 use Rattle.model.specs.Layout.{tablesOf, usedOf, nothing, bodiesOf}
 use Rattle.state.specs.declared.State.{State}
-use Rattle.state.specs.State.{StateIs, usedIn, namesIn, formIn, noOpen}
+use Rattle.state.specs.State.{StateIs, usedIn, namesIn, formIn}
 use Rattle.state.specs.Image.{imageOf}
 use Rattle.state.proofs.Rows.{bodies-length, bodies-summed}
 use Rattle.state.proofs.Images.{Wide}

@@ -1,7 +1,7 @@
 -- What every line that is given up shares: whether a body is open, that a statement which may not stand there has nothing to show, and that the vp stay.
-use Prim.Native.Nat.{ℕ, _+_, _*_, _≤_, _<_}
+use Prim.Native.Nat.{ℕ, _*_, _<_}
 use mathlib.Core.Path.{_≡_, refl, sym, ap, _∙_}
-use mathlib.Core.List.{List, [], _∷_}
+use mathlib.Core.List.{List}
 use mathlib.Core.Bool.{Bool, true, false}
 use mathlib.Core.Option.{Option, none, some}
 use native.Mathlib.Omega.{arith}
@@ -13,7 +13,7 @@ use Rattle.text.specs.Rest.{restAt}
 use Rattle.tables.specs.Tables.{Tables}
 use Rattle.model.specs.Model as model
 use Rattle.model.specs.Statements.{Statement}
-use Rattle.model.specs.Parse.{Parsed, fine, fault, then, must, Keyword, a-vertex, an-element, a-body, parm, trim, hole, ends, cstype, deg, g, s, usemtl, over, allowed, counted, formOf, valuesOf, seenIn, parse}
+use Rattle.model.specs.Parse.{fine, then, must, Keyword, a-vertex, an-element, a-body, parm, trim, hole, ends, cstype, deg, g, s, usemtl, over, allowed, counted, formOf, valuesOf, seenIn, parse}
 use Rattle.model.specs.Room.{Rooms}
 use Rattle.model.specs.Layout.{freeNumber}
 use Rattle.model.proofs.Parsed.{must-fine}

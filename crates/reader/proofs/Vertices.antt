@@ -111,7 +111,7 @@ still-wide k x z zs e l w =
       counts = subst (λ (y : List ℤ). AllCounted (withVertex k y x .vp)) (sym e) (still-counted k x zs (ap length (sym e) ∙ l) (w .counts));
     }
 
-count-is : (k : VertexKind) (x : model.State) → countIn k (usedIn x) ≡ length (rowsOf k (x .model .vertices))
+pub count-is : (k : VertexKind) (x : model.State) → countIn k (usedIn x) ≡ length (rowsOf k (x .model .vertices))
 count-is geometric x = refl
 count-is texture x = refl
 count-is normal x = refl
