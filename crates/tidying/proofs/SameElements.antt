@@ -29,7 +29,7 @@ use Rattle.tidying.proofs.Rows.{append-inj, Wide, corners-length, corne
 use Rattle.tidying.proofs.Layouts.{fives, wordsIn, SameBodies, body-inj}
 
 -- ---- what reading keeps makes rows of fixed widths, and loops of one part or more
-record-length : (k : VertexKind) (z : List ℤ) → countedVertex k (length z) ≡ true → length (recordOf k z) ≡ length (recordOf k [])
+pub record-length : (k : VertexKind) (z : List ℤ) → countedVertex k (length z) ≡ true → length (recordOf k z) ≡ length (recordOf k [])
 record-length geometric z c = completed-length geometric z c
 record-length texture z c = completed-length texture z c
 record-length normal z c = completed-length normal z c
