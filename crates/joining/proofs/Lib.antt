@@ -1,2 +1,4 @@
 pub mod Stands
 pub mod Vertices
+pub mod Corners
+pub mod Laid
