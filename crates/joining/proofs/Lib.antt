@@ -2,3 +2,4 @@ pub mod Stands
 pub mod Vertices
 pub mod Corners
 pub mod Laid
+pub mod Elements
