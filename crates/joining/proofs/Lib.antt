@@ -3,3 +3,4 @@ pub mod Vertices
 pub mod Corners
 pub mod Laid
 pub mod Elements
+pub mod Plain
