@@ -4,3 +4,4 @@ pub mod Corners
 pub mod Laid
 pub mod Elements
 pub mod Plain
+pub mod BodyRows
