@@ -5,3 +5,4 @@ pub mod Laid
 pub mod Elements
 pub mod Plain
 pub mod BodyRows
+pub mod Directions
