@@ -6,3 +6,4 @@ pub mod Elements
 pub mod Plain
 pub mod BodyRows
 pub mod Directions
+pub mod Curves
