@@ -24,7 +24,7 @@ use Rattle.joining.proofs.Stands.{Stands, stands-at, stands-is, stands-
 use Rattle.joining.proofs.Laid.{Laid}
 
 -- the body of an element, among the bodies
-pub body-among : (es : List Element) (i : ℕ) (a : Among es i) (b : Body) → a .one .kind ≡ free b → Among (bodiesOf es) (length (bodiesOf (a .before)))
+abbrev pub body-among : (es : List Element) (i : ℕ) (a : Among es i) (b : Body) → a .one .kind ≡ free b → Among (bodiesOf es) (length (bodiesOf (a .before)))
 body-among es i a b q =
     record {
       before = bodiesOf (a .before);

@@ -7,3 +7,6 @@ pub mod Plain
 pub mod BodyRows
 pub mod Directions
 pub mod Curves
+pub mod Loops
+pub mod Surfaces
+pub mod Obeyed

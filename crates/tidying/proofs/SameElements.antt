@@ -50,7 +50,7 @@ some-parts : (h : Bool) (n : ℕ) → counted (loopKey h) n ≡ true → 0 < n
 some-parts true n c = ltb-true 0 n (and-left (ltb 0 n) _ c)
 some-parts false n c = ltb-true 0 n (and-left (ltb 0 n) _ c)
 
-loops-parted : (x : Vertices) (n : ℕ) (ls : List Loop) → GoodLoops x n ls → Parted ls
+pub loops-parted : (x : Vertices) (n : ℕ) (ls : List Loop) → GoodLoops x n ls → Parted ls
 loops-parted x n [] g = tt
 loops-parted x n (l ∷ ls) g =
     let a = some-parts (l .hole) (length (flat partValues (l .parts))) (g .0 .many) in
