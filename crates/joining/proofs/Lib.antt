@@ -10,3 +10,4 @@ pub mod Curves
 pub mod Loops
 pub mod Surfaces
 pub mod Obeyed
+pub mod Accepted

@@ -1,17 +1,79 @@
--- What joins the reader to the sampler, demands 1 to 3 taken together.
-use Prim.Native.Nat.{ℕ, _<_}
+-- What joins the reader to the sampler: demands 1 to 3 from a text on.
+use Prim.Native.Nat.{ℕ, suc, _+_, _*_, _≤_, _<_}
 use mathlib.Core.Path.{_≡_}
-use mathlib.Core.Bool.{true}
-use mathlib.Core.List.{List}
+use mathlib.Core.Bool.{Bool, true, false}
+use mathlib.Core.Logic.{_⊎_}
+use mathlib.Core.List.{List, _∷_, _++_}
 use lib.ListN.{length}
-use Rattle.model.specs.Model.{Model}
+use lib.IntN.{ℤ}
+use lib.Signed.{_≤ℤ_}
+use Rattle.tables.specs.Tables.{Tables}
+use Rattle.tables.specs.Bodies.{bezier, bspline}
+use Rattle.tables.specs.declared.Used.{Used}
+use Rattle.model.specs.Model.{curve, curve2, Body, free, Element, Model}
 use Rattle.model.specs.Room.{Rooms}
 use Rattle.model.specs.Read.{read, readOf}
 use Rattle.model.specs.Layout.{tablesOf, usedOf}
+use Rattle.tidying.specs.Printed.{tidyText}
 use Rattle.rules.specs.Rules.{obeys, curvesBefore}
+use Rattle.sampler.specs.Points.{axesOf}
+use Rattle.sampler.specs.Answers.{elementOf, refusalOf, pointOnCurve, pointOnSurface, runOnCurve, pointsAfter}
+use Rattle.sampler.specs.Demand3.{CurveAnswer, RunAnswer}
 
 -- every element of the tables of an accepted text obeys the rules that 15 names
 abbrev pub EveryElementObeys : Type 0
 EveryElementObeys =
     (R : Rooms) (s : List ℕ) (m : Model) → readOf R s ≡ read m
     → (i : ℕ) → i < length (m .elements) → obeys (usedOf m) (tablesOf R m) (curvesBefore (tablesOf R m) i) i ≡ true
+
+-- what reading accepts, sampling never refuses with 15: whatever the number, asked for a curve or for a surface
+abbrev pub SamplingNever15 : Type 0
+SamplingNever15 =
+    (R : Rooms) (s : List ℕ) (m : Model) → readOf R s ≡ read m
+    → (surface : Bool) (number : ℕ) → refusalOf surface (usedOf m) (tablesOf R m) number ≡ 15 → ⊥
+
+-- ---- demand 3, from the text on
+
+-- element `number` of a file, which counts from 1, has the body b
+pub record Holds (m : Model) (number : ℕ) (b : Body) : Type 0 where
+  pub before : List Element
+  pub one : Element
+  pub after : List Element
+  pub elements : m .elements ≡ before ++ one ∷ after
+  pub place : number ≡ suc (length before)
+  pub body : one .kind ≡ free b
+
+-- "any non-rational Bezier or B-spline"
+pub record Carried (b : Body) : Type 0 where
+  pub plain : b .rational ≡ false
+  pub type : (b .basis ≡ bezier) ⊎ (b .basis ≡ bspline)
+
+-- "any whole number of millionths inside its stated range": a point of each such curve of an accepted text is handed out, within its bound
+abbrev pub AcceptedCurves : Type 0
+AcceptedCurves =
+    (R : Rooms) (s : List ℕ) (m : Model) → readOf R s ≡ read m
+    → (number : ℕ) (b : Body) → Holds m number b → Carried b → (b .free ≡ curve) ⊎ (b .free ≡ curve2)
+    → (p : ℤ) → b .start-u ≤ℤ p → p ≤ℤ b .end-u → CurveAnswer (usedOf m) (tablesOf R m) number p
+
+-- and so is each point of a run for which there is room
+abbrev pub AcceptedRuns : Type 0
+AcceptedRuns =
+    (R : Rooms) (s : List ℕ) (m : Model) → readOf R s ≡ read m
+    → (number : ℕ) (b : Body) → Holds m number b → Carried b → (b .free ≡ curve) ⊎ (b .free ≡ curve2)
+    → (steps at : ℕ) (points : List ℤ) → 1 ≤ steps → steps ≤ 65536 → at + axesOf (elementOf (tablesOf R m) number) * (steps + 1) ≤ length points
+    → RunAnswer (usedOf m) (tablesOf R m) number steps at points
+
+-- ---- a text and its tidy text are sampled alike
+
+-- two sets of tables give the same answer to every request
+pub record SampledAlike (u : Used) (t : Tables) (v : Used) (w : Tables) : Type 0 where
+  pub curves : (number : ℕ) (p : ℤ) → pointOnCurve u t number p ≡ pointOnCurve v w number p
+  pub surfaces : (number : ℕ) (p q : ℤ) → pointOnSurface u t number p q ≡ pointOnSurface v w number p q
+  pub runs : (number steps at lent : ℕ) → runOnCurve u t number steps at lent ≡ runOnCurve v w number steps at lent
+  pub points : (number steps at : ℕ) (points : List ℤ) → pointsAfter u t number steps at points ≡ pointsAfter v w number steps at points
+
+-- the tidy text of an accepted text, where it is no longer than a text may be, is read, and sampled alike
+abbrev pub TidiedSamplesAlike : Type 0
+TidiedSamplesAlike =
+    (R : Rooms) (s : List ℕ) (m : Model) → readOf R s ≡ read m → length (tidyText m) ≤ 16777216
+    → (k : Model) × (readOf R (tidyText m) ≡ read k) × SampledAlike (usedOf m) (tablesOf R m) (usedOf k) (tablesOf R k)
