@@ -11,3 +11,5 @@ pub mod Loops
 pub mod Surfaces
 pub mod Obeyed
 pub mod Accepted
+pub mod Names
+pub mod Tidied
