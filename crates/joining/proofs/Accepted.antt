@@ -1,5 +1,5 @@
 -- From an accepted text to a point within its bound: its tables obey the rules, so that 15 is never given and demand 3 holds of them.
-use Prim.Native.Nat.{ℕ, suc, _+_, _*_, _-_, _≤_, _<_}
+use Prim.Native.Nat.{ℕ, _+_, _*_, _-_, _≤_}
 use mathlib.Core.Path.{_≡_, refl, sym, ap, _∙_, subst}
 use mathlib.Core.Bool.{Bool, true, false, cond, _&&_}
 use mathlib.Core.Logic.{_⊎_, inl, inr}
@@ -12,11 +12,10 @@ use lib.IntN.{ℤ}
 use lib.Signed.{_≤ℤ_}
 use Rattle.lists.proofs.Tests.{and-left, and-right, never}
 use Rattle.tables.specs.Tables.{Tables}
-use Rattle.tables.specs.Bodies.{Basis, bezier, bspline, basisNumber}
+use Rattle.tables.specs.Bodies.{bezier, bspline, basisNumber}
 use Rattle.tables.specs.Records.{bodyAt}
 use Rattle.tables.specs.Records as records
-use Rattle.tables.specs.declared.Used.{Used}
-use Rattle.model.specs.Model.{Free, curve, curve2, Body, Kind, free, Element, Model}
+use Rattle.model.specs.Model.{curve, curve2, Body, Kind, free, Model}
 use Rattle.model.specs.Room.{Rooms, summed, partCount}
 use Rattle.model.specs.Read.{read, readOf}
 use Rattle.model.specs.Layout.{freeNumber, kindNumber, bodyNumber, bodiesOf, flag, tablesOf, usedOf}
@@ -27,7 +26,7 @@ use Rattle.sampler.specs.Demand3.{Curve}
 use Rattle.sampler.proofs.Demanded.{points-on-curves, runs-on-curves}
 use Rattle.joining.specs.Joined.{SamplingNever15, Holds, Carried, AcceptedCurves, AcceptedRuns}
 use Rattle.joining.proofs.Stands.{Among}
-use Rattle.joining.proofs.Laid.{Laid, laid}
+use Rattle.joining.proofs.Laid.{laid}
 use Rattle.joining.proofs.Elements.{row-of}
 use Rattle.joining.proofs.BodyRows.{body-among, laidBody, parametersIn, body-row}
 use Rattle.joining.proofs.Obeyed.{every-element-obeys}

@@ -1,14 +1,14 @@
 -- The corners of an accepted text obey the rules: each is held against the counts, and all have the first one's pattern. By the corners.
 use Prim.Native.Nat.{ℕ, zero, suc, _+_, _*_, _-_, _≤_, _<_}
-use mathlib.Core.Path.{_≡_, refl, sym, ap, ap₂, _∙_, subst}
-use mathlib.Core.List.{List, [], _∷_, _++_, map}
+use mathlib.Core.Path.{_≡_, refl, ap, ap₂, _∙_}
+use mathlib.Core.List.{List, [], _∷_}
 use mathlib.Core.Bool.{Bool, true, false, cond, not, _&&_, _||_}
 use native.Mathlib.Omega.{arith}
 use borrow.Author.Tests.{leb-true, le-leb}
 use lib.ListN.{length, getD}
 use lib.Dec.{leb, eqb}
 use lib.IntN.{ℤ}
-use Rattle.lists.specs.Lists.{all, flat}
+use Rattle.lists.specs.Lists.{flat}
 use Rattle.lists.proofs.Tests.{and-left, and-right, and-both, never}
 use Rattle.forms.specs.Corner.{Corner, agree, alike}
 use Rattle.forms.specs.Fits.{referenceFits, partFits}
@@ -20,7 +20,6 @@ use Rattle.tables.proofs.Flat.{getD-flat}
 use Rattle.model.specs.Layout.{cornerRow}
 use Rattle.tidying.proofs.Standing.{uniform}
 use Rattle.state.proofs.Rows.{corners-length}
-use Rattle.rules.specs.Numbers.{allBelow}
 use Rattle.rules.specs.Vertices.{vertexObeys}
 use Rattle.rules.specs.Corners.{leastCorners, withTexture, withNormal, attributeObeys, pointObeys, cornerObeys, eachCorner, cornersObey}
 use Rattle.rules.proofs.Below.{below-all}

@@ -1,25 +1,26 @@
 -- curv and curv2 of an accepted text obey the rules: what their lines and their end leave of the body. By the kind.
-use Prim.Native.Nat.{ℕ, suc, _+_, _*_, _≤_, _<_}
+use Prim.Native.Nat.{ℕ}
 use mathlib.Core.Path.{_≡_, refl, sym, ap, ap₂, _∙_, subst}
-use mathlib.Core.List.{List, [], _∷_, _++_, map}
-use mathlib.Core.Bool.{Bool, true, false, cond, not, _&&_, _||_}
-use mathlib.Core.Option.{Option, none, some}
-use native.Mathlib.Omega.{arith}
-use native.Mathlib.Nat.{le-refl}
-use borrow.Author.Tests.{le-leb, eq-eqb}
+use mathlib.Core.List.{List, []}
+use mathlib.Core.Bool.{Bool, true, false}
+use mathlib.Core.Option.{some}
+use borrow.Author.Tests.{eq-eqb}
 use lib.ListN.{length}
 use lib.Dec.{leb, eqb}
-use lib.IntN.{ℤ, pos, negsuc}
-use lib.Signed.{leZ}
+use lib.IntN.{ℤ, pos}
+use lib.Signed.{_≤ℤ_, leZ, ≤ℤ-refl}
+use Rattle.lists.specs.Lists.{all}
 use Rattle.lists.proofs.Tests.{and-both}
 use Rattle.forms.specs.Corner.{Corner}
+use Rattle.whole.proofs.Order.{le-yes}
+use Rattle.forms.specs.Fits.{numberFits}
 use Rattle.tables.specs.Tables.{Tables}
 use Rattle.tables.specs.Bodies.{Basis, low, high, inOrder, curveCount}
 use Rattle.tables.specs.Records.{parametersU}
 use Rattle.tables.specs.declared.Used.{Used}
 use Rattle.model.specs.Model.{Vertices, Free, curve, curve2, surface, Loop, Body}
 use Rattle.model.specs.Statements.{settled}
-use Rattle.model.specs.Parse.{inForce, degreeIn, countsAgree, inRange, bodyOf}
+use Rattle.model.specs.Parse.{inForce, countsAgree, inRange, bodyOf}
 use Rattle.model.specs.Room.{summed, partCount}
 use Rattle.model.specs.Layout.{firstPart}
 use Rattle.tidying.specs.Printed.{rangeOf}
@@ -27,13 +28,13 @@ use Rattle.tidying.specs.Tidied.{unsettled, unfilled}
 use Rattle.tidying.proofs.Standing.{Sound, Opens}
 use Rattle.tidying.proofs.Good.{formIn, LoopsIn, SecondIn, GoodBody}
 use Rattle.rules.specs.Numbers.{eqZ}
-use Rattle.rules.specs.Directions.{basisOf, typeObeys, parametersObey, widest}
+use Rattle.rules.specs.Directions.{widest}
 use Rattle.rules.specs.Bodies.{flatObeys, curveObeys, recordObeys}
 use Rattle.joining.proofs.BodyRows.{laidBody, BodyRow, us-are}
 use Rattle.joining.proofs.Directions.{basis-back, Needed, degree-obeys, needed-u, type-obeys, Parameters, parameters-obey}
 
 -- ---- the kind stays that of the line
-unsettled-free : (k : Free) (b : Body) → unsettled k b .free ≡ b .free
+pub unsettled-free : (k : Free) (b : Body) → unsettled k b .free ≡ b .free
 unsettled-free curve b = refl
 unsettled-free curve2 b = refl
 unsettled-free surface b = refl
@@ -78,11 +79,7 @@ pub record CurveKept (curv2 : Bool) (b : Body) (count : ℕ) : Type 0 where
   pub range : widest curv2 (b .basis) (b .degree-u) (b .us) (b .start-u) (b .end-u) ≡ true
 
 leZ-same : (a c : ℤ) → a ≡ c → leZ a c ≡ true
-leZ-same a c e = subst (λ (z : ℤ). leZ a z ≡ true) e (go a)
-  where
-    go : (z : ℤ) → leZ z z ≡ true
-    go (pos m) = le-leb m m (le-refl m)
-    go (negsuc m) = le-leb m m (le-refl m)
+leZ-same a c e = le-yes a c (subst (λ (z : ℤ). a ≤ℤ z) e (≤ℤ-refl a))
 
 module _ (x : Vertices) (n : ℕ) (b : Body) (cs : List Corner) (g : GoodBody x n b cs) where
   pub curve-kept : b .free ≡ curve → CurveKept false b (length cs)
@@ -155,6 +152,6 @@ module _ (u : Used) (t : Tables) (j p l : ℕ) (b : Body) (r : BodyRow u t j p l
       (and-both
       (and-both
       (type-obeys false (b .basis) (b .rational) (b .degree-u) (b .degree-v) (degree-obeys (b .basis) (b .degree-u) d (k .needed)) (eq-eqb (b .degree-v) 0 (sym (k .degree-v))))
-      (parameters-obey false (t .parameters) (u .parameters) p (b .us) (b .vs) (r .used-parameters) (r .parameters) ps (ap (Rattle.lists.specs.Lists.all Rattle.forms.specs.Fits.numberFits) (k .vs))
+      (parameters-obey false (t .parameters) (u .parameters) p (b .us) (b .vs) (r .used-parameters) (r .parameters) ps (ap (all numberFits) (k .vs))
       (eq-eqb (length (b .vs)) 0 no-vs)))
       curve-obeys)

@@ -1,13 +1,13 @@
 -- The type, degrees, parameters and controls of a body of an accepted text obey the rules: from its lines. By the kind and the type.
-use Prim.Native.Nat.{ℕ, zero, suc, _+_, _*_, _≤_, _<_}
-use mathlib.Core.Path.{_≡_, refl, sym, ap, ap₂, _∙_, subst}
+use Prim.Native.Nat.{ℕ, suc, _+_, _≤_}
+use mathlib.Core.Path.{_≡_, refl, _∙_, subst}
 use mathlib.Core.List.{List, [], _∷_, _++_, map}
 use mathlib.Core.Bool.{Bool, true, false, cond, not, _&&_, _||_}
-use mathlib.Core.Option.{Option, none, some}
+use mathlib.Core.Option.{some}
 use native.Mathlib.Omega.{arith}
 use borrow.Author.Tests.{leb-true, le-leb, le-ltb, ne-eqb}
 use lib.ListN.{length, length-append, length-map}
-use lib.Dec.{leb, eqb, ltb}
+use lib.Dec.{leb, eqb}
 use lib.IntN.{ℤ}
 use Rattle.lists.specs.Lists.{all}
 use Rattle.lists.proofs.Tests.{and-left, and-right, and-both}
@@ -16,15 +16,14 @@ use Rattle.forms.specs.Corner.{Corner}
 use Rattle.forms.specs.Fits.{numberFits}
 use Rattle.tables.specs.Bodies.{Basis, bezier, bspline, cardinal, taylor, basisNumber}
 use Rattle.model.specs.Model.{Vertices, Free, curve, curve2, surface, Direction, Body, Form, start}
-use Rattle.model.specs.Statements.{degree, body, parameters}
-use Rattle.model.specs.Parse.{WordForm, a-number, a-direction, controlForm, formOf, a-body, parm, Value, number, corner, Seen, isSurface, degreesNeeded, inForce, degreeIn, rangeWords, fewestControls}
+use Rattle.model.specs.Statements.{body, parameters}
+use Rattle.model.specs.Parse.{WordForm, a-number, controlForm, formOf, a-body, parm, Value, number, corner, Seen, degreesNeeded, inForce, degreeIn, rangeWords, fewestControls}
 use Rattle.model.specs.Layout.{flag}
 use Rattle.tidying.specs.Printed.{rangeOf}
 use Rattle.tidying.proofs.Words.{Fitting}
 use Rattle.tidying.proofs.Shapes.{fitting-is}
 use Rattle.tidying.proofs.Standing.{seenOf, Fine}
 use Rattle.tidying.proofs.Good.{Always}
-use Rattle.rules.specs.Numbers.{smallRun}
 use Rattle.rules.specs.Directions.{basisOf, degreeObeys, typeObeys, parametersObey}
 use Rattle.joining.proofs.Stands.{Stands}
 use Rattle.joining.proofs.Vertices.{numbers-all, small-run}

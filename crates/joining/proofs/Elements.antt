@@ -2,8 +2,8 @@
 use Prim.Native.Nat.{ℕ, zero, suc, _+_, _*_, _≤_, _<_}
 use mathlib.Core.Path.{_≡_, refl, sym, ap, ap₂, _∙_, subst}
 use mathlib.Core.List.{List, [], _∷_, _++_}
-use mathlib.Core.Bool.{Bool, true, false, cond, _&&_}
-use mathlib.Core.Option.{Option, none, some}
+use mathlib.Core.Bool.{true, cond}
+use mathlib.Core.Option.{Option, none}
 use native.Mathlib.Omega.{arith}
 use borrow.Author.Tests.{le-leb}
 use lib.ListN.{length, getD, take}
@@ -14,10 +14,9 @@ use Rattle.lists.proofs.Tests.{and-both}
 use Rattle.text.specs.Words.{Word}
 use Rattle.tables.specs.Tables.{Tables}
 use Rattle.tables.specs.Records.{elementAt, numberAt}
-use Rattle.tables.specs.declared.Element as records
 use Rattle.tables.specs.declared.Used.{Used}
-use Rattle.model.specs.Model.{Vertices, Free, curve, curve2, surface, Shape, point, line, face, Kind, plain, free, Element, Model, isCurve2, curves}
-use Rattle.model.specs.Parse.{whole}
+use Rattle.model.specs.Model.{Vertices, Free, curve, curve2, surface, point, line, face, Kind, plain, free, Element, curves}
+use Rattle.model.specs.Statements.{smoothing}
 use Rattle.model.specs.Room.{summed, ofKind}
 use Rattle.model.specs.Layout.{cornerRow, cornerRows, kindNumber, bodyNumber, elementRow, elementRows, bodiesOf}
 use Rattle.state.proofs.Rows.{elementRows-length, elementRows-append, cornerRows-length, bodies-length}
@@ -33,7 +32,7 @@ pub record Good (x : Vertices) (es : List Element) (i : ℕ) (a : Among es i) : 
   pub kind : GoodKind x (curves (a .before)) (a .one .kind) (a .one .corners)
   pub smoothing : leb (a .one .names .smoothing) 65535 ≡ true
 
-smoothing-most : (x : Vertices) (s : ℕ) → Always (Rattle.model.specs.Statements.smoothing s) → leb s 65535 ≡ true
+smoothing-most : (x : Vertices) (s : ℕ) → Always (smoothing s) → leb s 65535 ≡ true
 smoothing-most x s a = let f = a x 0 .fits .0 in let e = f .1 in ap (λ (k : ℕ). leb k 65535) (let z : s ≡ f .0 = cc in z) ∙ f .2
 
 pub good-element : (x : Vertices) (es : List Element) (l : Option Word) (i : ℕ) → GoodElements x 0 none es l → (a : Among es i) → Good x es i a
@@ -121,10 +120,10 @@ curves-before t es i s a h =
     curves-taken t es s i (omega arith) ∙ ap curves (ap (take i) (a .is) ∙ take-at (a .before) (a .one ∷ a .after) i (a .many))
 
 -- ---- the tests of an element by its row
-pub element-obeys : (u : Used) (t : Tables) (n i kind first count body smoothing : ℕ) → 9 * i + 9 ≤ length (t .elements)
-    → elementAt t i .kind ≡ kind → elementAt t i .first ≡ first → elementAt t i .count ≡ count → elementAt t i .body ≡ body → elementAt t i .smoothing ≡ smoothing
-    → leb 1 kind ≡ true → leb kind 6 ≡ true → leb smoothing 65535 ≡ true → cornersObey u t kind first count ≡ true
+pub element-obeys : (u : Used) (t : Tables) (n i kind first count body s : ℕ) → 9 * i + 9 ≤ length (t .elements)
+    → elementAt t i .kind ≡ kind → elementAt t i .first ≡ first → elementAt t i .count ≡ count → elementAt t i .body ≡ body → elementAt t i .smoothing ≡ s
+    → leb 1 kind ≡ true → leb kind 6 ≡ true → leb s 65535 ≡ true → cornersObey u t kind first count ≡ true
     → cond (leb kind 3) (eqb body 0) (bodyObeys u t n kind count body) ≡ true → obeys u t n i ≡ true
 unfolding obeys elementObeys
-element-obeys u t n i kind first count body smoothing l e₁ e₂ e₃ e₄ e₅ a b c d f =
+element-obeys u t n i kind first count body s l e₁ e₂ e₃ e₄ e₅ a b c d f =
     and-both (le-leb (9 * i + 9) (length (t .elements)) l) (rw (e₁, e₂, e₃, e₄, e₅) (and-both (and-both (and-both (and-both a b) c) d) f))

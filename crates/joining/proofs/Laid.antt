@@ -1,23 +1,23 @@
 -- The tables of an accepted text hold the rows of its model: from the room that reading found, table by table.
 use Prim.Native.Nat.{ℕ, _+_, _*_, _≤_}
-use mathlib.Core.Path.{_≡_, refl, sym, ap, ap₂, _∙_, subst}
-use mathlib.Core.List.{List, []}
-use mathlib.Core.Option.{Option, none, some}
+use mathlib.Core.Path.{_≡_, refl, sym, _∙_, subst}
+use mathlib.Core.List.{List}
+use mathlib.Core.Option.{Option, none}
 use native.Mathlib.Omega.{arith}
 use lib.ListN.{length}
-use lib.IntN.{ℤ, pos}
+use lib.IntN.{pos}
 use Rattle.lists.specs.Lists.{flat}
 use Rattle.text.specs.Words.{Word}
 use Rattle.tables.specs.Tables.{Tables}
 use Rattle.tables.specs.declared.Used.{Used}
 use Rattle.model.specs.Model.{geometric, texture, normal, parametric, Element, Model, Open, State}
-use Rattle.model.specs.Room.{Rooms, summed, ofKind, partCount, needed}
+use Rattle.model.specs.Room.{Rooms, summed, partCount, needed}
 use Rattle.model.specs.Read.{read, readOf}
 use Rattle.model.specs.Layout.{cornerRows, elementRows, bodiesOf, bodyRows, rangeRow, parameterRow, loopRows, spanRows, itself, tablesOf, usedOf}
 use Rattle.state.proofs.Rooms.{Within, fits-parts}
 use Rattle.state.proofs.Rows.{cornerRows-length, elementRows-length, bodyRows-length, rangeRows-length, parameterRows-length, loopRows-length, spanRows-length, bodies-summed, bodies-length}
-use Rattle.tidying.proofs.Good.{GoodVertices, GoodElements, Good}
-use Rattle.tidying.proofs.Reading.{Came, read-came}
+use Rattle.tidying.proofs.Good.{GoodVertices, GoodElements}
+use Rattle.tidying.proofs.Reading.{read-came}
 use Rattle.tidying.proofs.Rows.{wide-length}
 use Rattle.tidying.proofs.SameElements.{vertices-wide}
 use Rattle.joining.proofs.Stands.{Stands, stands-filled}

@@ -7,7 +7,7 @@ use native.Mathlib.Omega.{arith}
 use borrow.Author.Tests.{le-leb, ne-eqb, eq-eqb}
 use lib.ListN.{length, getD, length-append, length-map}
 use lib.Dec.{leb, eqb}
-use lib.IntN.{ℤ, pos, natAbs}
+use lib.IntN.{ℤ, pos}
 use Rattle.lists.specs.Lists.{all, flat}
 use Rattle.lists.proofs.Tests.{and-left, and-right, and-both}
 use Rattle.lists.proofs.Laws.{all-append}
@@ -21,13 +21,13 @@ use Rattle.model.specs.Statements.{loop}
 use Rattle.model.specs.Parse.{WordForm, a-number, a-curve, number, whole, Seen}
 use Rattle.model.specs.Room.{summed}
 use Rattle.model.specs.Layout.{firstPart, beginning, partRow, partRows, loopRow, spanRow}
-use Rattle.tidying.proofs.Values.{loopKey, partValues}
+use Rattle.tidying.proofs.Values.{partValues}
 use Rattle.tidying.proofs.Words.{Fits, Fitting}
 use Rattle.tidying.proofs.Shapes.{fits-is}
 use Rattle.tidying.proofs.Standing.{seenOf, Fine}
 use Rattle.tidying.proofs.Good.{GoodLoops}
 use Rattle.tidying.proofs.Rows.{Parted}
-use Rattle.rules.specs.Numbers.{small, allBelow}
+use Rattle.rules.specs.Numbers.{small}
 use Rattle.rules.specs.Loops.{beginsObeys, partObeys, eachPart, loopsObey}
 use Rattle.rules.proofs.Below.{below-all}
 use Rattle.joining.proofs.Stands.{Stands, stands-at}

@@ -1,10 +1,10 @@
 -- Sampling does not look at names: tables that differ in the last four numbers of their elements' rows alone are sampled alike. By what each test and answer reads.
 use Prim.Native.Nat.{ℕ, zero, suc, _+_, _*_, _-_, _<_}
 use mathlib.Core.Path.{_≡_, refl, sym, ap, ap₂, _∙_}
-use mathlib.Core.List.{List, _++_}
+use mathlib.Core.List.{List}
 use mathlib.Core.Bool.{Bool, true, false, cond, _&&_}
 use native.Mathlib.Omega.{arith}
-use lib.ListN.{length, take, drop}
+use lib.ListN.{length}
 use lib.Dec.{leb, eqb}
 use lib.IntN.{ℤ}
 use Rattle.tables.specs.Tables.{Tables}
@@ -14,7 +14,7 @@ use Rattle.tables.specs.declared.Used.{Used}
 use Rattle.rules.specs.Corners.{cornerObeys, eachCorner, cornersObey}
 use Rattle.rules.specs.Loops.{eachPart, loopsObey}
 use Rattle.rules.specs.Bodies.{surfaceObeys, recordObeys, bodyObeys}
-use Rattle.rules.specs.Rules.{elementObeys, obeys, curvesAmong, curvesBefore}
+use Rattle.rules.specs.Rules.{elementObeys, obeys, curvesAmong}
 use Rattle.sampler.specs.Points.{axesOf, controlOf, curveAt, surfaceAt, runNumbers}
 use Rattle.sampler.specs.Answers.{wanted, carried, elementOf, bodyOf, refusalOf, inside, curvePoint, pointOnCurve, surfacePoint, pointOnSurface, runOnCurve, pointsAfter}
 use Rattle.sampler.specs.declared.Sampled.{Sampled}

@@ -1,35 +1,32 @@
 -- Every element of an accepted text obeys the rules: kind by kind, its row, its corners and its body read back.
-use Prim.Native.Nat.{ℕ, suc, _+_, _*_, _≤_, _<_}
-use mathlib.Core.Path.{_≡_, refl, sym, ap, ap₂, _∙_, subst}
-use mathlib.Core.List.{List, [], _∷_, map}
-use mathlib.Core.Bool.{Bool, true, false, cond, _&&_, _||_}
-use mathlib.Core.Option.{some}
+use Prim.Native.Nat.{ℕ, suc, _+_, _*_, _<_}
+use mathlib.Core.Path.{_≡_, refl, ap, _∙_, subst}
+use mathlib.Core.List.{List}
+use mathlib.Core.Bool.{true, false, _&&_, _||_}
 use native.Mathlib.Omega.{arith}
 use borrow.Author.Tests.{leb-true}
 use lib.ListN.{length, getD}
 use lib.Dec.{leb, eqb}
-use Rattle.lists.specs.Lists.{all}
 use Rattle.lists.proofs.Tests.{and-left, and-right}
 use Rattle.forms.specs.Corner.{Corner, Parts}
 use Rattle.forms.specs.Fits.{referenceFits}
 use Rattle.tables.specs.Tables.{Tables}
 use Rattle.tables.specs.declared.Used.{Used}
-use Rattle.model.specs.Model.{Vertices, Free, curve, curve2, surface, along-u, Body, Kind, plain, free, Element, Model, curves, start}
+use Rattle.model.specs.Model.{Vertices, Free, curve, curve2, surface, along-u, Body, Kind, plain, free, Element, Model, curves}
 use Rattle.model.specs.Statements.{body}
-use Rattle.model.specs.Parse.{WordForm, a-corner, a-control, corner, Seen, given, fewestControls, rangeWords, controlForm}
-use Rattle.model.specs.Room.{Rooms, partCount, summed}
-use Rattle.model.specs.Read.{read, readOf}
+use Rattle.model.specs.Parse.{a-corner, a-control, corner}
+use Rattle.model.specs.Room.{partCount, summed}
 use Rattle.model.specs.Layout.{freeNumber, kindNumber, bodyNumber, bodiesOf, tablesOf, usedOf}
-use Rattle.tidying.specs.Tidied.{unsettled, unfilled, atLine}
+use Rattle.tidying.specs.Tidied.{atLine}
 use Rattle.tidying.proofs.Words.{Fits}
-use Rattle.tidying.proofs.Standing.{seenOf, uniform, wide, wideIn, Fine}
+use Rattle.tidying.proofs.Standing.{seenOf, wide, wideIn}
 use Rattle.tidying.proofs.Good.{GoodKind, GoodBody}
 use Rattle.tidying.proofs.Keep.{degrees-form}
 use Rattle.rules.specs.Corners.{leastCorners, withTexture, withNormal, pointObeys, cornersObey}
-use Rattle.rules.specs.Bodies.{recordObeys, bodyObeys}
+use Rattle.rules.specs.Bodies.{recordObeys}
 use Rattle.rules.specs.Rules.{obeys, curvesBefore}
 use Rattle.joining.specs.Joined.{EveryElementObeys}
-use Rattle.joining.proofs.Stands.{Stands, Among, among}
+use Rattle.joining.proofs.Stands.{Among, among}
 use Rattle.joining.proofs.Vertices.{all-at, control-obeys}
 use Rattle.joining.proofs.Corners.{noCorner, CornerKept}
 use Rattle.joining.proofs.Laid.{Kept, Laid, kept, laid}
@@ -37,7 +34,7 @@ use Rattle.joining.proofs.Elements.{Good, good-element, cornersIn, row-
 use Rattle.joining.proofs.Plain.{fitting-at, corner-fits, Pattern, corner-kept, its-corners, plain-obeys}
 use Rattle.joining.proofs.BodyRows.{body-among, laidBody, parametersIn, BodyRow, body-row, body-obeys}
 use Rattle.joining.proofs.Directions.{Controls, controls-of, parameters-of}
-use Rattle.joining.proofs.Curves.{curve-kept, curve2-kept, curve-record}
+use Rattle.joining.proofs.Curves.{unsettled-free, curve-kept, curve2-kept, curve-record}
 use Rattle.joining.proofs.Surfaces.{surface-kept, surface-record}
 
 curve-pattern : Pattern 4 2 (record { vt = false; vn = false })
@@ -47,11 +44,6 @@ curve-pattern = record { other = refl; texture = refl; normal = refl; least = re
 surface-pattern : Pattern 6 1 (record { vt = true; vn = true })
 unfolding withTexture withNormal leastCorners
 surface-pattern = record { other = refl; texture = refl; normal = refl; least = refl }
-
-line-free : (k : Free) (b : Body) → unfilled (unsettled k b) .free ≡ b .free
-line-free curve b = refl
-line-free curve2 b = refl
-line-free surface b = refl
 
 module _ (u : Used) (t : Tables) (m : Model) (L : Laid u t m) (K : Kept m) where
   abbrev x : Vertices
@@ -102,10 +94,10 @@ module _ (u : Used) (t : Tables) (m : Model) (L : Laid u t m) (K : Kept m) where
     its-body = body-row u t m L j at
 
     its-controls : (k : Free) → b .free ≡ k → Controls (seenOf x n) k cs
-    its-controls k e = subst (λ (y : Free). Controls (seenOf x n) y cs) (line-free (b .free) b ∙ e) (controls-of x n (atLine b) cs (good .line))
+    its-controls k e = subst (λ (y : Free). Controls (seenOf x n) y cs) (unsettled-free (b .free) b ∙ e) (controls-of x n (atLine b) cs (good .line))
 
     its-wide : (k : Free) → b .free ≡ k → wideIn k x cs ≡ true
-    its-wide k e = subst (λ (y : Free). wideIn y x cs ≡ true) (line-free (b .free) b ∙ e) (good .line .whole .1)
+    its-wide k e = subst (λ (y : Free). wideIn y x cs ≡ true) (unsettled-free (b .free) b ∙ e) (good .line .whole .1)
 
     free-obeys : (k : Free) → b .free ≡ k → leb 1 (freeNumber k) ≡ true → leb (freeNumber k) 6 ≡ true → leb (freeNumber k) 3 ≡ false
         → cornersObey u t (freeNumber k) (3 * cornersIn (a .before)) (length cs) ≡ true → recordObeys u t n (freeNumber k) (length cs) (laidBody P N b) ≡ true → obeys u t n i ≡ true

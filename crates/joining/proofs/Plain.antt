@@ -1,33 +1,32 @@
 -- p, l and f of an accepted text obey the rules: their corners fit their pattern. By the kind.
 use Prim.Native.Nat.{ℕ, zero, suc, _+_, _*_, _≤_, _<_}
-use mathlib.Core.Path.{_≡_, refl, sym, ap, ap₂, _∙_, subst}
+use mathlib.Core.Path.{_≡_, refl, ap, ap₂, _∙_, subst}
 use mathlib.Core.List.{List, [], _∷_, _++_, map}
-use mathlib.Core.Bool.{Bool, true, false, cond, _&&_, _||_}
+use mathlib.Core.Bool.{Bool, true, false, cond}
 use native.Mathlib.Omega.{arith}
 use borrow.Author.Tests.{leb-true}
 use lib.ListN.{length, getD, length-map}
 use lib.Dec.{leb, eqb}
-use Rattle.lists.specs.Lists.{flat}
 use Rattle.lists.proofs.Tests.{and-left, and-right}
 use Rattle.forms.specs.Corner.{Corner, Parts}
 use Rattle.forms.specs.Fits.{referenceFits, partFits, cornerFits}
 use Rattle.tables.specs.Tables.{Tables}
 use Rattle.tables.specs.declared.Used.{Used}
-use Rattle.model.specs.Model.{geometric, texture, normal, Vertices, Shape, point, line, face, Kind, plain, Element, Model, countsOf}
+use Rattle.model.specs.Model.{geometric, texture, normal, Vertices, Shape, point, line, face, Kind, plain, Element, Model, curves, countsOf}
 use Rattle.model.specs.Statements.{element}
 use Rattle.model.specs.Parse.{WordForm, a-corner, corner, Seen, parts, fewest}
-use Rattle.model.specs.Layout.{cornerRow, shapeNumber, kindNumber, bodyNumber, bodiesOf}
+use Rattle.model.specs.Layout.{shapeNumber, kindNumber, bodyNumber, bodiesOf}
 use Rattle.state.proofs.Rows.{summed-append}
 use Rattle.tidying.proofs.Words.{Fits, Fitting}
 use Rattle.tidying.proofs.Standing.{seenOf, uniform, Fine}
 use Rattle.tidying.proofs.Good.{GoodKind}
 use Rattle.rules.specs.Corners.{leastCorners, withTexture, withNormal, pointObeys, cornersObey}
 use Rattle.rules.specs.Rules.{obeys}
-use Rattle.joining.proofs.Stands.{Stands, Among}
+use Rattle.joining.proofs.Stands.{Among}
 use Rattle.joining.proofs.Vertices.{vertex-obeys}
 use Rattle.joining.proofs.Corners.{noCorner, CornerKept, Named, corners-obey}
 use Rattle.joining.proofs.Laid.{Kept, Laid}
-use Rattle.joining.proofs.Elements.{Good, cornersIn, Row, row-of, corners-stand, element-obeys}
+use Rattle.joining.proofs.Elements.{Good, cornersIn, row-of, corners-stand, element-obeys}
 
 -- ---- corners by their words
 pub fitting-at : (n : Seen) (f : WordForm) (i : ℕ) (cs : List Corner) (k : ℕ) → Fitting n (λ j. f) i (map corner cs) → k < length cs → Fits n f (corner (getD cs k noCorner))
@@ -108,8 +107,7 @@ module _ (u : Used) (t : Tables) (m : Model) (L : Laid u t m) (K : Kept m) where
     pub plain-obeys : (n : ℕ) (k : Shape) → e .kind ≡ plain k → Good x es i a → obeys u t n i ≡ true
     plain-obeys n k q g =
         let r = row-of t es i (L .elements) a in
-        let f : Fine x (Rattle.model.specs.Model.curves (a .before)) (element k (e .corners)) =
-        subst (λ (z : Kind). GoodKind x (Rattle.model.specs.Model.curves (a .before)) z (e .corners)) q (g .kind) in
+        let f : Fine x (curves (a .before)) (element k (e .corners)) = subst (λ (z : Kind). GoodKind x (curves (a .before)) z (e .corners)) q (g .kind) in
         element-obeys u t n i (shapeNumber k) (3 * cornersIn (a .before)) (length (e .corners)) 0 (e .names .smoothing) (r .lent)
         (r .kind ∙ ap kindNumber q) (r .first) (r .count) (r .body ∙ ap (λ (z : Kind). bodyNumber z (length (bodiesOf (a .before)))) q) (r .smoothing)
         (least k) (most k) (g .smoothing) (plain-corners _ k f) (no-body k _)

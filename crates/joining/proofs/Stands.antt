@@ -1,10 +1,10 @@
 -- A run of a lent table: what stands there from one entry on, and reading it back. By `take` and `drop`.
-use Prim.Native.Nat.{ℕ, zero, suc, _+_, _*_, _-_, _≤_, _<_}
+use Prim.Native.Nat.{ℕ, zero, suc, _+_, _-_, _≤_, _<_}
 use mathlib.Core.Path.{_≡_, refl, sym, ap, _∙_, subst}
 use mathlib.Core.List.{List, [], _∷_, _++_, append-assoc}
 use native.Mathlib.Omega.{arith}
 use lib.ListN.{length, getD, take, drop, replicate, length-append, take-append-drop}
-use lib.Seq.{getD-take, getD-drop, drop-drop, take-append-seam, drop-append-seam, take-append-le}
+use lib.Seq.{getD-take, getD-drop, drop-drop, take-append-seam, drop-append-seam}
 use Rattle.lists.specs.Lists.{flat, filled}
 use Rattle.tables.proofs.Filled.{length-filled}
 use Rattle.tables.proofs.Flat.{flat-append}

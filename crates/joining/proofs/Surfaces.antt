@@ -1,12 +1,11 @@
 -- surf of an accepted text obeys the rules: what its lines and its end leave of the body, and its loops.
-use Prim.Native.Nat.{ℕ, suc, _+_, _*_, _≤_}
-use mathlib.Core.Path.{_≡_, refl, sym, ap, ap₂, _∙_, subst}
+use Prim.Native.Nat.{ℕ}
+use mathlib.Core.Path.{_≡_, refl, ap, ap₂, _∙_}
 use mathlib.Core.List.{List}
-use mathlib.Core.Bool.{Bool, true, false, cond, _&&_}
-use mathlib.Core.Option.{some}
+use mathlib.Core.Bool.{true}
 use borrow.Author.Tests.{le-leb}
 use lib.ListN.{length}
-use lib.Dec.{leb, eqb}
+use lib.Dec.{leb}
 use lib.IntN.{ℤ}
 use Rattle.lists.proofs.Tests.{and-left, and-right, and-both}
 use Rattle.forms.specs.Corner.{Corner}
@@ -18,8 +17,6 @@ use Rattle.model.specs.Model.{Vertices, surface, along-v, Body}
 use Rattle.model.specs.Room.{partCount}
 use Rattle.tidying.proofs.Good.{formIn, GoodLoops, GoodBody}
 use Rattle.tidying.proofs.SameElements.{loops-parted}
-use Rattle.rules.specs.Directions.{basisOf}
-use Rattle.rules.specs.Loops.{loopsObey}
 use Rattle.rules.specs.Bodies.{directionsObey, surfaceObeys, recordObeys}
 use Rattle.joining.proofs.BodyRows.{laidBody, BodyRow, us-are, vs-are}
 use Rattle.joining.proofs.Directions.{basis-back, Needed, degree-obeys, needed-u, needed-v, type-obeys, Parameters, parameters-of, parameters-obey}

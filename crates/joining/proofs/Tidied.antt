@@ -1,5 +1,5 @@
 -- An accepted text and its tidy text are sampled alike: their models agree, so that their tables differ in names alone.
-use Prim.Native.Nat.{ℕ, zero, suc, _+_, _*_, _-_, _≤_, _<_}
+use Prim.Native.Nat.{ℕ, zero, suc, _+_, _*_, _-_, _<_}
 use mathlib.Core.Path.{_≡_, refl, sym, ap, ap₂, _∙_, subst}
 use mathlib.Core.List.{List, [], _∷_, _++_}
 use native.Mathlib.Omega.{arith}
@@ -12,11 +12,9 @@ use Rattle.tables.specs.Records.{numberAt}
 use Rattle.tables.specs.declared.Used.{Used}
 use Rattle.tables.proofs.Filled.{getD-filled}
 use Rattle.model.specs.Model.{Vertices, Body, Element, Model}
-use Rattle.model.specs.Room.{Rooms, summed, ofKind, partCount}
-use Rattle.model.specs.Read.{read, readOf}
+use Rattle.model.specs.Room.{Rooms, summed, ofKind}
 use Rattle.model.specs.Layout.{cornerRows, elementRow, elementRows, bodiesOf, bodyRows, rangeRow, parameterRow, loopRows, spanRows, itself, tablesOf, usedOf}
 use Rattle.state.proofs.Rows.{elementRows-length}
-use Rattle.tidying.specs.Printed.{tidyText}
 use Rattle.tidying.specs.Agree.{bareElement, bareElements, bare, Agree}
 use Rattle.tidying.proofs.Bare.{summed-bare, length-bare}
 use Rattle.tidying.proofs.TablesAgree.{bodies-bare, corners-bare, agreed}

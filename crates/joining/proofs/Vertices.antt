@@ -2,12 +2,12 @@
 use Prim.Native.Nat.{ℕ, zero, suc, _+_, _*_, _-_, _≤_, _<_}
 use mathlib.Core.Path.{_≡_, refl, sym, ap, ap₂, _∙_, subst}
 use mathlib.Core.List.{List, [], _∷_, _++_, map}
-use mathlib.Core.Bool.{Bool, true, false, _&&_, _||_}
+use mathlib.Core.Bool.{Bool, true}
 use native.Mathlib.Omega.{arith}
-use borrow.Author.Tests.{leb-true, le-leb, eq-eqb}
-use lib.ListN.{length, getD, length-append, length-map}
+use borrow.Author.Tests.{leb-true, le-leb}
+use lib.ListN.{length, getD, length-map}
 use lib.Seq.{getD-at}
-use lib.Dec.{leb, eqb}
+use lib.Dec.{leb}
 use lib.IntN.{ℤ, pos, natAbs}
 use lib.Signed.{leZ}
 use Rattle.lists.specs.Lists.{all, flat}
@@ -16,7 +16,7 @@ use Rattle.forms.specs.Fits.{numberFits}
 use Rattle.tables.specs.Records.{valueAt}
 use Rattle.model.specs.Model.{VertexKind, geometric, texture, normal, parametric, start}
 use Rattle.model.specs.Statements.{vertex}
-use Rattle.model.specs.Parse.{number, Value, countedVertex, numbersOf, a-number, Seen, completed, recordOf, given}
+use Rattle.model.specs.Parse.{number, countedVertex, numbersOf, a-number, Seen, recordOf, given}
 use Rattle.model.specs.Layout.{itself}
 use Rattle.tidying.specs.Printed.{coordinates}
 use Rattle.tidying.proofs.Words.{Fitting}
@@ -25,9 +25,9 @@ use Rattle.tidying.proofs.Back.{numbers-of}
 use Rattle.tidying.proofs.Shapes.{numbers-fit}
 use Rattle.tidying.proofs.Coordinates.{completed-numbers}
 use Rattle.tidying.proofs.Good.{Always, GoodVertices}
-use Rattle.tidying.proofs.Rows.{Wide, wide-length}
+use Rattle.tidying.proofs.Rows.{wide-length}
 use Rattle.tidying.proofs.SameElements.{record-length, vertices-wide}
-use Rattle.rules.specs.Numbers.{small, eqZ, allBelow, smallRun}
+use Rattle.rules.specs.Numbers.{small, smallRun}
 use Rattle.rules.specs.Vertices.{vertexObeys, givenObeys, parameterVertexObeys, controlObeys}
 use Rattle.rules.proofs.Below.{below-all}
 use Rattle.joining.proofs.Stands.{Stands, stands-at, stands-is, stands-flat, Among, among}
