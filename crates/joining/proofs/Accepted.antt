@@ -1,126 +1,188 @@
--- From an accepted text to a point within its bound: its tables obey the rules, so that 15 is never given and demand 3 holds of them.
-use Prim.Native.Nat.{ℕ, _+_, _*_, _-_, _≤_}
-use mathlib.Core.Path.{_≡_, refl, sym, ap, _∙_, subst}
-use mathlib.Core.Bool.{Bool, true, false, cond, _&&_}
+-- From an accepted text to a point within its bound: its tables obey the rules, so that demand 3 holds of them, and what they give is the file's own.
+use Prim.Native.Nat.{ℕ, _+_, _*_, _-_, _≤_, _<_}
+use mathlib.Core.Path.{_≡_, refl, sym, ap, ap₂, _∙_, subst}
+use mathlib.Core.Bool.{cond}
 use mathlib.Core.Logic.{_⊎_, inl, inr}
-use mathlib.Core.List.{List, _∷_, _++_}
+use mathlib.Core.List.{List}
 use native.Mathlib.Omega.{arith}
-use borrow.Author.Tests.{leb-true, le-leb}
-use lib.ListN.{length, length-append}
-use lib.Dec.{leb}
-use lib.IntN.{ℤ}
+use lib.ListN.{length, getD}
+use lib.Dec.{eqb}
+use lib.IntN.{ℤ, pos}
 use lib.Signed.{_≤ℤ_}
-use Rattle.lists.proofs.Tests.{and-left, and-right, never}
+use Rattle.forms.specs.Corner.{Corner}
+use Rattle.whole.specs.Fractions.{Frac, Close}
 use Rattle.tables.specs.Tables.{Tables}
 use Rattle.tables.specs.Bodies.{bezier, bspline, basisNumber}
-use Rattle.tables.specs.Records.{bodyAt}
 use Rattle.tables.specs.Records as records
-use Rattle.model.specs.Model.{curve, curve2, Body, Kind, free, Model}
+use Rattle.curves.specs.Directions.{Direction}
+use Rattle.curves.specs.Exact.{curveExact, surfaceExact}
+use Rattle.model.specs.Model.{Vertices, Free, curve, curve2, surface, Body, Model}
 use Rattle.model.specs.Room.{Rooms, summed, partCount}
 use Rattle.model.specs.Read.{read, readOf}
-use Rattle.model.specs.Layout.{freeNumber, kindNumber, bodyNumber, bodiesOf, flag, tablesOf, usedOf}
-use Rattle.rules.specs.Rules.{obeys, curvesBefore}
-use Rattle.rules.proofs.Element.{obeys-facts}
-use Rattle.sampler.specs.Answers.{wanted, carried, elementOf, bodyOf, refusalOf}
-use Rattle.sampler.specs.Demand3.{Curve}
+use Rattle.model.specs.Layout.{freeNumber, bodiesOf, flag, tablesOf, usedOf}
+use Rattle.sampler.specs.Runs.{parameterAt}
+use Rattle.sampler.specs.Points.{directionU, directionV, controlOf, gridOf, axesOf}
+use Rattle.sampler.specs.Answers.{elementOf, bodyOf, coordinatesIn, pointOnSurface, pointsAfter}
+use Rattle.sampler.specs.Demand3.{Curve, OnCurve, RunAnswer, Surface, OnSurface}
 use Rattle.sampler.proofs.Demanded.{points-on-curves, runs-on-curves}
-use Rattle.joining.specs.Joined.{SamplingNever15, Holds, Carried, AcceptedCurves, AcceptedRuns}
-use Rattle.joining.proofs.Stands.{Among}
-use Rattle.joining.proofs.Laid.{laid}
-use Rattle.joining.proofs.Elements.{row-of}
-use Rattle.joining.proofs.BodyRows.{body-among, laidBody, parametersIn, body-row}
-use Rattle.joining.proofs.Obeyed.{every-element-obeys}
+use Rattle.sampler.proofs.OnSurfaces.{points-on-surfaces}
+use Rattle.joining.specs.Files.{alongU, alongV, controlIn, axesIn, gridIn}
+use Rattle.joining.specs.Joined.{Holds, Carried, PointOnCurve, AcceptedCurves, PointsOfRun, AcceptedRuns, PointOnSurface, AcceptedSurfaces}
+use Rattle.joining.proofs.BodyRows.{laidBody, parametersIn}
+use Rattle.joining.proofs.Curves.{curve-kept, curve2-kept}
+use Rattle.joining.proofs.Surfaces.{surface-kept}
+use Rattle.joining.proofs.Own.{exact-same, grid-same, count-is, counts-are, in-grid}
+use Rattle.joining.proofs.Never15.{used-elements, obeyed}
+use Rattle.joining.proofs.Records.{some, in-file, its-kind, its-good, its-body, its-u, its-v, its-control}
 
-used-elements : (m : Model) → usedOf m .elements ≡ length (m .elements)
-unfolding usedOf
-used-elements m = refl
-
-module _ (R : Rooms) (s : List ℕ) (m : Model) (h : readOf R s ≡ read m) (number : ℕ) where
+module _ (R : Rooms) (s : List ℕ) (m : Model) (h : readOf R s ≡ read m) (number : ℕ) (b : Body) (o : Holds m number b) (c : Carried b) where
   abbrev t : Tables
   t = tablesOf R m
 
-  obeyed : 1 ≤ number → number ≤ length (m .elements) → obeys (usedOf m) t (curvesBefore t (number - 1)) (number - 1) ≡ true
-  obeyed a b = every-element-obeys R s m h (number - 1) (omega arith)
+  abbrev cs : List Corner
+  cs = o .one .corners
 
-  lent : 1 ≤ number → number ≤ length (m .elements) → 9 * number ≤ length (t .elements)
-  lent a b = let o = obeys-facts (usedOf m) t (curvesBefore t (number - 1)) (number - 1) (obeyed a b) in omega (arith, o .lent-one)
+  abbrev x : Vertices
+  x = m .vertices
 
--- ---- 15
-passes : (a b w o c : Bool) → (a ≡ true → b ≡ true) → (a ≡ true → o ≡ true) → _≡_ {A = ℕ} (cond a (cond b (cond w (cond o (cond c 0 18) 15) 17) 15) 17) 15 → ⊥
-passes false b w o c f g e = omega arith
-passes true false w o c f g e = never (f refl)
-passes true true false o c f g e = omega arith
-passes true true true false c f g e = never (g refl)
-passes true true true true false f g e = omega arith
-passes true true true true true f g e = omega arith
+  body-is : bodyOf t number ≡ laidBody (0 + parametersIn (bodiesOf (o .before))) (0 + summed partCount (bodiesOf (o .before))) b
+  body-is = its-body R s m h number b o
 
-pub sampling-never-15 : SamplingNever15
-unfolding refusalOf
-sampling-never-15 R s m h surface number e =
-    let t = tablesOf R m in
-    let u = usedOf m in
-    let in-use : (leb 1 number && leb number (u .elements)) ≡ true → (1 ≤ number) × (number ≤ length (m .elements)) =
-    λ a. (leb-true 1 number (and-left (leb 1 number) _ a), (let k = leb-true number (u .elements) (and-right (leb 1 number) _ a) in let q = used-elements m in omega arith)) in
-    passes (leb 1 number && leb number (u .elements)) (leb (9 * number) (length (t .elements))) (wanted surface (elementOf t number .kind))
-    (obeys u t (curvesBefore t (number - 1)) (number - 1)) (carried (bodyOf t number .rational) (bodyOf t number .type))
-    (λ a. le-leb (9 * number) (length (t .elements)) (lent R s m h number (in-use a .0) (in-use a .1)))
-    (λ a. obeyed R s m h number (in-use a .0) (in-use a .1)) e
+  types : (b .basis ≡ bezier) ⊎ (b .basis ≡ bspline) → (bodyOf t number .type ≡ 1) ⊎ (bodyOf t number .type ≡ 2)
+  types (inl e) = inl (ap (λ (y : records.Body). y .type) body-is ∙ ap basisNumber e)
+  types (inr e) = inr (ap (λ (y : records.Body). y .type) body-is ∙ ap basisNumber e)
 
--- ---- an element of the file and its records
-module _ (R : Rooms) (s : List ℕ) (m : Model) (h : readOf R s ≡ read m) (number : ℕ) (b : Body) (o : Holds m number b) where
-  abbrev i : ℕ
-  i = number - 1
+  plain : bodyOf t number .rational ≡ 0
+  plain = ap (λ (y : records.Body). y .rational) body-is ∙ ap flag (c .plain)
 
-  abbrev pub its-place : Among (m .elements) i
-  its-place = record { before = o .before; one = o .one; after = o .after; is = o .elements; many = (let e = o .place in omega arith) }
+  used : number ≤ usedOf m .elements
+  used = let e = used-elements m in let f = in-file R s m h number b o in omega arith
 
-  pub its-kind : elementOf (tablesOf R m) number .kind ≡ freeNumber (b .free)
-  its-kind = row-of (tablesOf R m) (m .elements) i (laid R s m h .elements) its-place .kind ∙ ap kindNumber (o .body)
+  its-start : (p : ℤ) → b .start-u ≤ℤ p → bodyOf t number .start-u ≤ℤ p
+  its-start p = subst (λ (z : ℤ). z ≤ℤ p) (sym (ap (λ (q : records.Body). q .start-u) body-is))
 
-  pub its-body : bodyOf (tablesOf R m) number ≡ laidBody (0 + parametersIn (bodiesOf (o .before))) (0 + summed partCount (bodiesOf (o .before))) b
-  its-body =
-      let L = laid R s m h in
-      let j = length (bodiesOf (o .before)) in
-      let r = row-of (tablesOf R m) (m .elements) i (L .elements) its-place .body ∙ ap (λ (k : Kind). bodyNumber k j) (o .body) in
-      let e : elementOf (tablesOf R m) number .body - 1 ≡ j = omega arith in
-      ap (bodyAt (tablesOf R m)) e ∙ body-row (usedOf m) (tablesOf R m) m L j (body-among (m .elements) i its-place b (o .body)) .is
+  its-end : (p : ℤ) → p ≤ℤ b .end-u → p ≤ℤ bodyOf t number .end-u
+  its-end p = subst (λ (z : ℤ). p ≤ℤ z) (sym (ap (λ (q : records.Body). q .end-u) body-is))
 
-  in-file : number ≤ length (m .elements)
-  in-file =
-      let e : length (m .elements) ≡ length (o .before ++ o .one ∷ o .after) = ap length (o .elements) in
-      let f = length-append (o .before) (o .one ∷ o .after) in
-      let q = o .place in
-      omega arith
+  -- ---- curves
+  module _ (k : (b .free ≡ curve) ⊎ (b .free ≡ curve2)) where
+    its-curve : Curve (usedOf m) t number
+    its-curve =
+        record {
+          some = some R s m h number b o;
+          in-use = used;
+          kind = kinds k;
+          obeyed = obeyed R s m h number (some R s m h number b o) (in-file R s m h number b o);
+          plain = plain;
+          type = types (c .type);
+        }
+      where
+        kinds : (b .free ≡ curve) ⊎ (b .free ≡ curve2) → (elementOf t number .kind ≡ 4) ⊎ (elementOf t number .kind ≡ 5)
+        kinds (inl e) = inl (its-kind R s m h number b o ∙ ap freeNumber e)
+        kinds (inr e) = inr (its-kind R s m h number b o ∙ ap freeNumber e)
 
-  some : 1 ≤ number
-  some = let e = o .place in omega arith
+    axes-are : axesOf (elementOf t number) ≡ axesIn (b .free)
+    axes-are = ap (λ (n : ℕ). cond (eqb n 5) 2 3) (its-kind R s m h number b o) ∙ by-kind (b .free)
+      where
+        by-kind : (f : Free) → cond (eqb (freeNumber f) 5) 2 3 ≡ axesIn f
+        by-kind curve = refl
+        by-kind curve2 = refl
+        by-kind surface = refl
 
-  pub its-curve : Carried b → (b .free ≡ curve) ⊎ (b .free ≡ curve2) → Curve (usedOf m) (tablesOf R m) number
-  its-curve c k =
-      record {
-        some = some;
-        in-use = (let e = used-elements m in let f = in-file in omega arith);
-        kind = kinds k;
-        obeyed = obeyed R s m h number some in-file;
-        plain = ap (λ (y : records.Body). y .rational) its-body ∙ ap flag (c .plain);
-        type = types (c .type);
-      }
-    where
-      kinds : (b .free ≡ curve) ⊎ (b .free ≡ curve2) → (elementOf (tablesOf R m) number .kind ≡ 4) ⊎ (elementOf (tablesOf R m) number .kind ≡ 5)
-      kinds (inl e) = inl (its-kind ∙ ap freeNumber e)
-      kinds (inr e) = inr (its-kind ∙ ap freeNumber e)
+    many : length cs ≡ alongU b .controls
+    many = go k
+      where
+        go : (b .free ≡ curve) ⊎ (b .free ≡ curve2) → length cs ≡ alongU b .controls
+        go (inl e) = count-is (b .basis) (b .degree-u) (length (b .us)) (length cs) (curve-kept x _ b cs (its-good R s m h number b o) e .counts)
+        go (inr e) = count-is (b .basis) (b .degree-u) (length (b .us)) (length cs) (curve2-kept x _ b cs (its-good R s m h number b o) e .counts)
 
-      types : (b .basis ≡ bezier) ⊎ (b .basis ≡ bspline) → (bodyOf (tablesOf R m) number .type ≡ 1) ⊎ (bodyOf (tablesOf R m) number .type ≡ 2)
-      types (inl e) = inl (ap (λ (y : records.Body). y .type) its-body ∙ ap basisNumber e)
-      types (inr e) = inr (ap (λ (y : records.Body). y .type) its-body ∙ ap basisNumber e)
+    exact : (p : ℤ) (axis : ℕ) → axis < axesIn (b .free) → curveExact (directionU t (bodyOf t number)) p (controlOf t (elementOf t number) axis) ≡ curveExact (alongU b) p (controlIn x (b .free) cs axis)
+    exact p axis a =
+        ap (λ (d : Direction). curveExact d p (controlOf t (elementOf t number) axis)) (its-u R s m h number b o (c .type))
+        ∙ exact-same (alongU b) p (controlOf t (elementOf t number) axis) (controlIn x (b .free) cs axis) (λ i l. its-control R s m h number b o axis i (let e = many in omega arith) a)
 
--- ---- demand 3
+    close : (p : ℤ) (axis : ℕ) (z : ℤ) → axis < axesIn (b .free) → OnCurve t number p axis z → Close z (curveExact (alongU b) p (controlIn x (b .free) cs axis)) (b .degree-u)
+    close p axis z a q =
+        subst (λ (n : ℕ). Close z (curveExact (alongU b) p (controlIn x (b .free) cs axis)) n) (ap (λ (y : records.Body). y .degree-u) body-is)
+        (subst (λ (f : Frac). Close z f (bodyOf t number .degree-u)) (exact p axis a) q)
+
+    curve-point : (p : ℤ) → b .start-u ≤ℤ p → p ≤ℤ b .end-u → PointOnCurve R m number b cs p
+    curve-point p f g =
+        let a = points-on-curves (usedOf m) t number p its-curve (its-start p f) (its-end p g) in
+        record {
+          given = a .given;
+          axes = a .axes ∙ axes-are;
+          near = λ axis l. close p axis _ l (a .near axis (let e = axes-are in omega arith));
+        }
+
+    run-points : (steps at : ℕ) (points : List ℤ) → 1 ≤ steps → steps ≤ 65536 → at + axesIn (b .free) * (steps + 1) ≤ length points → PointsOfRun R m number b cs steps at points
+    run-points steps at points f g l =
+        let room : at + axesOf (elementOf t number) * (steps + 1) ≤ length points = subst (λ (n : ℕ). at + n * (steps + 1) ≤ length points) (sym axes-are) l in
+        let a = runs-on-curves (usedOf m) t number steps at points its-curve f g room in
+        record {
+          given = a .given;
+          near = λ j axis d e. point a j axis d e;
+        }
+      where
+        point : RunAnswer (usedOf m) t number steps at points → (j axis : ℕ) → j ≤ steps → axis < axesIn (b .free)
+            → Close (getD (pointsAfter (usedOf m) t number steps at points) (at + (axesIn (b .free) * j + axis)) (pos 0))
+            (curveExact (alongU b) (parameterAt (b .start-u) (b .end-u) steps j) (controlIn x (b .free) cs axis)) (b .degree-u)
+        point a j axis d e =
+            let q = a .near j axis d (let w = axes-are in omega arith) in
+            let q' =
+            subst (λ (n : ℕ). OnCurve t number (parameterAt (bodyOf t number .start-u) (bodyOf t number .end-u) steps j) axis (getD (pointsAfter (usedOf m) t number steps at points) (at + (n * j + axis)) (pos 0)))
+            axes-are q in
+            close (parameterAt (b .start-u) (b .end-u) steps j) axis (getD (pointsAfter (usedOf m) t number steps at points) (at + (axesIn (b .free) * j + axis)) (pos 0)) e
+            (subst (λ (y : records.Body). OnCurve t number (parameterAt (y .start-u) (y .end-u) steps j) axis (getD (pointsAfter (usedOf m) t number steps at points) (at + (axesIn (b .free) * j + axis)) (pos 0)))
+            body-is q')
+
+  -- ---- surfaces
+  module _ (k : b .free ≡ surface) where
+    its-surface : Surface (usedOf m) t number
+    its-surface =
+        record {
+          some = some R s m h number b o;
+          in-use = used;
+          kind = its-kind R s m h number b o ∙ ap freeNumber k;
+          obeyed = obeyed R s m h number (some R s m h number b o) (in-file R s m h number b o);
+          plain = plain;
+          type = types (c .type);
+        }
+
+    grid-many : length cs ≡ alongU b .controls * alongV b .controls
+    grid-many =
+        counts-are (b .basis) (b .degree-u) (length (b .us)) (b .degree-v) (length (b .vs)) (length cs) (surface-kept x _ b cs (its-good R s m h number b o) k .counts)
+
+    grid : (p q : ℤ) (axis : ℕ) → axis < 3
+        → surfaceExact (directionU t (bodyOf t number)) (directionV t (bodyOf t number)) p q (gridOf t (elementOf t number) (bodyOf t number) axis) ≡ surfaceExact (alongU b) (alongV b) p q (gridIn x b cs axis)
+    grid p q axis a =
+        let e = elementOf t number in
+        ap₂ (λ (u v : Direction). surfaceExact u v p q (λ i j. controlOf t e axis (j * u .controls + i))) (its-u R s m h number b o (c .type)) (its-v R s m h number b o (c .type))
+        ∙ grid-same (alongU b) (alongV b) p q (λ i j. controlOf t e axis (j * alongU b .controls + i)) (gridIn x b cs axis)
+        (λ i j l d. its-control R s m h number b o axis (j * alongU b .controls + i) (let w = in-grid (alongU b .controls) (alongV b .controls) i j l d in let n = grid-many in omega arith) (subst (λ (f : Free). axis < axesIn f) (sym k) a)
+        ∙ ap (λ (f : Free). controlIn x f cs axis (j * alongU b .controls + i)) k)
+
+    surface-point : (p q : ℤ) → b .start-u ≤ℤ p → p ≤ℤ b .end-u → b .start-v ≤ℤ q → q ≤ℤ b .end-v → PointOnSurface R m number b cs p q
+    surface-point p q f g d e =
+        let a =
+        points-on-surfaces (usedOf m) t number p q its-surface (its-start p f) (its-end p g) (subst (λ (z : ℤ). z ≤ℤ q) (sym (ap (λ (y : records.Body). y .start-v) body-is)) d)
+        (subst (λ (z : ℤ). q ≤ℤ z) (sym (ap (λ (y : records.Body). y .end-v) body-is)) e) in
+        record {
+          given = a .given;
+          axes = a .axes;
+          near = λ axis l. near axis (getD (coordinatesIn (pointOnSurface (usedOf m) t number p q)) axis (pos 0)) l (a .near axis l);
+        }
+      where
+        near : (axis : ℕ) (z : ℤ) → axis < 3 → OnSurface t number p q axis z → Close z (surfaceExact (alongU b) (alongV b) p q (gridIn x b cs axis)) (b .degree-u + b .degree-v)
+        near axis z l w =
+            subst (λ (y : records.Body). Close z (surfaceExact (alongU b) (alongV b) p q (gridIn x b cs axis)) (y .degree-u + y .degree-v)) body-is
+            (subst (λ (y : Frac). Close z y (bodyOf t number .degree-u + bodyOf t number .degree-v)) (grid p q axis l) w)
+
 pub accepted-curves : AcceptedCurves
-accepted-curves R s m h number b o c k p x y =
-    let e = its-body R s m h number b o in
-    points-on-curves (usedOf m) (tablesOf R m) number p (its-curve R s m h number b o c k)
-    (subst (λ (z : ℤ). z ≤ℤ p) (sym (ap (λ (q : records.Body). q .start-u) e)) x) (subst (λ (z : ℤ). p ≤ℤ z) (sym (ap (λ (q : records.Body). q .end-u) e)) y)
+accepted-curves R s m h number b o c k p f g = curve-point R s m h number b o c k p f g
 
 pub accepted-runs : AcceptedRuns
-accepted-runs R s m h number b o c k steps at points x y z =
-    runs-on-curves (usedOf m) (tablesOf R m) number steps at points (its-curve R s m h number b o c k) x y z
+accepted-runs R s m h number b o c k steps at points f g l = run-points R s m h number b o c k steps at points f g l
+
+pub accepted-surfaces : AcceptedSurfaces
+accepted-surfaces R s m h number b o c k p q f g d e = surface-point R s m h number b o c k p q f g d e

@@ -63,7 +63,7 @@ pub record Named (u : Used) (t : Tables) : Type 0 where
   pub vt : (k : ℕ) → 1 ≤ k → k ≤ u .vt → vertexObeys 3 (t .vt) (u .vt) k ≡ true
   pub vn : (k : ℕ) → 1 ≤ k → k ≤ u .vn → vertexObeys 3 (t .vn) (u .vn) k ≡ true
 
-abbrev laidCorner : Corner → records.Corner
+abbrev pub laidCorner : Corner → records.Corner
 laidCorner c = record { v = c .v; vt = c .vt; vn = c .vn }
 
 module _ (u : Used) (t : Tables) (n : Named u t) (kind first : ℕ) (cs : List Corner) (s : Stands (t .corners) first (flat cornerRow cs)) where
@@ -74,7 +74,7 @@ module _ (u : Used) (t : Tables) (n : Named u t) (kind first : ℕ) (cs : List C
       ap (λ (q : ℕ). getD (t .corners) q 0) e ∙ stands-at (t .corners) first (flat cornerRow cs) (3 * k + j) 0 s (omega arith)
       ∙ getD-flat cornerRow 3 (λ c. refl) cs k j noCorner 0 h b
 
-  corner-at : (k : ℕ) → k < length cs → cornerAt t first k ≡ laidCorner (getD cs k noCorner)
+  pub corner-at : (k : ℕ) → k < length cs → cornerAt t first k ≡ laidCorner (getD cs k noCorner)
   corner-at k h =
       let z : first + 3 * k ≡ first + 3 * k + 0 = omega arith in
       let a : getD (t .corners) (first + 3 * k) 0 ≡ getD cs k noCorner .v = ap (λ (q : ℕ). getD (t .corners) q 0) z ∙ number-at k 0 h (omega arith) in

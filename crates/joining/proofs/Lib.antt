@@ -10,6 +10,9 @@ pub mod Curves
 pub mod Loops
 pub mod Surfaces
 pub mod Obeyed
+pub mod Own
+pub mod Records
+pub mod Never15
 pub mod Accepted
 pub mod Names
 pub mod Tidied

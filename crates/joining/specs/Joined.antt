@@ -4,21 +4,24 @@ use mathlib.Core.Path.{_≡_}
 use mathlib.Core.Bool.{Bool, true, false}
 use mathlib.Core.Logic.{_⊎_}
 use mathlib.Core.List.{List, _∷_, _++_}
-use lib.ListN.{length}
-use lib.IntN.{ℤ}
+use lib.ListN.{length, getD}
+use lib.IntN.{ℤ, pos}
 use lib.Signed.{_≤ℤ_}
+use Rattle.forms.specs.Corner.{Corner}
+use Rattle.whole.specs.Fractions.{Close}
 use Rattle.tables.specs.Tables.{Tables}
 use Rattle.tables.specs.Bodies.{bezier, bspline}
 use Rattle.tables.specs.declared.Used.{Used}
-use Rattle.model.specs.Model.{curve, curve2, Body, free, Element, Model}
+use Rattle.curves.specs.Exact.{curveExact, surfaceExact}
+use Rattle.model.specs.Model.{curve, curve2, surface, Body, free, Element, Model}
 use Rattle.model.specs.Room.{Rooms}
 use Rattle.model.specs.Read.{read, readOf}
 use Rattle.model.specs.Layout.{tablesOf, usedOf}
 use Rattle.tidying.specs.Printed.{tidyText}
 use Rattle.rules.specs.Rules.{obeys, curvesBefore}
-use Rattle.sampler.specs.Points.{axesOf}
-use Rattle.sampler.specs.Answers.{elementOf, refusalOf, pointOnCurve, pointOnSurface, runOnCurve, pointsAfter}
-use Rattle.sampler.specs.Demand3.{CurveAnswer, RunAnswer}
+use Rattle.sampler.specs.Runs.{parameterAt}
+use Rattle.sampler.specs.Answers.{refusalOf, refusalIn, coordinatesIn, runRefusalIn, pointOnCurve, pointOnSurface, runOnCurve, pointsAfter}
+use Rattle.joining.specs.Files.{alongU, alongV, controlIn, axesIn, gridIn}
 
 -- every element of the tables of an accepted text obeys the rules that 15 names
 abbrev pub EveryElementObeys : Type 0
@@ -30,7 +33,7 @@ EveryElementObeys =
 abbrev pub SamplingNever15 : Type 0
 SamplingNever15 =
     (R : Rooms) (s : List ℕ) (m : Model) → readOf R s ≡ read m
-    → (surface : Bool) (number : ℕ) → refusalOf surface (usedOf m) (tablesOf R m) number ≡ 15 → ⊥
+    → (asked : Bool) (number : ℕ) → refusalOf asked (usedOf m) (tablesOf R m) number ≡ 15 → ⊥
 
 -- ---- demand 3, from the text on
 
@@ -48,20 +51,47 @@ pub record Carried (b : Body) : Type 0 where
   pub plain : b .rational ≡ false
   pub type : (b .basis ≡ bezier) ⊎ (b .basis ≡ bspline)
 
--- "any whole number of millionths inside its stated range": a point of each such curve of an accepted text is handed out, within its bound
+-- "Take as parameter any whole number of millionths inside its stated range": a point of each such curve of an accepted text is handed out, and lies at
+-- most n/2 millionths from the exact value that the file's own numbers give
+pub record PointOnCurve (R : Rooms) (m : Model) (number : ℕ) (b : Body) (cs : List Corner) (p : ℤ) : Type 0 where
+  pub given : refusalIn (pointOnCurve (usedOf m) (tablesOf R m) number p) ≡ 0
+  pub axes : length (coordinatesIn (pointOnCurve (usedOf m) (tablesOf R m) number p)) ≡ axesIn (b .free)
+  pub near : (axis : ℕ) → axis < axesIn (b .free)
+      → Close (getD (coordinatesIn (pointOnCurve (usedOf m) (tablesOf R m) number p)) axis (pos 0)) (curveExact (alongU b) p (controlIn (m .vertices) (b .free) cs axis)) (b .degree-u)
+
 abbrev pub AcceptedCurves : Type 0
 AcceptedCurves =
     (R : Rooms) (s : List ℕ) (m : Model) → readOf R s ≡ read m
-    → (number : ℕ) (b : Body) → Holds m number b → Carried b → (b .free ≡ curve) ⊎ (b .free ≡ curve2)
-    → (p : ℤ) → b .start-u ≤ℤ p → p ≤ℤ b .end-u → CurveAnswer (usedOf m) (tablesOf R m) number p
+    → (number : ℕ) (b : Body) (o : Holds m number b) → Carried b → (b .free ≡ curve) ⊎ (b .free ≡ curve2)
+    → (p : ℤ) → b .start-u ≤ℤ p → p ≤ℤ b .end-u → PointOnCurve R m number b (o .one .corners) p
 
--- and so is each point of a run for which there is room
+-- "In a run of 1 to 65,536 steps the demand holds at every j = 0..N, each point held against the exact value at its own parameter."
+pub record PointsOfRun (R : Rooms) (m : Model) (number : ℕ) (b : Body) (cs : List Corner) (steps at : ℕ) (points : List ℤ) : Type 0 where
+  pub given : runRefusalIn (runOnCurve (usedOf m) (tablesOf R m) number steps at (length points)) ≡ 0
+  pub near : (j axis : ℕ) → j ≤ steps → axis < axesIn (b .free)
+      → Close (getD (pointsAfter (usedOf m) (tablesOf R m) number steps at points) (at + (axesIn (b .free) * j + axis)) (pos 0))
+      (curveExact (alongU b) (parameterAt (b .start-u) (b .end-u) steps j) (controlIn (m .vertices) (b .free) cs axis)) (b .degree-u)
+
 abbrev pub AcceptedRuns : Type 0
 AcceptedRuns =
     (R : Rooms) (s : List ℕ) (m : Model) → readOf R s ≡ read m
-    → (number : ℕ) (b : Body) → Holds m number b → Carried b → (b .free ≡ curve) ⊎ (b .free ≡ curve2)
-    → (steps at : ℕ) (points : List ℤ) → 1 ≤ steps → steps ≤ 65536 → at + axesOf (elementOf (tablesOf R m) number) * (steps + 1) ≤ length points
-    → RunAnswer (usedOf m) (tablesOf R m) number steps at points
+    → (number : ℕ) (b : Body) (o : Holds m number b) → Carried b → (b .free ≡ curve) ⊎ (b .free ≡ curve2)
+    → (steps at : ℕ) (points : List ℤ) → 1 ≤ steps → steps ≤ 65536 → at + axesIn (b .free) * (steps + 1) ≤ length points
+    → PointsOfRun R m number b (o .one .corners) steps at points
+
+-- "on a surface any two": at most (m+n)/2 from the exact value
+pub record PointOnSurface (R : Rooms) (m : Model) (number : ℕ) (b : Body) (cs : List Corner) (p q : ℤ) : Type 0 where
+  pub given : refusalIn (pointOnSurface (usedOf m) (tablesOf R m) number p q) ≡ 0
+  pub axes : length (coordinatesIn (pointOnSurface (usedOf m) (tablesOf R m) number p q)) ≡ 3
+  pub near : (axis : ℕ) → axis < 3
+      → Close (getD (coordinatesIn (pointOnSurface (usedOf m) (tablesOf R m) number p q)) axis (pos 0)) (surfaceExact (alongU b) (alongV b) p q (gridIn (m .vertices) b cs axis))
+      (b .degree-u + b .degree-v)
+
+abbrev pub AcceptedSurfaces : Type 0
+AcceptedSurfaces =
+    (R : Rooms) (s : List ℕ) (m : Model) → readOf R s ≡ read m
+    → (number : ℕ) (b : Body) (o : Holds m number b) → Carried b → b .free ≡ surface
+    → (p q : ℤ) → b .start-u ≤ℤ p → p ≤ℤ b .end-u → b .start-v ≤ℤ q → q ≤ℤ b .end-v → PointOnSurface R m number b (o .one .corners) p q
 
 -- ---- a text and its tidy text are sampled alike
 
