@@ -53,7 +53,7 @@ small-run l first z n e s h =
     (λ k b. ap (λ (q : ℤ). leb (natAbs q) 2000000000) (stands-at l first z k (pos 0) s (omega arith)) ∙ all-at numberFits z k (pos 0) h (omega arith)))
 
 -- ---- one record
-pub record Kept (k : VertexKind) (z : List ℤ) : Type 0 where
+pub record VertexKept (k : VertexKind) (z : List ℤ) : Type 0 where
   pub some : countedVertex k (length (coordinates k z)) ≡ true
   pub wide : length z ≡ length (recordOf k [])
   pub small : all numberFits z ≡ true
@@ -68,7 +68,7 @@ record-small texture z c h = completed-numbers texture z c h
 record-small normal z c h = completed-numbers normal z c h
 record-small parametric z c h = and-both (three-small (length z) (leb-true (length z) 3 (and-right (leb 1 (length z)) (leb (length z) 3) c))) (completed-numbers parametric z c h)
 
-pub vertex-kept : (k : VertexKind) (z : List ℤ) → Always (vertex k z) → Kept k z
+pub vertex-kept : (k : VertexKind) (z : List ℤ) → Always (vertex k z) → VertexKept k z
 vertex-kept k z a =
     let f = a (start .model .vertices) 0 in
     let c : countedVertex k (length (coordinates k z)) ≡ true = ap (countedVertex k) (sym (length-map (coordinates k z) number)) ∙ f .many in
@@ -93,7 +93,7 @@ good-among k zs i g a = go (a .before) (subst (GoodVertices k) (a .is) g)
 
 pub record Vertex (k : VertexKind) (l : List ℤ) (zs : List (List ℤ)) (i : ℕ) : Type 0 where
   pub one : List ℤ
-  pub kept : Kept k one
+  pub kept : VertexKept k one
   pub stands : Stands l (width k * i) one
   pub is : getD zs i [] ≡ one
 
