@@ -1,7 +1,8 @@
 -- 01, "How a point is made", over the tables: an element's directions, its controls and its points.
-use mathlib.Core.Bool.{Bool, cond, _&&_, _||_}
+use mathlib.Core.Bool.{Bool, true, cond, _&&_, _||_}
 use mathlib.Core.List.{List, [], _∷_}
-use Prim.Native.Nat.{ℕ, _+_, _*_, _-_}
+use mathlib.Core.Path.{_≡_}
+use Prim.Native.Nat.{ℕ, _+_, _*_, _-_, _≤_}
 use lib.Dec.{leb, eqb}
 use lib.ListN.{length}
 use lib.IntN.{ℤ}
@@ -18,6 +19,12 @@ use Rattle.sampler.specs.declared.rows.Along.{Along}
 -- "Controls k along one direction, from p parameters and degree n", of the two types that are sampled
 abbrev pub alongOf : (type n p : ℕ) → Along
 alongOf type n p = record { basis = type; degree = n; controls = controls (cond (eqb type 2) bspline bezier) n p }
+
+-- what the rules ask of a direction's degree and of the count of its parameters, for either type
+pub record Sized (type n p : ℕ) : Type 0 where
+  pub few : n ≤ 20
+  pub many : 2 ≤ p
+  pub knots : eqb type 2 ≡ true → n + 1 ≤ p
 
 abbrev pub directionU : Tables → Body → Direction
 directionU t b = direction (alongOf (b .type) (b .degree-u) (b .count-u)) (parametersU t b)
@@ -39,9 +46,13 @@ axesOf e = cond (eqb (e .kind) curve2Kind) 2 3
 unfoldable pub curveAt : Tables → Element → Body → (p : ℤ) (axis : ℕ) → ℤ
 curveAt t e b p axis = curveSampled (directionU t b) p (controlOf t e axis)
 
--- "A surface has k_u times k_v controls, u varying fastest"
+-- "A surface has k_u times k_v controls, u varying fastest": the number on that axis of the control at i along u and j along v
+abbrev pub gridOf : Tables → Element → Body → (axis i j : ℕ) → ℤ
+gridOf t e b axis i j = controlOf t e axis (j * directionU t b .controls + i)
+
+-- one coordinate of a surface's point
 unfoldable pub surfaceAt : Tables → Element → Body → (p q : ℤ) (axis : ℕ) → ℤ
-surfaceAt t e b p q axis = surfaceSampled (directionU t b) (directionV t b) p q (λ i j. controlOf t e axis (j * directionU t b .controls + i))
+surfaceAt t e b p q axis = surfaceSampled (directionU t b) (directionV t b) p q (gridOf t e b axis)
 
 -- the numbers of a run's points, one point after the other
 unfoldable pub runNumbers : Tables → Element → Body → (steps : ℕ) → List ℤ
