@@ -1,0 +1,2 @@
+// The tidy text of the tables, written to a lent buffer.
+mod names;
