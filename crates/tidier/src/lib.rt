@@ -1,0 +1,2 @@
+// The tidy text, written from the tables: 01, "The tidy text".
+pub mod emit;
