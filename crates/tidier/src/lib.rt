@@ -1,2 +1,3 @@
-// The tidy text of the tables, written to a lent buffer.
-mod names;
+// The tidy text, written from the tables: 01, "The tidy text".
+pub mod emit;
+pub mod names;

@@ -1,10 +1,18 @@
 // The names of elements, as they stand in the text: compared as words, and written.
 ghost use mathlib.Core.Path.{_≡_};
-ghost use Prim.Native.Nat.{_≤_};
-ghost use lib.ListN.{length};
+ghost use mathlib.Core.List.{List, _∷_};
+ghost use Prim.Native.Nat.{ℕ, _≤_};
+ghost use lib.ListN.{length, drop};
+ghost use Rattle.lists.specs.Lists.{flat};
+ghost use Rattle.text.specs.Words.{wordOf};
+ghost use Rattle.text.specs.Rest.{endOf};
 ghost use Rattle.tables.specs.Asking.{partOf};
 ghost use Rattle.tidying.specs.Agree.{wordsAt};
 ghost use Rattle.tidier.specs.Naming.{sameBytes, partNames, NextMet};
+ghost use Rattle.tidier.specs.Emitting.{Emitted};
+use crate::emit::emit_byte;
+use crate::emit::place_after;
+use crate::emit::room_in;
 use text::Met;
 
 // The part of the text from `place` on; empty where it passes the text's end.
@@ -83,4 +91,41 @@ pub fn same_names(
     let one = part(text, place, length);
     let other = part(text, other_place, other_length);
     same_words(one, other)
+}
+
+// The word of the text from `from` to `to`.
+fn emit_word(text: &[u8], from: usize, to: usize, out: &mut [u8], at: usize) -> usize
+    requires { ⌜ to ≡ endOf (now text) from ⌝ }
+    ensures { λ r. ⌜ Emitted at (wordOf (drop from (now (text .entry)))) (now (out .entry)) (now (out .exit)) r ⌝ }
+{
+    let end = place_after(at, to - from);
+    if end <= room_in(out.len()) {
+        return keywords::copy_word(text, from, out, at);
+    }
+    end
+}
+
+// Each word of a part, with a space before it.
+fn emit_words(part: &[u8], out: &mut [u8], at: usize) -> usize
+    ensures { λ r. ⌜ Emitted at (flat (λ (w : List ℕ). 32 ∷ w) (partNames (now (part .entry)))) (now (out .entry)) (now (out .exit)) r ⌝ }
+{
+    let mut i = 0;
+    let mut to = place_after(at, 0);
+    loop {
+        let p = next_word(part, i);
+        if part.len() <= p {
+            return to;
+        }
+        let first = emit_byte(out, to, b' ');
+        i = text::word_end(part, p);
+        to = emit_word(part, p, i, out, first);
+    }
+}
+
+// The names that a part of the text holds, each with a space before it.
+pub fn emit_names(text: &[u8], place: usize, length: usize, out: &mut [u8], at: usize) -> usize
+    ensures { λ r. ⌜ Emitted at (flat (λ (w : List ℕ). 32 ∷ w) (wordsAt (now (text .entry)) place length)) (now (out .entry)) (now (out .exit)) r ⌝ }
+{
+    let names = part(text, place, length);
+    emit_words(names, out, at)
 }
