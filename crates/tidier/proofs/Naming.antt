@@ -1,5 +1,5 @@
 -- The words of a part do not depend on where it stands, by the bytes; two parts walked from word to word: what is left is the same exactly when all of it is.
-use Prim.Native.Nat.{ℕ, suc, _+_, _≤_, _<_}
+use Prim.Native.Nat.{ℕ, suc, _≤_, _<_}
 use mathlib.Core.Path.{_≡_, refl, sym, ap, ap₂, _∙_}
 use mathlib.Core.List.{List, [], _∷_}
 use mathlib.Core.Bool.{Bool, true, false, cond, _&&_}
@@ -11,9 +11,9 @@ use borrow.Author.Tests.{leb-true, leb-false}
 use Rattle.lists.specs.Lists.{same}
 use Rattle.lists.proofs.Tests.{test}
 use Rattle.lists.proofs.Laws.{same-refl}
-use Rattle.text.specs.Lines.{Mode, gap, Look, goes, ends, refused, look, onward}
-use Rattle.text.specs.Words.{Word, wordOf, opens, words, wordsOf}
-use Rattle.text.specs.Rest.{Rest, restAt, endOf, WordMet, EndMet, BadMet}
+use Rattle.text.specs.Lines.{Mode, gap, Look, goes, ends, refused, look}
+use Rattle.text.specs.Words.{Word, wordOf, opens, words}
+use Rattle.text.specs.Rest.{Rest, restAt, endOf, WordMet}
 use Rattle.text.specs.Written.{bytesOf}
 use Rattle.text.proofs.Cut.{words-cut}
 use Rattle.tables.specs.Asking.{partOf}
