@@ -1,0 +1,4 @@
+pub mod Emissions
+pub mod Naming
+pub mod NamesLeft
+pub mod NamedLines

@@ -1,0 +1,3 @@
+// The tidy text, written from the tables: 01, "The tidy text".
+pub mod emit;
+pub mod names;
