@@ -27,9 +27,10 @@ use Rattle.rules.proofs.Facts.{Corners, corner-vertex, corner-control, Curve, S
 use Rattle.rules.proofs.Element.{Recorded, recorded, curve-of, surface-of, Obeys, obeys-facts, body-of}
 use Rattle.rules.proofs.Basis.{curve-enough, surface-enough-u, surface-enough-v}
 use Rattle.curves.specs.Directions.{at}
+use Rattle.sampler.specs.Places.{Sized}
 use Rattle.sampler.specs.Controls.{controlAt, Held}
 use Rattle.sampler.specs.Runs.{Ranged}
-use Rattle.sampler.specs.Points.{alongOf, Sized}
+use Rattle.sampler.specs.Points.{alongOf}
 use Rattle.sampler.specs.Answers.{wanted, carried, elementOf, bodyOf, refusalOf}
 use Rattle.sampler.proofs.Ranges.{ranged-of}
 

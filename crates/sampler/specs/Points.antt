@@ -1,8 +1,7 @@
 -- 01, "How a point is made", over the tables: an element's directions, its controls and its points.
-use mathlib.Core.Bool.{Bool, true, cond, _&&_, _||_}
+use mathlib.Core.Bool.{Bool, cond, _&&_, _||_}
 use mathlib.Core.List.{List, [], _∷_}
-use mathlib.Core.Path.{_≡_}
-use Prim.Native.Nat.{ℕ, _+_, _*_, _-_, _≤_}
+use Prim.Native.Nat.{ℕ, _+_, _*_, _-_}
 use lib.Dec.{leb, eqb}
 use lib.ListN.{length}
 use lib.IntN.{ℤ}
@@ -19,12 +18,6 @@ use Rattle.sampler.specs.declared.rows.Along.{Along}
 -- "Controls k along one direction, from p parameters and degree n", of the two types that are sampled
 abbrev pub alongOf : (type n p : ℕ) → Along
 alongOf type n p = record { basis = type; degree = n; controls = controls (cond (eqb type 2) bspline bezier) n p }
-
--- what the rules ask of a direction's degree and of the count of its parameters, for either type
-pub record Sized (type n p : ℕ) : Type 0 where
-  pub few : n ≤ 20
-  pub many : 2 ≤ p
-  pub knots : eqb type 2 ≡ true → n + 1 ≤ p
 
 abbrev pub directionU : Tables → Body → Direction
 directionU t b = direction (alongOf (b .type) (b .degree-u) (b .count-u)) (parametersU t b)

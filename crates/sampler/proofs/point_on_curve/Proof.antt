@@ -13,7 +13,7 @@ use mir.Facts.{toZ-ofZ}
 use Rattle.tables.specs.Tables.{Tables, tables}
 use Rattle.tables.specs.Records.{Body, numberAt, valueAt}
 use Rattle.tables.specs.declared.Element.{Element}
-use Rattle.sampler.specs.Points.{alongOf, Sized}
+use Rattle.sampler.specs.Places.{Sized}
 use Rattle.sampler.specs.Answers.{elementOf, bodyOf, refusalOf, inside}
 use Rattle.sampler.proofs.Obeyed.{Granted, granted, Curved, curved}
 use Rattle.sampler.proofs.Entries.{refused-curve, curve-outside, curve-there, Read, curve-asked, point-read}
@@ -98,42 +98,33 @@ module _ (c : tie.After-number-at5) where
   within : inside (bo d .start-u) (bo d .end-u) (s d .args .t) ≡ true
   within = sym (inside-is (w .before .before .before .before)) ∙ not-false _ (w .before .before .before .if2 .left)
 
--- src/lib.rt:117:9
 refusal-requires : tie.Need-refusal-requires
 refusal-requires c κs = search needs
 
--- src/lib.rt:134:9
 returns : tie.Need-returns
 returns c = let s = c .before .before .before .before .before .before in refused-curve (s .args .used) (lent-tables s) (s .args .element) (s .args .t) (c .before .refusal .ensures) (c .if1 .taken)
 
--- src/lib.rt:136:13
 sub-i : tie.Need-sub-i
 sub-i c = omega (arith, grant c .some)
 
--- src/lib.rt:137:16
 number-at-requires : tie.Need-number-at-requires
 number-at-requires c κs = (omega arith, omega (arith, grant c .some, grant c .lent))
 
--- src/lib.rt:137:16
 cast-body : tie.Need-cast-body
 cast-body c = search needs
 
--- src/lib.rt:137:16
 sub-body : tie.Need-sub-body
 sub-body c = omega (arith, body-is c, curve (c .before) .lent .some)
 
--- src/lib.rt:138:9
 is-inside-requires : tie.Need-is-inside-requires
 is-inside-requires c κs = (omega arith, omega (arith, body-is c, curve (c .before) .lent .range))
 
--- src/lib.rt:139:9
 returns-2 : tie.Need-returns-2
 returns-2 c =
     let j = c .before .before .before in
     let a = s j .args in
     curve-outside (a .used) (t j) (a .element) (a .t) (given j) (sym (inside-is (c .before)) ∙ not-true _ (c .if2 .taken))
 
--- src/lib.rt:141:9
 along-at-requires : tie.Need-along-at-requires
 along-at-requires c κs =
     let m = c .before .before in
@@ -141,61 +132,47 @@ along-at-requires c κs =
     let z = curve (k m) .along .sized in
     (omega arith, body-lent m, subst (λ (q : ℕ). Sized (numberAt 9 l (q - 1) 0) (numberAt 9 l (q - 1) 2) (numberAt 9 l (q - 1) 5)) (sym (body-is m)) z)
 
--- src/lib.rt:142:16
 number-at-requires-2 : tie.Need-number-at-requires-2
 number-at-requires-2 c κs = (omega arith, body-lent (c .before .before .before))
 
--- src/lib.rt:142:16
 cast-from : tie.Need-cast-from
 cast-from c = search needs
 
--- src/lib.rt:143:21
 number-at-requires-3 : tie.Need-number-at-requires-3
 number-at-requires-3 c κs = (omega arith, body-lent (c .before .before .before .before))
 
--- src/lib.rt:143:21
 cast-to : tie.Need-cast-to
 cast-to c = search needs
 
--- src/lib.rt:143:14
 add-to : tie.Need-add-to
 add-to c = search needs
 
--- src/lib.rt:144:13
 mul-x : tie.Need-mul-x
 mul-x c = search needs
 
--- src/lib.rt:144:13
 sub-x : tie.Need-sub-x
 sub-x c = search needs
 
--- src/lib.rt:144:13
 part-x-start : tie.Need-part-x-start
 part-x-start c = search needs
 
--- src/lib.rt:144:13
 part-x-end : tie.Need-part-x-end
 part-x-end c = omega (arith, curve (k (n c)) .lent .run, from-is c, count-is c)
 
--- src/lib.rt:145:17
 number-at-requires-4 : tie.Need-number-at-requires-4
 number-at-requires-4 c κs = let g = grant (k (n (c .before))) in (omega arith, omega (arith, g .some, g .lent))
 
--- src/lib.rt:145:17
 cast-first : tie.Need-cast-first
 cast-first c = search needs
 
--- src/lib.rt:147:9
 number-at-requires-5 : tie.Need-number-at-requires-5
 number-at-requires-5 c κs = let g = grant (k (n (c .before .before))) in (omega arith, omega (arith, g .some, g .lent))
 
--- src/lib.rt:146:5
 curve-point-requires : tie.Need-curve-point-requires
 curve-point-requires c κs =
     let p = s (d c) .args .t in
     curve-asked (read c) p (toZ w32 (ofZ w32 p)) (toZ-ofZ (s (d c) .fits .t)) (curve (d c)) (within c)
 
--- src/lib.rt:99:1
 returns-3 : tie.Need-returns-3
 returns-3 c =
     let m = c .before in

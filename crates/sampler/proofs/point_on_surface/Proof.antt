@@ -13,7 +13,7 @@ use mir.Facts.{toZ-ofZ}
 use Rattle.tables.specs.Tables.{Tables, tables}
 use Rattle.tables.specs.Records.{Body, numberAt, valueAt}
 use Rattle.tables.specs.declared.Element.{Element}
-use Rattle.sampler.specs.Points.{alongOf, Sized}
+use Rattle.sampler.specs.Places.{Sized}
 use Rattle.sampler.specs.Answers.{elementOf, bodyOf, refusalOf, inside}
 use Rattle.sampler.proofs.Obeyed.{Granted, granted, Surfaced, surfaced}
 use Rattle.sampler.proofs.Surfaces.{refused-surface, outside-u, outside-v, surface-there, Laid, surface-asked, surface-read}
@@ -120,48 +120,38 @@ laid c =
       along-v-is = w .before .before .before .along-at2 .ensures ∙ rw (bodies-at (m w) 0, bodies-at (m w) 3, bodies-at (m w) 6);
     }
 
--- src/lib.rt:178:9
 refusal-requires : tie.Need-refusal-requires
 refusal-requires c κs = search needs
 
--- src/lib.rt:195:9
 returns : tie.Need-returns
 returns c =
     let s = c .before .before .before .before .before .before in
     refused-surface (s .args .used) (lent-tables s) (s .args .element) (s .args .s) (s .args .t) (c .before .refusal .ensures) (c .if1 .taken)
 
--- src/lib.rt:197:13
 sub-i : tie.Need-sub-i
 sub-i c = omega (arith, grant c .some)
 
--- src/lib.rt:198:16
 number-at-requires : tie.Need-number-at-requires
 number-at-requires c κs = (omega arith, omega (arith, grant c .some, grant c .lent))
 
--- src/lib.rt:198:16
 cast-body : tie.Need-cast-body
 cast-body c = search needs
 
--- src/lib.rt:198:16
 sub-body : tie.Need-sub-body
 sub-body c = omega (arith, body-is c, surface (c .before) .lent .some)
 
--- src/lib.rt:199:9
 is-inside-requires : tie.Need-is-inside-requires
 is-inside-requires c κs = (omega arith, range-lent c)
 
--- src/lib.rt:200:9
 returns-2 : tie.Need-returns-2
 returns-2 c =
     let j = c .before .before .before in
     let a = s j .args in
     outside-u (a .used) (t j) (a .element) (a .s) (a .t) (given j) (sym (inside-u (c .before)) ∙ not-true _ (c .if2 .taken))
 
--- src/lib.rt:202:9
 is-inside-requires-2 : tie.Need-is-inside-requires-2
 is-inside-requires-2 c κs = (omega arith, range-lent (c .before .before))
 
--- src/lib.rt:203:9
 returns-3 : tie.Need-returns-3
 returns-3 c =
     let w = c .before .before in
@@ -169,14 +159,12 @@ returns-3 c =
     let a = s j .args in
     outside-v (a .used) (t j) (a .element) (a .s) (a .t) (given j) (sym (inside-u (w .before)) ∙ not-false _ (w .if2 .left)) (sym (inside-v (c .before)) ∙ not-true _ (c .if3 .taken))
 
--- src/lib.rt:205:9
 along-at-requires : tie.Need-along-at-requires
 along-at-requires c κs =
     let l = s (k (n c)) .args .bodies .now in
     let z = surface (k (n c)) .along-u .sized in
     (omega arith, body-lent (n c), subst (λ (q : ℕ). Sized (numberAt 9 l (q - 1) 0) (numberAt 9 l (q - 1) 2) (numberAt 9 l (q - 1) 5)) (sym (body-is (n c))) z)
 
--- src/lib.rt:206:9
 along-at-requires-2 : tie.Need-along-at-requires-2
 along-at-requires-2 c κs =
     let w = n (c .before) in
@@ -184,79 +172,60 @@ along-at-requires-2 c κs =
     let z = surface (k w) .along-v .sized in
     (omega arith, body-lent w, subst (λ (q : ℕ). Sized (numberAt 9 l (q - 1) 0) (numberAt 9 l (q - 1) 3) (numberAt 9 l (q - 1) 6)) (sym (body-is w)) z)
 
--- src/lib.rt:207:16
 number-at-requires-2 : tie.Need-number-at-requires-2
 number-at-requires-2 c κs = (omega arith, body-lent (n (c .before .before)))
 
--- src/lib.rt:207:16
 cast-from : tie.Need-cast-from
 cast-from c = search needs
 
--- src/lib.rt:208:25
 number-at-requires-3 : tie.Need-number-at-requires-3
 number-at-requires-3 c κs = (omega arith, body-lent (n (c .before .before .before)))
 
--- src/lib.rt:208:25
 cast-middle : tie.Need-cast-middle
 cast-middle c = search needs
 
--- src/lib.rt:208:18
 add-middle : tie.Need-add-middle
 add-middle c = search needs
 
--- src/lib.rt:209:23
 number-at-requires-4 : tie.Need-number-at-requires-4
 number-at-requires-4 c κs = (omega arith, body-lent (n (c .before .before .before .before)))
 
--- src/lib.rt:209:23
 cast-to : tie.Need-cast-to
 cast-to c = search needs
 
--- src/lib.rt:209:14
 add-to : tie.Need-add-to
 add-to c = search needs
 
--- src/lib.rt:210:13
 mul-x : tie.Need-mul-x
 mul-x c = search needs
 
--- src/lib.rt:210:13
 sub-x : tie.Need-sub-x
 sub-x c = search needs
 
--- src/lib.rt:210:13
 part-x-start : tie.Need-part-x-start
 part-x-start c = search needs
 
--- src/lib.rt:210:13
 part-x-end : tie.Need-part-x-end
 part-x-end c = omega (arith, surface (d c) .lent .run, from-is c, count-u-is c)
 
--- src/lib.rt:211:13
 mul-y : tie.Need-mul-y
 mul-y c = search needs
 
--- src/lib.rt:211:13
 sub-y : tie.Need-sub-y
 sub-y c = search needs
 
--- src/lib.rt:211:13
 part-y-start : tie.Need-part-y-start
 part-y-start c = search needs
 
--- src/lib.rt:211:13
 part-y-end : tie.Need-part-y-end
 part-y-end c = let w = c .before in omega (arith, surface (d w) .lent .run, from-is w, count-u-is w, count-v-is w)
 
--- src/lib.rt:212:17
 number-at-requires-5 : tie.Need-number-at-requires-5
 number-at-requires-5 c κs = let g = grant (d (c .before .before)) in (omega arith, omega (arith, g .some, g .lent))
 
--- src/lib.rt:212:17
 cast-first : tie.Need-cast-first
 cast-first c = search needs
 
--- src/lib.rt:213:5
 surface-point-requires : tie.Need-surface-point-requires
 surface-point-requires c κs =
     let w = c .before .before .before in
@@ -264,7 +233,6 @@ surface-point-requires c κs =
     surface-asked (laid c) (j .args .s) (toZ w32 (ofZ w32 (j .args .s))) (j .args .t) (toZ w32 (ofZ w32 (j .args .t))) (toZ-ofZ (j .fits .s)) (toZ-ofZ (j .fits .t))
     (surface (d w)) (in-u (both w)) (in-v (both w))
 
--- src/lib.rt:159:1
 returns-4 : tie.Need-returns-4
 returns-4 c =
     let w = c .before .before .before .before in

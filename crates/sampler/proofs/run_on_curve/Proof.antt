@@ -16,7 +16,8 @@ use mir.Facts.{toZ-ofZ}
 use Rattle.tables.specs.Tables.{Tables, tables}
 use Rattle.tables.specs.Records.{Body, numberAt, valueAt}
 use Rattle.tables.specs.declared.Element.{Element}
-use Rattle.sampler.specs.Points.{alongOf, axesOf, runNumbers, Sized}
+use Rattle.sampler.specs.Points.{axesOf, runNumbers}
+use Rattle.sampler.specs.Places.{Sized}
 use Rattle.sampler.specs.Answers.{elementOf, bodyOf, refusalOf}
 use Rattle.sampler.specs.Inner.{axesBy}
 use Rattle.sampler.specs.declared.Ran.the-variants as ran
@@ -119,43 +120,33 @@ module _ (c : tie.After-number-at5) where
   room : s j .args .at + axesOf (el j) * (s j .args .steps + 1) ≤ length (s j .args .points .now)
   room = omega (arith, numbers-are ax, c .before .before .before .before .before .before .before .if5 .left, c .before .before .before .before .before .before .before .before .if4 .left)
 
--- src/lib.rt:185:9
 refusal-requires : tie.Need-refusal-requires
 refusal-requires c κs = search needs
 
--- src/lib.rt:202:9
 returns : tie.Need-returns
 returns c = let s = c .before .before .before .before .before .before in let a = s .args in run-refused (a .used) (lent-tables s) (a .element) (a .steps) (a .at) (a .points .now) (c .before .refusal .ensures) (c .if1 .taken)
 
--- src/lib.rt:205:9
 returns-2 : tie.Need-returns-2
 returns-2 c = let k = c .before in let s = s k in let a = s .args in run-none (a .used) (lent-tables s) (a .element) (a .steps) (a .at) (a .points .now) (given k) (c .if2 .taken)
 
--- src/lib.rt:208:9
 returns-3 : tie.Need-returns-3
 returns-3 c = let k = c .before .before in let s = s k in let a = s .args in run-many (a .used) (lent-tables s) (a .element) (a .steps) (a .at) (a .points .now) (given k) (c .if3 .taken)
 
--- src/lib.rt:210:13
 sub-i : tie.Need-sub-i
 sub-i c = omega (arith, grant (c .before .before) .some)
 
--- src/lib.rt:211:9
 number-at-requires : tie.Need-number-at-requires
 number-at-requires c κs = let g = grant (c .before .before) in (omega arith, omega (arith, g .some, g .lent))
 
--- src/lib.rt:212:19
 axes-of-requires : tie.Need-axes-of-requires
 axes-of-requires c κs = search needs
 
--- src/lib.rt:212:36
 add-numbers : tie.Need-add-numbers
 add-numbers c = search needs
 
--- src/lib.rt:212:19
 mul-numbers : tie.Need-mul-numbers
 mul-numbers c = record { fits = omega (arith, most c, mul-le-mul-right (s (k c) .args .steps + 1) (c .axes-of .ensures .1)) }
 
--- src/lib.rt:214:9
 returns-4 : tie.Need-returns-4
 returns-4 c =
     let m = c .before in
@@ -163,11 +154,9 @@ returns-4 c =
     let a = s .args in
     run-room (a .used) (lent-tables s) (a .element) (a .steps) (a .at) (a .points .now) (given (k m)) (some m) (most m) (omega (arith, numbers-are m, c .if4 .taken))
 
--- src/lib.rt:216:8
 sub-if5 : tie.Need-sub-if5
 sub-if5 c = search needs
 
--- src/lib.rt:217:9
 returns-5 : tie.Need-returns-5
 returns-5 c =
     let m = c .before .before in
@@ -175,35 +164,27 @@ returns-5 c =
     let a = s .args in
     run-room (a .used) (lent-tables s) (a .element) (a .steps) (a .at) (a .points .now) (given (k m)) (some m) (most m) (omega (arith, numbers-are m, c .before .if4 .left, c .if5 .taken))
 
--- src/lib.rt:219:17
 number-at-requires-2 : tie.Need-number-at-requires-2
 number-at-requires-2 c κs = let g = grant (c .before .before .before .before .before .before) in (omega arith, omega (arith, g .some, g .lent))
 
--- src/lib.rt:219:17
 cast-first : tie.Need-cast-first
 cast-first c = search needs
 
--- src/lib.rt:220:16
 number-at-requires-3 : tie.Need-number-at-requires-3
 number-at-requires-3 c κs = let g = grant (c .before .before .before .before .before .before .before) in (omega arith, omega (arith, g .some, g .lent))
 
--- src/lib.rt:220:16
 cast-body : tie.Need-cast-body
 cast-body c = search needs
 
--- src/lib.rt:220:16
 sub-body : tie.Need-sub-body
 sub-body c = omega (arith, body-is c, curve (k3 c) .lent .some)
 
--- src/lib.rt:221:9
 value-at-requires : tie.Need-value-at-requires
 value-at-requires c κs = (omega arith, omega (arith, body-is c, curve (k3 c) .lent .range))
 
--- src/lib.rt:222:9
 value-at-requires-2 : tie.Need-value-at-requires-2
 value-at-requires-2 c κs = (omega arith, omega (arith, body-is (c .before), curve (k3 (c .before)) .lent .range))
 
--- src/lib.rt:275:9
 along-at-requires : tie.Need-along-at-requires
 along-at-requires c κs =
     let m = c .before .before in
@@ -211,59 +192,45 @@ along-at-requires c κs =
     let z = curve (k3 m) .along .sized in
     (omega arith, omega (arith, body-is m, curve (k3 m) .lent .body), subst (λ (q : ℕ). Sized (numberAt 9 l (q - 1) 0) (numberAt 9 l (q - 1) 2) (numberAt 9 l (q - 1) 5)) (sym (body-is m)) z)
 
--- src/lib.rt:276:16
 number-at-requires-4 : tie.Need-number-at-requires-4
 number-at-requires-4 c κs = let m = c .before .before .before in (omega arith, omega (arith, body-is m, curve (k3 m) .lent .body))
 
--- src/lib.rt:277:21
 number-at-requires-5 : tie.Need-number-at-requires-5
 number-at-requires-5 c κs = let m = c .before .before .before .before in (omega arith, omega (arith, body-is m, curve (k3 m) .lent .body))
 
--- src/lib.rt:225:16
 cast-from : tie.Need-cast-from
 cast-from c = search needs
 
--- src/lib.rt:226:21
 cast-to : tie.Need-cast-to
 cast-to c = search needs
 
--- src/lib.rt:226:14
 add-to : tie.Need-add-to
 add-to c = search needs
 
--- src/lib.rt:227:13
 mul-x : tie.Need-mul-x
 mul-x c = search needs
 
--- src/lib.rt:227:13
 sub-x : tie.Need-sub-x
 sub-x c = search needs
 
--- src/lib.rt:227:13
 part-x-start : tie.Need-part-x-start
 part-x-start c = search needs
 
--- src/lib.rt:227:13
 part-x-end : tie.Need-part-x-end
 part-x-end c = omega (arith, curve (j c) .lent .run, from-is c, count-is c)
 
--- src/lib.rt:228:15
 mul-write-run : tie.Need-mul-write-run
 mul-write-run c = omega (arith, c .before .before .before .before .before .before .before .before .if5 .left, s (j (c .before)) .good)
 
--- src/lib.rt:228:15
 sub-write-run : tie.Need-sub-write-run
 sub-write-run c = search needs
 
--- src/lib.rt:228:15
 part-write-run-start : tie.Need-part-write-run-start
 part-write-run-start c = search needs
 
--- src/lib.rt:228:15
 part-write-run-end : tie.Need-part-write-run-end
 part-write-run-end c = search needs
 
--- src/lib.rt:228:5
 write-run-requires : tie.Need-write-run-requires
 write-run-requires c κs =
     let m = c .before .before in
@@ -272,11 +239,9 @@ write-run-requires c κs =
     let n : axesBy (ax m .before .number-at .result) * (a .steps + 1) ≡ ax m .axes-of .result * (a .steps + 1) = ap (λ (q : ℕ). q * (a .steps + 1)) (sym (ax m .axes-of .ensures .0)) in
     (r .0, r .1, some (ax m), most (ax m), simp (length-take, length-drop) (omega (arith, n, m .before .before .before .before .before .before .before .if5 .left, m .before .before .before .before .before .before .before .before .if4 .left)))
 
--- src/lib.rt:165:1
 same-length : tie.Need-same-length
 same-length c = search needs
 
--- src/lib.rt:165:1
 returns-6 : tie.Need-returns-6
 returns-6 c =
     let m = c .before .before .before .before in
