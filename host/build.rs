@@ -10,9 +10,9 @@ fn main() {
             .join("../target/staticlib/libboundary.a"),
     };
     println!("cargo:rerun-if-changed={}", archive.display());
-    let archive = archive.canonicalize().unwrap_or_else(|error| {
-        panic!("{}: {error}; make it with `rt staticlib boundary`", archive.display())
-    });
+    let archive = archive
+        .canonicalize()
+        .unwrap_or_else(|error| panic!("{}: {error}; make it with `rt staticlib boundary`", archive.display()));
     let name = archive
         .file_stem()
         .and_then(|stem| stem.to_str())

@@ -2,8 +2,8 @@
 use crate::show;
 use crate::Failure;
 use kuhlabires::{
-    group_of, material_of, point_on_surface, read, run_on_curve, Body, Decimal, Element, Kind,
-    Refusal, Tables, MOST_BYTES, MOST_STEPS,
+    group_of, material_of, point_on_surface, read, run_on_curve, Body, Decimal, Element, Kind, Refusal, Tables,
+    MOST_BYTES, MOST_STEPS,
 };
 use std::fs::File;
 use std::io::{self, Read, Write};
@@ -130,12 +130,7 @@ pub fn points(file: &str, element: u32, steps: u32, out: &mut dyn Write) -> Resu
         _ => run(&tables, element, steps, out),
     };
     written?.map_err(|refusal| {
-        eprintln!(
-            "{}: element {element}, {steps} steps: refused {}: {}",
-            input.name,
-            refusal.number,
-            refusal.words()
-        );
+        eprintln!("{}: element {element}, {steps} steps: refused {}: {}", input.name, refusal.number, refusal.words());
         Failure::Refused
     })
 }
@@ -156,13 +151,7 @@ fn run(tables: &Tables, element: u32, steps: u32, out: &mut dyn Write) -> io::Re
 }
 
 // On a surface the parameters of a run, along u and along v.
-fn grid(
-    tables: &Tables,
-    element: u32,
-    body: u32,
-    steps: u32,
-    out: &mut dyn Write,
-) -> io::Result<Result<(), Refusal>> {
+fn grid(tables: &Tables, element: u32, body: u32, steps: u32, out: &mut dyn Write) -> io::Result<Result<(), Refusal>> {
     let body = match tables.body(body) {
         Some(body) => body,
         None => return Ok(Err(Refusal { number: 15, place: 0 })),

@@ -155,9 +155,7 @@ pub fn corner_of(tables: &Tables, element: u32, k: u32) -> Corner {
 pub fn group_of(text: &[u8], tables: &Tables, element: u32) -> Part {
     let elements = &tables.elements;
     // SAFETY: as in `with_tables`.
-    unsafe {
-        kuhlabires_group_of(text.as_ptr(), text.len(), tables.used, elements.as_ptr(), elements.len(), element)
-    }
+    unsafe { kuhlabires_group_of(text.as_ptr(), text.len(), tables.used, elements.as_ptr(), elements.len(), element) }
 }
 
 pub fn material_of(text: &[u8], tables: &Tables, element: u32) -> Part {

@@ -68,7 +68,7 @@ pub fn position(text: &[u8], place: usize) -> Position {
     let line = before.iter().filter(|&&b| b == b'\n').count() + 1;
     let length = text[start..].iter().position(|&b| b == b'\n').unwrap_or(text.len() - start);
     let mut end = start + length;
-    if end > start && end > place && text[end - 1] == b'\r' {
+    if end > place + 1 && text[end - 1] == b'\r' {
         end -= 1;
     }
     Position { line, column: place - start + 1, start, end }

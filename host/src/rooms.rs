@@ -144,7 +144,8 @@ mod tests {
 
     #[test]
     fn lines_are_counted_by_their_keywords() {
-        let rooms = Rooms::for_text(b"v 0 0 0\r\n  vt 1\n# v 1 2 3\nvn 0 0 1\nf 1/1/1 1/1/1 1/1/1 # and no more\nvx 1\n");
+        let rooms =
+            Rooms::for_text(b"v 0 0 0\r\n  vt 1\n# v 1 2 3\nvn 0 0 1\nf 1/1/1 1/1/1 1/1/1 # and no more\nvx 1\n");
         let expected = Rooms { v: 4, vt: 3, vn: 3, elements: 9, corners: 9, ..Rooms::default() };
         assert_eq!(rooms, expected);
     }
@@ -165,7 +166,8 @@ mod tests {
 
     #[test]
     fn bodies_and_loops() {
-        let rooms = Rooms::for_text(b"curv 0 1 1 2\nparm u 0 1\nend\nsurf 0 1 0 1 1 2 3 4\ntrim 0 1 1 1 2 1\nhole 0 1 1\n");
+        let rooms =
+            Rooms::for_text(b"curv 0 1 1 2\nparm u 0 1\nend\nsurf 0 1 0 1 1 2 3 4\ntrim 0 1 1 1 2 1\nhole 0 1 1\n");
         assert_eq!((rooms.bodies, rooms.ranges, rooms.elements), (18, 8, 18));
         assert!(rooms.loops >= 6 && rooms.spans >= 6 && rooms.parameters >= 2 && rooms.corners >= 18);
     }

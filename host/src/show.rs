@@ -44,7 +44,8 @@ fn marked(text: &[u8], at: Position) -> String {
     let after = if to == line.len() { "" } else { " .." };
     let margin = format!("{:>5} | ", at.line);
     let blank = format!("{:>5} | ", "");
-    let mark: String = line[from..column.clamp(from, to)].iter().map(|&b| if b == b'\t' { '\t' } else { ' ' }).collect();
+    let mark: String =
+        line[from..column.clamp(from, to)].iter().map(|&b| if b == b'\t' { '\t' } else { ' ' }).collect();
     format!("{margin}{before}{}{after}\n{blank}{}{mark}^\n", visible(&line[from..to]), " ".repeat(before.len()))
 }
 

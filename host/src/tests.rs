@@ -2,7 +2,8 @@
 use super::*;
 
 const CURVE: &[u8] = b"v 0 0 0\nv 1 0 0\nv 2 0 0\nv 3 0 0\ncstype bezier\ndeg 3\ng rail top\nusemtl oak\ncurv 0 1 1 2 3 4\nparm u 0 1\nend\n";
-const SURFACE: &[u8] = b"v 0 0 0\nv 2 0 0\nv 0 2 0\nv 2 2 4\ncstype bezier\ndeg 1 1\nsurf 0 1 0 1 1 2 3 4\nparm u 0 1\nparm v 0 1\nend\n";
+const SURFACE: &[u8] =
+    b"v 0 0 0\nv 2 0 0\nv 0 2 0\nv 2 2 4\ncstype bezier\ndeg 1 1\nsurf 0 1 0 1 1 2 3 4\nparm u 0 1\nparm v 0 1\nend\n";
 
 fn read_whole(text: &[u8]) -> Tables {
     let mut tables = Tables::for_text(text);
