@@ -34,20 +34,11 @@ use Rattle.reader.specs.Reading.{Result, result, roomsOf, answered, read
 use Rattle.reader.specs.Holding.{Opened, opened, Holds, lineSays, NextLine, lineIs}
 use Rattle.reader.specs.declared.Reading.{Reading}
 use Rattle.reader.specs.declared.Reading.the-variants.{Read, Refused}
+use Rattle.reader.specs.Taking.{begin}
 use Rattle.reader.specs.declared.Line.{Line}
 use Rattle.reader.specs.declared.Line.the-variants.{Next, Stopped}
 
 -- ---- at the start
-abbrev pub begin : State
-begin =
-    record {
-      used = record { v = 0; vt = 0; vn = 0; vp = 0; corners = 0; elements = 0; bodies = 0; parameters = 0; loops = 0 };
-      curves = 0;
-      names = record { «group_place» = 0; «group_length» = 0; «material_place» = 0; «material_length» = 0; smoothing = 0 };
-      form = record { basis = 0; rational = 0; «degree_u» = 0; «degree_v» = 0 };
-      «open» = record { kind = 0; controls = 0; parts = 0; «u_at» = 0; «v_at» = 0 };
-    }
-
 pub begins : (R : Rooms) (s : List ℕ) → Holds R s start begin (tablesOf R nothing) 0
 unfolding imageOf tablesOf
 begins R s =

@@ -6,3 +6,6 @@ pub mod Elements
 pub mod Settings
 pub mod Parameters
 pub mod Loops
+pub mod Given
+pub mod Quiet
+pub mod Blamed
