@@ -77,8 +77,9 @@ on R s at x h =
 module _ (R : Rooms) (s : List ℕ) (c : State) (t : Tables) (at : ℕ) (go : Going R s c t at) (h : at < length s) where
   pub going-on : (u : Tables) (d : State) (q : ℕ) → lineIs s at c t u (Next d q) → (Going R s d u q) × (at < q)
   going-on u d q l =
-      let n = l .1 R (go .now) (go .holds) in
-      let e : q ≡ (restAt s at) .next = l .0 in
+      let m = l R (go .now) (go .holds) in
+      let n = m .0 in
+      let e : q ≡ (restAt s at) .next = m .1 in
       let a = next-ahead s at h in
       let b = next-to s at (let g : at ≤ length s = omega arith in g) in
       let f : readLines R (length s) (linesAt s at) (go .now) ≡ readLines R (length s) (linesAt s q) (n .after) =

@@ -8,6 +8,7 @@ pub mod Elements
 pub mod Settings
 pub mod Parameters
 pub mod Loops
-pub mod Given
 pub mod Quiet
 pub mod Blamed
+pub mod Sorted
+pub mod Whole

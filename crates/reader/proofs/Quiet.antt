@@ -5,10 +5,7 @@ use mathlib.Core.List.{List, [], _∷_}
 use mathlib.Core.Bool.{Bool, true, false}
 use mathlib.Core.Option.{Option, none, some}
 use lib.ListN.{length}
-use lib.Dec.{eqb}
-use Rattle.lists.proofs.Tests.{never}
 use native.Mathlib.Omega.{arith}
-use borrow.Author.Tests.{eqb-true, eq-eqb}
 use Rattle.text.specs.Words.{Word}
 use Rattle.text.specs.Rest.{Rest, restAt, push, scanOf}
 use Rattle.text.specs.declared.Scan.{Scan}
@@ -20,7 +17,6 @@ use Rattle.model.specs.Statements.{Statement, passed}
 use Rattle.model.specs.Parse as parse
 use Rattle.model.specs.Parse.{Parsed, fine, fault, then, must, Keyword, outside, anything, allowed, counted, formOf, valuesOf, Value, seenIn}
 use Rattle.model.specs.Room.{Rooms}
-use Rattle.model.proofs.Parsed.{must-fine, fine-fault}
 use Rattle.state.specs.declared.State.{State}
 use Rattle.state.specs.declared.Form.{Form}
 use Rattle.state.specs.declared.Names.{Names}
@@ -32,8 +28,6 @@ use Rattle.settings.specs.declared.TakenForm.the-variants as form
 use Rattle.settings.specs.declared.TakenNames.{TakenNames}
 use Rattle.settings.specs.declared.TakenNames.the-variants as names
 use Rattle.settings.proofs.Parses.{type-parse, degree-parse, smoothing-parse, material-parse, group-parse, form-gave-up, names-gave-up}
-use Rattle.blame.specs.Blame.{parseBefore}
-use Rattle.blame.proofs.Parses.{outside-is}
 use Rattle.reader.specs.declared.Step.{Step}
 use Rattle.reader.specs.declared.Step.the-variants.{Taken, Refuses, GaveUp}
 use Rattle.reader.specs.declared.setting_lines.Setting.{Setting}
@@ -41,34 +35,26 @@ use Rattle.reader.specs.declared.setting_lines.Setting.the-variants.{Bod
 use Rattle.reader.specs.Holding.{Holds, NextLine}
 use Rattle.reader.specs.Stepping.{Began, Left, stepIs, quietStep}
 use Rattle.reader.specs.Taking.{withForm, withNames, formStep, namesStep, settingOf}
+use Rattle.reader.proofs.Opened.{isEnd, no-body, before-parse, left-in-body}
 use Rattle.reader.proofs.Given.{given-in}
 use Rattle.reader.proofs.Settings.{type-next, degree-next, group-next, smoothing-next, material-next, passed-next}
 
--- what the parser says of a setting's line, `blame` says of it too, and only outside a body
-same-before : (k : Setting) (x : model.State) (key : ℕ) (ws : List Word) → parseBefore (settingOf k) x key ws ≡ parse.parse (settingOf k) x key ws
-unfolding parse.parse parseBefore
-same-before BodyType x key ws = refl
-same-before Degree x key ws = refl
-same-before Group x key ws = refl
-same-before Smoothing x key ws = refl
-same-before Material x key ws = refl
-same-before PassedOver x key ws = refl
+-- no setting is `end`, and none may stand in a body
+not-end : (k : Setting) → isEnd (settingOf k) ≡ false
+not-end BodyType = refl
+not-end Degree = refl
+not-end Group = refl
+not-end Smoothing = refl
+not-end Material = refl
+not-end PassedOver = refl
 
-stands : (k : Setting) (o : Option model.Open) (ws : List Word) → allowed (settingOf k) o ws ≡ outside o
-stands BodyType o ws = refl
-stands Degree o ws = refl
-stands Group o ws = refl
-stands Smoothing o ws = refl
-stands Material o ws = refl
-stands PassedOver o ws = refl
-
-only-outside : (k : Setting) (x : model.State) (key : ℕ) (ws : List Word) (y : Statement) → parseBefore (settingOf k) x key ws ≡ fine y → outside (x .open-body) ≡ true
-unfolding parseBefore
-only-outside k x key ws y e = sym (stands k (x .open-body) ws) ∙ must-fine (allowed (settingOf k) (x .open-body) ws) 10 key _ y e .0
-
-is-none : (o : Option model.Open) → outside o ≡ true → o ≡ none
-is-none none e = refl
-is-none (some o) e = never e
+bars : (k : Setting) (o : model.Open) (ws : List Word) → allowed (settingOf k) (some o) ws ≡ false
+bars BodyType o ws = refl
+bars Degree o ws = refl
+bars Group o ws = refl
+bars Smoothing o ws = refl
+bars Material o ws = refl
+bars PassedOver o ws = refl
 
 -- "Passed over, only their bytes looked at": any words are allowed
 any-words : (n : parse.Seen) (i : ℕ) (ws : List Word) → (vs : List Value) × (valuesOf n (λ i. anything) i ws ≡ fine vs)
@@ -88,15 +74,11 @@ module _ (t : List ℕ) (at : ℕ) (c : State) where
 
   -- a body lets no setting in
   pub setting-inside : (k : Setting) → (c .«open» .kind ≡ 0 → ⊥) → quietStep (settingOf k) t at c GaveUp
-  setting-inside k f u R p x w b =
-      record {
-        given = given-in (b .holds);
-        roomless = λ g y e. absurd (f (eqb-true (c .«open» .kind) 0 (outside-is t (x .open-body) (c .«open») (b .holds .state .open-body) ∙ only-outside k x (w .place) (r .words) y e)));
-      }
+  setting-inside k f u R p x w b = left-in-body R t p at x c u u w (settingOf k) b (given-in R t x c u p (b .holds)) f (λ o. bars k o (r .words))
 
   module _ (out : c .«open» .kind ≡ 0) where
-    begun-outside : {R : Rooms} {p : ℕ} {x : model.State} {w : Word} {k : Keyword} {u : Tables} → Began R t p at x c u w k → outside (x .open-body) ≡ true
-    begun-outside {R} {p} {x} b = sym (outside-is t (x .open-body) (c .«open») (b .holds .state .open-body)) ∙ eq-eqb (c .«open» .kind) 0 out
+    begun-none : {R : Rooms} {p : ℕ} {x : model.State} {w : Word} {k : Keyword} {u : Tables} → Began R t p at x c u w k → x .open-body ≡ none
+    begun-none {R} {p} {x} b = no-body t (c .«open») (x .open-body) (b .holds .state .open-body) out
 
     -- the laws of Settings.antt are of a state whose body is none
     abbrev Taking : Keyword → State → ℕ → Type 0
@@ -106,7 +88,7 @@ module _ (t : List ℕ) (at : ℕ) (c : State) where
 
     taken-quiet : (k : Keyword) (d : State) (q : ℕ) → Taking k d q → quietStep k t at c (Taken d q)
     taken-quiet k d q h u R p x w b =
-        let o : x .open-body ≡ none = is-none (x .open-body) (begun-outside b) in
+        let o : x .open-body ≡ none = begun-none b in
         subst (λ (o : Option model.Open). Began R t p at (state (x .model) (x .names) (x .form) o) c u w k → NextLine R t p (state (x .model) (x .names) (x .form) o) d u q × (q ≡ (restAt t p) .next))
         (sym o) (λ b. h u R p (x .model) (x .names) (x .form) w b) b
 
@@ -114,7 +96,7 @@ module _ (t : List ℕ) (at : ℕ) (c : State) where
     given-up : (k : Setting) → ((u : Tables) (R : Rooms) (p : ℕ) (x : model.State) (w : Word) → Began R t p at x c u w (settingOf k) → r .bad ≡ none
         → (y : Statement) → parse.parse (settingOf k) x (w .place) (r .words) ≡ fine y → ⊥) → quietStep (settingOf k) t at c GaveUp
     given-up k f u R p x w b =
-        record { given = given-in (b .holds); roomless = λ g y e. absurd (f u R p x w b g y (sym (same-before k x (w .place) (r .words)) ∙ e)) }
+        record { given = given-in R t x c u p (b .holds); roomless = λ g y e. absurd (f u R p x w b g y (sym (before-parse x (w .place) (r .words) (settingOf k) (not-end k)) ∙ e)) }
 
     form-line : (k : Setting) (taken : Form → Rest → TakenForm)
         → ((x : model.State) → outside (x .open-body) ≡ true → (key : ℕ) (r : Rest) → taken (formIn (x .form)) r ≡ formTaken x (r .bad) (r .next) (parse.parse (settingOf k) x key (r .words)))
@@ -124,7 +106,7 @@ module _ (t : List ℕ) (at : ℕ) (c : State) where
     form-line k taken says next form.GaveUp e =
         given-up k (λ u R p x w b g y z.
         form-gave-up x (r .next) (parse.parse (settingOf k) x (w .place) (r .words)) y
-        (e ∙ ap (λ (f : Form). taken f r) (b .holds .state .form) ∙ says x (begun-outside b) (w .place) r ∙ ap (λ (o : Option ℕ). formTaken x o (r .next) (parse.parse (settingOf k) x (w .place) (r .words))) g) z)
+        (e ∙ ap (λ (f : Form). taken f r) (b .holds .state .form) ∙ says x (ap outside (begun-none b)) (w .place) r ∙ ap (λ (o : Option ℕ). formTaken x o (r .next) (parse.parse (settingOf k) x (w .place) (r .words))) g) z)
 
     names-line : (k : Setting) (taken : Names → Rest → TakenNames)
         → ((x : model.State) → outside (x .open-body) ≡ true → (key : ℕ) (r : Rest) → taken (namesIn (x .names)) r ≡ namesTaken x (r .bad) (r .next) (parse.parse (settingOf k) x key (r .words)))
@@ -134,7 +116,7 @@ module _ (t : List ℕ) (at : ℕ) (c : State) where
     names-line k taken says next names.GaveUp e =
         given-up k (λ u R p x w b g y z.
         names-gave-up x (r .next) (parse.parse (settingOf k) x (w .place) (r .words)) y
-        (e ∙ ap (λ (f : Names). taken f r) (b .holds .state .names) ∙ says x (begun-outside b) (w .place) r ∙ ap (λ (o : Option ℕ). namesTaken x o (r .next) (parse.parse (settingOf k) x (w .place) (r .words))) g) z)
+        (e ∙ ap (λ (f : Names). taken f r) (b .holds .state .names) ∙ says x (ap outside (begun-none b)) (w .place) r ∙ ap (λ (o : Option ℕ). namesTaken x o (r .next) (parse.parse (settingOf k) x (w .place) (r .words))) g) z)
 
     pub type-line : (a : TakenForm) → a ≡ typeTaken (c .form) r → quietStep parse.cstype t at c (formStep c a)
     type-line = form-line BodyType typeTaken (λ x o key r. type-parse x o key r) (λ d q e u R p m n f w b. type-next R t p at m n f c u (b .holds) w (b .begins) (b .keyword) d q e)

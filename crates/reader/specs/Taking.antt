@@ -41,7 +41,7 @@ use Rattle.reader.specs.declared.Step.{Step}
 use Rattle.reader.specs.declared.Step.the-variants.{Taken, GaveUp}
 use Rattle.reader.specs.declared.Reading.{Reading}
 use Rattle.reader.specs.declared.Reading.the-variants.{Read, Refused}
-use Rattle.reader.specs.Reading.{result, answered}
+use Rattle.reader.specs.Reading.{roomsOf, result, answered}
 use Rattle.reader.specs.Stepping.{stepIs}
 
 -- ---- a line that changes what is in force
@@ -126,7 +126,11 @@ begin =
       «open» = record { kind = 0; controls = 0; parts = 0; «u_at» = 0; «v_at» = 0 };
     }
 
--- what all lines of the text come to, in tables that held t, which is nothing, and then hold u
-abbrev pub linesIs : List ℕ → Tables → Tables → Reading → Type 0
-linesIs s t u (Read n) = (R : Rooms) → t ≡ tablesOf R nothing → result (Read n) u ≡ answered R (readLines R (length s) (linesAt s 0) start)
-linesIs s t u (Refused n p) = (R : Rooms) → t ≡ tablesOf R nothing → readLines R (length s) (linesAt s 0) start ≡ refused n p
+-- tables that hold nothing
+abbrev pub Blank : Tables → Type 0
+Blank t = t ≡ tablesOf (roomsOf t) nothing
+
+-- what all lines of the text come to, in tables that held nothing and then hold u
+abbrev pub linesIs : List ℕ → Rooms → Tables → Reading → Type 0
+linesIs s R u (Read n) = result (Read n) u ≡ answered R (readLines R (length s) (linesAt s 0) start)
+linesIs s R u (Refused n p) = readLines R (length s) (linesAt s 0) start ≡ refused n p

@@ -17,8 +17,9 @@ ghost use lib.ListN.{length};
 ghost use Rattle.keywords.specs.Keywords.{keywordTable};
 ghost use Rattle.keywords.specs.Arguments.{argumentTable};
 ghost use Rattle.tables.specs.Tables.{tables};
+ghost use Rattle.reader.specs.Reading.{roomsOf};
 ghost use Rattle.reader.specs.Holding.{lineIs};
-ghost use Rattle.reader.specs.Taking.{stoppedBy, begin, linesIs};
+ghost use Rattle.reader.specs.Taking.{stoppedBy, begin, Blank, linesIs};
 
 // 14 where nothing is wrong with the line itself.
 fn stopped(key: usize, refusal: Refusal) -> Line
@@ -165,9 +166,10 @@ pub fn lines_of(
     argument_table: &[u8; 108],
 ) -> Reading
     requires { ⌜ length (now text) ≤ 16777216 ⌝ }
+    requires { ⌜ Blank (tables (now v) (now vt) (now vn) (now vp) (now corners) (now elements) (now bodies) (now ranges) (now parameters) (now loops) (now spans)) ⌝ }
     requires { ⌜ now «keyword_table» ≡ keywordTable ⌝ }
     requires { ⌜ now «argument_table» ≡ argumentTable ⌝ }
-    ensures { λ r. ⌜ linesIs (now (text .entry)) (tables (now (v .entry)) (now (vt .entry)) (now (vn .entry)) (now (vp .entry)) (now (corners .entry)) (now (elements .entry)) (now (bodies .entry)) (now (ranges .entry)) (now (parameters .entry)) (now (loops .entry)) (now (spans .entry))) (tables (now (v .exit)) (now (vt .exit)) (now (vn .exit)) (now (vp .exit)) (now (corners .exit)) (now (elements .exit)) (now (bodies .exit)) (now (ranges .exit)) (now (parameters .exit)) (now (loops .exit)) (now (spans .exit))) r ⌝ }
+    ensures { λ r. ⌜ linesIs (now (text .entry)) (roomsOf (tables (now (v .entry)) (now (vt .entry)) (now (vn .entry)) (now (vp .entry)) (now (corners .entry)) (now (elements .entry)) (now (bodies .entry)) (now (ranges .entry)) (now (parameters .entry)) (now (loops .entry)) (now (spans .entry)))) (tables (now (v .exit)) (now (vt .exit)) (now (vn .exit)) (now (vp .exit)) (now (corners .exit)) (now (elements .exit)) (now (bodies .exit)) (now (ranges .exit)) (now (parameters .exit)) (now (loops .exit)) (now (spans .exit))) r ⌝ }
 {
     let mut state = begin();
     let mut at: usize = 0;

@@ -1,5 +1,5 @@
 -- Each way out by the law of its setting.
-use mathlib.Core.Path.{refl}
+use mathlib.Core.Path.{_≡_, refl}
 use denote.Ref.{now}
 use Rattle.reader.proofs.Quiet.{setting-inside, setting-is, type-line, degree-line, group-line, smoothing-line, material-line}
 use borrow.Author.Needs.{needs}
@@ -134,7 +134,7 @@ returns-7 c =
     let told = c .before in
     let left = told .before .before .before .before in
     let a = left .before .before .before .before .args in
-    setting-is (now (a .text)) (a .at) (a .state) (told .enum-told6 .given .1) refl (c .passed-line .ensures (left .if1 .left))
+    setting-is (now (a .text)) (a .at) (a .state) (told .enum-told6 .given .1) (let e : c .passed-line .result ≡ c .passed-line .result = refl in e) (c .passed-line .ensures (left .if1 .left))
 
 pub setting-line-spec : {M : Type 1} → statement M
 setting-line-spec =
