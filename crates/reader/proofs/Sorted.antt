@@ -10,7 +10,11 @@ use lib.ListN.{length, drop}
 use lib.Dec.{eqb}
 use Rattle.text.specs.Words.{Word, wordOf}
 use Rattle.text.specs.Rest.{Rest, restAt, push, wordAt, endOf, WordMet, EndMet, BadMet}
+use lib.IntN.{ℤ}
 use Rattle.tables.specs.Tables.{Tables}
+use Rattle.vertices.specs.Vertex.{kindOf}
+use Rattle.vertices.specs.declared.Kind.{Kind}
+use Rattle.vertices.specs.declared.Kind.the-variants.{Geometric, Texture, Normal, Parametric}
 use Rattle.keywords.specs.Keywords.{statementOf, letterOf, keywordAt}
 use Rattle.keywords.specs.declared.Keyword as spelled
 use Rattle.keywords.specs.declared.Statement.{Statement}
@@ -31,8 +35,8 @@ use Rattle.reader.specs.declared.Line.the-variants.{Next, Stopped}
 use Rattle.reader.specs.declared.Step.{Step}
 use Rattle.reader.specs.declared.Step.the-variants.{Taken, Refuses, GaveUp}
 use Rattle.reader.specs.Holding.{Holds, NextLine, lineSays, lineIs}
-use Rattle.reader.specs.Stepping.{Began, stepIs}
-use Rattle.reader.specs.Taking.{familyOf, familyIs, stoppedBy}
+use Rattle.reader.specs.Stepping.{Began, stepIs, vertexStep}
+use Rattle.reader.specs.Taking.{familyOf, familyIs, withVertices, verticesIs, stoppedBy}
 use Rattle.reader.proofs.Given.{given-in}
 use Rattle.reader.proofs.Blamed.{stops, blamed, unknown-blamed}
 
@@ -74,6 +78,24 @@ module _ (s : List ℕ) (at : ℕ) (c : State) (t u : Tables) (r : Step) (key : 
   sorted Refused h = inr (record { number = 4; is = refl; gave-up = h .0; kept = h .1 })
   sorted Unknown h = inr (record { number = 3; is = refl; gave-up = h .0; kept = h .1 })
 
+-- ---- the tables lent on
+module _ (s : List ℕ) (at : ℕ) (c : State) (r : Step) where
+  pub family-step : (t u : Tables) {f g : Family} → f ≡ g → familyIs g s at c t u r → familyIs f s at c t u r
+  family-step t u e h = subst (λ (f : Family). familyIs f s at c t u r) (sym e) h
+
+  module _ (k : Kind) (v vt vn vp l : List ℤ) where
+    pub geometric-lent : k ≡ Geometric → vertexStep (kindOf k) s at c v l r → verticesIs (kindOf k) s at c v vt vn vp l vt vn vp r
+    geometric-lent e h = subst (λ (k : Kind). vertexStep (kindOf k) s at c v l r → verticesIs (kindOf k) s at c v vt vn vp l vt vn vp r) (sym e) (λ h t. h (withVertices v vt vn vp t) refl) h
+
+    pub texture-lent : k ≡ Texture → vertexStep (kindOf k) s at c vt l r → verticesIs (kindOf k) s at c v vt vn vp v l vn vp r
+    texture-lent e h = subst (λ (k : Kind). vertexStep (kindOf k) s at c vt l r → verticesIs (kindOf k) s at c v vt vn vp v l vn vp r) (sym e) (λ h t. h (withVertices v vt vn vp t) refl) h
+
+    pub normal-lent : k ≡ Normal → vertexStep (kindOf k) s at c vn l r → verticesIs (kindOf k) s at c v vt vn vp v vt l vp r
+    normal-lent e h = subst (λ (k : Kind). vertexStep (kindOf k) s at c vn l r → verticesIs (kindOf k) s at c v vt vn vp v vt l vp r) (sym e) (λ h t. h (withVertices v vt vn vp t) refl) h
+
+    pub parametric-lent : k ≡ Parametric → vertexStep (kindOf k) s at c vp l r → verticesIs (kindOf k) s at c v vt vn vp v vt vn l r
+    parametric-lent e h = subst (λ (k : Kind). vertexStep (kindOf k) s at c vp l r → verticesIs (kindOf k) s at c v vt vn vp v vt vn l r) (sym e) (λ h t. h (withVertices v vt vn vp t) refl) h
+
 -- ---- no keyword
 module _ (s : List ℕ) (p : ℕ) (c : State) (t : Tables) where
   pub line-empty : {q : ℕ} → EndMet s p q → lineIs s p c t t (Next c q)
@@ -90,6 +112,18 @@ module _ (s : List ℕ) (p : ℕ) (c : State) (t : Tables) where
   line-bad m R x h = ap (λ (o : Option ℕ). unless o 2 (step R x ((restAt s p) .words))) (m .bad-at)
 
 -- ---- a keyword at `key`
+module _ (s : List ℕ) (p key : ℕ) (kw : spelled.Keyword) (met : WordMet s p key) (found : kw ≡ keywordAt s key) where
+  pub keyword-to : kw .end ≤ length s
+  unfolding keywordAt
+  keyword-to = subst (λ (i : ℕ). i ≤ length s) (sym (ap (λ (q : spelled.Keyword). q .end) found)) (go (eqb (letterOf (statementOf (wordOf (drop key s)))) 32))
+    where
+      go : (b : Bool) → cond b key (endOf s key) ≤ length s
+      go true = (let x = met .more in let y = met .to in omega arith)
+      go false = met .to
+
+pub near : (a b : ℕ) → a < b → b ≤ 16777216 → a ≤ 16777216
+near a b h l = omega arith
+
 module _ (s : List ℕ) (p key : ℕ) (c : State) (t u : Tables) (kw : spelled.Keyword) (f : Family) (r : Step) (small : p ≤ 16777216) (met : WordMet s p key)
     (found : kw ≡ keywordAt s key) (family : f ≡ familyOf (kw .statement)) (done : familyIs f s (kw .end) c t u r) where
   abbrev w : Word

@@ -23,7 +23,7 @@ use Rattle.reader.specs.declared.Reading.{Reading}
 use Rattle.reader.specs.declared.Reading.the-variants.{Read, Refused}
 use Rattle.reader.specs.Reading.{Result, result, roomsOf, answered, readInto}
 use Rattle.reader.specs.Holding.{lineIs}
-use Rattle.reader.specs.Taking.{begin, Blank, linesIs}
+use Rattle.reader.specs.Taking.{begin, Blank, linesRead, linesIs}
 use Rattle.reader.proofs.Going.{Going, going-start, going-on, going-stops, going-read, going-open, read-short, read-long}
 
 -- ---- the loop
@@ -82,26 +82,21 @@ module _ (t : Tables) where
   cleared-blank u e = e ∙ zeros-nothing ∙ ap (λ (R : Rooms). tablesOf R nothing) (sym (ap roomsOf e ∙ zeros-rooms))
 
 -- ---- the answer
+module _ (s : List ℕ) (t y : Tables) (a : Reading) (is : linesIs s (roomsOf t) y a) where
+  pub all-read : (n : Used) → a ≡ Read n → result (Read n) y ≡ linesRead s (roomsOf t)
+  all-read n k = subst (linesIs s (roomsOf t) y) k is
+
+  pub all-refused : (n p : ℕ) → a ≡ Refused n p → (z : Tables) → z ≡ zeros y → roomsOf y ≡ roomsOf t → result (Refused n p) z ≡ linesRead s (roomsOf t)
+  all-refused n p k z f l =
+      ap (λ (w : Tables). result (Refused n p) w) (f ∙ zeros-nothing y ∙ ap (λ (R : Rooms). tablesOf R nothing) l)
+      ∙ ap (answered (roomsOf t)) (sym (subst (linesIs s (roomsOf t) y) k is))
+
 module _ (s : List ℕ) (t u : Tables) (e : u ≡ zeros t) where
   pub read-too-long : 16777216 < length s → result (Refused 1 0) u ≡ readInto s t
   unfolding readInto
   read-too-long h = ap (λ (y : Tables). result (Refused 1 0) y) (e ∙ zeros-nothing t) ∙ ap (answered (roomsOf t)) (sym (read-long (roomsOf t) s h))
 
-  module _ (h : length s ≤ 16777216) (y : Tables) (a : Reading) (is : linesIs s (roomsOf u) y a) where
-    there : roomsOf u ≡ roomsOf t
-    there = ap roomsOf e ∙ zeros-rooms t
-
-    pub read-all : (n : Used) → a ≡ Read n → result (Read n) y ≡ readInto s t
-    unfolding readInto
-    read-all n k =
-        subst (linesIs s (roomsOf u) y) k is
-        ∙ ap (λ (R : Rooms). answered R (readLines R (length s) (linesAt s 0) start)) there
-        ∙ ap (answered (roomsOf t)) (sym (read-short (roomsOf t) s h))
-
-    pub read-refused : (n p : ℕ) → a ≡ Refused n p → (z : Tables) → z ≡ zeros y → roomsOf y ≡ roomsOf u → result (Refused n p) z ≡ readInto s t
-    unfolding readInto
-    read-refused n p k z f l =
-        let b : readLines (roomsOf t) (length s) (linesAt s 0) start ≡ refused n p =
-        ap (λ (R : Rooms). readLines R (length s) (linesAt s 0) start) (sym there) ∙ subst (linesIs s (roomsOf u) y) k is in
-        ap (λ (w : Tables). result (Refused n p) w) (f ∙ zeros-nothing y ∙ ap (λ (R : Rooms). tablesOf R nothing) (l ∙ there))
-        ∙ ap (answered (roomsOf t)) (sym (read-short (roomsOf t) s h ∙ b))
+  pub read-whole : length s ≤ 16777216 → (y : Tables) (a : Reading) → result a y ≡ linesRead s (roomsOf u) → result a y ≡ readInto s t
+  unfolding readInto
+  read-whole h y a k =
+      k ∙ ap (λ (R : Rooms). linesRead s R) (ap roomsOf e ∙ zeros-rooms t) ∙ ap (answered (roomsOf t)) (sym (read-short (roomsOf t) s h))

@@ -41,7 +41,7 @@ use Rattle.reader.specs.declared.Step.{Step}
 use Rattle.reader.specs.declared.Step.the-variants.{Taken, GaveUp}
 use Rattle.reader.specs.declared.Reading.{Reading}
 use Rattle.reader.specs.declared.Reading.the-variants.{Read, Refused}
-use Rattle.reader.specs.Reading.{roomsOf, result, answered}
+use Rattle.reader.specs.Reading.{Result, roomsOf, result, answered}
 use Rattle.reader.specs.Stepping.{stepIs}
 
 -- ---- a line that changes what is in force
@@ -130,7 +130,11 @@ begin =
 abbrev pub Blank : Tables → Type 0
 Blank t = t ≡ tablesOf (roomsOf t) nothing
 
--- what all lines of the text come to, in tables that held nothing and then hold u
+-- what all lines of the text come to, with the tables cleared on a refusal
+abbrev pub linesRead : List ℕ → Rooms → Result
+linesRead s R = answered R (readLines R (length s) (linesAt s 0) start)
+
+-- the same before they are cleared: they held nothing and then hold u
 abbrev pub linesIs : List ℕ → Rooms → Tables → Reading → Type 0
-linesIs s R u (Read n) = result (Read n) u ≡ answered R (readLines R (length s) (linesAt s 0) start)
+linesIs s R u (Read n) = result (Read n) u ≡ linesRead s R
 linesIs s R u (Refused n p) = readLines R (length s) (linesAt s 0) start ≡ refused n p

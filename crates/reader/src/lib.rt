@@ -7,7 +7,7 @@ mod families; // statements by the tables they fill
 mod taking; // a line's function by its family
 mod line_by_line; // the loop over lines
 
-use crate::line_by_line::lines_of;
+use crate::line_by_line::read_lines;
 use state::State;
 use tables::Used;
 use tables::storing::clear;
@@ -140,7 +140,7 @@ pub fn read(
     }
     let keyword_table = keywords::keyword_table();
     let argument_table = keywords::argument_table();
-    match lines_of(
+    read_lines(
         text,
         v,
         vt,
@@ -155,26 +155,5 @@ pub fn read(
         spans,
         &keyword_table,
         &argument_table,
-    ) {
-        Reading::Read(used) => Reading::Read(used),
-        Reading::Refused { number, place } => {
-            clear(
-                v,
-                vt,
-                vn,
-                vp,
-                corners,
-                elements,
-                bodies,
-                ranges,
-                parameters,
-                loops,
-                spans,
-            );
-            Reading::Refused {
-                number: number,
-                place: place,
-            }
-        }
-    }
+    )
 }
