@@ -3,6 +3,7 @@ pub mod Steps
 pub mod Vertices
 pub mod Stepped
 pub mod Elements
+pub mod Bodies
 pub mod Settings
 pub mod Parameters
 pub mod Loops
