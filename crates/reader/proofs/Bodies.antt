@@ -41,20 +41,10 @@ use Rattle.elements.specs.Bodies.{formInForce, controlsSaid, bodySaid, TakenBod
 use Rattle.elements.proofs.BodyLines.{full-count, of-body}
 use Rattle.elements.proofs.Wide.{Given}
 use Rattle.elements.proofs.ParseBody.{taken-parse, parse-said}
+use Rattle.reader.specs.Counting.{oneBody}
 use Rattle.reader.specs.Holding.{Opened, Holds, NextLine, lineSays}
 use Rattle.reader.proofs.Steps.{line-fine, line-roomless, line-bounded, next-is}
 use Rattle.reader.proofs.Elements.{cornersIn, bodiesBefore, corners-used, elements-used, corners-lent, elements-lent}
-
--- one body more, of the kind k with so many controls, and its element
-abbrev pub oneBody : Free → ℕ → State → State
-oneBody k n c =
-    record {
-      used = record { v = c .used .v; vt = c .used .vt; vn = c .used .vn; vp = c .used .vp; corners = c .used .corners + 3 * n; elements = c .used .elements + 1; bodies = c .used .bodies + 1; parameters = c .used .parameters; loops = c .used .loops };
-      curves = c .curves;
-      names = c .names;
-      form = c .form;
-      «open» = record { kind = freeNumber k; controls = n; parts = 0; «u_at» = 0; «v_at» = 0 };
-    }
 
 -- ---- a body that a line has begun
 free-is : (k : Free) (f : model.Form) (z : List ℤ) → bodyOf k f z .free ≡ k

@@ -37,6 +37,7 @@ use Rattle.elements.specs.Elements.{ruleOf, elementSaid, elementNumbers, TakenE
 use Rattle.elements.specs.Corners.{cornerSaid, cornersWalk}
 use Rattle.elements.proofs.Parse.{taken-parse, parse-said}
 use Rattle.elements.proofs.Taking.{of-enough}
+use Rattle.reader.specs.Counting.{oneElement}
 use Rattle.reader.specs.Stepping.{withUsed}
 use Rattle.reader.specs.Holding.{Holds, NextLine, lineSays}
 use Rattle.reader.proofs.Steps.{line-fine, line-roomless, line-bounded, next-is}
@@ -46,10 +47,6 @@ one-or-more : (k : Shape) → 1 ≤ fewest k
 one-or-more model.point = omega arith
 one-or-more model.line = omega arith
 one-or-more model.face = omega arith
-
--- one element more, of so many corners
-abbrev pub oneElement : ℕ → Used → Used
-oneElement n u = record { v = u .v; vt = u .vt; vn = u .vn; vp = u .vp; corners = u .corners + 3 * n; elements = u .elements + 1; bodies = u .bodies; parameters = u .parameters; loops = u .loops }
 
 -- ---- before the line: no body is open, so what is used and lent is what the model's elements take
 abbrev pub cornersIn : Model → ℕ
