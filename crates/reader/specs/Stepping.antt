@@ -1,7 +1,6 @@
 -- What the code does with a line that it knows the keyword of: the state after it, or that it gave up.
-use Prim.Native.Nat.{ℕ, _+_, _≤_}
+use Prim.Native.Nat.{ℕ, _≤_}
 use mathlib.Core.Path.{_≡_}
-use mathlib.Core.Logic.{_⊎_}
 use mathlib.Core.List.{List}
 use lib.ListN.{length}
 use lib.IntN.{ℤ}
@@ -22,7 +21,6 @@ use Rattle.state.specs.declared.State.{State}
 use Rattle.state.proofs.Images.{tableOf, withRow, withElement, withRange, withLoops, withBody}
 use Rattle.bodies.proofs.Says.{loopWord}
 use Rattle.blame.specs.Blame.{parseBefore, GivenIn}
-use Rattle.vertices.specs.Vertex.{TakenVertex, NoVertex}
 use Rattle.reader.specs.declared.Step.{Step}
 use Rattle.reader.specs.declared.Step.the-variants.{Taken, Refuses, GaveUp}
 use Rattle.reader.specs.Holding.{Holds, lineSays, NextLine}
@@ -42,17 +40,6 @@ counted parametric n u = record { v = u .v; vt = u .vt; vn = u .vn; vp = n; corn
 
 abbrev pub withUsed : Used → State → State
 withUsed u c = record { used = u; curves = c .curves; names = c .names; form = c .form; «open» = c .«open» }
-
--- a line of v, vt, vn, vp; its table held l and then holds m
-pub record VertexTaken (k : VertexKind) (s : List ℕ) (at : ℕ) (c : State) (l m : List ℤ) (d : State) (next : ℕ) : Type 0 where
-  pub outside : c .«open» .kind ≡ 0
-  pub taken : TakenVertex k s at (countIn k (c .used)) l m next
-  pub after : d ≡ withUsed (counted k (countIn k (c .used) + 1) (c .used)) c
-
-abbrev pub vertexStep : VertexKind → List ℕ → ℕ → State → List ℤ → List ℤ → Step → Type 0
-vertexStep k s at c l m (Taken d q) = VertexTaken k s at c l m d q
-vertexStep k s at c l m (Refuses n) = ⊥
-vertexStep k s at c l m GaveUp = (c .«open» .kind ≡ 0 → ⊥) ⊎ ((4294967295 ≤ countIn k (c .used)) ⊎ NoVertex k s at (countIn k (c .used)) l m)
 
 -- ---- what a line's function promises of the tables
 
@@ -76,6 +63,9 @@ stepIs s at k c t u (Refuses n) = (R : Rooms) (p : ℕ) (x : model.State) (w : W
 stepIs s at k c t u GaveUp = (R : Rooms) (p : ℕ) (x : model.State) (w : Word) → Began R s p at x c t w k → Left R s p at x u w k
 
 -- each family by the tables that it is lent; the others stay
+abbrev pub vertexStep : VertexKind → List ℕ → ℕ → State → List ℤ → List ℤ → Step → Type 0
+vertexStep k s at c l m r = (t : Tables) → tableOf k t ≡ l → stepIs s at (a-vertex k) c t (withRow k m t) r
+
 abbrev pub elementStep : Shape → List ℕ → ℕ → State → List ℕ → List ℕ → List ℕ → List ℕ → Step → Type 0
 elementStep k s at c l m e f r = (t : Tables) → t .corners ≡ l → t .elements ≡ e → stepIs s at (an-element k) c t (withElement m f t) r
 

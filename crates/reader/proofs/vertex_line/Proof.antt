@@ -1,8 +1,7 @@
 -- Each way out by the law of its answer.
-use mathlib.Core.Logic.{inl}
 use denote.Ref.{now}
 use Rattle.vertices.specs.Vertex.{kindOf}
-use Rattle.reader.proofs.Stepped.{vertex-full, vertex-gave, vertex-took}
+use Rattle.reader.proofs.Stepped.{vertex-open, vertex-full, vertex-gave, vertex-took}
 use borrow.Author.Needs.{needs}
 use Rattle.reader.proofs.vertex_line.Statement.{statement}
 use Rattle.reader.proofs.vertex_line.Tie as tie
@@ -15,7 +14,7 @@ use Rattle.vertices.proofs.take_vertex.Reads as take-vertex-reads
 
 -- src/lib.rt:77:9
 returns : tie.Need-returns
-returns c = inl (c .if1 .taken)
+returns c = let a = c .before .before .before .before .args in vertex-open (kindOf (a .kind)) (now (a .text)) (a .at) (a .state) (now (a .table)) (c .if1 .taken)
 
 -- src/lib.rt:80:9
 count-of-requires : tie.Need-count-of-requires
@@ -23,7 +22,7 @@ count-of-requires c κs = search needs
 
 -- src/lib.rt:82:9
 returns-2 : tie.Need-returns-2
-returns-2 c = let a = c .before .before .before .before .before .before .before .args in vertex-full (kindOf (a .kind)) (now (a .text)) (a .at) (a .state) (now (a .table)) (now (a .table)) (c .before .count-of .result) (c .before .count-of .ensures) (c .if2 .taken)
+returns-2 c = let a = c .before .before .before .before .before .before .before .args in vertex-full (kindOf (a .kind)) (now (a .text)) (a .at) (a .state) (now (a .table)) (c .before .count-of .result) (c .before .count-of .ensures) (c .if2 .taken)
 
 -- src/lib.rt:84:11
 take-vertex-requires : tie.Need-take-vertex-requires
@@ -59,7 +58,7 @@ returns-3 c =
     let took = c .before .before .before in
     let counted = took .before .before .before in
     let a = counted .before .before .before .before .before .before .args in
-    vertex-gave (kindOf (a .kind)) (now (a .text)) (a .at) (a .state) (now (a .table)) _ (counted .count-of .result) (counted .count-of .ensures) _ (took .take-vertex .ensures) (c .enum-told .given .1)
+    vertex-gave (kindOf (a .kind)) (now (a .text)) (a .at) (a .state) (now (a .table)) (counted .count-of .result) (counted .count-of .ensures) _ _ (took .take-vertex .ensures) (c .enum-told .given .1)
 
 -- src/lib.rt:71:1
 same-length-2 : tie.Need-same-length-2
@@ -73,8 +72,8 @@ returns-4 c =
     let counted = took .before .before .before in
     let start = counted .before .before .before .before .before .before in
     let a = start .args in
-    vertex-took (kindOf (a .kind)) (now (a .text)) (a .at) (a .state) (now (a .table)) _ (counted .count-of .result) (counted .count-of .ensures) _ _ _ _
-    (took .take-vertex .ensures) (told .next .given .1) (counted .before .before .if1 .left) (c .before .counted .ensures) (c .with-used .ensures)
+    vertex-took (kindOf (a .kind)) (now (a .text)) (a .at) (a .state) (now (a .table)) (counted .count-of .result) (counted .count-of .ensures) _ _ (took .take-vertex .ensures) _ _ _
+    (told .next .given .1) (counted .before .before .if1 .left) (c .before .counted .ensures) (c .with-used .ensures)
 
 pub vertex-line-spec : {M : Type 1} → statement M
 vertex-line-spec =
