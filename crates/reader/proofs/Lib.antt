@@ -6,7 +6,6 @@ pub mod Given
 pub mod Stepped
 pub mod Elements
 pub mod Bodies
-pub mod Outside
 pub mod Counts
 pub mod SteppedElements
 pub mod SteppedBodies

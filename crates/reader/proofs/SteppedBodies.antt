@@ -1,6 +1,6 @@
 -- From what `take_body_line` answers to the step of its line: laws over plain variables, one for each way out.
 use Prim.Native.Nat.{ℕ, _+_, _*_, _≤_, _<_}
-use mathlib.Core.Path.{_≡_, sym, _∙_, subst}
+use mathlib.Core.Path.{_≡_, refl, sym, _∙_, subst}
 use mathlib.Core.List.{List}
 use mathlib.Core.Bool.{Bool, true, false}
 use mathlib.Core.Option.{Option, none, some}
@@ -13,37 +13,28 @@ use Rattle.text.specs.Rest.{restAt}
 use Rattle.tables.specs.Tables.{Tables}
 use Rattle.model.specs.Model as model
 use Rattle.model.specs.Model.{Free, Model, Open}
-use Rattle.model.specs.Statements.{Statement}
-use Rattle.model.specs.Parse.{fine, a-body, parse}
+use Rattle.model.specs.Parse.{a-body}
 use Rattle.model.specs.Room.{Rooms}
 use Rattle.state.specs.declared.State.{State}
 use Rattle.state.proofs.Images.{state, withElement, withRange}
 use Rattle.elements.specs.Bodies.{TakenBody, NoBody, bodyIs}
+use Rattle.vertices.proofs.Closed.{nothing}
 use Rattle.elements.specs.declared.Element.{Element}
 use Rattle.elements.specs.declared.Element.the-variants as element
-use Rattle.blame.specs.Blame.{parseBefore}
 use Rattle.reader.specs.Holding.{NextLine}
 use Rattle.reader.specs.Counting.{countable, oneBody}
 use Rattle.reader.specs.Stepping.{Began, Left, bodyStep}
 use Rattle.reader.specs.declared.Step.{Step}
 use Rattle.reader.specs.declared.Step.the-variants.{Taken, GaveUp}
 use Rattle.reader.proofs.Counts.{counts-small, corners-within}
-use Rattle.reader.proofs.Outside.{not-open, inside, not-allowed}
+use Rattle.reader.proofs.Opened.{no-body, before-parse, left-in-body}
 use Rattle.reader.proofs.Given.{given, given-in}
 use Rattle.reader.proofs.Bodies.{body-next, body-roomless}
-
--- nothing is left out of the parser at these lines
-before : (k : Free) (x : model.State) (key : ℕ) (ws : List Word) (y : Statement) → parseBefore (a-body k) x key ws ≡ fine y → parse (a-body k) x key ws ≡ fine y
-unfolding parse parseBefore
-before k x key ws y e = e
 
 module _ (k : Free) (s : List ℕ) (at : ℕ) (c : State) (vp : List ℤ) (l m e f : List ℕ) (bodies : ℕ) (y z : List ℤ) where
   pub body-inside : (c .«open» .kind ≡ 0 → ⊥) → bodyStep k s at c vp l m e f bodies y z GaveUp
   body-inside o t i₁ i₂ i₃ i₄ i₅ R p x w b =
-      record {
-        given = given-in R s x c t p (b .holds);
-        roomless = λ g u h. not-allowed (a-body k) x (w .place) ((restAt s at) .words) u (inside s (x .open-body) (c .«open») (b .holds .state .open-body) o) h;
-      }
+      left-in-body R s p at x c t (withRange z (withElement m f t)) w (a-body k) b (given-in R s x c t p (b .holds)) o (λ o. refl)
 
   pub body-full : countable (c .used) ≡ false → bodyStep k s at c vp l m e f bodies y z GaveUp
   body-full n t i₁ i₂ i₃ i₄ i₅ R p x w b = never (sym n ∙ counts-small b)
@@ -56,12 +47,12 @@ module _ (k : Free) (s : List ℕ) (at : ℕ) (c : State) (vp : List ℤ) (l m e
         → (t : Tables) → t .vp ≡ vp → t .corners ≡ l → t .elements ≡ e → length (t .bodies) ≡ bodies → t .ranges ≡ y
         → (R : Rooms) (p : ℕ) (mo : Model) (n : model.Names) (fo : model.Form) (o : Option Open) (w : Word) → Began R s p at (state mo n fo o) c t w (a-body k)
         → Left R s p at (state mo n fo o) (withRange z (withElement m f t)) w (a-body k)
-    gave v t i₁ i₂ i₃ i₄ i₅ R p mo n fo (some o) w b = not-open s o (c .«open») (b .holds .state .open-body) out
+    gave v t i₁ i₂ i₃ i₄ i₅ R p mo n fo (some o) w b = nothing (sym (no-body s (c .«open») (some o) (b .holds .state .open-body) out))
     gave v t i₁ i₂ i₃ i₄ i₅ R p mo n fo none w b =
         let v′ : NoBody k (c .used) (c .form) (t .vp) s at (t .corners) m (t .elements) f (length (t .bodies)) (t .ranges) z = rw (i₁, i₂, i₃, i₄, i₅) v in
         record {
           given = given-in R s (state mo n fo none) c t p (b .holds);
-          roomless = λ g u h. body-roomless R s p at mo n fo c t (b .holds) (given R s (state mo n fo none) c t p (b .holds)) w k (b .begins) (b .keyword) m f z v′ g u (before k (state mo n fo none) (w .place) ((restAt s at) .words) u h);
+          roomless = λ g u h. body-roomless R s p at mo n fo c t (b .holds) (given R s (state mo n fo none) c t p (b .holds)) w k (b .begins) (b .keyword) m f z v′ g u (sym (before-parse (state mo n fo none) (w .place) ((restAt s at) .words) (a-body k) refl) ∙ h);
         }
 
     pub body-gave : (r : Element) → Answered r → r ≡ element.GaveUp → bodyStep k s at c vp l m e f bodies y z GaveUp
@@ -72,7 +63,7 @@ module _ (k : Free) (s : List ℕ) (at : ℕ) (c : State) (vp : List ℤ) (l m e
           → (t : Tables) → t .vp ≡ vp → t .corners ≡ l → t .elements ≡ e → length (t .bodies) ≡ bodies → t .ranges ≡ y
           → (R : Rooms) (p : ℕ) (mo : Model) (n : model.Names) (fo : model.Form) (o : Option Open) (w : Word) → Began R s p at (state mo n fo o) c t w (a-body k)
           → NextLine R s p (state mo n fo o) (oneBody k count c) (withRange z (withElement m f t)) q × (q ≡ (restAt s p) .next)
-      took v t i₁ i₂ i₃ i₄ i₅ R p mo n fo (some o) w b = not-open s o (c .«open») (b .holds .state .open-body) out
+      took v t i₁ i₂ i₃ i₄ i₅ R p mo n fo (some o) w b = nothing (sym (no-body s (c .«open») (some o) (b .holds .state .open-body) out))
       took v t i₁ i₂ i₃ i₄ i₅ R p mo n fo none w b =
           let v′ : TakenBody k (c .used) (c .names) (c .form) (t .vp) s at (t .corners) m (t .elements) f (length (t .bodies)) (t .ranges) z count q = rw (i₁, i₂, i₃, i₄, i₅) v in
           body-next R s p at mo n fo c t (b .holds) (given R s (state mo n fo none) c t p (b .holds)) w k (b .begins) (b .keyword) m f z count q v′

@@ -1,6 +1,6 @@
 -- From what `take_element` answers to the step of its line: laws over plain variables, one for each way out.
 use Prim.Native.Nat.{ℕ, _+_, _*_, _≤_, _<_}
-use mathlib.Core.Path.{_≡_, refl, sym, ap, ap₂, _∙_, subst}
+use mathlib.Core.Path.{_≡_, refl, sym, _∙_, subst}
 use mathlib.Core.List.{List}
 use mathlib.Core.Bool.{Bool, true, false}
 use mathlib.Core.Option.{Option, none, some}
@@ -12,41 +12,28 @@ use Rattle.text.specs.Rest.{restAt}
 use Rattle.tables.specs.Tables.{Tables}
 use Rattle.model.specs.Model as model
 use Rattle.model.specs.Model.{Shape, Model, Open}
-use Rattle.model.specs.Statements.{Statement}
-use Rattle.model.specs.Parse.{fine, fault, an-element, parse}
+use Rattle.model.specs.Parse.{an-element}
 use Rattle.model.specs.Room.{Rooms}
-use Rattle.model.proofs.Parsed.{fine-fault}
 use Rattle.state.specs.declared.State.{State}
 use Rattle.state.proofs.Images.{state, withElement}
 use Rattle.elements.specs.Elements.{ruleOf, TakenElement, NoElement, elementIs}
+use Rattle.vertices.proofs.Closed.{nothing}
 use Rattle.elements.specs.declared.Element.{Element}
 use Rattle.elements.specs.declared.Element.the-variants as element
-use Rattle.blame.specs.Blame.{parseBefore, GivenIn}
-use Rattle.reader.specs.Holding.{Holds, NextLine, lineSays}
+use Rattle.reader.specs.Holding.{NextLine}
 use Rattle.reader.specs.Counting.{countable, oneElement}
 use Rattle.reader.specs.Stepping.{withUsed, Began, Left, elementStep}
 use Rattle.reader.specs.declared.Step.{Step}
 use Rattle.reader.specs.declared.Step.the-variants.{Taken, Refuses, GaveUp}
 use Rattle.reader.proofs.Counts.{counts-small, corners-within}
-use Rattle.reader.proofs.Outside.{not-open, inside, not-allowed}
+use Rattle.reader.proofs.Opened.{no-body, before-parse, left-in-body}
 use Rattle.reader.proofs.Given.{given-in}
 use Rattle.reader.proofs.Elements.{element-next, element-roomless}
 
--- nothing is left out of the parser at these lines
-before : (k : Shape) (x : model.State) (key : ℕ) (ws : List Word) (y : Statement) → parseBefore (an-element k) x key ws ≡ fine y → parse (an-element k) x key ws ≡ fine y
-unfolding parse parseBefore
-before k x key ws y e = e
-
 module _ (k : Shape) (s : List ℕ) (at : ℕ) (c : State) (l m e f : List ℕ) where
-  abbrev Lent : Tables → Type 0
-  Lent t = (t .corners ≡ l) × (t .elements ≡ e)
-
   pub element-inside : (c .«open» .kind ≡ 0 → ⊥) → elementStep k s at c l m e f GaveUp
   element-inside o t i j R p x w b =
-      record {
-        given = given-in R s x c t p (b .holds);
-        roomless = λ g y h. not-allowed (an-element k) x (w .place) ((restAt s at) .words) y (inside s (x .open-body) (c .«open») (b .holds .state .open-body) o) h;
-      }
+      left-in-body R s p at x c t (withElement m f t) w (an-element k) b (given-in R s x c t p (b .holds)) o (λ o. refl)
 
   pub element-full : countable (c .used) ≡ false → elementStep k s at c l m e f GaveUp
   element-full n t i j R p x w b = never (sym n ∙ counts-small b)
@@ -55,12 +42,12 @@ module _ (k : Shape) (s : List ℕ) (at : ℕ) (c : State) (l m e f : List ℕ) 
     gave : NoElement (ruleOf k) (c .used) s at l m e f → (t : Tables) → t .corners ≡ l → t .elements ≡ e
         → (R : Rooms) (p : ℕ) (mo : Model) (n : model.Names) (fo : model.Form) (o : Option Open) (w : Word) → Began R s p at (state mo n fo o) c t w (an-element k)
         → Left R s p at (state mo n fo o) (withElement m f t) w (an-element k)
-    gave v t i j R p mo n fo (some o) w b = not-open s o (c .«open») (b .holds .state .open-body) out
+    gave v t i j R p mo n fo (some o) w b = nothing (sym (no-body s (c .«open») (some o) (b .holds .state .open-body) out))
     gave v t i j R p mo n fo none w b =
         let v′ : NoElement (ruleOf k) (c .used) s at (t .corners) m (t .elements) f = rw (i, j) v in
         record {
           given = given-in R s (state mo n fo none) c t p (b .holds);
-          roomless = λ g y h. element-roomless R s p at mo n fo c t (b .holds) w k (b .begins) (b .keyword) m f v′ g y (before k (state mo n fo none) (w .place) ((restAt s at) .words) y h);
+          roomless = λ g y h. element-roomless R s p at mo n fo c t (b .holds) w k (b .begins) (b .keyword) m f v′ g y (sym (before-parse (state mo n fo none) (w .place) ((restAt s at) .words) (an-element k) refl) ∙ h);
         }
 
     pub element-gave : (r : Element) → elementIs (ruleOf k) 0 (c .used) (c .names) s at l m e f r → r ≡ element.GaveUp → elementStep k s at c l m e f GaveUp
@@ -71,7 +58,7 @@ module _ (k : Shape) (s : List ℕ) (at : ℕ) (c : State) (l m e f : List ℕ) 
       took : TakenElement (ruleOf k) 0 (c .used) (c .names) s at l m e f count q → (t : Tables) → t .corners ≡ l → t .elements ≡ e
           → (R : Rooms) (p : ℕ) (mo : Model) (n : model.Names) (fo : model.Form) (o : Option Open) (w : Word) → Began R s p at (state mo n fo o) c t w (an-element k)
           → NextLine R s p (state mo n fo o) (withUsed (oneElement count (c .used)) c) (withElement m f t) q × (q ≡ (restAt s p) .next)
-      took v t i j R p mo n fo (some o) w b = not-open s o (c .«open») (b .holds .state .open-body) out
+      took v t i j R p mo n fo (some o) w b = nothing (sym (no-body s (c .«open») (some o) (b .holds .state .open-body) out))
       took v t i j R p mo n fo none w b =
           let v′ : TakenElement (ruleOf k) 0 (c .used) (c .names) s at (t .corners) m (t .elements) f count q = rw (i, j) v in
           element-next R s p at mo n fo c t (b .holds) w k (b .begins) (b .keyword) m f count q v′

@@ -1,3 +1,10 @@
+-- Each way out by the law of its answer.
+use mathlib.Core.Path.{sym, _∙_}
+use borrow.Author.Tests.{not-true, not-false}
+use denote.Ref.{now}
+use Rattle.elements.specs.Bodies.{freeOf}
+use Rattle.reader.proofs.Counts.{countable-parts}
+use Rattle.reader.proofs.SteppedBodies.{body-inside, body-full, body-gave, body-long, body-took}
 use borrow.Author.Needs.{needs}
 use Rattle.reader.proofs.body_lines.body_line.Statement.{statement}
 use Rattle.reader.proofs.body_lines.body_line.Tie as tie
@@ -9,7 +16,9 @@ use Rattle.reader.proofs.element_lines.countable.Reads as countable-rea
 
 -- src/body_lines.rt:63:9
 returns : tie.Need-returns
-returns c = ?
+returns c =
+    let a = c .before .before .before .before .before .before .args in
+    body-inside (freeOf (a .free)) (now (a .text)) (a .at) (a .state) (now (a .vp)) (now (a .corners)) _ (now (a .elements)) _ (a .bodies) (now (a .ranges)) _ (c .if1 .taken)
 
 -- src/body_lines.rt:66:9
 countable-requires : tie.Need-countable-requires
@@ -17,11 +26,17 @@ countable-requires c κs = search needs
 
 -- src/body_lines.rt:67:9
 returns-2 : tie.Need-returns-2
-returns-2 c = ?
+returns-2 c =
+    let a = c .before .before .before .before .before .before .before .before .before .args in
+    body-full (freeOf (a .free)) (now (a .text)) (a .at) (a .state) (now (a .vp)) (now (a .corners)) _ (now (a .elements)) _ (a .bodies) (now (a .ranges)) _ (sym (c .before .countable .ensures) ∙ not-true _ (c .if2 .taken))
 
 -- src/body_lines.rt:69:11
 take-body-line-requires : tie.Need-take-body-line-requires
-take-body-line-requires c κs = ?
+take-body-line-requires c κs =
+    let tested = c .before .before .before in
+    let start = tested .before .before .before .before .before .before .before .before .before in
+    let u = countable-parts (start .args .state .used) (sym (tested .before .countable .ensures) ∙ not-false _ (tested .if2 .left)) in
+    (start .pre .0, start .pre .1, u .2)
 
 -- src/body_lines.rt:82:28
 enum-told : tie.Need-enum-told
@@ -45,11 +60,22 @@ same-length-3 c = search needs
 
 -- src/body_lines.rt:85:17
 returns-3 : tie.Need-returns-3
-returns-3 c = ?
+returns-3 c =
+    let told = c .before .before in
+    let called = told .before .before .before .before .before .before .before in
+    let tested = called .before .before .before .before .before .before .before in
+    let start = tested .before .before .before .before .before .before in
+    let a = start .args in
+    body-long (freeOf (a .free)) (now (a .text)) (a .at) (a .state) (now (a .vp)) (now (a .corners)) _ (now (a .elements)) _ (a .bodies) (now (a .ranges)) _ (tested .if1 .left) _ _ _
+    (called .take-body-line .ensures) (told .count .given .1) (start .pre .0) (start .pre .1) (c .if3 .taken)
 
 -- src/body_lines.rt:88:24
 one-body-requires : tie.Need-one-body-requires
-one-body-requires c κs = ?
+one-body-requires c κs =
+    let tested = c .before .before .before .before .before .before .before .before .before .before .before .before .before in
+    let start = tested .before .before .before .before .before .before .before .before .before in
+    let u = countable-parts (start .args .state .used) (sym (tested .before .countable .ensures) ∙ not-false _ (tested .if2 .left)) in
+    (c .if3 .left, u .0, u .1, u .2)
 
 -- src/body_lines.rt:47:1
 same-length-4 : tie.Need-same-length-4
@@ -65,7 +91,11 @@ same-length-6 c = search needs
 
 -- src/body_lines.rt:47:1
 returns-4 : tie.Need-returns-4
-returns-4 c = ?
+returns-4 c =
+    let called = c .before .before .before .before .before .before .before in
+    let tested = called .before .before .before .before .before .before .before in
+    let a = tested .before .before .before .before .before .before .args in
+    body-gave (freeOf (a .free)) (now (a .text)) (a .at) (a .state) (now (a .vp)) (now (a .corners)) _ (now (a .elements)) _ (a .bodies) (now (a .ranges)) _ (tested .if1 .left) _ (called .take-body-line .ensures) (c .enum-told .given .1)
 
 -- src/body_lines.rt:47:1
 same-length-7 : tie.Need-same-length-7
@@ -81,7 +111,13 @@ same-length-9 c = search needs
 
 -- src/body_lines.rt:47:1
 returns-5 : tie.Need-returns-5
-returns-5 c = ?
+returns-5 c =
+    let told = c .before .before .before in
+    let called = told .before .before .before .before .before .before .before in
+    let tested = called .before .before .before .before .before .before .before in
+    let a = tested .before .before .before .before .before .before .args in
+    body-took (freeOf (a .free)) (now (a .text)) (a .at) (a .state) (now (a .vp)) (now (a .corners)) _ (now (a .elements)) _ (a .bodies) (now (a .ranges)) _ (tested .if1 .left) _ _ _
+    (called .take-body-line .ensures) (told .count .given .1) _ (c .one-body .ensures)
 
 pub body-line-spec : {M : Type 1} → statement M
 body-line-spec =
