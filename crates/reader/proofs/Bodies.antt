@@ -1,10 +1,10 @@
 -- A line of curv, curv2, surf: what `take_body_line` answers is what the line comes to, or shows that there is no room for it.
-use Prim.Native.Nat.{ℕ, zero, suc, _+_, _*_, _-_, _≤_, _<_}
+use Prim.Native.Nat.{ℕ, suc, _+_, _*_, _≤_}
 use mathlib.Core.Path.{_≡_, refl, sym, ap, ap₂, _∙_, subst}
 use mathlib.Core.List.{List, [], _∷_, _++_, append-nil}
-use mathlib.Core.Bool.{Bool, true, false}
-use mathlib.Core.Option.{Option, none, some}
-use mathlib.Core.Logic.{_⊎_, ⊎-elim}
+use mathlib.Core.Bool.{true, false}
+use mathlib.Core.Option.{none}
+use mathlib.Core.Logic.{⊎-elim}
 use native.Mathlib.Omega.{arith}
 use lib.ListN.{length}
 use lib.Seq.{sets}
@@ -12,7 +12,7 @@ use lib.IntN.{ℤ, pos}
 use Rattle.lists.specs.Lists.{flat, filled}
 use Rattle.lists.proofs.Tests.{test}
 use Rattle.text.specs.Words.{Word}
-use Rattle.text.specs.Rest.{Rest, restAt, push}
+use Rattle.text.specs.Rest.{restAt, push}
 use Rattle.forms.specs.Corner.{Corner}
 use Rattle.tables.specs.Tables.{Tables}
 use Rattle.tables.specs.declared.Used.{Used}
@@ -21,13 +21,13 @@ use Rattle.keywords.specs.Keywords.{statementOf}
 use Rattle.model.specs.Model as model
 use Rattle.model.specs.Model.{Free, free, Body, Element, Model}
 use Rattle.model.specs.Statements.{Statement, body, apply}
-use Rattle.model.specs.Parse.{Parsed, fine, fault, Keyword, a-body, rangeWords, bodyOf, parse}
-use Rattle.model.specs.Room.{Rooms, summed, ofKind, partCount, needed, fits}
+use Rattle.model.specs.Parse.{fine, fault, a-body, rangeWords, bodyOf, parse}
+use Rattle.model.specs.Room.{Rooms, summed, partCount, fits}
 use Rattle.model.specs.Layout.{freeNumber, cornerRow, elementRow, bodyRows, rangeRow, bodiesOf}
 use Rattle.model.specs.Read.{keywordOf}
 use Rattle.state.specs.declared.State.{State}
 use Rattle.state.specs.declared.Names.{Names}
-use Rattle.state.specs.State.{StateIs, ParmAt, OpenIs, usedIn}
+use Rattle.state.specs.State.{ParmAt, usedIn}
 use Rattle.state.specs.Image.{imageOf}
 use Rattle.state.specs.Numbers.{numbersWalk}
 use Rattle.state.proofs.Rows.{bodyRows-length, rangeRows-length, bodies-length}
@@ -35,15 +35,15 @@ use Rattle.state.proofs.Stored.{range-stored, half-range-stored, no-range-store
 use Rattle.state.proofs.Images.{state, withElement, withRange, body-image}
 use Rattle.state.proofs.Bounds.{Bounded}
 use Rattle.state.proofs.Lines.{line-of, line-small}
-use Rattle.state.proofs.Rooms.{Within, fits-parts, parts-fit}
+use Rattle.state.proofs.Rooms.{fits-parts, parts-fit}
 use Rattle.elements.specs.Elements.{elementNumbers}
-use Rattle.elements.specs.Bodies.{formInForce, controlsSaid, bodySaid, TakenBody, NoBody}
+use Rattle.elements.specs.Bodies.{formInForce, controlsSaid, TakenBody, NoBody}
 use Rattle.elements.proofs.BodyLines.{full-count, of-body}
-use Rattle.elements.proofs.Wide.{Given}
 use Rattle.elements.proofs.ParseBody.{taken-parse, parse-said}
 use Rattle.reader.specs.Counting.{oneBody}
 use Rattle.reader.specs.Holding.{Opened, Holds, NextLine, lineSays}
 use Rattle.reader.proofs.Steps.{line-fine, line-roomless, line-bounded, next-is}
+use Rattle.reader.proofs.Given.{given}
 use Rattle.reader.proofs.Elements.{cornersIn, bodiesBefore, corners-used, elements-used, corners-lent, elements-lent}
 
 -- ---- a body that a line has begun
@@ -56,6 +56,9 @@ begun : (k : Free) (f : model.Form) (z : List ℤ) (cs : List Corner) (n : model
 begun model.curve f z cs n = record { numbers = z; basis-is = refl; rational-is = refl; degree-u-is = refl; degree-v-is = refl; start-u-is = refl; end-u-is = refl; start-v-is = refl; end-v-is = refl }
 begun model.curve2 f z cs n = record { numbers = z; basis-is = refl; rational-is = refl; degree-u-is = refl; degree-v-is = refl; start-u-is = refl; end-u-is = refl; start-v-is = refl; end-v-is = refl }
 begun model.surface f z cs n = record { numbers = z; basis-is = refl; rational-is = refl; degree-u-is = refl; degree-v-is = refl; start-u-is = refl; end-u-is = refl; start-v-is = refl; end-v-is = refl }
+
+no-parts : (b : Body) → b .loops ≡ [] → partCount b ≡ 0
+no-parts b e = ap (λ (a : List model.Loop). summed (λ l. length (l .parts)) a) e
 
 no-parm : (s : List ℕ) (zs : List ℤ) → zs ≡ [] → ParmAt s 0 zs
 no-parm s zs e = record { within = omega arith; none-there = λ z. e; some-there = λ z. absurd (omega arith) }
@@ -108,7 +111,7 @@ module _ (R : Rooms) (s : List ℕ) (p at : ℕ) (m : Model) (n : model.Names) (
         → fits R (apply (body b cs) x) ≡ true
     roomy l q e i j =
         let v = fits-parts R x (h .room) in
-        let o : partCount b ≡ 0 = ap (λ (a : List model.Loop). summed (λ l. length (l .parts)) a) l in
+        let o = no-parts b l in
         parts-fit R (apply (body b cs) x)
         (record { v = v .v; vt = v .vt; vn = v .vn; vp = v .vp; corners = omega arith; elements = omega arith; bodies = omega arith; ranges = omega arith; parameters = v .parameters; loops = omega (arith, v .loops, o); spans = omega (arith, v .spans, o) })
 
@@ -120,7 +123,7 @@ module _ (R : Rooms) (s : List ℕ) (p at : ℕ) (m : Model) (n : model.Names) (
 
     used-after : (k : Free) (count : ℕ) → b .loops ≡ [] → count ≡ length cs → oneBody k count c .used ≡ usedIn (apply (body b cs) x)
     used-after k count l q =
-        let o : partCount b ≡ 0 = ap (λ (a : List model.Loop). summed (λ l. length (l .parts)) a) l in
+        let o = no-parts b l in
         ap (λ (u : Used). record { v = u .v; vt = u .vt; vn = u .vn; vp = u .vp; corners = u .corners + 3 * count; elements = u .elements + 1; bodies = u .bodies + 1; parameters = u .parameters; loops = u .loops }) (h .state .used)
         ∙ rows (omega arith) (omega arith) (omega arith) (omega arith)
       where
@@ -129,7 +132,7 @@ module _ (R : Rooms) (s : List ℕ) (p at : ℕ) (m : Model) (n : model.Names) (
             (record { v = v; vt = vt; vn = vn; vp = vp; corners = c′; elements = e′; bodies = b′; parameters = p; loops = l′ })
         rows a b c d = cc
 
-  module _ (given : Given (t .vp) (m .vertices .vp)) (w : Word) (k : Free)
+  module _ (w : Word) (k : Free)
       (begins : restAt s p ≡ push w (restAt s at)) (keyword : keywordOf (statementOf (w .bytes)) (w .place) ≡ fine (a-body k)) where
     pub body-next : (l g : List ℕ) (z : List ℤ) (count q : ℕ) → TakenBody k (c .used) (c .names) (c .form) (t .vp) s at (t .corners) l (t .elements) g (length (t .bodies)) (t .ranges) z count q
         → NextLine R s p x (oneBody k count c) (withRange z (withElement l g t)) q × (q ≡ (restAt s p) .next)
@@ -139,7 +142,7 @@ module _ (R : Rooms) (s : List ℕ) (p at : ℕ) (m : Model) (n : model.Names) (
         let e : Element = record { kind = free b; corners = cs; names = n } in
         let bs : List Body = bodiesOf (m .elements) in
         let r = restAt s at in
-        let pv = taken-parse k x (c .used) (c .form) (t .vp) (h .state .used) (h .state .form) given r (v .range) cs q refl (v .said) in
+        let pv = taken-parse k x (c .used) (c .form) (t .vp) (h .state .used) (h .state .form) (given R s x c t p h) r (v .range) cs q refl (v .said) in
         let parsed = pv .parsed (w .place) in
         let fresh = line-small (a-body k) x (w .place) (r .words) (body b cs) (line-of (a-body k) x (w .place) (r .words) (body b cs) parsed) .0 in
         let o = of-body (formInForce k (c .form)) (numbersWalk (rangeWords k) r) (controlsSaid k (c .used) (t .vp)) (v .range) cs q (v .said) in
@@ -178,7 +181,7 @@ module _ (R : Rooms) (s : List ℕ) (p at : ℕ) (m : Model) (n : model.Names) (
                 curves = h .state .curves;
                 names = h .state .names;
                 form = h .state .form;
-                open-body = record { kind = kind; controls = v .counted; parts = sym (ap (λ (a : List model.Loop). summed (λ l. length (l .parts)) a) (fresh .3)); u = no-parm s (b .us) (fresh .1); v = no-parm s (b .vs) (fresh .2) };
+                open-body = record { kind = kind; controls = v .counted; parts = sym (no-parts b (fresh .3)); u = no-parm s (b .us) (fresh .1); v = no-parm s (b .vs) (fresh .2) };
               };
               image = im;
               wide = h .wide;
@@ -193,7 +196,7 @@ module _ (R : Rooms) (s : List ℕ) (p at : ℕ) (m : Model) (n : model.Names) (
     pub body-roomless : (l g : List ℕ) (z : List ℤ) → NoBody k (c .used) (c .form) (t .vp) s at (t .corners) l (t .elements) g (length (t .bodies)) (t .ranges) z → (restAt s at) .bad ≡ none
         → (u : Statement) → parse (a-body k) x (w .place) ((restAt s at) .words) ≡ fine u → lineSays R s p x ≡ fault 14 (w .place)
     body-roomless l g z v b u e =
-        let y = parse-said k x (c .used) (c .form) (t .vp) (h .state .used) (h .state .form) given (restAt s at) (w .place) u b e in
+        let y = parse-said k x (c .used) (c .form) (t .vp) (h .state .used) (h .state .form) (given R s x c t p h) (restAt s at) (w .place) u b e in
         let cs : List Corner = y .corners in
         let short = v .short (y .range) cs ((restAt s at) .next) (y .said) in
         let cu = corners-used R s p m n f c t h in

@@ -1,18 +1,17 @@
 -- A line of p, l, f: what `take_element` answers is what the line comes to, or shows that there is no room for it.
-use Prim.Native.Nat.{ℕ, zero, suc, _+_, _*_, _-_, _≤_, _<_}
+use Prim.Native.Nat.{ℕ, suc, _+_, _*_, _≤_, _<_}
 use mathlib.Core.Path.{_≡_, refl, sym, ap, ap₂, _∙_, subst}
 use mathlib.Core.List.{List, [], _∷_, _++_}
 use mathlib.Core.Bool.{Bool, true, false}
-use mathlib.Core.Option.{Option, none, some}
-use mathlib.Core.Logic.{_⊎_, ⊎-elim}
+use mathlib.Core.Option.{none}
+use mathlib.Core.Logic.{⊎-elim}
 use native.Mathlib.Omega.{arith}
 use lib.ListN.{length, length-append}
 use lib.Seq.{sets}
-use lib.IntN.{ℤ, pos}
-use Rattle.lists.specs.Lists.{flat, filled}
+use Rattle.lists.specs.Lists.{flat}
 use Rattle.lists.proofs.Tests.{test}
 use Rattle.text.specs.Words.{Word}
-use Rattle.text.specs.Rest.{Rest, restAt, push}
+use Rattle.text.specs.Rest.{restAt, push}
 use Rattle.forms.specs.Corner.{Corner}
 use Rattle.tables.specs.Tables.{Tables}
 use Rattle.tables.specs.declared.Used.{Used}
@@ -21,19 +20,19 @@ use Rattle.keywords.specs.Keywords.{statementOf}
 use Rattle.model.specs.Model as model
 use Rattle.model.specs.Model.{Shape, plain, Element, Model}
 use Rattle.model.specs.Statements.{Statement, element, apply}
-use Rattle.model.specs.Parse.{Parsed, fine, fault, Keyword, an-element, fewest, outside, parse}
-use Rattle.model.specs.Room.{Rooms, summed, ofKind, partCount, needed, fits}
-use Rattle.model.specs.Layout.{shapeNumber, cornerRow, cornerRows, elementRow, elementRows, bodiesOf}
+use Rattle.model.specs.Parse.{fine, fault, an-element, fewest, parse}
+use Rattle.model.specs.Room.{Rooms, summed, ofKind, partCount, fits}
+use Rattle.model.specs.Layout.{shapeNumber, cornerRow, cornerRows, elementRow, elementRows}
 use Rattle.model.specs.Read.{keywordOf}
 use Rattle.state.specs.declared.State.{State}
 use Rattle.state.specs.declared.Names.{Names}
-use Rattle.state.specs.State.{StateIs, usedIn, namesIn}
+use Rattle.state.specs.State.{usedIn}
 use Rattle.state.specs.Image.{imageOf}
 use Rattle.state.proofs.Rows.{summed-append, cornerRows-length, elementRows-length}
-use Rattle.state.proofs.Images.{Wide, state, withElement, element-image}
+use Rattle.state.proofs.Images.{state, withElement, element-image}
 use Rattle.state.proofs.Bounds.{Bounded}
-use Rattle.state.proofs.Rooms.{Within, fits-parts, parts-fit}
-use Rattle.elements.specs.Elements.{ruleOf, elementSaid, elementNumbers, TakenElement, NoElement}
+use Rattle.state.proofs.Rooms.{fits-parts, parts-fit}
+use Rattle.elements.specs.Elements.{ruleOf, elementNumbers, TakenElement, NoElement}
 use Rattle.elements.specs.Corners.{cornerSaid, cornersWalk}
 use Rattle.elements.proofs.Parse.{taken-parse, parse-said}
 use Rattle.elements.proofs.Taking.{of-enough}

@@ -1,8 +1,8 @@
 -- From what `take_body_line` answers to the step of its line: laws over plain variables, one for each way out.
-use Prim.Native.Nat.{ℕ, _+_, _*_, _≤_, _<_}
+use Prim.Native.Nat.{ℕ, _≤_, _<_}
 use mathlib.Core.Path.{_≡_, refl, sym, _∙_, subst}
 use mathlib.Core.List.{List}
-use mathlib.Core.Bool.{Bool, true, false}
+use mathlib.Core.Bool.{false}
 use mathlib.Core.Option.{Option, none, some}
 use native.Mathlib.Omega.{arith}
 use lib.ListN.{length}
@@ -24,11 +24,10 @@ use Rattle.elements.specs.declared.Element.the-variants as element
 use Rattle.reader.specs.Holding.{NextLine}
 use Rattle.reader.specs.Counting.{countable, oneBody}
 use Rattle.reader.specs.Stepping.{Began, Left, bodyStep}
-use Rattle.reader.specs.declared.Step.{Step}
 use Rattle.reader.specs.declared.Step.the-variants.{Taken, GaveUp}
 use Rattle.reader.proofs.Counts.{counts-small, corners-within}
 use Rattle.reader.proofs.Opened.{no-body, before-parse, left-in-body}
-use Rattle.reader.proofs.Given.{given, given-in}
+use Rattle.reader.proofs.Given.{given-in}
 use Rattle.reader.proofs.Bodies.{body-next, body-roomless}
 
 module _ (k : Free) (s : List ℕ) (at : ℕ) (c : State) (vp : List ℤ) (l m e f : List ℕ) (bodies : ℕ) (y z : List ℤ) where
@@ -52,7 +51,7 @@ module _ (k : Free) (s : List ℕ) (at : ℕ) (c : State) (vp : List ℤ) (l m e
         let v′ : NoBody k (c .used) (c .form) (t .vp) s at (t .corners) m (t .elements) f (length (t .bodies)) (t .ranges) z = rw (i₁, i₂, i₃, i₄, i₅) v in
         record {
           given = given-in R s (state mo n fo none) c t p (b .holds);
-          roomless = λ g u h. body-roomless R s p at mo n fo c t (b .holds) (given R s (state mo n fo none) c t p (b .holds)) w k (b .begins) (b .keyword) m f z v′ g u (sym (before-parse (state mo n fo none) (w .place) ((restAt s at) .words) (a-body k) refl) ∙ h);
+          roomless = λ g u h. body-roomless R s p at mo n fo c t (b .holds) w k (b .begins) (b .keyword) m f z v′ g u (sym (before-parse (state mo n fo none) (w .place) ((restAt s at) .words) (a-body k) refl) ∙ h);
         }
 
     pub body-gave : (r : Element) → Answered r → r ≡ element.GaveUp → bodyStep k s at c vp l m e f bodies y z GaveUp
@@ -66,7 +65,7 @@ module _ (k : Free) (s : List ℕ) (at : ℕ) (c : State) (vp : List ℤ) (l m e
       took v t i₁ i₂ i₃ i₄ i₅ R p mo n fo (some o) w b = nothing (sym (no-body s (c .«open») (some o) (b .holds .state .open-body) out))
       took v t i₁ i₂ i₃ i₄ i₅ R p mo n fo none w b =
           let v′ : TakenBody k (c .used) (c .names) (c .form) (t .vp) s at (t .corners) m (t .elements) f (length (t .bodies)) (t .ranges) z count q = rw (i₁, i₂, i₃, i₄, i₅) v in
-          body-next R s p at mo n fo c t (b .holds) (given R s (state mo n fo none) c t p (b .holds)) w k (b .begins) (b .keyword) m f z count q v′
+          body-next R s p at mo n fo c t (b .holds) w k (b .begins) (b .keyword) m f z count q v′
 
       module _ (r : Element) (v : Answered r) (g : r ≡ element.Taken count q) where
         -- a text has not so many controls

@@ -1,8 +1,8 @@
 -- From what `take_element` answers to the step of its line: laws over plain variables, one for each way out.
-use Prim.Native.Nat.{ℕ, _+_, _*_, _≤_, _<_}
+use Prim.Native.Nat.{ℕ, _≤_, _<_}
 use mathlib.Core.Path.{_≡_, refl, sym, _∙_, subst}
 use mathlib.Core.List.{List}
-use mathlib.Core.Bool.{Bool, true, false}
+use mathlib.Core.Bool.{false}
 use mathlib.Core.Option.{Option, none, some}
 use native.Mathlib.Omega.{arith}
 use lib.ListN.{length}
@@ -23,8 +23,7 @@ use Rattle.elements.specs.declared.Element.the-variants as element
 use Rattle.reader.specs.Holding.{NextLine}
 use Rattle.reader.specs.Counting.{countable, oneElement}
 use Rattle.reader.specs.Stepping.{withUsed, Began, Left, elementStep}
-use Rattle.reader.specs.declared.Step.{Step}
-use Rattle.reader.specs.declared.Step.the-variants.{Taken, Refuses, GaveUp}
+use Rattle.reader.specs.declared.Step.the-variants.{Taken, GaveUp}
 use Rattle.reader.proofs.Counts.{counts-small, corners-within}
 use Rattle.reader.proofs.Opened.{no-body, before-parse, left-in-body}
 use Rattle.reader.proofs.Given.{given-in}

@@ -7,7 +7,7 @@ use elements::body::Free;
 use state::Open;
 use state::State;
 ghost use mathlib.Core.Path.{_≡_};
-ghost use Prim.Native.Nat.{_+_, _*_, _≤_, _<_};
+ghost use Prim.Native.Nat.{_≤_};
 ghost use lib.ListN.{length};
 ghost use Rattle.model.specs.Layout.{freeNumber};
 ghost use Rattle.elements.specs.Bodies.{freeOf};

@@ -6,7 +6,7 @@ use elements::Shape;
 use state::State;
 use tables::Used;
 ghost use mathlib.Core.Path.{_≡_};
-ghost use Prim.Native.Nat.{_+_, _*_, _≤_, _<_};
+ghost use Prim.Native.Nat.{_≤_};
 ghost use lib.ListN.{length};
 ghost use Rattle.elements.specs.Elements.{shapeOf};
 ghost use Rattle.reader.specs.Counting.{countable, oneElement};
