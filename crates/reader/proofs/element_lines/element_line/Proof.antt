@@ -1,5 +1,6 @@
 -- Each way out by the law of its answer.
 use mathlib.Core.Path.{sym, ap, _∙_}
+use native.Mathlib.Omega.{arith}
 use borrow.Author.Tests.{not-true, not-false}
 use denote.Ref.{now}
 use Rattle.tables.specs.declared.Used.{Used}
@@ -69,7 +70,7 @@ one-element-requires : tie.Need-one-element-requires
 one-element-requires c κs =
     let counts = c .before .before .before .before .before .before .before .before .before .before .before .before in
     let u = countable-parts (counts .before .before .before .before .before .before .before .before .args .state .used) (sym (counts .countable .ensures) ∙ not-false _ (c .before .before .before .before .before .before .before .before .before .before .before .if2 .left)) in
-    (c .if3 .left, u .0, u .1)
+    (omega (arith, c .if3 .left), u .0, u .1)
 
 -- src/element_lines.rt:65:24
 with-used-requires : tie.Need-with-used-requires
