@@ -6,3 +6,4 @@ pub mod Elements
 pub mod Settings
 pub mod Parameters
 pub mod Loops
+pub mod Ends
