@@ -143,10 +143,10 @@ module _ (R : Rooms) (s : List ℕ) (p at : ℕ) (m : Model) (n : model.Names) (
   used-parameters : c .used .parameters ≡ parametersIn
   used-parameters = ap (λ (u : Used). u .parameters) (h .state .used) ∙ sym (bodies-summed (λ b. length (b .us) + length (b .vs)) (m .elements))
 
-  bodies-room : 9 * length bodies + 9 ≤ R .bodies
+  pub bodies-room : 9 * length bodies + 9 ≤ R .bodies
   bodies-room = let r = fits-parts R x (h .room) .bodies in let e = bodies-length (m .elements) in omega arith
 
-  ranges-room : 4 * length bodies + 4 ≤ R .ranges
+  pub ranges-room : 4 * length bodies + 4 ≤ R .ranges
   ranges-room = let r = fits-parts R x (h .room) .ranges in let e = bodies-length (m .elements) in omega arith
 
   pub bodies-lent : length (t .bodies) ≡ R .bodies

@@ -7,3 +7,4 @@ pub mod Settings
 pub mod Parameters
 pub mod Loops
 pub mod Ends
+pub mod Inner

@@ -1,5 +1,5 @@
 -- The body that has no end yet, in numbers: what its lines and its end make of the state, and the form that it was opened with.
-use Prim.Native.Nat.{ℕ, _+_}
+use Prim.Native.Nat.{ℕ, _+_, _*_}
 use mathlib.Core.Bool.{Bool, true, false, cond, _&&_}
 use lib.Dec.{eqb, leb}
 use Rattle.state.specs.declared.Form.{Form}
@@ -51,3 +51,8 @@ formFor kind f =
 abbrev pub countsHold : State → Bool
 countsHold c =
     leb 1 (c .used .bodies) && leb (c .«open» .parts) (c .used .loops) && leb (c .used .loops) 16777216 && leb (c .used .parameters) 16777216 && leb (c .curves) 16777216
+
+-- and what the end of a body finds: its parm lines in the text, its records in tables of those lengths
+abbrev pub closable : State → ℕ → ℕ → ℕ → Bool
+closable c text bodies ranges =
+    countsHold c && leb (c .«open» .«u_at») text && leb (c .«open» .«v_at») text && leb (9 * c .used .bodies) bodies && leb (4 * c .used .bodies) ranges

@@ -1,4 +1,5 @@
 // Reading a text into lent tables.
+pub mod inner_lines; // parm, trim, hole, end
 use state::State;
 use tables::Used;
 use vertices::Kind;
