@@ -23,8 +23,7 @@ use Rattle.model.specs.Room.{Rooms, summed, ofKind, partCount, fits}
 use Rattle.model.specs.Read.{Answer, read, refused, step, finish, onParsed, readLines, readOf}
 use Rattle.model.specs.Layout.{tablesOf, usedOf, nothing, bodiesOf}
 use Rattle.state.specs.declared.State.{State}
-use Rattle.state.specs.declared.Open.{Open}
-use Rattle.state.specs.State.{StateIs, OpenIs, openIs, usedIn, namesIn, formIn, noOpen}
+use Rattle.state.specs.State.{StateIs, usedIn, namesIn, formIn, noOpen}
 use Rattle.state.specs.Image.{imageOf}
 use Rattle.state.proofs.Rows.{bodies-length, bodies-summed}
 use Rattle.state.proofs.Images.{Wide}
@@ -32,6 +31,7 @@ use Rattle.state.proofs.Bounds.{Bounded}
 use Rattle.state.proofs.Rooms.{Within, parts-fit}
 use Rattle.reader.specs.Reading.{Result, result, roomsOf, answered, readInto}
 use Rattle.reader.specs.Holding.{Opened, opened, Holds, lineSays, NextLine, lineIs}
+use Rattle.reader.proofs.Opened.{no-body, some-body}
 use Rattle.reader.specs.declared.Reading.{Reading}
 use Rattle.reader.specs.declared.Reading.the-variants.{Read, Refused}
 use Rattle.reader.specs.declared.Line.{Line}
@@ -54,7 +54,7 @@ begins R s =
     record {
       state = record { used = refl; curves = refl; names = refl; form = refl; open-body = refl };
       image = refl;
-      wide = record { rows = λ k. rows k };
+      wide = record { rows = λ k. rows k; counts = tt };
       room = parts-fit R start (record { v = omega arith; vt = omega arith; vn = omega arith; vp = omega arith; corners = omega arith; elements = omega arith; bodies = omega arith; ranges = omega arith; parameters = omega arith; loops = omega arith; spans = omega arith });
       bounded = record { v = omega arith; vt = omega arith; vn = omega arith; vp = omega arith; corners = omega arith; elements = omega arith; bodies = omega arith; parameters = omega arith; parts = omega arith };
       body = tt;
@@ -99,15 +99,6 @@ module _ (R : Rooms) (s : List ℕ) (c : State) (t : Tables) (at : ℕ) (go : Go
       go .same ∙ on R s at (go .now) h ∙ ap (λ p. onParsed p (readLines R (length s) (linesAt s ((restAt s at) .next)))) (l R (go .now) (go .holds))
 
 -- ---- at the end
-open-kind : (s : List ℕ) (o : Option model.Open) (c : Open) → openIs s o c → (c .kind ≡ 0 → o ≡ none) × ((c .kind ≡ 0 → ⊥) → (n : ℕ) (m : Model) → finish n o m ≡ refused 10 n)
-open-kind s none c e = (λ z. refl, λ f n m. absurd (f (ap (λ (o : Open). o .kind) e)))
-open-kind s (some o) c e = (λ z. absurd (never (o .body .free) (sym (e .kind) ∙ z)), λ f n m. refl)
-  where
-    never : (k : model.Free) → Rattle.model.specs.Layout.freeNumber k ≡ 0 → ⊥
-    never model.curve z = omega arith
-    never model.curve2 z = omega arith
-    never model.surface z = omega arith
-
 used-is : (x : model.State) → x .open-body ≡ none → usedIn x ≡ usedOf (x .model)
 unfolding usedOf
 used-is x e =
@@ -133,11 +124,11 @@ module _ (R : Rooms) (s : List ℕ) (c : State) (t : Tables) (at : ℕ) (go : Go
   done = go .same ∙ ap (λ l. readLines R (length s) l (go .now)) (lines-end s at h)
 
   pub going-open : (c .«open» .kind ≡ 0 → ⊥) → readLines R (length s) (linesAt s 0) start ≡ refused 10 (length s)
-  going-open f = done ∙ open-kind s (go .now .open-body) (c .«open») (go .holds .state .open-body) .1 f (length s) (go .now .model)
+  going-open f = done ∙ ap (λ (o : Option model.Open). finish (length s) o (go .now .model)) (some-body s (c .«open») (go .now .open-body) (go .holds .state .open-body) f .1)
 
   pub going-read : c .«open» .kind ≡ 0 → result (Read (c .used)) t ≡ answered R (readLines R (length s) (linesAt s 0) start)
   going-read z =
-      let o : go .now .open-body ≡ none = open-kind s (go .now .open-body) (c .«open») (go .holds .state .open-body) .0 z in
+      let o : go .now .open-body ≡ none = no-body s (c .«open») (go .now .open-body) (go .holds .state .open-body) z in
       let a : readLines R (length s) (linesAt s 0) start ≡ read (go .now .model) = done ∙ ap (λ o. finish (length s) o (go .now .model)) o in
       ap₂ (λ (u : Used) (t : Tables). result (Read u) t) (go .holds .state .used ∙ used-is (go .now) o) (go .holds .image ∙ image-is R (go .now) o)
       ∙ ap (answered R) (sym a)

@@ -1,6 +1,8 @@
+pub mod Opened
 pub mod Going
 pub mod Steps
 pub mod Vertices
+pub mod Given
 pub mod Stepped
 pub mod Elements
 pub mod Settings

@@ -22,16 +22,17 @@ use Rattle.keywords.specs.Keywords.{statementOf}
 use Rattle.model.specs.Model as model
 use Rattle.model.specs.Model.{VertexKind, geometric, texture, normal, parametric, Vertices}
 use Rattle.model.specs.Statements.{Statement, vertex, withVertex, apply}
-use Rattle.model.specs.Parse.{Parsed, fine, fault, Keyword, a-vertex, outside, parse}
+use Rattle.model.specs.Parse.{Parsed, fine, fault, Keyword, a-vertex, outside, recordOf, parse}
 use Rattle.model.specs.Room.{Rooms, fits}
 use Rattle.model.specs.Layout.{itself}
 use Rattle.model.specs.Read.{keywordOf}
 use Rattle.state.specs.declared.State.{State}
 use Rattle.state.specs.State.{StateIs, usedIn}
 use Rattle.state.specs.Image.{imageOf}
-use Rattle.state.proofs.Images.{withRow, rowsOf, tableOf, widthOf, roomOf, Wide, vertex-image}
+use Rattle.state.proofs.Images.{withRow, rowsOf, tableOf, widthOf, roomOf, Counted, AllCounted, Wide, vertex-image}
 use Rattle.state.proofs.Rooms.{Within, fits-parts, parts-fit}
 use Rattle.vertices.specs.Vertex.{width, vertexSaid, TakenVertex, NoVertex}
+use Rattle.vertices.proofs.Taking.{vertex-row}
 use Rattle.vertices.proofs.Parse.{vertex-wide, taken-parse, parse-said}
 use Rattle.reader.specs.Stepping.{countIn, counted, withUsed}
 use Rattle.reader.specs.Holding.{Holds, NextLine, lineSays}
@@ -72,8 +73,18 @@ wider w rows z h l =
     let d : w * length (rows ++ z ∷ []) ≡ w * length rows + w = ap (λ (n : ℕ). w * n) (let q : length (rows ++ z ∷ []) ≡ suc (length rows) = omega arith in q) ∙ mul-suc w (length rows) in
     omega arith
 
-still-wide : (k : VertexKind) (x : Vertices) (z : List ℤ) → length z ≡ widthOf k → Wide x → Wide (withVertex k z x)
-still-wide k x z l w = record { rows = λ j. go k l j }
+one-more : (rows : List (List ℤ)) (z : List ℤ) → AllCounted rows → Counted z → AllCounted (rows ++ z ∷ [])
+one-more [] z a c = (c, tt)
+one-more (y ∷ rows) z a c = (a .0, one-more rows z (a .1) c)
+
+still-counted : (k : VertexKind) (x : Vertices) (zs : List ℤ) → length (recordOf k zs) ≡ widthOf k → AllCounted (x .vp) → AllCounted (withVertex k (recordOf k zs) x .vp)
+still-counted geometric x zs l a = a
+still-counted texture x zs l a = a
+still-counted normal x zs l a = a
+still-counted parametric x zs l a = one-more (x .vp) (recordOf parametric zs) a (record { wide = l; count = length zs; first = refl })
+
+still-rows : (k : VertexKind) (x : Vertices) (z : List ℤ) → length z ≡ widthOf k → Wide x → (j : VertexKind) → length (flat itself (rowsOf j (withVertex k z x))) ≡ widthOf j * length (rowsOf j (withVertex k z x))
+still-rows k x z l w j = go k l j
   where
     go : (k : VertexKind) → length z ≡ widthOf k → (j : VertexKind) → length (flat itself (rowsOf j (withVertex k z x))) ≡ widthOf j * length (rowsOf j (withVertex k z x))
     go geometric l geometric = wider 4 (x .v) z (w .rows geometric) l
@@ -92,6 +103,13 @@ still-wide k x z l w = record { rows = λ j. go k l j }
     go parametric l texture = w .rows texture
     go parametric l normal = w .rows normal
     go parametric l parametric = wider 4 (x .vp) z (w .rows parametric) l
+
+still-wide : (k : VertexKind) (x : Vertices) (z zs : List ℤ) → z ≡ recordOf k zs → length z ≡ widthOf k → Wide x → Wide (withVertex k z x)
+still-wide k x z zs e l w =
+    record {
+      rows = still-rows k x z l w;
+      counts = subst (λ (y : List ℤ). AllCounted (withVertex k y x .vp)) (sym e) (still-counted k x zs (ap length (sym e) ∙ l) (w .counts));
+    }
 
 count-is : (k : VertexKind) (x : model.State) → countIn k (usedIn x) ≡ length (rowsOf k (x .model .vertices))
 count-is geometric x = refl
@@ -118,6 +136,7 @@ module _ (R : Rooms) (s : List ℕ) (p at : ℕ) (x : model.State) (c : State) (
       let z : List ℤ = v .row in
       let pv = taken-parse k x (restAt s at) z q out (v .said) in
       let l : length z ≡ widthOf k = vertex-wide k (restAt s at) z q (v .said) ∙ width-is k in
+      let row = vertex-row k (restAt s at) z q (v .said) in
       let e : tableOf k t ≡ tableOf k (imageOf R x) = ap (tableOf k) (h .image) in
       let n : length (tableOf k t) ≡ roomOf k R = ap length e ∙ lent-is k R x (h .wide) (h .room) in
       let g : widthOf k * length (rowsOf k (x .model .vertices)) + widthOf k ≤ roomOf k R =
@@ -133,7 +152,7 @@ module _ (R : Rooms) (s : List ℕ) (p at : ℕ) (x : model.State) (c : State) (
           holds = record {
             state = state-after s k x c z (h .state);
             image = im;
-            wide = still-wide k (x .model .vertices) z l (h .wide);
+            wide = still-wide k (x .model .vertices) z (row .numbers) (row .whole) l (h .wide);
             room = f;
             bounded = subst (λ (i : ℕ). Rattle.state.proofs.Bounds.Bounded i (apply (vertex k z) x)) (pv .next) (line-bounded R s p at x w (a-vertex k) begins keyword (vertex k z) (pv .parsed (w .place)) (h .bounded));
             body = h .body;
