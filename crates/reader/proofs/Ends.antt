@@ -40,7 +40,7 @@ use Rattle.state.proofs.Ends.{end-image, settled-free, settled-us, settled-vs, 
 use Rattle.state.proofs.Rooms.{fits-parts, parts-fit}
 use Rattle.bodies.specs.Closing.{bodyIn, refusalOf, Kept, NotKept}
 use Rattle.bodies.proofs.Ends.{Stands, finished-is, refusal-is, kept-says, kept-counts, kept-room, kept-parameters, kept-body, kept-range, left-room}
-use Rattle.reader.specs.OpenBody.{degreeFor, formFor, closedWith}
+use Rattle.reader.specs.OpenBody.{typeFor, degreeFor, formFor, curvesWith, closedWith}
 use Rattle.reader.specs.Holding.{Opened, Holds, NextLine, lineSays}
 use Rattle.reader.proofs.Steps.{line-fine, line-fault, line-roomless, line-bounded, next-is}
 use Rattle.reader.proofs.Loops.{used-loops}
@@ -72,7 +72,7 @@ module _ (n : ℕ) (bs : List Body) (h : 4 * length bs + 4 ≤ n) where
       ∙ sym (one-last s)
 
 -- ---- the form that a body was opened with, in numbers
-type-number : (t : Option Basis) → cond (eqb (basisIn t) 0) 1 (basisIn t) ≡ basisNumber (says.basisIn t)
+type-number : (t : Option Basis) → typeFor (basisIn t) ≡ basisNumber (says.basisIn t)
 type-number none = refl
 type-number (some bezier) = refl
 type-number (some bspline) = refl
@@ -108,20 +108,29 @@ parameters-settled b curve2 = refl
 parameters-settled b surface = refl
 
 -- one curv2 more where it is one
-one-curve : (b : Body) (k : Free) → b .free ≡ k → _≡_ {A = ℕ} (cond (model.isCurve2 (model.free b)) 1 0) (cond (eqb (freeNumber k) 5) 1 0)
-one-curve b curve e = rw e refl
-one-curve b curve2 e = rw e refl
-one-curve b surface e = rw e refl
+one-curve : (b : Body) (k : Free) (n : ℕ) → b .free ≡ k → _≡_ {A = ℕ} (cond (model.isCurve2 (model.free b)) (n + 1) n) (curvesWith (freeNumber k) n)
+one-curve b curve n e = rw e refl
+one-curve b curve2 n e = rw e refl
+one-curve b surface n e = rw e refl
 
-curves-after : (o : Open) (es : List Element) → model.curves (es ++ closed o ∷ []) ≡ model.curves es + cond (eqb (freeNumber (o .body .free)) 5) 1 0
-curves-after o [] =
-    let e = one-curve (settled (o .body .free) (o .body)) (o .body .free) (settled-free (o .body) (o .body .free)) in
-    e ∙ (let z : _≡_ {A = ℕ} (cond (eqb (freeNumber (o .body .free)) 5) 1 0) (0 + cond (eqb (freeNumber (o .body .free)) 5) 1 0) = omega arith in z)
-curves-after o (e ∷ es) = go (model.isCurve2 (e .kind)) (model.curves es) (cond (eqb (freeNumber (o .body .free)) 5) 1 0) (curves-after o es)
+curves-append : (es : List Element) (e : Element) → model.curves (es ++ e ∷ []) ≡ cond (model.isCurve2 (e .kind)) (model.curves es + 1) (model.curves es)
+curves-append [] e = go (model.isCurve2 (e .kind))
   where
-    go : (t : Bool) {a : ℕ} (b n : ℕ) → a ≡ b + n → cond t (suc a) a ≡ cond t (suc b) b + n
-    go true b n h = omega arith
-    go false b n h = h
+    go : (t : Bool) → _≡_ {A = ℕ} (cond t 1 0) (cond t (0 + 1) 0)
+    go true = refl
+    go false = refl
+curves-append (x ∷ es) e = go (model.isCurve2 (x .kind)) (model.isCurve2 (e .kind)) (model.curves es) (curves-append es e)
+  where
+    go : (t u : Bool) {a : ℕ} (b : ℕ) → a ≡ cond u (b + 1) b → cond t (suc a) a ≡ cond u (cond t (suc b) b + 1) (cond t (suc b) b)
+    go true true b h = omega arith
+    go true false b h = omega arith
+    go false true b h = h
+    go false false b h = h
+
+curves-after : (o : Open) (es : List Element) → model.curves (es ++ closed o ∷ []) ≡ curvesWith (freeNumber (o .body .free)) (model.curves es)
+curves-after o es =
+    curves-append es (closed o)
+    ∙ one-curve (settled (o .body .free) (o .body)) (o .body .free) (model.curves es) (settled-free (o .body) (o .body .free))
 
 module _ (R : Rooms) (s : List ℕ) (p at : ℕ) (m : Model) (n : model.Names) (f : model.Form) (o : Open) (c : State) (t : Tables) (h : Holds R s (state m n f (some o)) c t p) where
   abbrev x : model.State
@@ -272,7 +281,7 @@ module _ (R : Rooms) (s : List ℕ) (p at : ℕ) (m : Model) (n : model.Names) (
   state-after u v a b =
       record {
         used = used-after u v a b;
-        curves = ap₂ (λ (i j : ℕ). i + cond (eqb j 5) 1 0) (h .state .curves) (h .state .open-body .kind) ∙ sym (curves-after o (m .elements));
+        curves = ap₂ curvesWith (h .state .open-body .kind) (h .state .curves) ∙ sym (curves-after o (m .elements));
         names = h .state .names;
         form = h .state .form;
         open-body = refl;

@@ -10,3 +10,4 @@ pub mod Parameters
 pub mod Loops
 pub mod Ends
 pub mod Inner
+pub mod Ended

@@ -22,12 +22,16 @@ looped k c =
       «open» = record { kind = c .«open» .kind; controls = c .«open» .controls; parts = c .«open» .parts + k; «u_at» = c .«open» .«u_at»; «v_at» = c .«open» .«v_at» };
     }
 
+-- "how many curv2s so far", after the end of a body of that kind
+abbrev pub curvesWith : ℕ → ℕ → ℕ
+curvesWith kind n = cond (eqb kind 5) (n + 1) n
+
 -- end: no body is open, its u and v parameters are used, and a curv2 may be referred to
 abbrev pub closedWith : ℕ → ℕ → State → State
 closedWith u v c =
     record {
       used = record { v = c .used .v; vt = c .used .vt; vn = c .used .vn; vp = c .used .vp; corners = c .used .corners; elements = c .used .elements; bodies = c .used .bodies; parameters = c .used .parameters + (u + v); loops = c .used .loops };
-      curves = c .curves + cond (eqb (c .«open» .kind) 5) 1 0;
+      curves = curvesWith (c .«open» .kind) (c .curves);
       names = c .names;
       form = c .form;
       «open» = noOpen;
@@ -37,11 +41,15 @@ closedWith u v c =
 abbrev pub degreeFor : ℕ → ℕ → ℕ
 degreeFor type n = cond (eqb type 3) 3 n
 
+-- "type ... in force at the element's line": without one no body is opened
+abbrev pub typeFor : ℕ → ℕ
+typeFor type = cond (eqb type 0) 1 type
+
 -- `bodyOf` of model/specs/Parse.antt in numbers: the form of a body of that kind, by what is in force; "a curve's v entries are 0"
 abbrev pub formFor : ℕ → Form → Form
 formFor kind f =
     record {
-      basis = cond (eqb (f .basis) 0) 1 (f .basis);
+      basis = typeFor (f .basis);
       rational = f .rational;
       «degree_u» = degreeFor (f .basis) (f .«degree_u»);
       «degree_v» = cond (eqb kind 6) (degreeFor (f .basis) (f .«degree_v»)) 0;

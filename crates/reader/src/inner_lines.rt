@@ -16,7 +16,7 @@ ghost use Prim.Native.Nat.{_+_, _≤_, _<_};
 ghost use lib.ListN.{length};
 ghost use Rattle.keywords.specs.Arguments.{argumentTable};
 ghost use Rattle.model.specs.Parse.{parm};
-ghost use Rattle.reader.specs.OpenBody.{keeping, looped, closedWith, degreeFor, formFor, countsHold, closable};
+ghost use Rattle.reader.specs.OpenBody.{keeping, looped, curvesWith, closedWith, typeFor, degreeFor, formFor, countsHold, closable};
 ghost use Rattle.reader.specs.Stepping.{quietStep, loopStep, endStep};
 
 // The state with the place of a parm's numbers, which stands for no earlier one of its direction.
@@ -24,12 +24,13 @@ fn keeping(along_v: bool, at: usize, state: State) -> State
     ensures { λ r. ⌜ r ≡ keeping «along_v» at state ⌝ }
 {
     let mut open = state.open;
+    let mut after = state;
     if along_v {
         open.v_at = at;
-    } else {
-        open.u_at = at;
+        after.open = open;
+        return after;
     }
-    let mut after = state;
+    open.u_at = at;
     after.open = open;
     after
 }
@@ -130,20 +131,37 @@ fn degree_for(basis: u32, degree: u32) -> u32
     degree
 }
 
-// The form of a body of that kind, from the one in force; a body has a type, so that 0 says nothing of it.
+// The type's number; a body has a type, so that 0 says nothing of it.
+fn type_for(basis: u32) -> u32
+    ensures { λ r. ⌜ r ≡ typeFor basis ⌝ }
+{
+    if basis == 0 {
+        return 1;
+    }
+    basis
+}
+
+// The form of a body of that kind, from the one in force.
 fn form_of(kind: u32, form: Form) -> Form
     ensures { λ r. ⌜ r ≡ formFor kind form ⌝ }
 {
-    let mut own = form;
-    own.degree_u = degree_for(form.basis, form.degree_u);
-    own.degree_v = 0;
+    let basis = type_for(form.basis);
+    let degree_u = degree_for(form.basis, form.degree_u);
+    let degree_v = degree_for(form.basis, form.degree_v);
     if kind == 6 {
-        own.degree_v = degree_for(form.basis, form.degree_v);
+        return Form {
+            basis: basis,
+            rational: form.rational,
+            degree_u: degree_u,
+            degree_v: degree_v,
+        };
     }
-    if form.basis == 0 {
-        own.basis = 1;
+    Form {
+        basis: basis,
+        rational: form.rational,
+        degree_u: degree_u,
+        degree_v: 0,
     }
-    own
 }
 
 // Whether the state, the text and the tables are such as `close_body` takes.
@@ -167,6 +185,17 @@ fn closable(state: State, text: usize, bodies: usize, ranges: usize) -> bool
     4 * (used.bodies as usize) <= ranges
 }
 
+// How many curv2s there are after the end of a body of that kind.
+fn curves_after(kind: u32, curves: u32) -> u32
+    requires { ⌜ curves + 1 < 4294967296 ⌝ }
+    ensures { λ r. ⌜ r ≡ curvesWith kind curves ⌝ }
+{
+    if kind == 5 {
+        return curves + 1;
+    }
+    curves
+}
+
 // The state after the end of a body with so many parameters along u and v.
 fn closed_with(u: u32, v: u32, state: State) -> State
     requires { ⌜ (state .used .parameters + (u + v) < 4294967296) × (state .curves + 1 < 4294967296) ⌝ }
@@ -175,18 +204,18 @@ fn closed_with(u: u32, v: u32, state: State) -> State
     let mut used = state.used;
     used.parameters = used.parameters + (u + v);
     let open = state.open;
-    let mut after = state;
-    after.used = used;
-    if open.kind == 5 {
-        after.curves = state.curves + 1;
-    }
-    after.open = Open {
+    let curves = curves_after(open.kind, state.curves);
+    let none = Open {
         kind: 0,
         controls: 0,
         parts: 0,
         u_at: 0,
         v_at: 0,
     };
+    let mut after = state;
+    after.used = used;
+    after.curves = curves;
+    after.open = none;
     after
 }
 

@@ -4,22 +4,29 @@ use Rattle.reader.proofs.inner_lines.form_of.Tie as tie
 use Rattle.reader.proofs.inner_lines.form_of.Reads as reads
 use Rattle.reader.proofs.inner_lines.form_of.Lts as lts
 use Rattle.reader.proofs.inner_lines.degree_for.Reads as degree-for-reads
+use Rattle.reader.proofs.inner_lines.type_for.Reads as type-for-reads
 
--- src/inner_lines.rt:138:5
+-- src/inner_lines.rt:148:9
+type-for-requires : tie.Need-type-for-requires
+type-for-requires c κs = search needs
+
+-- src/inner_lines.rt:149:9
 degree-for-requires : tie.Need-degree-for-requires
 degree-for-requires c κs = search needs
 
--- src/inner_lines.rt:141:9
+-- src/inner_lines.rt:150:9
 degree-for-requires-2 : tie.Need-degree-for-requires-2
 degree-for-requires-2 c κs = search needs
 
--- src/inner_lines.rt:134:1
+-- src/inner_lines.rt:152:9
 returns : tie.Need-returns
 returns c = ?
 
--- src/inner_lines.rt:134:1
+-- src/inner_lines.rt:145:1
 returns-2 : tie.Need-returns-2
 returns-2 c = ?
 
 pub form-of-spec : {M : Type 1} → statement M
-form-of-spec = tie.close (tie.spec degree-for-requires degree-for-requires-2 returns returns-2)
+form-of-spec =
+    tie.close
+    (tie.spec type-for-requires degree-for-requires degree-for-requires-2 returns returns-2)

@@ -3,9 +3,13 @@ use Rattle.reader.proofs.inner_lines.keeping.Tie as tie
 use Rattle.reader.proofs.inner_lines.keeping.Reads as reads
 use Rattle.reader.proofs.inner_lines.keeping.Lts as lts
 
--- src/inner_lines.rt:23:1
+-- src/inner_lines.rt:31:9
 returns : tie.Need-returns
 returns c = ?
 
+-- src/inner_lines.rt:23:1
+returns-2 : tie.Need-returns-2
+returns-2 c = ?
+
 pub keeping-spec : {M : Type 1} → statement M
-keeping-spec = tie.close (tie.spec returns)
+keeping-spec = tie.close (tie.spec returns returns-2)

@@ -1,0 +1,20 @@
+use borrow.Author.Needs.{needs}
+use Rattle.reader.proofs.inner_lines.curves_after.Statement.{statement}
+use Rattle.reader.proofs.inner_lines.curves_after.Tie as tie
+use Rattle.reader.proofs.inner_lines.curves_after.Reads as reads
+use Rattle.reader.proofs.inner_lines.curves_after.Lts as lts
+
+-- src/inner_lines.rt:194:16
+add-result : tie.Need-add-result
+add-result c = search needs
+
+-- src/inner_lines.rt:194:9
+returns : tie.Need-returns
+returns c = ?
+
+-- src/inner_lines.rt:189:1
+returns-2 : tie.Need-returns-2
+returns-2 c = ?
+
+pub curves-after-spec : {M : Type 1} → statement M
+curves-after-spec = tie.close (tie.spec add-result returns returns-2)
