@@ -5,7 +5,7 @@ use mathlib.Core.List.{List, [], _∷_}
 use mathlib.Core.Bool.{Bool, true, false, cond}
 use mathlib.Core.Option.{Option, none, some}
 use native.Mathlib.Omega.{arith}
-use borrow.Author.Tests.{le-leb}
+use borrow.Author.Tests.{le-leb, eq-eqb, ne-eqb}
 use lib.ListN.{length}
 use lib.Dec.{eqb, leb, eqb·suc-zero}
 use lib.IntN.{ℤ}
@@ -34,7 +34,7 @@ use Rattle.bodies.specs.declared.closing.Closed.{Closed}
 use Rattle.bodies.specs.declared.closing.Closed.the-variants as closed
 use Rattle.blame.specs.Blame.{parseBefore}
 use Rattle.reader.specs.Stepping.{Began, Left, endStep}
-use Rattle.reader.specs.OpenBody.{closedWith, formFor, countsHold, closable}
+use Rattle.reader.specs.OpenBody.{closedWith, typeFor, degreeFor, formFor, countsHold, closable}
 use Rattle.reader.specs.Holding.{Holds, NextLine, lineSays}
 use Rattle.reader.specs.declared.Step.the-variants.{Taken, Refuses, GaveUp}
 use Rattle.reader.proofs.Steps.{words-within}
@@ -42,6 +42,14 @@ use Rattle.reader.proofs.Given.{given-in}
 use Rattle.reader.proofs.Opened.{left-refused, left-outside}
 use Rattle.reader.proofs.Ends.{used-bodies, bodies-room, ranges-room, bodies-lent, ranges-lent, end-next, end-refused}
 use Rattle.reader.proofs.Inner.{counts-in, counts-there}
+
+-- ---- the form of a body, from its parts
+module _ (k : ℕ) (f : Form) {b u : ℕ} (eb : b ≡ typeFor (f .basis)) (eu : u ≡ degreeFor (f .basis) (f .«degree_u»)) where
+  pub form-surface : {v : ℕ} → v ≡ degreeFor (f .basis) (f .«degree_v») → k ≡ 6 → _≡_ {A = Form} (record { basis = b; rational = f .rational; «degree_u» = u; «degree_v» = v }) (formFor k f)
+  form-surface ev e = rw (eb, eu, ev, eq-eqb k 6 e) refl
+
+  pub form-curve : (k ≡ 6 → ⊥) → _≡_ {A = Form} (record { basis = b; rational = f .rational; «degree_u» = u; «degree_v» = 0 }) (formFor k f)
+  form-curve e = rw (eb, eu, ne-eqb k 6 e) refl
 
 -- ---- no words
 wordless : (a b : Bool) (key : ℕ) (r : Parsed Statement) (y : Statement) → b ≡ false → must a 10 key (must b 5 key r) ≡ fine y → ⊥
@@ -87,6 +95,15 @@ closable-in c text bodies ranges h =
     let v = last _ (c .«open» .«v_at») text (b .0) in
     let u = last (countsHold c) (c .«open» .«u_at») text (v .0) in
     record { counts = u .0; u = u .1; v = v .1; body = b .1; range = r .1 }
+
+-- what `close_body` asks
+pub end-asks : (s : List ℕ) (c : State) (b : List ℕ) (y : List ℤ) → closable c (length s) (length b) (length y) ≡ true → length s ≤ 16777216
+    → ((c .«open» .«u_at» ≤ length s) × (length s ≤ 16777216))
+    × (((c .«open» .«v_at» ≤ length s) × (length s ≤ 16777216)) × ((1 ≤ c .used .bodies) × (9 * c .used .bodies ≤ length b) × (4 * c .used .bodies ≤ length y) × (c .«open» .parts ≤ c .used .loops)))
+end-asks s c b y h small =
+    let k = closable-in c (length s) (length b) (length y) h in
+    let n = counts-in c (k .counts) in
+    ((k .u, small), ((k .v, small), (n .bodies, k .body, k .range, n .parts)))
 
 module _ (R : Rooms) (s : List ℕ) (p at : ℕ) (m : Model) (n : model.Names) (f : model.Form) (o : model.Open) (c : State) (t : Tables) (h : Holds R s (state m n f (some o)) c t p) (small : p ≤ 16777216) where
   closable-there : closable c (length s) (length (t .bodies)) (length (t .ranges)) ≡ true

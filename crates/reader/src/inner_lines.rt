@@ -242,7 +242,16 @@ pub fn end_line(
         Met::Bad(_) => Step::GaveUp,
         Met::End(next) => {
             let form = form_of(open.kind, state.form);
-            match close_body(text, text, form, open, state.used, bodies, ranges, parameters) {
+            match close_body(
+                text,
+                text,
+                form,
+                open,
+                state.used,
+                bodies,
+                ranges,
+                parameters,
+            ) {
                 Closed::Refused(n) => Step::Refuses(n),
                 Closed::Closed { u, v } => Step::Taken {
                     state: closed_with(u, v, state),

@@ -1,5 +1,6 @@
 // Reading a text into lent tables.
 pub mod inner_lines; // parm, trim, hole, end
+
 use state::State;
 use tables::Used;
 use vertices::Kind;

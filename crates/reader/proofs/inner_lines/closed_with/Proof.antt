@@ -1,3 +1,5 @@
+-- By the count of curv2s.
+use mathlib.Core.Path.{refl}
 use borrow.Author.Needs.{needs}
 use Rattle.reader.proofs.inner_lines.closed_with.Statement.{statement}
 use Rattle.reader.proofs.inner_lines.closed_with.Tie as tie
@@ -19,7 +21,7 @@ curves-after-requires c κs = search needs
 
 -- src/inner_lines.rt:200:1
 returns : tie.Need-returns
-returns c = ?
+returns c = rw (c .curves-after .ensures) refl
 
 pub closed-with-spec : {M : Type 1} → statement M
 closed-with-spec = tie.close (tie.spec add-used add-used-2 curves-after-requires returns)
