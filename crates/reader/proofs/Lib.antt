@@ -16,3 +16,6 @@ pub mod Quiet
 pub mod Blamed
 pub mod Sorted
 pub mod Whole
+pub mod Ends
+pub mod Inner
+pub mod Ended

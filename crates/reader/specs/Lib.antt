@@ -3,3 +3,4 @@ pub mod Stepping
 pub mod Counting
 pub mod Holding
 pub mod Taking
+pub mod OpenBody
