@@ -7,13 +7,38 @@ use lib.ListN.{length, take, drop}
 use lib.IntN.{pos}
 use Rattle.tables.specs.Asking.{elementOf}
 use Rattle.tables.specs.declared.Used.{Used}
+use Rattle.reader.specs.declared.Reading.{Reading}
+use Rattle.reader.specs.declared.Reading.the-variants as reading
 use Rattle.sampler.specs.declared.Sampled.{Sampled}
 use Rattle.sampler.specs.declared.Sampled.the-variants as sampled
 use Rattle.sampler.specs.declared.Ran.{Ran}
 use Rattle.sampler.specs.declared.Ran.the-variants as ran
+use Rattle.boundary.specs.declared.ReadAnswer.{ReadAnswer}
 use Rattle.boundary.specs.declared.Point.{Point}
 use Rattle.boundary.specs.declared.Run.{Run}
 use Rattle.boundary.specs.declared.Part.{Part}
+
+abbrev pub noneUsed : Used
+noneUsed =
+    record {
+      v = 0;
+      vt = 0;
+      vn = 0;
+      vp = 0;
+      corners = 0;
+      elements = 0;
+      bodies = 0;
+      parameters = 0;
+      loops = 0;
+    }
+
+abbrev pub readAnswer : ℕ → ℕ → Used → ReadAnswer
+readAnswer refusal place used = record { refusal = refusal; place = place; used = used }
+
+-- "A refusal zeroes every lent table and every count."
+abbrev pub readIn : Reading → ReadAnswer
+readIn (reading.Read used) = readAnswer 0 0 used
+readIn (reading.Refused n p) = readAnswer n p noneUsed
 
 -- "surf and curv give x y z, curv2 u v": so many axes, and zeros for what is not given
 abbrev pub pointIn : Sampled → Point

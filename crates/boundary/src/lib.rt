@@ -4,11 +4,21 @@ ghost use lib.ListN.{length};
 ghost use Rattle.tables.specs.Tables.{tables};
 ghost use Rattle.tables.specs.Asking.{cornerOf, groupOf, materialOf};
 ghost use Rattle.sampler.specs.Answers.{pointOnCurve, pointOnSurface, runOnCurve, pointsAfter};
-ghost use Rattle.boundary.specs.Answers.{pointIn, runIn, partIn, groupIn, materialIn, bytesIn};
+ghost use Rattle.reader.specs.Reading.{readInto};
+ghost use Rattle.boundary.specs.Answers.{noneUsed, readIn, pointIn, runIn, partIn, groupIn, materialIn, bytesIn};
+use reader::Reading;
 use sampler::Ran;
 use sampler::Sampled;
 use tables::Corner;
 use tables::Used;
+
+// What reading comes to: the used counts, or a refusal at a place where `refusal` is not 0.
+#[repr(C)]
+pub struct ReadAnswer {
+    pub refusal: u32,
+    pub place: usize,
+    pub used: Used,
+}
 
 // Three axes are x, y, z; two are u, v, in x and y. Refused where `refusal` is not 0.
 #[repr(C)]
@@ -32,6 +42,39 @@ pub struct Run {
 pub struct Part {
     pub place: usize,
     pub length: usize,
+}
+
+fn nothing_used() -> Used
+    ensures { λ r. ⌜ r ≡ noneUsed ⌝ }
+{
+    Used {
+        v: 0,
+        vt: 0,
+        vn: 0,
+        vp: 0,
+        corners: 0,
+        elements: 0,
+        bodies: 0,
+        parameters: 0,
+        loops: 0,
+    }
+}
+
+fn read_of(answer: Reading) -> ReadAnswer
+    ensures { λ r. ⌜ r ≡ readIn answer ⌝ }
+{
+    match answer {
+        Reading::Read(used) => ReadAnswer {
+            refusal: 0,
+            place: 0,
+            used: used,
+        },
+        Reading::Refused { number, place } => ReadAnswer {
+            refusal: number,
+            place: place,
+            used: nothing_used(),
+        },
+    }
 }
 
 fn point_of(answer: Sampled) -> Point
@@ -92,6 +135,40 @@ fn part_of(text: &[u8], place: u32, count: u32) -> Part
         place: 0,
         length: 0,
     }
+}
+
+// Reads a text into the lent tables.
+#[no_mangle]
+pub extern "C" fn kuhlabires_read(
+    text: &[u8],
+    v: &mut [i32],
+    vt: &mut [i32],
+    vn: &mut [i32],
+    vp: &mut [i32],
+    corners: &mut [u32],
+    elements: &mut [u32],
+    bodies: &mut [u32],
+    ranges: &mut [i32],
+    parameters: &mut [i32],
+    loops: &mut [u32],
+    spans: &mut [i32],
+) -> ReadAnswer
+    ensures { λ r. ⌜ (r ≡ readIn (readInto (now (text .entry)) (tables (now (v .entry)) (now (vt .entry)) (now (vn .entry)) (now (vp .entry)) (now (corners .entry)) (now (elements .entry)) (now (bodies .entry)) (now (ranges .entry)) (now (parameters .entry)) (now (loops .entry)) (now (spans .entry))) .answer)) × ((tables (now (v .exit)) (now (vt .exit)) (now (vn .exit)) (now (vp .exit)) (now (corners .exit)) (now (elements .exit)) (now (bodies .exit)) (now (ranges .exit)) (now (parameters .exit)) (now (loops .exit)) (now (spans .exit))) ≡ readInto (now (text .entry)) (tables (now (v .entry)) (now (vt .entry)) (now (vn .entry)) (now (vp .entry)) (now (corners .entry)) (now (elements .entry)) (now (bodies .entry)) (now (ranges .entry)) (now (parameters .entry)) (now (loops .entry)) (now (spans .entry))) .tables) ⌝ }
+{
+    read_of(reader::read(
+        text,
+        v,
+        vt,
+        vn,
+        vp,
+        corners,
+        elements,
+        bodies,
+        ranges,
+        parameters,
+        loops,
+        spans,
+    ))
 }
 
 // Corner `k`, counted from 0, of the element of that number, counted from 1; three zeros for no such corner.
