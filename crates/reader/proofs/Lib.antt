@@ -5,6 +5,10 @@ pub mod Vertices
 pub mod Given
 pub mod Stepped
 pub mod Elements
+pub mod Bodies
+pub mod Counts
+pub mod SteppedElements
+pub mod SteppedBodies
 pub mod Settings
 pub mod Parameters
 pub mod Loops

@@ -1,4 +1,7 @@
 // Reading a text into lent tables.
+mod body_lines;
+mod element_lines;
+
 use state::State;
 use tables::Used;
 use vertices::Kind;
