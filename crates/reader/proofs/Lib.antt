@@ -8,6 +8,7 @@ pub mod Elements
 pub mod Settings
 pub mod Parameters
 pub mod Loops
+pub mod Settled
 pub mod Ends
 pub mod Inner
 pub mod Ended
