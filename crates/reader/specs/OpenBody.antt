@@ -22,7 +22,7 @@ looped k c =
       «open» = record { kind = c .«open» .kind; controls = c .«open» .controls; parts = c .«open» .parts + k; «u_at» = c .«open» .«u_at»; «v_at» = c .«open» .«v_at» };
     }
 
--- "how many curv2s so far", after the end of a body of that kind
+-- how many curv2s there are after the end of a body of that kind: a trim counts those before it
 abbrev pub curvesWith : ℕ → ℕ → ℕ
 curvesWith kind n = cond (eqb kind 5) (n + 1) n
 
@@ -41,7 +41,7 @@ closedWith u v c =
 abbrev pub degreeFor : ℕ → ℕ → ℕ
 degreeFor type n = cond (eqb type 3) 3 n
 
--- "type ... in force at the element's line": without one no body is opened
+-- "Type and degree are those in force at the element's line": 0 is none, and without a type no body is opened
 abbrev pub typeFor : ℕ → ℕ
 typeFor type = cond (eqb type 0) 1 type
 
