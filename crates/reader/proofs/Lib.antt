@@ -12,3 +12,7 @@ pub mod SteppedBodies
 pub mod Settings
 pub mod Parameters
 pub mod Loops
+pub mod Settled
+pub mod Ends
+pub mod Inner
+pub mod Ended

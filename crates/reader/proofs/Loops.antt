@@ -34,32 +34,22 @@ use Rattle.state.proofs.Rooms.{Within, fits-parts, parts-fit}
 use Rattle.model.proofs.Parsed.{fine-is}
 use Rattle.bodies.specs.Loops.{parts, partsAt, LoopLine, LoopTaken, LoopLeft}
 use Rattle.bodies.proofs.Says.{loopWord, loop-says, loop-only}
+use Rattle.reader.specs.OpenBody.{looped}
 use Rattle.reader.specs.Holding.{Opened, Holds, NextLine, lineSays}
 use Rattle.reader.proofs.Steps.{line-fine, line-roomless, line-bounded, next-is}
-
--- so many loop parts more
-abbrev pub looped : ℕ → State → State
-looped k c =
-    record {
-      used = record { v = c .used .v; vt = c .used .vt; vn = c .used .vn; vp = c .used .vp; corners = c .used .corners; elements = c .used .elements; bodies = c .used .bodies; parameters = c .used .parameters; loops = c .used .loops + k };
-      curves = c .curves;
-      names = c .names;
-      form = c .form;
-      «open» = record { kind = c .«open» .kind; controls = c .«open» .controls; parts = c .«open» .parts + k; «u_at» = c .«open» .«u_at»; «v_at» = c .«open» .«v_at» };
-    }
 
 module _ (R : Rooms) (s : List ℕ) (p at : ℕ) (m : Model) (n : model.Names) (f : model.Form) (o : Open) (c : State) (t : Tables) (h : Holds R s (state m n f (some o)) c t p) where
   abbrev x : model.State
   x = state m n f (some o)
 
   -- the parts before the line, counted in bodies and in elements
-  abbrev before : ℕ
+  abbrev pub before : ℕ
   before = summed partCount (bodiesOf (m .elements)) + partCount (o .body)
 
   before-is : loopPartCount x ≡ before
   before-is = ap (λ (i : ℕ). i + partCount (o .body)) (sym (bodies-summed partCount (m .elements)))
 
-  used-loops : c .used .loops ≡ before
+  pub used-loops : c .used .loops ≡ before
   used-loops = ap (λ (u : Used). u .loops) (h .state .used) ∙ before-is
 
   all-parts : summed partCount (bodiesOf (m .elements) ++ o .body ∷ []) ≡ before

@@ -23,13 +23,9 @@ use Rattle.state.proofs.Images.{state, parameters-image}
 use Rattle.bodies.specs.Numbers.{numbersAt}
 use Rattle.bodies.specs.Parm.{along, ParmTaken}
 use Rattle.bodies.proofs.Says.{parm-says}
+use Rattle.reader.specs.OpenBody.{keeping}
 use Rattle.reader.specs.Holding.{Opened, Holds, NextLine}
 use Rattle.reader.proofs.Steps.{line-fine, line-bounded, next-is}
-
--- the numbers of that direction's last parm start at n
-abbrev pub keeping : Bool → ℕ → State → State
-keeping false n c = record { used = c .used; curves = c .curves; names = c .names; form = c .form; «open» = record { kind = c .«open» .kind; controls = c .«open» .controls; parts = c .«open» .parts; «u_at» = n; «v_at» = c .«open» .«v_at» } }
-keeping true n c = record { used = c .used; curves = c .curves; names = c .names; form = c .form; «open» = record { kind = c .«open» .kind; controls = c .«open» .controls; parts = c .«open» .parts; «u_at» = c .«open» .«u_at»; «v_at» = n } }
 
 module _ (R : Rooms) (s : List ℕ) (p at : ℕ) (m : Model) (n : model.Names) (f : model.Form) (o : Open) (c : State) (t : Tables) where
   abbrev x : model.State

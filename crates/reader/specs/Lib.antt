@@ -2,3 +2,4 @@ pub mod Reading
 pub mod Stepping
 pub mod Counting
 pub mod Holding
+pub mod OpenBody

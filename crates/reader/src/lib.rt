@@ -1,6 +1,7 @@
 // Reading a text into lent tables.
 mod body_lines;
 mod element_lines;
+pub mod inner_lines; // parm, trim, hole, end
 
 use state::State;
 use tables::Used;
