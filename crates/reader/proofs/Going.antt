@@ -34,20 +34,11 @@ use Rattle.reader.specs.Holding.{Opened, opened, Holds, lineSays, NextLi
 use Rattle.reader.proofs.Opened.{no-body, some-body}
 use Rattle.reader.specs.declared.Reading.{Reading}
 use Rattle.reader.specs.declared.Reading.the-variants.{Read, Refused}
+use Rattle.reader.specs.Taking.{begin}
 use Rattle.reader.specs.declared.Line.{Line}
 use Rattle.reader.specs.declared.Line.the-variants.{Next, Stopped}
 
 -- ---- at the start
-abbrev pub begin : State
-begin =
-    record {
-      used = record { v = 0; vt = 0; vn = 0; vp = 0; corners = 0; elements = 0; bodies = 0; parameters = 0; loops = 0 };
-      curves = 0;
-      names = record { «group_place» = 0; «group_length» = 0; «material_place» = 0; «material_length» = 0; smoothing = 0 };
-      form = record { basis = 0; rational = 0; «degree_u» = 0; «degree_v» = 0 };
-      «open» = record { kind = 0; controls = 0; parts = 0; «u_at» = 0; «v_at» = 0 };
-    }
-
 pub begins : (R : Rooms) (s : List ℕ) → Holds R s start begin (tablesOf R nothing) 0
 unfolding imageOf tablesOf
 begins R s =
@@ -86,8 +77,9 @@ on R s at x h =
 module _ (R : Rooms) (s : List ℕ) (c : State) (t : Tables) (at : ℕ) (go : Going R s c t at) (h : at < length s) where
   pub going-on : (u : Tables) (d : State) (q : ℕ) → lineIs s at c t u (Next d q) → (Going R s d u q) × (at < q)
   going-on u d q l =
-      let n = l .1 R (go .now) (go .holds) in
-      let e : q ≡ (restAt s at) .next = l .0 in
+      let m = l R (go .now) (go .holds) in
+      let n = m .0 in
+      let e : q ≡ (restAt s at) .next = m .1 in
       let a = next-ahead s at h in
       let b = next-to s at (let g : at ≤ length s = omega arith in g) in
       let f : readLines R (length s) (linesAt s at) (go .now) ≡ readLines R (length s) (linesAt s q) (n .after) =

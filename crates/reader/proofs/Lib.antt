@@ -13,6 +13,10 @@ pub mod Settings
 pub mod Parameters
 pub mod Loops
 pub mod Settled
+pub mod Quiet
+pub mod Blamed
+pub mod Sorted
+pub mod Whole
 pub mod Ends
 pub mod Inner
 pub mod Ended

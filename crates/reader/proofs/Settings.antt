@@ -28,6 +28,7 @@ use Rattle.settings.proofs.Parses.{type-parse, degree-parse, smoothing-parse, m
 use Rattle.settings.specs.declared.TakenForm.the-variants as form-answer
 use Rattle.settings.specs.declared.TakenNames.the-variants as names-answer
 use Rattle.reader.specs.Holding.{opened, Holds, NextLine}
+use Rattle.reader.specs.Taking.{withForm, withNames}
 use Rattle.reader.proofs.Steps.{line-fine, line-bounded, next-is}
 
 -- the statements that change what is in force alone
@@ -44,13 +45,6 @@ quiet (parameters d z) = ⊥
 quiet (loop l) = ⊥
 quiet end = ⊥
 quiet passed = Unit {0}
-
--- the state after one
-abbrev pub withForm : Form → State → State
-withForm f c = record { used = c .used; curves = c .curves; names = c .names; form = f; «open» = c .«open» }
-
-abbrev pub withNames : Names → State → State
-withNames n c = record { used = c .used; curves = c .curves; names = n; form = c .form; «open» = c .«open» }
 
 module _ (R : Rooms) (t : List ℕ) (p at : ℕ) (m : Model) (n : model.Names) (f : model.Form) (c : State) (u : Tables) where
   abbrev x : model.State

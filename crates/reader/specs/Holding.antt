@@ -56,5 +56,5 @@ pub record NextLine (R : Rooms) (s : List ℕ) (at : ℕ) (x : model.State) (c :
 
 -- what the code finds in the line at `at`, in the state c with the tables t, which it leaves as u
 abbrev pub lineIs : List ℕ → ℕ → State → Tables → Tables → Line → Type 0
-lineIs s at c t u (Next d q) = (q ≡ (restAt s at) .next) × ((R : Rooms) (x : model.State) → Holds R s x c t at → NextLine R s at x d u q)
+lineIs s at c t u (Next d q) = (R : Rooms) (x : model.State) → Holds R s x c t at → NextLine R s at x d u q × (q ≡ (restAt s at) .next)
 lineIs s at c t u (Stopped n p) = (R : Rooms) (x : model.State) → Holds R s x c t at → lineSays R s at x ≡ fault n p

@@ -1,16 +1,24 @@
 // Reading a text into lent tables.
-mod body_lines;
-mod element_lines;
-pub mod inner_lines; // parm, trim, hole, end
+mod element_lines; // p, l, f
+mod body_lines; // curv, curv2, surf
+mod inner_lines; // parm, trim, hole, end
+mod setting_lines; // cstype, deg, g, s, usemtl and what is passed over
+mod families; // statements by the tables they fill
+mod taking; // a line's function by its family
+mod line_by_line; // the loop over lines
 
+use crate::line_by_line::read_lines;
 use state::State;
 use tables::Used;
+use tables::storing::clear;
 use vertices::Kind;
 use vertices::Vertex;
 ghost use mathlib.Core.Path.{_≡_};
 ghost use Prim.Native.Nat.{_+_, _≤_, _<_};
 ghost use lib.ListN.{length};
+ghost use Rattle.tables.specs.Tables.{tables};
 ghost use Rattle.vertices.specs.Vertex.{kindOf};
+ghost use Rattle.reader.specs.Reading.{result, readInto};
 ghost use Rattle.reader.specs.Stepping.{countIn, counted, withUsed, vertexStep};
 
 // What a text comes to: how many records of each kind were read, or a refusal.
@@ -92,4 +100,60 @@ fn vertex_line(kind: Kind, text: &[u8], at: usize, state: State, table: &mut [i3
             next: next,
         },
     }
+}
+
+// Reads a text into the lent tables: 01's rules decide what they hold and what is refused.
+pub fn read(
+    text: &[u8],
+    v: &mut [i32],
+    vt: &mut [i32],
+    vn: &mut [i32],
+    vp: &mut [i32],
+    corners: &mut [u32],
+    elements: &mut [u32],
+    bodies: &mut [u32],
+    ranges: &mut [i32],
+    parameters: &mut [i32],
+    loops: &mut [u32],
+    spans: &mut [i32],
+) -> Reading
+    ensures { λ r. ⌜ result r (tables (now (v .exit)) (now (vt .exit)) (now (vn .exit)) (now (vp .exit)) (now (corners .exit)) (now (elements .exit)) (now (bodies .exit)) (now (ranges .exit)) (now (parameters .exit)) (now (loops .exit)) (now (spans .exit))) ≡ readInto (now (text .entry)) (tables (now (v .entry)) (now (vt .entry)) (now (vn .entry)) (now (vp .entry)) (now (corners .entry)) (now (elements .entry)) (now (bodies .entry)) (now (ranges .entry)) (now (parameters .entry)) (now (loops .entry)) (now (spans .entry))) ⌝ }
+{
+    clear(
+        v,
+        vt,
+        vn,
+        vp,
+        corners,
+        elements,
+        bodies,
+        ranges,
+        parameters,
+        loops,
+        spans,
+    );
+    if 16_777_216 < text.len() {
+        return Reading::Refused {
+            number: 1,
+            place: 0,
+        };
+    }
+    let keyword_table = keywords::keyword_table();
+    let argument_table = keywords::argument_table();
+    read_lines(
+        text,
+        v,
+        vt,
+        vn,
+        vp,
+        corners,
+        elements,
+        bodies,
+        ranges,
+        parameters,
+        loops,
+        spans,
+        &keyword_table,
+        &argument_table,
+    )
 }
