@@ -8,6 +8,7 @@ ghost use Rattle.tables.specs.Asking.{held, elementOf, cornerWith, corne
 pub mod storing;
 
 // Records, but for the corners, which count numbers.
+#[repr(C)]
 pub struct Used {
     pub v: u32,
     pub vt: u32,
@@ -34,6 +35,7 @@ pub struct Element {
 }
 
 // A corner's references, each counted from 1; 0 for none.
+#[repr(C)]
 pub struct Corner {
     pub v: u32,
     pub vt: u32,
