@@ -21,10 +21,10 @@ use Rattle.blame.specs.Blame.{blameOf, parseBefore, faultBefore, GivenIn, Blame
 use Rattle.blame.proofs.Before.{before-fault}
 use Rattle.reader.specs.declared.Line.{Line}
 use Rattle.reader.specs.declared.Line.the-variants.{Next, Stopped}
-use Rattle.reader.specs.Holding.{Holds, lineSays}
-use Rattle.reader.specs.Stepping.{Began, Left}
+use Rattle.lines.specs.Holding.{Holds, lineSays}
+use Rattle.lines.specs.Stepping.{Began, Left}
 use Rattle.reader.specs.Taking.{stoppedBy}
-use Rattle.reader.proofs.Steps.{line-fault}
+use Rattle.lines.proofs.Steps.{line-fault}
 
 -- the line at p is refused as the code says
 abbrev pub stops : Rooms → List ℕ → ℕ → model.State → Line → Type 0

@@ -30,11 +30,11 @@ use Rattle.state.proofs.Images.{Wide}
 use Rattle.state.proofs.Bounds.{Bounded}
 use Rattle.state.proofs.Rooms.{Within, parts-fit}
 use Rattle.reader.specs.Reading.{Result, result, roomsOf, answered, readInto}
-use Rattle.reader.specs.Holding.{Opened, opened, Holds, lineSays, NextLine, lineIs}
-use Rattle.reader.proofs.Opened.{no-body, some-body}
+use Rattle.lines.specs.Holding.{Opened, opened, Holds, lineSays, NextLine}
+use Rattle.lines.proofs.Opened.{no-body, some-body}
 use Rattle.reader.specs.declared.Reading.{Reading}
 use Rattle.reader.specs.declared.Reading.the-variants.{Read, Refused}
-use Rattle.reader.specs.Taking.{begin}
+use Rattle.reader.specs.Taking.{lineIs, begin}
 use Rattle.reader.specs.declared.Line.{Line}
 use Rattle.reader.specs.declared.Line.the-variants.{Next, Stopped}
 

@@ -32,12 +32,12 @@ use Rattle.blame.specs.Blame.{BlameIs}
 use Rattle.reader.specs.declared.families.Family.{Family}
 use Rattle.reader.specs.declared.Line as lines
 use Rattle.reader.specs.declared.Line.the-variants.{Next, Stopped}
-use Rattle.reader.specs.declared.Step.{Step}
-use Rattle.reader.specs.declared.Step.the-variants.{Taken, Refuses, GaveUp}
-use Rattle.reader.specs.Holding.{Holds, NextLine, lineSays, lineIs}
-use Rattle.reader.specs.Stepping.{Began, stepIs, vertexStep}
-use Rattle.reader.specs.Taking.{familyOf, familyIs, withVertices, verticesIs, stoppedBy}
-use Rattle.reader.proofs.Given.{given-in}
+use Rattle.lines.specs.declared.Step.{Step}
+use Rattle.lines.specs.declared.Step.the-variants.{Taken, Refuses, GaveUp}
+use Rattle.lines.specs.Holding.{Holds, NextLine, lineSays}
+use Rattle.lines.specs.Stepping.{Began, stepIs, vertexStep}
+use Rattle.reader.specs.Taking.{lineIs, familyOf, familyIs, withVertices, verticesIs, stoppedBy}
+use Rattle.lines.proofs.Given.{given-in}
 use Rattle.reader.proofs.Blamed.{stops, blamed, unknown-blamed}
 
 -- ---- a statement by its family: the step of its keyword, or given up

@@ -22,8 +22,7 @@ use Rattle.reader.specs.declared.Line.the-variants.{Next, Stopped}
 use Rattle.reader.specs.declared.Reading.{Reading}
 use Rattle.reader.specs.declared.Reading.the-variants.{Read, Refused}
 use Rattle.reader.specs.Reading.{Result, result, roomsOf, answered, readInto}
-use Rattle.reader.specs.Holding.{lineIs}
-use Rattle.reader.specs.Taking.{begin, Blank, linesRead, linesIs}
+use Rattle.reader.specs.Taking.{lineIs, begin, Blank, linesRead, linesIs}
 use Rattle.reader.proofs.Going.{Going, going-start, going-on, going-stops, going-read, going-open, read-short, read-long}
 
 -- ---- the loop

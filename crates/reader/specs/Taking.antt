@@ -6,18 +6,17 @@ use mathlib.Core.List.{List}
 use lib.ListN.{length}
 use lib.IntN.{ℤ}
 use Rattle.text.specs.Lines.{linesAt}
+use Rattle.text.specs.Rest.{restAt}
 use Rattle.tables.specs.Tables.{Tables}
 use Rattle.keywords.specs.declared.Statement.{Statement}
 use Rattle.keywords.specs.declared.Statement.the-variants as statement
-use Rattle.model.specs.Parse as parse
-use Rattle.model.specs.Parse.{Keyword, a-vertex, an-element, a-body, parm, ends}
+use Rattle.model.specs.Parse.{fault, a-vertex, an-element, a-body, parm, ends}
+use Rattle.model.specs.Model as model
 use Rattle.model.specs.Model.{VertexKind, start}
 use Rattle.model.specs.Room.{Rooms}
 use Rattle.model.specs.Read.{refused, readLines}
 use Rattle.model.specs.Layout.{tablesOf, nothing}
 use Rattle.state.specs.declared.State.{State}
-use Rattle.state.specs.declared.Form.{Form}
-use Rattle.state.specs.declared.Names.{Names}
 use Rattle.vertices.specs.Vertex.{kindOf}
 use Rattle.vertices.specs.declared.Kind.the-variants.{Geometric, Texture, Normal, Parametric}
 use Rattle.elements.specs.Elements.{shapeOf}
@@ -25,47 +24,22 @@ use Rattle.elements.specs.declared.Shape.the-variants.{Point, Line, Face}
 use Rattle.elements.specs.Bodies.{freeOf}
 use Rattle.elements.specs.declared.body.Free.the-variants.{Curve, Curve2, Surface}
 use Rattle.bodies.proofs.Says.{loopWord}
-use Rattle.settings.specs.declared.TakenForm.{TakenForm}
-use Rattle.settings.specs.declared.TakenForm.the-variants as form
-use Rattle.settings.specs.declared.TakenNames.{TakenNames}
-use Rattle.settings.specs.declared.TakenNames.the-variants as names
 use Rattle.blame.specs.declared.Refusal.{Refusal}
 use Rattle.blame.specs.declared.Refusal.the-variants as refusal
-use Rattle.reader.specs.declared.setting_lines.Setting.{Setting}
-use Rattle.reader.specs.declared.setting_lines.Setting.the-variants.{BodyType, Degree, Group, Smoothing, Material, PassedOver}
+use Rattle.lines.specs.declared.setting_lines.Setting.{Setting}
+use Rattle.lines.specs.declared.setting_lines.Setting.the-variants.{BodyType, Degree, Group, Smoothing, Material, PassedOver}
 use Rattle.reader.specs.declared.families.Family.{Family}
 use Rattle.reader.specs.declared.families.Family.the-variants.{Vertex, Element, Body, Parameters, Loop, End, Set, Other}
 use Rattle.reader.specs.declared.Line as lines
-use Rattle.reader.specs.declared.Line.the-variants.{Stopped}
-use Rattle.reader.specs.declared.Step.{Step}
-use Rattle.reader.specs.declared.Step.the-variants.{Taken, GaveUp}
+use Rattle.reader.specs.declared.Line.the-variants.{Next, Stopped}
+use Rattle.lines.specs.declared.Step.{Step}
+use Rattle.lines.specs.declared.Step.the-variants.{GaveUp}
 use Rattle.reader.specs.declared.Reading.{Reading}
 use Rattle.reader.specs.declared.Reading.the-variants.{Read, Refused}
 use Rattle.reader.specs.Reading.{Result, roomsOf, result, answered}
-use Rattle.reader.specs.Stepping.{stepIs}
-
--- ---- a line that changes what is in force
-abbrev pub withForm : Form → State → State
-withForm f c = record { used = c .used; curves = c .curves; names = c .names; form = f; «open» = c .«open» }
-
-abbrev pub withNames : Names → State → State
-withNames n c = record { used = c .used; curves = c .curves; names = n; form = c .form; «open» = c .«open» }
-
-abbrev pub formStep : State → TakenForm → Step
-formStep c (form.Taken f q) = Taken (withForm f c) q
-formStep c form.GaveUp = GaveUp
-
-abbrev pub namesStep : State → TakenNames → Step
-namesStep c (names.Taken n q) = Taken (withNames n c) q
-namesStep c names.GaveUp = GaveUp
-
-abbrev pub settingOf : Setting → Keyword
-settingOf BodyType = parse.cstype
-settingOf Degree = parse.deg
-settingOf Group = parse.g
-settingOf Smoothing = parse.s
-settingOf Material = parse.usemtl
-settingOf PassedOver = parse.over
+use Rattle.lines.specs.Holding.{Holds, lineSays, NextLine}
+use Rattle.lines.specs.InForce.{settingOf}
+use Rattle.lines.specs.Stepping.{stepIs}
 
 -- ---- statements by the tables that their lines fill
 abbrev pub familyOf : Statement → Family
@@ -110,7 +84,13 @@ withVertices v vt vn vp t = record { v = v; vt = vt; vn = vn; vp = vp; corners =
 abbrev pub verticesIs : VertexKind → List ℕ → ℕ → State → List ℤ → List ℤ → List ℤ → List ℤ → List ℤ → List ℤ → List ℤ → List ℤ → Step → Type 0
 verticesIs k s at c v vt vn vp v′ vt′ vn′ vp′ r = (t : Tables) → stepIs s at (a-vertex k) c (withVertices v vt vn vp t) (withVertices v′ vt′ vn′ vp′ t) r
 
--- ---- a line that was given up: what was found wrong with it, or 14 at its keyword
+-- ---- a line
+-- what the code finds in the line at `at`, in the state c with the tables t, which it leaves as u
+abbrev pub lineIs : List ℕ → ℕ → State → Tables → Tables → lines.Line → Type 0
+lineIs s at c t u (Next d q) = (R : Rooms) (x : model.State) → Holds R s x c t at → NextLine R s at x d u q × (q ≡ (restAt s at) .next)
+lineIs s at c t u (Stopped n p) = (R : Rooms) (x : model.State) → Holds R s x c t at → lineSays R s at x ≡ fault n p
+
+-- one that was given up: what was found wrong with it, or 14 at its keyword
 abbrev pub stoppedBy : ℕ → Refusal → lines.Line
 stoppedBy key (refusal.Refused n p) = Stopped n p
 stoppedBy key refusal.Nothing = Stopped 14 key

@@ -1,8 +1,8 @@
 // Statements by the tables that their lines fill.
-use crate::setting_lines::Setting;
 use elements::Shape;
 use elements::body::Free;
 use keywords::Statement;
+use lines::setting_lines::Setting;
 use vertices::Kind;
 ghost use mathlib.Core.Path.{_≡_};
 ghost use Rattle.reader.specs.Taking.{familyOf};

@@ -1,10 +1,10 @@
 // A text's lines, one after the other.
 use crate::Line;
 use crate::Reading;
-use crate::Step;
 use crate::families::family_of;
 use crate::taking::take_line;
 use blame::Refusal;
+use lines::Step;
 use state::Form;
 use state::Names;
 use state::Open;
@@ -19,8 +19,7 @@ ghost use Rattle.keywords.specs.Keywords.{keywordTable};
 ghost use Rattle.keywords.specs.Arguments.{argumentTable};
 ghost use Rattle.tables.specs.Tables.{tables};
 ghost use Rattle.reader.specs.Reading.{roomsOf, result};
-ghost use Rattle.reader.specs.Holding.{lineIs};
-ghost use Rattle.reader.specs.Taking.{stoppedBy, begin, Blank, linesRead, linesIs};
+ghost use Rattle.reader.specs.Taking.{lineIs, stoppedBy, begin, Blank, linesRead, linesIs};
 
 // 14 where nothing is wrong with the line itself.
 fn stopped(key: usize, refusal: Refusal) -> Line

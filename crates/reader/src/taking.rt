@@ -1,13 +1,13 @@
 // A line's function by the family of its statement, lent the tables that it fills.
-use crate::Step;
-use crate::body_lines::body_line;
-use crate::element_lines::element_line;
 use crate::families::Family;
-use crate::inner_lines::end_line;
-use crate::inner_lines::loop_line;
-use crate::inner_lines::parm_line;
-use crate::setting_lines::setting_line;
-use crate::vertex_line;
+use lines::Step;
+use lines::body_lines::body_line;
+use lines::element_lines::element_line;
+use lines::inner_lines::end_line;
+use lines::inner_lines::loop_line;
+use lines::inner_lines::parm_line;
+use lines::setting_lines::setting_line;
+use lines::vertex_line;
 use state::State;
 use vertices::Kind;
 ghost use mathlib.Core.Path.{_≡_};
@@ -17,7 +17,7 @@ ghost use Rattle.keywords.specs.Arguments.{argumentTable};
 ghost use Rattle.tables.specs.Tables.{Tables, tables};
 ghost use Rattle.model.specs.Parse.{a-vertex};
 ghost use Rattle.vertices.specs.Vertex.{kindOf};
-ghost use Rattle.reader.specs.Stepping.{stepIs};
+ghost use Rattle.lines.specs.Stepping.{stepIs};
 ghost use Rattle.reader.specs.Taking.{familyIs, verticesIs};
 
 fn vertex_family(

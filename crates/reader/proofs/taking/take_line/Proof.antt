@@ -4,19 +4,19 @@ use denote.Ref.{now}
 use Rattle.tables.specs.Tables.{tables}
 use Rattle.state.proofs.Images.{withElement, withRange, withLoops, withBody}
 use Rattle.reader.specs.Taking.{withVertices}
-use Rattle.reader.specs.declared.Step.the-variants.{GaveUp}
+use Rattle.lines.specs.declared.Step.the-variants.{GaveUp}
 use Rattle.reader.proofs.Sorted.{family-step}
 use borrow.Author.Needs.{needs}
 use Rattle.reader.proofs.taking.take_line.Statement.{statement}
 use Rattle.reader.proofs.taking.take_line.Tie as tie
 use Rattle.reader.proofs.taking.take_line.Reads as reads
 use Rattle.reader.proofs.taking.take_line.Lts as lts
-use Rattle.reader.proofs.body_lines.body_line.Reads as body-line-reads
-use Rattle.reader.proofs.element_lines.element_line.Reads as element-line-reads
-use Rattle.reader.proofs.inner_lines.end_line.Reads as end-line-reads
-use Rattle.reader.proofs.inner_lines.loop_line.Reads as loop-line-reads
-use Rattle.reader.proofs.inner_lines.parm_line.Reads as parm-line-reads
-use Rattle.reader.proofs.setting_lines.setting_line.Reads as setting-line-reads
+use Rattle.lines.proofs.body_lines.body_line.Reads as body-line-reads
+use Rattle.lines.proofs.element_lines.element_line.Reads as element-line-reads
+use Rattle.lines.proofs.inner_lines.end_line.Reads as end-line-reads
+use Rattle.lines.proofs.inner_lines.loop_line.Reads as loop-line-reads
+use Rattle.lines.proofs.inner_lines.parm_line.Reads as parm-line-reads
+use Rattle.lines.proofs.setting_lines.setting_line.Reads as setting-line-reads
 use Rattle.reader.proofs.taking.vertex_family.Reads as vertex-family-reads
 
 -- src/taking.rt:68:24

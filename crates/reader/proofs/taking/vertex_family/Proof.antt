@@ -6,7 +6,7 @@ use Rattle.reader.proofs.taking.vertex_family.Statement.{statement}
 use Rattle.reader.proofs.taking.vertex_family.Tie as tie
 use Rattle.reader.proofs.taking.vertex_family.Reads as reads
 use Rattle.reader.proofs.taking.vertex_family.Lts as lts
-use Rattle.reader.proofs.vertex_line.Reads as vertex-line-reads
+use Rattle.lines.proofs.vertex_line.Reads as vertex-line-reads
 
 -- src/taking.rt:37:63
 enum-told : tie.Need-enum-told
