@@ -36,11 +36,11 @@ while read -r name status arguments; do
     # shellcheck disable=SC2086
     holds "$name" "$status" "$command" $arguments < /dev/null
 done < host/tests/calls.txt
-holds rail-points 0 "$command" points - 1 16 < examples/chair-rail.obj
+holds plate-tidy 0 "$command" tidy - < examples/plate.obj
 holds rail-points 0 target/points examples/chair-rail.obj 1 16
 holds wing-points 0 target/points examples/foam-wing.obj 1 100
 holds seat-points-curv2 0 target/points examples/seat.obj 1 5
-for arguments in "" "check" "points examples/plate.obj 1" "points examples/plate.obj one 8" "check no-such-file.obj" "paint examples/plate.obj"; do
+for arguments in "" "check" "points examples/plate.obj 1" "points examples/plate.obj one 8" "tidy no-such-file.obj" "paint examples/plate.obj"; do
     got=0
     # shellcheck disable=SC2086
     "$command" $arguments > /dev/null 2>&1 || got=$?

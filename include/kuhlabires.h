@@ -1,5 +1,5 @@
 /*
- * Kuhlabires: a verified reader and sampler of Wavefront .obj files.
+ * Kuhlabires: a verified reader, tidier and sampler of Wavefront .obj files.
  *
  * Link the archive that `rt staticlib boundary` makes, target/staticlib/libboundary.a.
  *
@@ -26,7 +26,7 @@
 extern "C" {
 #endif
 
-/* The longest text that is read, in bytes. */
+/* The longest text that is read, in bytes; also the longest tidy text. */
 #define KUHLABIRES_MOST_BYTES 16777216u
 /* The most steps of a run. */
 #define KUHLABIRES_MOST_STEPS 65536u
@@ -108,7 +108,7 @@ enum kuhlabires_type {
 
 /*
  * The numbers of refusal; 0 is none. 1 to 14 are of reading and come with a place: the first line at fault is reported, by its keyword, its word
- * or its byte. Sampling gives, in this order, 17, 15, 18, 19, 16.
+ * or its byte. Tidying gives these or 16. Sampling gives, in this order, 17, 15, 18, 19, 16.
  */
 enum kuhlabires_refusal {
     KUHLABIRES_ACCEPTED = 0,
@@ -146,6 +146,14 @@ typedef struct kuhlabires_reading {
     size_t place;
     kuhlabires_used used;
 } kuhlabires_reading;
+
+/* The answer of tidying: length bytes of the tidy text were written. Where refusal is 16 the tables are filled and used counts them. */
+typedef struct kuhlabires_tidying {
+    uint32_t refusal;
+    size_t place;
+    size_t length;
+    kuhlabires_used used;
+} kuhlabires_tidying;
 
 /* A point: with 3 axes x, y, z (curv, surf); with 2 axes u and v in x and y (curv2). All 0 but refusal where it is refused. */
 typedef struct kuhlabires_point {
@@ -189,6 +197,12 @@ typedef struct kuhlabires_part {
  * Reads a text into the tables. Every entry of every table is written: records, and 0 after the used ones. After a refusal all are 0.
  */
 kuhlabires_reading kuhlabires_read(const uint8_t *text, size_t text_length, KUHLABIRES_TABLES_OUT);
+
+/*
+ * Reads a text into the tables and writes its tidy text to the front of out. Of out only the first length bytes are written, and none where it is
+ * refused. After 16 the tables stay filled; after any other refusal all are 0.
+ */
+kuhlabires_tidying kuhlabires_tidy(const uint8_t *text, size_t text_length, KUHLABIRES_TABLES_OUT, uint8_t *out, size_t out_length);
 
 /* The point at t of the curv or curv2 of that number. Refuses 17, 15, 18, 19. */
 kuhlabires_point kuhlabires_point_on_curve(kuhlabires_used used, KUHLABIRES_TABLES_IN, uint32_t element, int32_t t);

@@ -2,8 +2,8 @@
 use crate::show;
 use crate::Failure;
 use kuhlabires::{
-    group_of, material_of, point_on_surface, read, run_on_curve, Body, Decimal, Element, Kind, Refusal, Tables,
-    MOST_BYTES, MOST_STEPS,
+    group_of, material_of, point_on_surface, read, run_on_curve, tidy_text, Body, Decimal, Element, Kind, Refusal,
+    Tables, MOST_BYTES, MOST_STEPS,
 };
 use std::fs::File;
 use std::io::{self, Read, Write};
@@ -72,6 +72,12 @@ pub fn check(file: &str, out: &mut dyn Write) -> Result<(), Failure> {
         }
     }
     Ok(())
+}
+
+pub fn tidy(file: &str, out: &mut dyn Write) -> Result<(), Failure> {
+    let input = open(file)?;
+    let tidied = told(&input, "tidying", || tidy_text(&input.text)).map_err(|refusal| refused(&input, refusal))?;
+    Ok(out.write_all(&tidied)?)
 }
 
 pub fn elements(file: &str, out: &mut dyn Write) -> Result<(), Failure> {

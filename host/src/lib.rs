@@ -39,6 +39,25 @@ pub fn read(text: &[u8], tables: &mut Tables) -> Result<(), Refusal> {
     unless_refused(answer.refusal, answer.place)
 }
 
+/// Reads a text into the tables and writes its tidy text to the front of `out`; answers the tidy text's length.
+///
+/// A refusal leaves `out` as it was. After 16, the tidy text does not fit, the tables stay filled; after any other all is 0.
+pub fn tidy(text: &[u8], tables: &mut Tables, out: &mut [u8]) -> Result<usize, Refusal> {
+    let answer = raw::tidy(text, tables, out);
+    tables.used = answer.used;
+    unless_refused(answer.refusal, answer.place)?;
+    Ok(answer.length)
+}
+
+/// The tidy text of a text, in memory of its own: 16 only where it passes 16,777,216 bytes.
+pub fn tidy_text(text: &[u8]) -> Result<Vec<u8>, Refusal> {
+    let mut out = vec![0; MOST_BYTES];
+    let length = tidy(text, &mut Tables::for_text(text), &mut out)?;
+    out.truncate(length);
+    out.shrink_to_fit();
+    Ok(out)
+}
+
 /// The point at `t` of the `curv` or `curv2` of that number, from 1 over all elements. Refuses 17, 15, 18, 19, in this order.
 pub fn point_on_curve(tables: &Tables, element: u32, t: i32) -> Result<Point, Refusal> {
     point(raw::point_on_curve(tables, element, t))

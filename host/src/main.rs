@@ -1,4 +1,4 @@
-//! The command `kuhlabires`: checks and samples .obj files for a person at a terminal.
+//! The command `kuhlabires`: checks, tidies and samples .obj files for a person at a terminal.
 mod commands;
 mod show;
 
@@ -7,9 +7,10 @@ use std::io::{self, BufWriter, Write};
 use std::process::ExitCode;
 
 const HELP: &str = "\
-kuhlabires: reads and samples Wavefront .obj files
+kuhlabires: reads, tidies and samples Wavefront .obj files
 
     kuhlabires check FILE                   whether the file is read, and what it holds
+    kuhlabires tidy FILE                    its tidy text
     kuhlabires elements FILE                its elements, one a line
     kuhlabires points FILE ELEMENT STEPS    points of a curv, curv2 or surf: STEPS steps from its start to its
                                             end, on a surf along u, and along v
@@ -39,12 +40,13 @@ fn run(arguments: &[String], out: &mut dyn Write) -> Result<(), Failure> {
     match words[..] {
         ["--help" | "-h" | "help"] => Ok(out.write_all(HELP.as_bytes())?),
         ["check", file] => commands::check(file, out),
+        ["tidy", file] => commands::tidy(file, out),
         ["elements", file] => commands::elements(file, out),
         ["points", file, element, steps] => {
             commands::points(file, number("ELEMENT", element)?, number("STEPS", steps)?, out)
         }
         [] => Err(Failure::Usage("no command".into())),
-        [command @ ("check" | "elements"), ..] => Err(Failure::Usage(format!("{command} takes a FILE"))),
+        [command @ ("check" | "tidy" | "elements"), ..] => Err(Failure::Usage(format!("{command} takes a FILE"))),
         ["points", ..] => Err(Failure::Usage("points takes a FILE, an ELEMENT and STEPS".into())),
         [other, ..] => Err(Failure::Usage(format!("no command {other}"))),
     }

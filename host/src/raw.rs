@@ -9,6 +9,14 @@ pub struct Reading {
 }
 
 #[repr(C)]
+pub struct Tidying {
+    pub refusal: u32,
+    pub place: usize,
+    pub length: usize,
+    pub used: Used,
+}
+
+#[repr(C)]
 pub struct Point {
     pub refusal: u32,
     pub axes: u32,
@@ -54,6 +62,7 @@ macro_rules! boundary {
 
 boundary! {
     kuhlabires_read(text: *const u8, text_length: usize; *mut i32, *mut u32;) -> Reading;
+    kuhlabires_tidy(text: *const u8, text_length: usize; *mut i32, *mut u32; out: *mut u8, out_length: usize) -> Tidying;
     kuhlabires_point_on_curve(used: Used; *const i32, *const u32; element: u32, t: i32) -> Point;
     kuhlabires_point_on_surface(used: Used; *const i32, *const u32; element: u32, s: i32, t: i32) -> Point;
     kuhlabires_run_on_curve(
@@ -118,6 +127,10 @@ macro_rules! with_tables {
 
 pub fn read(text: &[u8], tables: &mut Tables) -> Reading {
     with_tables!(as_mut_ptr, tables, kuhlabires_read(text.as_ptr(), text.len();))
+}
+
+pub fn tidy(text: &[u8], tables: &mut Tables, out: &mut [u8]) -> Tidying {
+    with_tables!(as_mut_ptr, tables, kuhlabires_tidy(text.as_ptr(), text.len(); out.as_mut_ptr(), out.len()))
 }
 
 pub fn point_on_curve(tables: &Tables, element: u32, t: i32) -> Point {

@@ -84,3 +84,21 @@ fn room_is_counted_in_entries() {
 fn the_empty_text_is_read() {
     assert_eq!(read_whole(b""), Tables::default());
 }
+
+#[test]
+fn a_text_is_tidied() {
+    let text = b"# plate\nv 0 0 0\nv 1.5 0 0\nv 1.5 .25 0\ng top\nf -3 -2 -1\n";
+    let tidied = b"v 0.000000 0.000000 0.000000 1.000000\nv 1.500000 0.000000 0.000000 1.000000\nv 1.500000 0.250000 0.000000 1.000000\ng top\nf 1 2 3\n";
+    assert_eq!(tidy_text(text).as_deref(), Ok(&tidied[..]));
+    assert_eq!(tidy_text(tidied).as_deref(), Ok(&tidied[..]));
+    assert_eq!(tidy_text(b"f 1 1 1\n"), Err(Refusal { number: 8, place: 2 }));
+}
+
+#[test]
+fn a_tidy_text_without_room_leaves_the_buffer() {
+    let mut tables = Tables::for_text(CURVE);
+    let mut out = [9; 4];
+    assert_eq!(tidy(CURVE, &mut tables, &mut out), Err(Refusal { number: 16, place: 0 }));
+    assert_eq!(out, [9; 4]);
+    assert_eq!(tables, read_whole(CURVE));
+}

@@ -1,6 +1,6 @@
 //! The cases of `second/cases`, answers worked out by hand, through the static library: reading with the rooms that a case names, and with the
-//! rooms that the text is found to need.
-use kuhlabires::{read, Rooms, Tables, Used};
+//! rooms that the text is found to need; tidying against the texts beside.
+use kuhlabires::{read, tidy_text, Rooms, Tables, Used};
 use std::fs;
 use std::path::{Path, PathBuf};
 
@@ -75,6 +75,23 @@ fn every_case_is_answered_as_listed() {
         held += 1;
     }
     assert!(held > 500, "only {held} cases");
+}
+
+#[test]
+fn every_tidy_text_is_the_one_beside() {
+    let mut held = 0;
+    for entry in fs::read_dir(cases().join("tidy")).unwrap() {
+        let path = entry.unwrap().path();
+        if path.extension().map_or(true, |extension| extension != "obj") {
+            continue;
+        }
+        let wanted = fs::read(path.with_extension("tidy")).unwrap();
+        let text = fs::read(&path).unwrap();
+        assert_eq!(tidy_text(&text).as_deref(), Ok(&wanted[..]), "{}", path.display());
+        assert_eq!(tidy_text(&wanted).as_deref(), Ok(&wanted[..]), "{} once more", path.display());
+        held += 1;
+    }
+    assert!(held > 0, "no tidy texts");
 }
 
 #[test]
