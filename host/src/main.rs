@@ -27,11 +27,16 @@ pub enum Failure {
     Refused,
     Usage(String),
     Io(String),
+    /// Nobody reads on, as behind `| head`.
+    Closed,
 }
 
 impl From<io::Error> for Failure {
     fn from(error: io::Error) -> Failure {
-        Failure::Io(format!("standard output: {error}"))
+        match error.kind() {
+            io::ErrorKind::BrokenPipe => Failure::Closed,
+            _ => Failure::Io(format!("standard output: {error}")),
+        }
     }
 }
 
@@ -61,10 +66,11 @@ fn main() -> ExitCode {
     let mut out = BufWriter::new(io::stdout().lock());
     let ended = run(&arguments, &mut out).and_then(|()| Ok(out.flush()?));
     match ended {
-        Ok(()) => ExitCode::SUCCESS,
-        Err(Failure::Refused) => match out.flush() {
-            Ok(()) | Err(_) => ExitCode::from(1),
-        },
+        Ok(()) | Err(Failure::Closed) => ExitCode::SUCCESS,
+        Err(Failure::Refused) => {
+            let _ = out.flush();
+            ExitCode::from(1)
+        }
         Err(Failure::Usage(message)) => {
             eprintln!("kuhlabires: {message}; see kuhlabires --help");
             ExitCode::from(2)

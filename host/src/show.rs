@@ -43,7 +43,7 @@ fn marked(text: &[u8], at: Position) -> String {
     let before = if from == 0 { "" } else { ".. " };
     let after = if to == line.len() { "" } else { " .." };
     let margin = format!("{:>5} | ", at.line);
-    let blank = format!("{:>5} | ", "");
+    let blank = format!("{} | ", " ".repeat(margin.len() - 3));
     let mark: String =
         line[from..column.clamp(from, to)].iter().map(|&b| if b == b'\t' { '\t' } else { ' ' }).collect();
     format!("{margin}{before}{}{after}\n{blank}{}{mark}^\n", visible(&line[from..to]), " ".repeat(before.len()))
@@ -102,6 +102,14 @@ mod tests {
         let lines: Vec<&str> = shown.lines().collect();
         assert!(lines[1].len() < 130);
         assert_eq!(lines[1].find('?'), lines[2].find('^'));
+    }
+
+    #[test]
+    fn the_mark_stands_under_the_place_whatever_the_line() {
+        let text = [b"\n".repeat(1_234_567), b"f 1 2 0".to_vec()].concat();
+        let shown = refusal("a", &text, Refusal { number: 8, place: 1_234_573 });
+        let lines: Vec<&str> = shown.lines().collect();
+        assert_eq!(lines[1].find('0'), lines[2].find('^'));
     }
 
     #[test]
