@@ -1,2 +1,6 @@
 // The tidy text, written from the tables: 01, "The tidy text".
+pub mod body;
+pub mod element;
 pub mod emit;
+pub mod loops;
+pub mod vertices;
