@@ -151,7 +151,7 @@ fn word_ahead(text: &[u8], at: usize) -> bool
 }
 
 // Where the word at `at` ends if the table's word at `from` is the same; else `at`.
-fn same_word(text: &[u8], at: usize, table: &[u8], from: usize) -> usize
+pub fn same_word(text: &[u8], at: usize, table: &[u8], from: usize) -> usize
     ensures { λ r. ⌜ r ≡ cond (same (wordOf (drop at (now (text .entry)))) (wordOf (drop from (now (table .entry))))) (endOf (now (text .entry)) at) at ⌝ }
 {
     let mut i = at;

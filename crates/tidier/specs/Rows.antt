@@ -100,9 +100,12 @@ goingOn (suc n) l z = cond (eqb (getD l 0 0) 0) (partWords l z ++ goingOn n (dro
 abbrev pub loopWords : ℕ → List ℕ → List ℤ → List (List ℕ)
 loopWords n l z = keywordOf (loopKeyword (eqb (getD l 0 0) 2)) ∷ (partWords l z ++ goingOn n (drop loopWidth l) (drop spanWidth z))
 
+abbrev pub begunLines : ℕ → List ℕ → List ℤ → List (List (List ℕ))
+begunLines n l z = cond (eqb (getD l 0 0) 0) [] (loopWords n l z ∷ [])
+
 abbrev pub loopLines : ℕ → List ℕ → List ℤ → List (List (List ℕ))
 loopLines zero l z = []
-loopLines (suc n) l z = cond (eqb (getD l 0 0) 0) [] (loopWords n l z ∷ []) ++ loopLines n (drop loopWidth l) (drop spanWidth z)
+loopLines (suc n) l z = begunLines n l z ++ loopLines n (drop loopWidth l) (drop spanWidth z)
 
 abbrev pub bodyLoops : List ℕ → List ℤ → Body → List (List (List ℕ))
 bodyLoops loops spans b = loopLines (b .loops) (drop (loopWidth * b .«first_loop») loops) (drop (spanWidth * b .«first_loop») spans)

@@ -10,8 +10,8 @@ ghost use Rattle.keywords.specs.declared.Statement.the-variants.{BodyType, Degr
 ghost use Rattle.tidying.specs.Printed.{degreeWords};
 ghost use Rattle.tidier.specs.Emitting.{Emitted};
 ghost use Rattle.tidier.specs.Rows.{bodyIn, basisArgument, typeWords, formLines, parameterLine, parameterLines, bodyLoops, endLine, ownLines};
-use crate::emit;
 use crate::element;
+use crate::emit;
 use crate::loops;
 use crate::vertices;
 
@@ -71,8 +71,7 @@ fn type_line(
 {
     let words = emit::emit_keyword(keywords::Statement::BodyType, table, out, at);
     if body.rational == 1 {
-        let basis =
-            emit::emit_spaced_argument(keywords::Argument::Rational, arguments, out, words);
+        let basis = emit::emit_spaced_argument(keywords::Argument::Rational, arguments, out, words);
         let end = emit::emit_spaced_argument(basis_argument(body.basis), arguments, out, basis);
         return emit::emit_byte(out, end, b'\n');
     }
@@ -217,5 +216,15 @@ pub fn own_lines(
     let body = body_in(bodies, element::body_index(element.body));
     let own = form_lines(body, table, arguments, out, at);
     let parm = element::element_line(element, table, ranges, corners, out, own);
-    closing_lines(element.kind, body, table, arguments, parameters, parts, spans, out, parm)
+    closing_lines(
+        element.kind,
+        body,
+        table,
+        arguments,
+        parameters,
+        parts,
+        spans,
+        out,
+        parm,
+    )
 }

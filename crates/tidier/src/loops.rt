@@ -3,10 +3,12 @@ ghost use mathlib.Core.Path.{_≡_};
 ghost use mathlib.Core.List.{_++_};
 ghost use Prim.Native.Nat.{_+_, _*_, _≤_};
 ghost use lib.ListN.{drop};
-ghost use Rattle.text.specs.Written.{writtenLine, writtenLines};
+ghost use lib.Dec.{eqb};
+ghost use Rattle.text.specs.Written.{writtenLines};
 ghost use Rattle.keywords.specs.Keywords.{keywordTable};
+ghost use Rattle.tidying.specs.Printed.{loopKeyword};
 ghost use Rattle.tidier.specs.Emitting.{Emitted};
-ghost use Rattle.tidier.specs.Rows.{spaced, partWords, goingOn, loopWords, loopLines};
+ghost use Rattle.tidier.specs.Rows.{spaced, partWords, goingOn, begunLines, loopLines};
 use crate::emit;
 
 fn emit_part(loops: &[u32], spans: &[i32], i: usize, out: &mut [u8], at: usize) -> usize
@@ -34,7 +36,7 @@ fn emit_going_on(
     let mut left = count as usize;
     let mut end = at;
     while 0 < left {
-        if tables::number_in(loops, i) != 0 {
+        if 0 < tables::number_in(loops, i) {
             return end;
         }
         end = emit_part(loops, spans, i, out, end);
@@ -44,7 +46,16 @@ fn emit_going_on(
     end
 }
 
-// The line of the loop that begins at `first`, where `count` parts follow.
+fn loop_keyword(begins: u32) -> keywords::Statement
+    ensures { λ r. ⌜ r ≡ loopKeyword (eqb begins 2) ⌝ }
+{
+    if begins == 2 {
+        return keywords::Statement::Hole;
+    }
+    keywords::Statement::Trim
+}
+
+// The line of the loop that begins at `first`, where `count` parts follow; nothing where none begins.
 fn loop_line(
     table: &[u8; 528],
     loops: &[u32],
@@ -55,15 +66,14 @@ fn loop_line(
     at: usize,
 ) -> usize
     requires { ⌜ now table ≡ keywordTable ⌝ }
-    requires { ⌜ first + 2 + 2 * count ≤ 17179869180 ⌝ }
-    ensures { λ r. ⌜ Emitted at (writtenLine (loopWords count (drop first (now (loops .entry))) (drop first (now (spans .entry))))) (now (out .entry)) (now (out .exit)) r ⌝ }
+    requires { ⌜ (at ≤ 16777217) × (first + 2 + 2 * count ≤ 17179869180) ⌝ }
+    ensures { λ r. ⌜ Emitted at (writtenLines (begunLines count (drop first (now (loops .entry))) (drop first (now (spans .entry))))) (now (out .entry)) (now (out .exit)) r ⌝ }
 {
-    let statement = if tables::number_in(loops, first) == 2 {
-        keywords::Statement::Hole
-    } else {
-        keywords::Statement::Trim
-    };
-    let words = emit::emit_keyword(statement, table, out, at);
+    let begins = tables::number_in(loops, first);
+    if begins == 0 {
+        return at;
+    }
+    let words = emit::emit_keyword(loop_keyword(begins), table, out, at);
     let rest = emit_part(loops, spans, first, out, words);
     let end = emit_going_on(loops, spans, first + 2, count, out, rest);
     emit::emit_byte(out, end, b'\n')
@@ -88,9 +98,7 @@ pub fn loop_lines(
     let mut end = at;
     while 0 < left {
         left -= 1;
-        if tables::number_in(loops, i) != 0 {
-            end = loop_line(table, loops, spans, i, left, out, end);
-        }
+        end = loop_line(table, loops, spans, i, left, out, end);
         i += 2;
     }
     end

@@ -1,8 +1,9 @@
 // The lines of v, vt, vn, vp, from their tables.
 ghost use mathlib.Core.Path.{_≡_};
 ghost use mathlib.Core.List.{_∷_, map};
-ghost use Prim.Native.Nat.{_+_, _*_, _≤_};
-ghost use lib.ListN.{take, drop};
+ghost use Prim.Native.Nat.{_≤_, _-_, min};
+ghost use lib.IntN.{pos, natAbs};
+ghost use lib.ListN.{getD, take, drop};
 ghost use Rattle.text.specs.Written.{writtenLine, writtenLines};
 ghost use Rattle.forms.specs.Written.{writtenNumber};
 ghost use Rattle.keywords.specs.Keywords.{keywordTable, keywordOf};
@@ -47,6 +48,18 @@ fn number_line(
     emit::emit_byte(out, end, b'\n')
 }
 
+// How many numbers were given, of the record that begins with it.
+fn given_count(values: &[i32], width: usize, first: usize) -> usize
+    requires { ⌜ 1 ≤ width ⌝ }
+    ensures { λ r. ⌜ r ≡ min (natAbs (getD (now (values .entry)) first (pos 0))) (width - 1) ⌝ }
+{
+    let given = writing::magnitude(tables::value_in(values, first)) as usize;
+    if given < width {
+        return given;
+    }
+    width - 1
+}
+
 // One record's line; `counted` where it begins with how many numbers were given.
 fn row_line(
     statement: keywords::Statement,
@@ -63,8 +76,7 @@ fn row_line(
     ensures { λ r. ⌜ Emitted at (writtenLine (keywordOf statement ∷ map writtenNumber (rowNumbers counted (take width (drop first (now (values .entry))))))) (now (out .entry)) (now (out .exit)) r ⌝ }
 {
     if counted {
-        let given = writing::magnitude(tables::value_in(values, first)) as usize;
-        let count = if given < width { given } else { width - 1 };
+        let count = given_count(values, width, first);
         return number_line(statement, table, values, first + 1, count, out, at);
     }
     number_line(statement, table, values, first, width, out, at)

@@ -70,7 +70,7 @@ module _ (t : List ℕ) where
   add [] e h n = (n, tt)
   add (x ∷ es) e h n = (h .0, add es e (h .1) n)
 
-  none-stands : Stands []
+  pub none-stands : Stands []
   unfolding partOf
   none-stands = rw (le-leb 0 (length t) (omega arith)) refl
 

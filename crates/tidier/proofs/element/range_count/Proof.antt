@@ -1,19 +1,17 @@
+-- Each test by its number.
+use mathlib.Core.Path.{refl}
+use borrow.Author.Tests.{ne-eqb}
 use Rattle.tidier.proofs.element.range_count.Statement.{statement}
 use Rattle.tidier.proofs.element.range_count.Tie as tie
-use Rattle.tidier.proofs.element.range_count.Reads as reads
-use Rattle.tidier.proofs.element.range_count.Lts as lts
 
--- src/element.rt:31:9
 returns : tie.Need-returns
-returns c = ?
+returns c = rw (c .if1 .taken) refl
 
--- src/element.rt:34:9
 returns-2 : tie.Need-returns-2
-returns-2 c = ?
+returns-2 c = rw (c .if2 .taken) refl
 
--- src/element.rt:27:1
 returns-3 : tie.Need-returns-3
-returns-3 c = ?
+returns-3 c = let n = c .before .before .args .kind in rw (ne-eqb n 4 (c .before .if1 .left), ne-eqb n 6 (c .if2 .left)) refl
 
 pub range-count-spec : {M : Type 1} → statement M
 range-count-spec = tie.close (tie.spec returns returns-2 returns-3)

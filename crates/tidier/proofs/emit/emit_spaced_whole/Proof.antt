@@ -1,26 +1,20 @@
+-- The space, and the word.
+use Rattle.tidier.proofs.Emissions.{emitted-then}
 use borrow.Author.Needs.{needs}
 use Rattle.tidier.proofs.emit.emit_spaced_whole.Statement.{statement}
 use Rattle.tidier.proofs.emit.emit_spaced_whole.Tie as tie
-use Rattle.tidier.proofs.emit.emit_spaced_whole.Reads as reads
-use Rattle.tidier.proofs.emit.emit_spaced_whole.Lts as lts
-use Rattle.tidier.proofs.emit.emit_byte.Reads as emit-byte-reads
-use Rattle.tidier.proofs.emit.emit_whole.Reads as emit-whole-reads
 
--- src/emit.rt:124:9
 emit-byte-requires : tie.Need-emit-byte-requires
 emit-byte-requires c κs = search needs
 
--- src/emit.rt:125:5
 emit-whole-requires : tie.Need-emit-whole-requires
 emit-whole-requires c κs = search needs
 
--- src/emit.rt:121:1
 same-length : tie.Need-same-length
 same-length c = search needs
 
--- src/emit.rt:121:1
 returns : tie.Need-returns
-returns c = ?
+returns c = emitted-then (c .before .before .before .before .before .before .emit-byte .ensures) (c .before .before .emit-whole .ensures)
 
 pub emit-spaced-whole-spec : {M : Type 1} → statement M
 emit-spaced-whole-spec =
