@@ -26,7 +26,9 @@ loop-holds c =
     (left-start (a .at) (onward (now (a .text)) (a .used) (now (a .elements)) (now (a .corners)) (now (a .bodies)) (now (a .ranges)) (now (a .parameters)) (now (a .parts)) (now (a .spans)) (a .used .elements) 0) (now (a .out)) (omega arith), omega arith)
 
 element-lines-requires : tie.Need-element-lines-requires Inv-loop μ-loop
-element-lines-requires c κs = search needs
+element-lines-requires c κs =
+    let s = c .before .before .before .before .before .before .before .before .before .before in
+    (s .pre .0, (s .pre .1 .0, (c .before .before .loop .inv .0 .most, omega arith)))
 
 add-number : tie.Need-add-number Inv-loop μ-loop
 add-number c = omega arith
