@@ -1,3 +1,4 @@
 pub mod Parts
 pub mod Points
 pub mod Readings
+pub mod Tidyings

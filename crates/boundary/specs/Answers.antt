@@ -9,11 +9,14 @@ use Rattle.tables.specs.Asking.{elementOf}
 use Rattle.tables.specs.declared.Used.{Used}
 use Rattle.reader.specs.declared.Reading.{Reading}
 use Rattle.reader.specs.declared.Reading.the-variants as reading
+use Rattle.tidy_file.specs.declared.Tidied.{Tidied}
+use Rattle.tidy_file.specs.declared.Tidied.the-variants as tidied
 use Rattle.sampler.specs.declared.Sampled.{Sampled}
 use Rattle.sampler.specs.declared.Sampled.the-variants as sampled
 use Rattle.sampler.specs.declared.Ran.{Ran}
 use Rattle.sampler.specs.declared.Ran.the-variants as ran
 use Rattle.boundary.specs.declared.ReadAnswer.{ReadAnswer}
+use Rattle.boundary.specs.declared.TidyAnswer.{TidyAnswer}
 use Rattle.boundary.specs.declared.Point.{Point}
 use Rattle.boundary.specs.declared.Run.{Run}
 use Rattle.boundary.specs.declared.Part.{Part}
@@ -39,6 +42,16 @@ readAnswer refusal place used = record { refusal = refusal; place = place; used 
 abbrev pub readIn : Reading → ReadAnswer
 readIn (reading.Read used) = readAnswer 0 0 used
 readIn (reading.Refused n p) = readAnswer n p noneUsed
+
+abbrev pub tidyAnswer : ℕ → ℕ → ℕ → Used → TidyAnswer
+tidyAnswer refusal place count used =
+    record { refusal = refusal; place = place; length = count; used = used }
+
+-- "Tidying gives the reader's refusals, or 16 at place 0, the tables then filled"
+abbrev pub tidyIn : Tidied → TidyAnswer
+tidyIn (tidied.Written n used) = tidyAnswer 0 0 n used
+tidyIn (tidied.TooLong used) = tidyAnswer 16 0 0 used
+tidyIn (tidied.Refused n p) = tidyAnswer n p 0 noneUsed
 
 -- "surf and curv give x y z, curv2 u v": so many axes, and zeros for what is not given
 abbrev pub pointIn : Sampled → Point

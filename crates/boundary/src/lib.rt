@@ -5,18 +5,29 @@ ghost use Rattle.tables.specs.Tables.{tables};
 ghost use Rattle.tables.specs.Asking.{cornerOf, groupOf, materialOf};
 ghost use Rattle.sampler.specs.Answers.{pointOnCurve, pointOnSurface, runOnCurve, pointsAfter};
 ghost use Rattle.reader.specs.Reading.{readInto};
-ghost use Rattle.boundary.specs.Answers.{noneUsed, readIn, pointIn, runIn, partIn, groupIn, materialIn, bytesIn};
+ghost use Rattle.tidy_file.specs.Tidying.{tidyInto};
+ghost use Rattle.boundary.specs.Answers.{noneUsed, readIn, tidyIn, pointIn, runIn, partIn, groupIn, materialIn, bytesIn};
 use reader::Reading;
 use sampler::Ran;
 use sampler::Sampled;
 use tables::Corner;
 use tables::Used;
+use tidy_file::Tidied;
 
 // What reading comes to: the used counts, or a refusal at a place where `refusal` is not 0.
 #[repr(C)]
 pub struct ReadAnswer {
     pub refusal: u32,
     pub place: usize,
+    pub used: Used,
+}
+
+// What tidying comes to: the tidy text's length and the used counts, or a refusal at a place; the counts stay with 16.
+#[repr(C)]
+pub struct TidyAnswer {
+    pub refusal: u32,
+    pub place: usize,
+    pub length: usize,
     pub used: Used,
 }
 
@@ -72,6 +83,31 @@ fn read_of(answer: Reading) -> ReadAnswer
         Reading::Refused { number, place } => ReadAnswer {
             refusal: number,
             place: place,
+            used: nothing_used(),
+        },
+    }
+}
+
+fn tidy_of(answer: Tidied) -> TidyAnswer
+    ensures { λ r. ⌜ r ≡ tidyIn answer ⌝ }
+{
+    match answer {
+        Tidied::Written { length, used } => TidyAnswer {
+            refusal: 0,
+            place: 0,
+            length: length,
+            used: used,
+        },
+        Tidied::TooLong { used } => TidyAnswer {
+            refusal: 16,
+            place: 0,
+            length: 0,
+            used: used,
+        },
+        Tidied::Refused { number, place } => TidyAnswer {
+            refusal: number,
+            place: place,
+            length: 0,
             used: nothing_used(),
         },
     }
@@ -168,6 +204,42 @@ pub extern "C" fn kuhlabires_read(
         parameters,
         loops,
         spans,
+    ))
+}
+
+// Reads a text into the lent tables and writes its tidy text to the front of `out`.
+#[no_mangle]
+pub extern "C" fn kuhlabires_tidy(
+    text: &[u8],
+    v: &mut [i32],
+    vt: &mut [i32],
+    vn: &mut [i32],
+    vp: &mut [i32],
+    corners: &mut [u32],
+    elements: &mut [u32],
+    bodies: &mut [u32],
+    ranges: &mut [i32],
+    parameters: &mut [i32],
+    loops: &mut [u32],
+    spans: &mut [i32],
+    out: &mut [u8],
+) -> TidyAnswer
+    ensures { λ r. ⌜ (r ≡ tidyIn (tidyInto (now (text .entry)) (tables (now (v .entry)) (now (vt .entry)) (now (vn .entry)) (now (vp .entry)) (now (corners .entry)) (now (elements .entry)) (now (bodies .entry)) (now (ranges .entry)) (now (parameters .entry)) (now (loops .entry)) (now (spans .entry))) (now (out .entry)) .answer)) × ((tables (now (v .exit)) (now (vt .exit)) (now (vn .exit)) (now (vp .exit)) (now (corners .exit)) (now (elements .exit)) (now (bodies .exit)) (now (ranges .exit)) (now (parameters .exit)) (now (loops .exit)) (now (spans .exit))) ≡ tidyInto (now (text .entry)) (tables (now (v .entry)) (now (vt .entry)) (now (vn .entry)) (now (vp .entry)) (now (corners .entry)) (now (elements .entry)) (now (bodies .entry)) (now (ranges .entry)) (now (parameters .entry)) (now (loops .entry)) (now (spans .entry))) (now (out .entry)) .tables) × (now (out .exit) ≡ tidyInto (now (text .entry)) (tables (now (v .entry)) (now (vt .entry)) (now (vn .entry)) (now (vp .entry)) (now (corners .entry)) (now (elements .entry)) (now (bodies .entry)) (now (ranges .entry)) (now (parameters .entry)) (now (loops .entry)) (now (spans .entry))) (now (out .entry)) .out) ⌝ }
+{
+    tidy_of(tidy_file::tidy(
+        text,
+        v,
+        vt,
+        vn,
+        vp,
+        corners,
+        elements,
+        bodies,
+        ranges,
+        parameters,
+        loops,
+        spans,
+        out,
     ))
 }
 
