@@ -1,2 +1,3 @@
 pub mod Vertices
 pub mod Loops
+pub mod Bodies
