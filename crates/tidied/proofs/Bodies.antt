@@ -28,6 +28,7 @@ use Rattle.tidying.specs.Tidied as tidied
 use Rattle.tidying.specs.Tidied.{unsettled, unfilled, atLine, elementLines}
 use Rattle.tidying.specs.Printed as printing
 use Rattle.tidying.specs.Printed.{freeKeyword, rangeOf, printed}
+use Rattle.tidying.proofs.Values.{map-append}
 use Rattle.tidying.proofs.Rows.{Parted}
 use Rattle.tidier.specs.Rows.{kindKeyword, rangeCount, cornersFrom, elementWords, bodyIn, basisArgument, typeWords, formLines, parameterLine, parameterLines, loopLines, bodyLoops, endLine, ownLines}
 use Rattle.tidier.specs.declared.body.Body as written
@@ -36,10 +37,6 @@ use Rattle.tidied.proofs.Loops.{loops-are}
 -- ---- reading on from an entry
 pub number-in : (w i : ℕ) (l rows : List ℕ) → drop (w * i) l ≡ rows → (k : ℕ) → numberAt w l i k ≡ getD rows k 0
 number-in w i l rows e k = sym (getD-drop (w * i) l k 0) ∙ ap (λ (q : List ℕ). getD q k 0) e
-
-map-append : {A B : Type 0} (f : A → B) (a b : List A) → map f (a ++ b) ≡ map f a ++ map f b
-map-append f [] b = refl
-map-append {A} {B} f (x ∷ a) b = ap (λ (q : List B). f x ∷ q) (map-append f a b)
 
 -- ---- corners
 corners-are : (cs : List Corner) (r : List ℕ) → cornersFrom (length cs) (flat cornerRow cs ++ r) ≡ cs
