@@ -18,12 +18,12 @@ use Rattle.keywords.specs.declared.Argument.the-variants.{Rational, DirectionU,
 use Rattle.keywords.specs.declared.Statement.{Statement as Keyword}
 use Rattle.keywords.specs.declared.Statement.the-variants.{BodyType}
 use Rattle.tables.specs.Bodies.{Basis, bezier, bspline, cardinal, taylor, basisNumber}
-use Rattle.tables.specs.Records.{numberAt, curveKind, surfaceKind}
+use Rattle.tables.specs.Records.{numberAt, curveKind}
 use Rattle.tables.specs.declared.Element as laid
-use Rattle.model.specs.Model.{Shape, point, line, face, Free, curve, curve2, surface, Loop, Body, Kind, plain, free}
+use Rattle.model.specs.Model.{Shape, point, line, face, Free, curve, curve2, surface, Body, plain, free}
 use Rattle.model.specs.Statements.{type, degree, body, loop, end}
 use Rattle.model.specs.Room.{partCount}
-use Rattle.model.specs.Layout.{cornerRow, shapeNumber, freeNumber, firstPart, flag, bodyRow, rangeRow, parameterRow, loopRow, spanRow, loopRows, spanRows}
+use Rattle.model.specs.Layout.{cornerRow, shapeNumber, freeNumber, firstPart, flag, bodyRow, rangeRow, loopRows, spanRows}
 use Rattle.tidying.specs.Tidied as tidied
 use Rattle.tidying.specs.Tidied.{unsettled, unfilled, atLine, elementLines}
 use Rattle.tidying.specs.Printed as printing

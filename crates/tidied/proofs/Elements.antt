@@ -1,11 +1,11 @@
 -- The lines of all elements from the tables: by the elements, with what each table holds from the next one's first entry on.
-use Prim.Native.Nat.{ℕ, suc, _+_, _*_, _-_}
+use Prim.Native.Nat.{ℕ, _+_, _*_, _-_}
 use mathlib.Core.Path.{_≡_, refl, sym, ap, ap₂, _∙_}
 use mathlib.Core.List.{List, [], _∷_, _++_, map, append-assoc}
 use mathlib.Core.Bool.{Bool, true, false, cond}
 use native.Mathlib.Omega.{arith}
 use borrow.Author.Tests.{le-leb}
-use lib.ListN.{length, getD, drop, length-append, length-drop}
+use lib.ListN.{length, getD, drop, length-drop}
 use lib.Dec.{eqb}
 use lib.IntN.{ℤ}
 use Rattle.lists.specs.Lists.{flat}
@@ -18,10 +18,9 @@ use Rattle.tables.specs.Asking.{held, noElement, elementOf}
 use Rattle.tables.specs.declared.Used.{Used}
 use Rattle.tables.specs.declared.Element as laid
 use Rattle.model.specs.Model.{Names, Body, Element}
-use Rattle.model.specs.Statements.{Statement}
 use Rattle.model.specs.Statements as statements
 use Rattle.model.specs.Room.{ofKind, partCount}
-use Rattle.model.specs.Layout.{runOf, listed, cornerRow, cornerRows, kindNumber, bodyNumber, elementRow, elementRows, bodyOf, bodiesOf}
+use Rattle.model.specs.Layout.{runOf, listed, cornerRows, kindNumber, bodyNumber, elementRow, elementRows, bodiesOf}
 use Rattle.state.proofs.Rows.{corners-length}
 use Rattle.tidying.specs.Tidied.{groupLines, smoothingLines, materialLines, elementLines, elementsLines}
 use Rattle.tidying.specs.Printed.{printed}

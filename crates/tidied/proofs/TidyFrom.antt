@@ -1,18 +1,18 @@
 -- The tidy text written from the tables of an accepted text is the tidy text of its model: vertices by the widths of their rows, elements one after the other.
 use Prim.Native.Nat.{ℕ, _-_}
 use mathlib.Core.Path.{_≡_, refl, sym, ap, ap₂, _∙_}
-use mathlib.Core.List.{List, [], _∷_, _++_, map}
+use mathlib.Core.List.{List, _++_, map}
 use mathlib.Core.Bool.{true, false}
 use native.Mathlib.Omega.{arith}
 use lib.ListN.{length, replicate}
-use lib.IntN.{ℤ, pos}
+use lib.IntN.{pos}
 use Rattle.lists.specs.Lists.{flat}
 use Rattle.text.specs.Written.{writtenLines}
 use Rattle.tables.specs.Tables.{Tables}
 use Rattle.tables.specs.Asking.{held, noElement, elementOf}
 use Rattle.tables.specs.declared.Used.{Used}
 use Rattle.model.specs.Model.{geometric, texture, normal, parametric, Model, start}
-use Rattle.model.specs.Statements.{Statement, vertex}
+use Rattle.model.specs.Statements.{vertex}
 use Rattle.model.specs.Room.{Rooms}
 use Rattle.model.specs.Read.{read, readOf}
 use Rattle.model.specs.Layout.{cornerRows, elementRows, bodiesOf, bodyRows, rangeRow, parameterRow, loopRows, spanRows, itself, tablesOf, usedOf}
