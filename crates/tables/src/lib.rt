@@ -1,7 +1,8 @@
 // The lent tables: how many records of each kind are used, and asking for one of them.
 ghost use mathlib.Core.Path.{_≡_};
 ghost use Prim.Native.Nat.{_+_, _*_, _≤_};
-ghost use lib.ListN.{length};
+ghost use lib.IntN.{pos};
+ghost use lib.ListN.{length, getD};
 ghost use Rattle.tables.specs.Records.{elementIn};
 ghost use Rattle.tables.specs.Asking.{held, elementOf, cornerWith, cornerOf, partOf, groupOf, materialOf};
 
@@ -40,6 +41,25 @@ pub struct Corner {
     pub v: u32,
     pub vt: u32,
     pub vn: u32,
+}
+
+// The number at `at`, 0 past the table's end.
+pub fn number_in(numbers: &[u32], at: usize) -> u32
+    ensures { λ r. ⌜ r ≡ getD (now (numbers .entry)) at 0 ⌝ }
+{
+    if at < numbers.len() {
+        return numbers[at];
+    }
+    0
+}
+
+pub fn value_in(values: &[i32], at: usize) -> i32
+    ensures { λ r. ⌜ r ≡ getD (now (values .entry)) at (pos 0) ⌝ }
+{
+    if at < values.len() {
+        return values[at];
+    }
+    0
 }
 
 // Whether the record of that number, counted from 1, is used and stands whole within a lent length.

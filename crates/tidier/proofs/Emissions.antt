@@ -1,6 +1,6 @@
 -- Emissions one after the other: two are one of both texts, by `sets-append`. What a loop that emits has left comes to what it was asked for.
 use Prim.Native.Nat.{ℕ, _+_, _≤_, _<_, min}
-use mathlib.Core.Path.{_≡_, refl, sym, ap, ap₂, _∙_}
+use mathlib.Core.Path.{_≡_, refl, sym, ap, ap₂, _∙_, subst}
 use mathlib.Core.List.{List, [], _∷_, _++_}
 use native.Mathlib.Omega.{arith}
 use lib.ListN.{length, length-append}
@@ -36,6 +36,10 @@ emitted-then {at} {v} {w} {l} {m} {n} {q} {r} a b =
           let o : n ≡ sets m q w = b .stored (omega (arith, a .same)) (omega arith) in
           o ∙ ap₂ (λ (t : List ℕ) (p : ℕ). sets t p w) j i ∙ sym (sets-append l at v w);
     }
+
+-- the same text said otherwise
+pub emitted-is : {at r : ℕ} {v w l m : List ℕ} → v ≡ w → Emitted at v l m r → Emitted at w l m r
+emitted-is {at} {r} {v} {w} {l} {m} e h = subst (λ (x : List ℕ). Emitted at x l m r) e h
 
 -- ---- a loop that emits: `all` from at₀ on into l, of which `rest` is left from `at` on, into m
 pub record Left (at₀ : ℕ) (all l : List ℕ) (at : ℕ) (rest m : List ℕ) : Type 0 where

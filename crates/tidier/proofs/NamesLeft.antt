@@ -5,18 +5,15 @@ use mathlib.Core.List.{List, [], _∷_}
 use native.Mathlib.Omega.{arith}
 use lib.ListN.{length, drop}
 use lib.Seq.{sets}
-use Rattle.lists.specs.Lists.{flat}
 use Rattle.text.specs.Words.{wordOf}
 use Rattle.text.specs.Rest.{endOf}
 use Rattle.tables.specs.Asking.{partOf}
 use Rattle.tidying.specs.Agree.{wordsAt}
 use Rattle.tidier.specs.Emitting.{Emitted}
 use Rattle.tidier.specs.Naming.{partNames, NextMet}
+use Rattle.tidier.specs.Rows.{spaced}
 use Rattle.tidier.proofs.Emissions.{emitted-then, Left, left-turn, left-ends}
 use Rattle.tidier.proofs.Naming.{namesFrom, names-all, names-word, names-none, part-names}
-
-abbrev pub spaced : List (List ℕ) → List ℕ
-spaced ws = flat (λ (w : List ℕ). 32 ∷ w) ws
 
 -- a place too far counts as the first that is
 emitted-capped : {at to r : ℕ} {w l m : List ℕ} → to ≡ min (at + 0) 16777217 → Emitted to w l m r → Emitted at w l m r

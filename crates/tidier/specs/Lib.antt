@@ -1,2 +1,4 @@
 pub mod Emitting
 pub mod Naming
+pub mod Rows
+pub mod TidyFrom

@@ -103,3 +103,38 @@ pub fn emit_corner(out: &mut [u8], at: usize, v: u32, vt: u32, vn: u32) -> usize
     }
     end
 }
+
+// A space, and a word.
+pub fn emit_spaced_argument(
+    argument: keywords::Argument,
+    table: &[u8; 108],
+    out: &mut [u8],
+    at: usize,
+) -> usize
+    requires { ⌜ now table ≡ argumentTable ⌝ }
+    ensures { λ r. ⌜ Emitted at (32 ∷ argumentBytes argument) (now (out .entry)) (now (out .exit)) r ⌝ }
+{
+    let word = emit_byte(out, at, b' ');
+    emit_argument(argument, table, out, word)
+}
+
+pub fn emit_spaced_whole(out: &mut [u8], at: usize, n: u32) -> usize
+    ensures { λ r. ⌜ Emitted at (32 ∷ writtenWhole n) (now (out .entry)) (now (out .exit)) r ⌝ }
+{
+    let word = emit_byte(out, at, b' ');
+    emit_whole(out, word, n)
+}
+
+pub fn emit_spaced_number(out: &mut [u8], at: usize, value: i32) -> usize
+    ensures { λ r. ⌜ Emitted at (32 ∷ writtenNumber value) (now (out .entry)) (now (out .exit)) r ⌝ }
+{
+    let word = emit_byte(out, at, b' ');
+    emit_number(out, word, value)
+}
+
+pub fn emit_spaced_corner(out: &mut [u8], at: usize, v: u32, vt: u32, vn: u32) -> usize
+    ensures { λ r. ⌜ Emitted at (32 ∷ writtenCorner (record { v = v; vt = vt; vn = vn })) (now (out .entry)) (now (out .exit)) r ⌝ }
+{
+    let word = emit_byte(out, at, b' ');
+    emit_corner(out, word, v, vt, vn)
+}

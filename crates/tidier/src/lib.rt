@@ -1,3 +1,9 @@
 // The tidy text, written from the tables: 01, "The tidy text".
+pub mod body;
+pub mod element;
+pub mod elements;
 pub mod emit;
+pub mod loops;
 pub mod names;
+pub mod tidy_text;
+pub mod vertices;

@@ -62,7 +62,7 @@ pub fn write_whole(out: &mut [u8], at: usize, n: u32) -> usize
 }
 
 // How far a number is from zero: 2,147,483,648 too.
-fn magnitude(value: i32) -> u32
+pub fn magnitude(value: i32) -> u32
     ensures { λ r. ⌜ r ≡ natAbs value ⌝ }
 {
     if value < 0 {

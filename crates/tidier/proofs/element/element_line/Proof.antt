@@ -1,0 +1,67 @@
+-- The keyword, the range, the corners, the line's end.
+use Prim.Native.Nat.{ℕ, _*_}
+use mathlib.Core.Path.{ap, ap₂, _∙_}
+use mathlib.Core.List.{_++_, map}
+use denote.Ref.{now}
+use lib.ListN.{take, drop}
+use Rattle.forms.specs.Written.{writtenNumber, writtenCorner}
+use Rattle.keywords.specs.Keywords.{keywordOf}
+use Rattle.tidier.specs.Rows.{spaced, kindKeyword, rangeCount, bodyIndex, cornersFrom}
+use Rattle.tidier.proofs.Emissions.{emitted-then, emitted-is}
+use Rattle.tidier.proofs.Turns.{emitted-line, spaced-append}
+use borrow.Author.Needs.{needs}
+use Rattle.tidier.proofs.element.element_line.Statement.{statement}
+use Rattle.tidier.proofs.element.element_line.Tie as tie
+
+kind-keyword-requires : tie.Need-kind-keyword-requires
+kind-keyword-requires c κs = search needs
+
+emit-keyword-requires : tie.Need-emit-keyword-requires
+emit-keyword-requires c κs = search needs
+
+body-index-requires : tie.Need-body-index-requires
+body-index-requires c κs = search needs
+
+mul-range : tie.Need-mul-range
+mul-range c = search needs
+
+range-count-requires : tie.Need-range-count-requires
+range-count-requires c κs = search needs
+
+emit-numbers-requires : tie.Need-emit-numbers-requires
+emit-numbers-requires c κs = search needs
+
+emit-corners-requires : tie.Need-emit-corners-requires
+emit-corners-requires c κs = search needs
+
+emit-byte-requires : tie.Need-emit-byte-requires
+emit-byte-requires c κs = search needs
+
+same-length : tie.Need-same-length
+same-length c = search needs
+
+returns : tie.Need-returns
+returns c =
+    let a = c .before .before .before .before .before .before .before .before .before .before .before .before .before .before .before .before .before .before .before .before .before .args in
+    let e = a .element in
+    let ns = map writtenNumber (take (rangeCount (e .kind)) (drop (4 * bodyIndex (e .body)) (now (a .ranges)))) in
+    let cs = map writtenCorner (cornersFrom (e .count) (drop (e .first) (now (a .corners)))) in
+    let k = ap keywordOf (c .before .before .before .before .before .before .before .before .before .before .before .before .before .before .before .before .before .before .kind-keyword .ensures) in
+    let n = ap₂ (λ (m i : ℕ). spaced (map writtenNumber (take m (drop (4 * i) (now (a .ranges)))))) (c .before .before .before .before .before .before .before .before .before .before .before .before .range-count .ensures) (c .before .before .before .before .before .before .before .before .before .before .before .before .before .body-index .ensures) in
+    emitted-line (keywordOf (kindKeyword (e .kind))) (ns ++ cs) (emitted-is k (c .before .before .before .before .before .before .before .before .before .before .before .before .before .before .before .before .emit-keyword .ensures))
+    (emitted-is (spaced-append ns cs) (emitted-then (emitted-is n (c .before .before .before .before .before .before .before .before .before .before .emit-numbers .ensures)) (c .before .before .before .before .before .before .emit-corners .ensures))) (c .before .before .emit-byte .ensures)
+
+pub element-line-spec : {M : Type 1} → statement M
+element-line-spec =
+    tie.close
+    (tie.spec
+    kind-keyword-requires
+    emit-keyword-requires
+    body-index-requires
+    mul-range
+    range-count-requires
+    emit-numbers-requires
+    emit-corners-requires
+    emit-byte-requires
+    same-length
+    returns)

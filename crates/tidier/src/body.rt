@@ -1,0 +1,230 @@
+// An element without its names: cstype, deg, its own line, parm, its loops and end.
+ghost use mathlib.Core.Path.{_≡_};
+ghost use mathlib.Core.List.{_∷_, [], _++_};
+ghost use Prim.Native.Nat.{_+_, _*_, _≤_};
+ghost use lib.ListN.{take, drop};
+ghost use Rattle.text.specs.Written.{writtenLine, writtenLines};
+ghost use Rattle.keywords.specs.Keywords.{keywordTable, keywordOf};
+ghost use Rattle.keywords.specs.Arguments.{argumentTable};
+ghost use Rattle.keywords.specs.declared.Statement.the-variants.{BodyType, Degree};
+ghost use Rattle.tidying.specs.Printed.{degreeWords};
+ghost use Rattle.tidier.specs.Emitting.{Emitted};
+ghost use Rattle.tidier.specs.Rows.{bodyIn, basisArgument, typeWords, formLines, parameterLine, parameterLines, bodyLoops, endLine, ownLines};
+use crate::element;
+use crate::emit;
+use crate::loops;
+use crate::vertices;
+
+// The numbers of a body's record, in their order; docs/RECORDS.md says what each is.
+pub struct Body {
+    pub basis: u32,
+    pub rational: u32,
+    pub degree_u: u32,
+    pub degree_v: u32,
+    pub first_parameter: u32,
+    pub count_u: u32,
+    pub count_v: u32,
+    pub first_loop: u32,
+    pub loops: u32,
+}
+
+fn body_in(bodies: &[u32], index: usize) -> Body
+    requires { ⌜ index ≤ 4294967295 ⌝ }
+    ensures { λ r. ⌜ r ≡ bodyIn (now (bodies .entry)) index ⌝ }
+{
+    let at = 9 * index;
+    Body {
+        basis: tables::number_in(bodies, at),
+        rational: tables::number_in(bodies, at + 1),
+        degree_u: tables::number_in(bodies, at + 2),
+        degree_v: tables::number_in(bodies, at + 3),
+        first_parameter: tables::number_in(bodies, at + 4),
+        count_u: tables::number_in(bodies, at + 5),
+        count_v: tables::number_in(bodies, at + 6),
+        first_loop: tables::number_in(bodies, at + 7),
+        loops: tables::number_in(bodies, at + 8),
+    }
+}
+
+fn basis_argument(basis: u32) -> keywords::Argument
+    ensures { λ r. ⌜ r ≡ basisArgument basis ⌝ }
+{
+    match basis {
+        1 => keywords::Argument::Bezier,
+        2 => keywords::Argument::Bspline,
+        3 => keywords::Argument::Cardinal,
+        _ => keywords::Argument::Taylor,
+    }
+}
+
+// A space and a body's type, `rat` before it where it is rational, and the line's end.
+fn type_line(
+    body: Body,
+    table: &[u8; 528],
+    arguments: &[u8; 108],
+    out: &mut [u8],
+    at: usize,
+) -> usize
+    requires { ⌜ now table ≡ keywordTable ⌝ }
+    requires { ⌜ now arguments ≡ argumentTable ⌝ }
+    ensures { λ r. ⌜ Emitted at (writtenLine (keywordOf BodyType ∷ typeWords body)) (now (out .entry)) (now (out .exit)) r ⌝ }
+{
+    let words = emit::emit_keyword(keywords::Statement::BodyType, table, out, at);
+    if body.rational == 1 {
+        let basis = emit::emit_spaced_argument(keywords::Argument::Rational, arguments, out, words);
+        let end = emit::emit_spaced_argument(basis_argument(body.basis), arguments, out, basis);
+        return emit::emit_byte(out, end, b'\n');
+    }
+    let end = emit::emit_spaced_argument(basis_argument(body.basis), arguments, out, words);
+    emit::emit_byte(out, end, b'\n')
+}
+
+// One number on a curve, whose v degree is 0, two on a surface.
+fn degree_line(body: Body, table: &[u8; 528], out: &mut [u8], at: usize) -> usize
+    requires { ⌜ now table ≡ keywordTable ⌝ }
+    ensures { λ r. ⌜ Emitted at (writtenLine (keywordOf Degree ∷ degreeWords (body .«degree_u») (body .«degree_v»))) (now (out .entry)) (now (out .exit)) r ⌝ }
+{
+    let words = emit::emit_keyword(keywords::Statement::Degree, table, out, at);
+    let second = emit::emit_spaced_whole(out, words, body.degree_u);
+    if body.degree_v == 0 {
+        return emit::emit_byte(out, second, b'\n');
+    }
+    let end = emit::emit_spaced_whole(out, second, body.degree_v);
+    emit::emit_byte(out, end, b'\n')
+}
+
+fn parameter_line(
+    direction: keywords::Argument,
+    table: &[u8; 528],
+    arguments: &[u8; 108],
+    parameters: &[i32],
+    first: usize,
+    count: usize,
+    out: &mut [u8],
+    at: usize,
+) -> usize
+    requires { ⌜ now table ≡ keywordTable ⌝ }
+    requires { ⌜ now arguments ≡ argumentTable ⌝ }
+    ensures { λ r. ⌜ Emitted at (writtenLine (parameterLine direction (take count (drop first (now (parameters .entry)))))) (now (out .entry)) (now (out .exit)) r ⌝ }
+{
+    let words = emit::emit_keyword(keywords::Statement::Parameters, table, out, at);
+    let numbers = emit::emit_spaced_argument(direction, arguments, out, words);
+    let end = vertices::emit_numbers(parameters, first, count, out, numbers);
+    emit::emit_byte(out, end, b'\n')
+}
+
+fn parameter_lines(
+    kind: u32,
+    body: Body,
+    table: &[u8; 528],
+    arguments: &[u8; 108],
+    parameters: &[i32],
+    out: &mut [u8],
+    at: usize,
+) -> usize
+    requires { ⌜ now table ≡ keywordTable ⌝ }
+    requires { ⌜ now arguments ≡ argumentTable ⌝ }
+    ensures { λ r. ⌜ Emitted at (writtenLines (parameterLines (now (parameters .entry)) kind body)) (now (out .entry)) (now (out .exit)) r ⌝ }
+{
+    let first = body.first_parameter as usize;
+    let count = body.count_u as usize;
+    let second = parameter_line(
+        keywords::Argument::DirectionU,
+        table,
+        arguments,
+        parameters,
+        first,
+        count,
+        out,
+        at,
+    );
+    if kind == 6 {
+        return parameter_line(
+            keywords::Argument::DirectionV,
+            table,
+            arguments,
+            parameters,
+            first + count,
+            body.count_v as usize,
+            out,
+            second,
+        );
+    }
+    second
+}
+
+// What stands before an element's own line where it has a body.
+fn form_lines(
+    body: Body,
+    table: &[u8; 528],
+    arguments: &[u8; 108],
+    out: &mut [u8],
+    at: usize,
+) -> usize
+    requires { ⌜ now table ≡ keywordTable ⌝ }
+    requires { ⌜ now arguments ≡ argumentTable ⌝ }
+    ensures { λ r. ⌜ Emitted at (writtenLines (formLines body)) (now (out .entry)) (now (out .exit)) r ⌝ }
+{
+    let second = type_line(body, table, arguments, out, at);
+    degree_line(body, table, out, second)
+}
+
+// What stands after it.
+fn closing_lines(
+    kind: u32,
+    body: Body,
+    table: &[u8; 528],
+    arguments: &[u8; 108],
+    parameters: &[i32],
+    parts: &[u32],
+    spans: &[i32],
+    out: &mut [u8],
+    at: usize,
+) -> usize
+    requires { ⌜ now table ≡ keywordTable ⌝ }
+    requires { ⌜ now arguments ≡ argumentTable ⌝ }
+    ensures { λ r. ⌜ Emitted at (writtenLines (parameterLines (now (parameters .entry)) kind body ++ (bodyLoops (now (parts .entry)) (now (spans .entry)) body ++ endLine ∷ []))) (now (out .entry)) (now (out .exit)) r ⌝ }
+{
+    let trims = parameter_lines(kind, body, table, arguments, parameters, out, at);
+    let first = 2 * (body.first_loop as usize);
+    let end = loops::loop_lines(table, parts, spans, first, body.loops, out, trims);
+    let last = emit::emit_keyword(keywords::Statement::End, table, out, end);
+    emit::emit_byte(out, last, b'\n')
+}
+
+// An element's lines, its names apart.
+pub fn own_lines(
+    element: tables::Element,
+    table: &[u8; 528],
+    arguments: &[u8; 108],
+    corners: &[u32],
+    bodies: &[u32],
+    ranges: &[i32],
+    parameters: &[i32],
+    parts: &[u32],
+    spans: &[i32],
+    out: &mut [u8],
+    at: usize,
+) -> usize
+    requires { ⌜ now table ≡ keywordTable ⌝ }
+    requires { ⌜ now arguments ≡ argumentTable ⌝ }
+    ensures { λ r. ⌜ Emitted at (writtenLines (ownLines (now (corners .entry)) (now (bodies .entry)) (now (ranges .entry)) (now (parameters .entry)) (now (parts .entry)) (now (spans .entry)) element)) (now (out .entry)) (now (out .exit)) r ⌝ }
+{
+    if element.kind < 4 {
+        return element::element_line(element, table, ranges, corners, out, at);
+    }
+    let body = body_in(bodies, element::body_index(element.body));
+    let own = form_lines(body, table, arguments, out, at);
+    let parm = element::element_line(element, table, ranges, corners, out, own);
+    closing_lines(
+        element.kind,
+        body,
+        table,
+        arguments,
+        parameters,
+        parts,
+        spans,
+        out,
+        parm,
+    )
+}

@@ -1,0 +1,83 @@
+// An element's own line: its keyword, its range and its corners.
+ghost use mathlib.Core.Path.{_≡_};
+ghost use mathlib.Core.List.{_∷_, map};
+ghost use Prim.Native.Nat.{_+_, _*_, _≤_};
+ghost use lib.ListN.{drop};
+ghost use Rattle.text.specs.Written.{writtenLine};
+ghost use Rattle.forms.specs.Written.{writtenCorner};
+ghost use Rattle.keywords.specs.Keywords.{keywordTable};
+ghost use Rattle.tidier.specs.Emitting.{Emitted};
+ghost use Rattle.tidier.specs.Rows.{spaced, kindKeyword, rangeCount, bodyIndex, cornersFrom, elementWords};
+use crate::emit;
+use crate::vertices;
+
+fn kind_keyword(kind: u32) -> keywords::Statement
+    ensures { λ r. ⌜ r ≡ kindKeyword kind ⌝ }
+{
+    match kind {
+        1 => keywords::Statement::Point,
+        2 => keywords::Statement::Line,
+        3 => keywords::Statement::Face,
+        4 => keywords::Statement::Curve,
+        5 => keywords::Statement::Curve2,
+        _ => keywords::Statement::Surface,
+    }
+}
+
+fn range_count(kind: u32) -> usize
+    ensures { λ r. ⌜ r ≡ rangeCount kind ⌝ }
+{
+    if kind == 4 {
+        return 2;
+    }
+    if kind == 6 {
+        return 4;
+    }
+    0
+}
+
+pub fn body_index(number: u32) -> usize
+    ensures { λ r. ⌜ r ≡ bodyIndex number ⌝ }
+{
+    if number == 0 {
+        return 0;
+    }
+    number as usize - 1
+}
+
+// `count` corners from `first` on, each with a space before it.
+fn emit_corners(corners: &[u32], first: u32, count: u32, out: &mut [u8], at: usize) -> usize
+    requires { ⌜ at ≤ 16777217 ⌝ }
+    ensures { λ r. ⌜ Emitted at (spaced (map writtenCorner (cornersFrom count (drop first (now (corners .entry)))))) (now (out .entry)) (now (out .exit)) r ⌝ }
+{
+    let mut i = first as usize;
+    let mut left = count as usize;
+    let mut end = at;
+    while 0 < left {
+        let v = tables::number_in(corners, i);
+        let vt = tables::number_in(corners, i + 1);
+        let vn = tables::number_in(corners, i + 2);
+        end = emit::emit_spaced_corner(out, end, v, vt, vn);
+        i += 3;
+        left -= 1;
+    }
+    end
+}
+
+pub fn element_line(
+    element: tables::Element,
+    table: &[u8; 528],
+    ranges: &[i32],
+    corners: &[u32],
+    out: &mut [u8],
+    at: usize,
+) -> usize
+    requires { ⌜ now table ≡ keywordTable ⌝ }
+    ensures { λ r. ⌜ Emitted at (writtenLine (elementWords (now (ranges .entry)) (now (corners .entry)) element)) (now (out .entry)) (now (out .exit)) r ⌝ }
+{
+    let words = emit::emit_keyword(kind_keyword(element.kind), table, out, at);
+    let range = 4 * body_index(element.body);
+    let first = vertices::emit_numbers(ranges, range, range_count(element.kind), out, words);
+    let end = emit_corners(corners, element.first, element.count, out, first);
+    emit::emit_byte(out, end, b'\n')
+}

@@ -1,0 +1,105 @@
+// All that the tables hold, as the tidy text.
+ghost use mathlib.Core.Path.{_≡_};
+ghost use Prim.Native.Nat.{_≤_};
+ghost use Rattle.text.specs.Written.{writtenLines};
+ghost use Rattle.keywords.specs.Keywords.{keywordTable};
+ghost use Rattle.tables.specs.Tables.{tables};
+ghost use Rattle.tidier.specs.Emitting.{Emitted};
+ghost use Rattle.tidier.specs.TidyFrom.{verticesFrom, tidyFrom};
+use crate::elements;
+use crate::vertices;
+
+fn all_vertices(
+    table: &[u8; 528],
+    used: tables::Used,
+    v: &[i32],
+    vt: &[i32],
+    vn: &[i32],
+    vp: &[i32],
+    out: &mut [u8],
+    at: usize,
+) -> usize
+    requires { ⌜ now table ≡ keywordTable ⌝ }
+    requires { ⌜ at ≤ 16777217 ⌝ }
+    ensures { λ r. ⌜ Emitted at (writtenLines (verticesFrom used (now (v .entry)) (now (vt .entry)) (now (vn .entry)) (now (vp .entry)))) (now (out .entry)) (now (out .exit)) r ⌝ }
+{
+    let second = vertices::vertex_lines(
+        keywords::Statement::Vertex,
+        false,
+        table,
+        v,
+        4,
+        used.v,
+        out,
+        at,
+    );
+    let third = vertices::vertex_lines(
+        keywords::Statement::TextureVertex,
+        false,
+        table,
+        vt,
+        3,
+        used.vt,
+        out,
+        second,
+    );
+    let fourth = vertices::vertex_lines(
+        keywords::Statement::VertexNormal,
+        false,
+        table,
+        vn,
+        3,
+        used.vn,
+        out,
+        third,
+    );
+    vertices::vertex_lines(
+        keywords::Statement::ParameterVertex,
+        true,
+        table,
+        vp,
+        4,
+        used.vp,
+        out,
+        fourth,
+    )
+}
+
+// The tidy text of what the tables hold, from the front of `out` on; the names in it are those of `text`.
+pub fn write_tidy(
+    text: &[u8],
+    used: tables::Used,
+    v: &[i32],
+    vt: &[i32],
+    vn: &[i32],
+    vp: &[i32],
+    corners: &[u32],
+    elements: &[u32],
+    bodies: &[u32],
+    ranges: &[i32],
+    parameters: &[i32],
+    parts: &[u32],
+    spans: &[i32],
+    out: &mut [u8],
+) -> usize
+    ensures { λ r. ⌜ Emitted 0 (tidyFrom (now (text .entry)) used (tables (now (v .entry)) (now (vt .entry)) (now (vn .entry)) (now (vp .entry)) (now (corners .entry)) (now (elements .entry)) (now (bodies .entry)) (now (ranges .entry)) (now (parameters .entry)) (now (parts .entry)) (now (spans .entry)))) (now (out .entry)) (now (out .exit)) r ⌝ }
+{
+    let table = keywords::keyword_table();
+    let arguments = keywords::argument_table();
+    let first = all_vertices(&table, used, v, vt, vn, vp, out, 0);
+    elements::elements_lines(
+        &table,
+        &arguments,
+        text,
+        used,
+        elements,
+        corners,
+        bodies,
+        ranges,
+        parameters,
+        parts,
+        spans,
+        out,
+        first,
+    )
+}
