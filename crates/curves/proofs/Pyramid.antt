@@ -5,7 +5,7 @@ use native.Mathlib.Omega.{arith}
 use lib.IntN.{ℤ}
 use Rattle.whole.specs.Round.{between}
 use Rattle.curves.specs.Directions.{Direction}
-use Rattle.curves.specs.Sampled.{pyramid, partAt, gapAt, firstControl, curveSampled}
+use Rattle.curves.specs.Sampled.{pyramid, partAt, gapAt, firstControl, curveSampled, surfaceSampled}
 
 -- it reads the numbers 0 .. r alone, and the parts below r
 pub pyramid-cong : (p g p′ g′ : ℕ → ℕ → ℕ) (r : ℕ) (c d : ℕ → ℤ)
@@ -32,3 +32,9 @@ unfolding curveSampled
 sampled-cong d t b c h =
     pyramid-cong (partAt d t) (gapAt d t) (partAt d t) (gapAt d t) (d .degree) (λ j. b (firstControl d t + j)) (λ j. c (firstControl d t + j))
     (λ q j u v. refl) (λ q j u v. refl) h
+
+pub surface-cong : (u v : Direction) (s t : ℤ) (b c : ℕ → ℕ → ℤ) → ((i j : ℕ) → b i j ≡ c i j) → surfaceSampled u v s t b ≡ surfaceSampled u v s t c
+unfolding surfaceSampled
+surface-cong u v s t b c h =
+    sampled-cong v t (λ j. curveSampled u s (λ i. b i j)) (λ j. curveSampled u s (λ i. c i j))
+    (λ j l. sampled-cong u s (λ i. b i (firstControl v t + j)) (λ i. c i (firstControl v t + j)) (λ i m. h (firstControl u s + i) (firstControl v t + j)))

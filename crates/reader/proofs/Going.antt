@@ -3,7 +3,7 @@ use Prim.Native.Nat.{ℕ, zero, suc, _+_, _*_, _-_, _≤_, _<_}
 use mathlib.Core.Path.{_≡_, refl, sym, ap, ap₂, _∙_, subst}
 use mathlib.Core.List.{List, [], _∷_, _++_, append-nil}
 use mathlib.Core.Bool.{Bool, true, false, cond}
-use mathlib.Core.Option.{Option, none, some}
+use mathlib.Core.Option.{Option, none}
 use native.Mathlib.Omega.{arith}
 use borrow.Author.Tests.{le-leb, lt-leb}
 use lib.ListN.{length}
@@ -17,44 +17,35 @@ use Rattle.text.proofs.LineByLine.{lines-start, lines-on, lines-end, line-words
 use Rattle.tables.specs.Tables.{Tables}
 use Rattle.tables.specs.declared.Used.{Used}
 use Rattle.model.specs.Model as model
-use Rattle.model.specs.Model.{Model, Element, start}
+use Rattle.model.specs.Model.{Element, start}
 use Rattle.model.specs.Parse.{Parsed, fine, fault, unless}
 use Rattle.model.specs.Room.{Rooms, summed, ofKind, partCount, fits}
 use Rattle.model.specs.Read.{Answer, read, refused, step, finish, onParsed, readLines, readOf}
 use Rattle.model.specs.Layout.{tablesOf, usedOf, nothing, bodiesOf}
 use Rattle.state.specs.declared.State.{State}
-use Rattle.state.specs.declared.Open.{Open}
-use Rattle.state.specs.State.{StateIs, OpenIs, openIs, usedIn, namesIn, formIn, noOpen}
+use Rattle.state.specs.State.{StateIs, usedIn, namesIn, formIn}
 use Rattle.state.specs.Image.{imageOf}
 use Rattle.state.proofs.Rows.{bodies-length, bodies-summed}
 use Rattle.state.proofs.Images.{Wide}
 use Rattle.state.proofs.Bounds.{Bounded}
 use Rattle.state.proofs.Rooms.{Within, parts-fit}
 use Rattle.reader.specs.Reading.{Result, result, roomsOf, answered, readInto}
-use Rattle.reader.specs.Holding.{Opened, opened, Holds, lineSays, NextLine, lineIs}
+use Rattle.lines.specs.Holding.{Opened, opened, Holds, lineSays, NextLine}
+use Rattle.lines.proofs.Opened.{no-body, some-body}
 use Rattle.reader.specs.declared.Reading.{Reading}
 use Rattle.reader.specs.declared.Reading.the-variants.{Read, Refused}
+use Rattle.reader.specs.Taking.{lineIs, begin}
 use Rattle.reader.specs.declared.Line.{Line}
 use Rattle.reader.specs.declared.Line.the-variants.{Next, Stopped}
 
 -- ---- at the start
-abbrev pub begin : State
-begin =
-    record {
-      used = record { v = 0; vt = 0; vn = 0; vp = 0; corners = 0; elements = 0; bodies = 0; parameters = 0; loops = 0 };
-      curves = 0;
-      names = record { «group_place» = 0; «group_length» = 0; «material_place» = 0; «material_length» = 0; smoothing = 0 };
-      form = record { basis = 0; rational = 0; «degree_u» = 0; «degree_v» = 0 };
-      «open» = record { kind = 0; controls = 0; parts = 0; «u_at» = 0; «v_at» = 0 };
-    }
-
 pub begins : (R : Rooms) (s : List ℕ) → Holds R s start begin (tablesOf R nothing) 0
 unfolding imageOf tablesOf
 begins R s =
     record {
       state = record { used = refl; curves = refl; names = refl; form = refl; open-body = refl };
       image = refl;
-      wide = record { rows = λ k. rows k };
+      wide = record { rows = λ k. rows k; counts = tt };
       room = parts-fit R start (record { v = omega arith; vt = omega arith; vn = omega arith; vp = omega arith; corners = omega arith; elements = omega arith; bodies = omega arith; ranges = omega arith; parameters = omega arith; loops = omega arith; spans = omega arith });
       bounded = record { v = omega arith; vt = omega arith; vn = omega arith; vp = omega arith; corners = omega arith; elements = omega arith; bodies = omega arith; parameters = omega arith; parts = omega arith };
       body = tt;
@@ -86,8 +77,9 @@ on R s at x h =
 module _ (R : Rooms) (s : List ℕ) (c : State) (t : Tables) (at : ℕ) (go : Going R s c t at) (h : at < length s) where
   pub going-on : (u : Tables) (d : State) (q : ℕ) → lineIs s at c t u (Next d q) → (Going R s d u q) × (at < q)
   going-on u d q l =
-      let n = l .1 R (go .now) (go .holds) in
-      let e : q ≡ (restAt s at) .next = l .0 in
+      let m = l R (go .now) (go .holds) in
+      let n = m .0 in
+      let e : q ≡ (restAt s at) .next = m .1 in
       let a = next-ahead s at h in
       let b = next-to s at (let g : at ≤ length s = omega arith in g) in
       let f : readLines R (length s) (linesAt s at) (go .now) ≡ readLines R (length s) (linesAt s q) (n .after) =
@@ -99,15 +91,6 @@ module _ (R : Rooms) (s : List ℕ) (c : State) (t : Tables) (at : ℕ) (go : Go
       go .same ∙ on R s at (go .now) h ∙ ap (λ p. onParsed p (readLines R (length s) (linesAt s ((restAt s at) .next)))) (l R (go .now) (go .holds))
 
 -- ---- at the end
-open-kind : (s : List ℕ) (o : Option model.Open) (c : Open) → openIs s o c → (c .kind ≡ 0 → o ≡ none) × ((c .kind ≡ 0 → ⊥) → (n : ℕ) (m : Model) → finish n o m ≡ refused 10 n)
-open-kind s none c e = (λ z. refl, λ f n m. absurd (f (ap (λ (o : Open). o .kind) e)))
-open-kind s (some o) c e = (λ z. absurd (never (o .body .free) (sym (e .kind) ∙ z)), λ f n m. refl)
-  where
-    never : (k : model.Free) → Rattle.model.specs.Layout.freeNumber k ≡ 0 → ⊥
-    never model.curve z = omega arith
-    never model.curve2 z = omega arith
-    never model.surface z = omega arith
-
 used-is : (x : model.State) → x .open-body ≡ none → usedIn x ≡ usedOf (x .model)
 unfolding usedOf
 used-is x e =
@@ -133,11 +116,11 @@ module _ (R : Rooms) (s : List ℕ) (c : State) (t : Tables) (at : ℕ) (go : Go
   done = go .same ∙ ap (λ l. readLines R (length s) l (go .now)) (lines-end s at h)
 
   pub going-open : (c .«open» .kind ≡ 0 → ⊥) → readLines R (length s) (linesAt s 0) start ≡ refused 10 (length s)
-  going-open f = done ∙ open-kind s (go .now .open-body) (c .«open») (go .holds .state .open-body) .1 f (length s) (go .now .model)
+  going-open f = done ∙ ap (λ (o : Option model.Open). finish (length s) o (go .now .model)) (some-body s (c .«open») (go .now .open-body) (go .holds .state .open-body) f .1)
 
   pub going-read : c .«open» .kind ≡ 0 → result (Read (c .used)) t ≡ answered R (readLines R (length s) (linesAt s 0) start)
   going-read z =
-      let o : go .now .open-body ≡ none = open-kind s (go .now .open-body) (c .«open») (go .holds .state .open-body) .0 z in
+      let o : go .now .open-body ≡ none = no-body s (c .«open») (go .now .open-body) (go .holds .state .open-body) z in
       let a : readLines R (length s) (linesAt s 0) start ≡ read (go .now .model) = done ∙ ap (λ o. finish (length s) o (go .now .model)) o in
       ap₂ (λ (u : Used) (t : Tables). result (Read u) t) (go .holds .state .used ∙ used-is (go .now) o) (go .holds .image ∙ image-is R (go .now) o)
       ∙ ap (answered R) (sym a)

@@ -1,8 +1,4 @@
 pub mod Going
-pub mod Steps
-pub mod Vertices
-pub mod Stepped
-pub mod Elements
-pub mod Settings
-pub mod Parameters
-pub mod Loops
+pub mod Blamed
+pub mod Sorted
+pub mod Whole

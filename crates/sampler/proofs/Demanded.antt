@@ -19,7 +19,7 @@ use Rattle.tables.specs.Tables.{Tables}
 use Rattle.tables.specs.Records.{Body}
 use Rattle.tables.specs.declared.Used.{Used}
 use Rattle.tables.specs.declared.Element.{Element}
-use Rattle.rules.specs.Rules.{curvesBefore}
+use Rattle.rules.specs.Rules.{obeys, curvesBefore}
 use Rattle.rules.proofs.Element.{obeys-facts}
 use Rattle.curves.specs.Exact.{curveExact}
 use Rattle.curves.proofs.CurveNear.{curve-near}
@@ -41,22 +41,27 @@ plain-carried : (rational type : ℕ) → rational ≡ 0 → (type ≡ 1) ⊎ (t
 plain-carried rational type e (inl h) = rw (e, h)
 plain-carried rational type e (inr h) = rw (e, h)
 
+-- nothing up to 18 is given for an element of the kind wanted that obeys and is carried
+pub all-passed : (surface : Bool) (used : Used) (t : Tables) (number : ℕ) → 1 ≤ number → number ≤ used .elements → wanted surface (elementOf t number .kind) ≡ true
+    → obeys used t (curvesBefore t (number - 1)) (number - 1) ≡ true → bodyOf t number .rational ≡ 0 → (bodyOf t number .type ≡ 1) ⊎ (bodyOf t number .type ≡ 2)
+    → refusalOf surface used t number ≡ 0
+all-passed surface used t number some in-use kind obeyed plain type =
+    let o = obeys-facts used t (curvesBefore t (number - 1)) (number - 1) obeyed in
+    let l : 9 * number ≤ length (t .elements) = omega (arith, o .lent-one, some) in
+    sym (none-given surface used t number some in-use l kind obeyed (plain-carried (bodyOf t number .rational) (bodyOf t number .type) plain type))
+
 module _ {used : Used} {t : Tables} {number : ℕ} (c : Curve used t number) where
   curve-given : refusalOf false used t number ≡ 0
-  curve-given =
-      let o = obeys-facts used t (curvesBefore t (number - 1)) (number - 1) (c .obeyed) in
-      let l : 9 * number ≤ length (t .elements) = omega (arith, o .lent-one, c .some) in
-      sym (none-given false used t number (c .some) (c .in-use) l (curve-wanted (elementOf t number .kind) (c .kind)) (c .obeyed)
-      (plain-carried (bodyOf t number .rational) (bodyOf t number .type) (c .plain) (c .type)))
+  curve-given = all-passed false used t number (c .some) (c .in-use) (curve-wanted (elementOf t number .kind) (c .kind)) (c .obeyed) (c .plain) (c .type)
 
   -- the rounded rule is near the exact value, at every parameter of the range
   curve-close : (p : ℤ) → bodyOf t number .start-u ≤ℤ p → p ≤ℤ bodyOf t number .end-u → (axis : ℕ) → OnCurve t number p axis (curveAt t (elementOf t number) (bodyOf t number) p axis)
   unfolding curveAt
   curve-close p a b axis =
-      curve-near (directionU t (bodyOf t number)) p (curved used t number (granted false used t number curve-given) .ranged .sound p a b .rules) (controlOf t (elementOf t number) axis)
+      curve-near (directionU t (bodyOf t number)) p (curved used t number (granted false used t number curve-given) .along .ranged .sound p a b .rules) (controlOf t (elementOf t number) axis)
 
   ordered : bodyOf t number .start-u ≤ℤ bodyOf t number .end-u
-  ordered = curved used t number (granted false used t number curve-given) .ranged .ordered
+  ordered = curved used t number (granted false used t number curve-given) .along .ranged .ordered
 
 -- ---- lists by their places
 joined-at : (w : ℕ) (f : ℕ → List ℤ) → ((i : ℕ) → length (f i) ≡ w) → (n j k : ℕ) → j < n → k < w → getD (joined n f) (w * j + k) (pos 0) ≡ getD (f j) k (pos 0)
@@ -74,7 +79,7 @@ joined-at w f h (suc n) j k a b = go (eq-or-lt-of-le (le-of-suc-le-suc a)) (λ l
         let m : w * j + k < length (joined n f) = omega (arith, long, mul-le-mul-left w l) in
         List·getD-append (joined n f) (f n) (pos 0) (w * j + k) m ∙ r l
 
-listed-at : (n k : ℕ) (f : ℕ → ℤ) → k < n → getD (listed n f) k (pos 0) ≡ f k
+pub listed-at : (n k : ℕ) (f : ℕ → ℤ) → k < n → getD (listed n f) k (pos 0) ≡ f k
 listed-at n k f h =
     let e : k ≡ 1 * k + 0 = omega arith in
     ap (λ (q : ℕ). getD (listed n f) q (pos 0)) e ∙ joined-at 1 (λ i. f i ∷ []) (λ i. refl) n k 0 h (omega arith)

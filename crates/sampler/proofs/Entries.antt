@@ -1,27 +1,28 @@
 -- The answers by the tests that lead to each, and the points of the parts that are lent as those of the tables.
 use mathlib.Core.Path.{_≡_, refl, sym, ap, ap₂, _∙_}
 use mathlib.Core.Bool.{Bool, true, false, cond, _&&_}
-use mathlib.Core.Logic.{_⊎_, inl, inr, ⊎-elim}
+use mathlib.Core.List.{List}
 use Prim.Native.Nat.{ℕ, _+_, _*_, _-_, _≤_, _<_}
 use borrow.Author.Tests.{ne-eqb}
 use lib.Dec.{leb, eqb}
 use lib.IntN.{ℤ}
 use lib.ListN.{take, drop}
 use native.Mathlib.Omega.{arith}
-use lib.Signed.{_≤ℤ_, leZ, ltZ}
-use Rattle.lists.proofs.Tests.{test}
+use lib.Signed.{leZ}
+use Rattle.lists.proofs.Tests.{and-left, and-right}
+use Rattle.whole.proofs.Order.{yes-le}
 use Rattle.tables.specs.Tables.{Tables}
 use Rattle.tables.specs.Records.{Body, parametersU}
 use Rattle.tables.specs.declared.Used.{Used}
 use Rattle.tables.specs.declared.Element.{Element}
-use Rattle.rules.proofs.Order.{lt-no-le, no-lt-le}
 use Rattle.curves.specs.Sampled.{firstControl}
 use Rattle.curves.proofs.Pyramid.{sampled-cong}
 use Rattle.sampler.specs.Places.{direction, Sound}
 use Rattle.sampler.specs.Controls.{controlAt, Held}
+use Rattle.sampler.specs.Runs.{Ranged}
 use Rattle.sampler.specs.declared.rows.Along.{Along}
 use Rattle.sampler.specs.Points.{alongOf, controlOf, curveAt}
-use Rattle.sampler.specs.Answers.{elementOf, bodyOf, refusalOf, curvePoint, pointOnCurve}
+use Rattle.sampler.specs.Answers.{elementOf, bodyOf, refusalOf, inside, curvePoint, pointOnCurve}
 use Rattle.sampler.specs.Inner.{pointBy, coordinateBy}
 use Rattle.sampler.specs.declared.Sampled.the-variants as sampled
 use Rattle.sampler.proofs.Obeyed.{Curved}
@@ -35,7 +36,7 @@ module _ (t : Tables) (e : Element) (b : Body) (p : ℤ) (axis : ℕ) where
   unfolding controlAt controlOf
   plane-control h i = rw h
 
-  space-control : eqb (e .kind) 5 ≡ false → (i : ℕ) → controlAt (t .v) (t .corners) (e .first) axis i ≡ controlOf t e axis i
+  pub space-control : eqb (e .kind) 5 ≡ false → (i : ℕ) → controlAt (t .v) (t .corners) (e .first) axis i ≡ controlOf t e axis i
   unfolding controlAt controlOf
   space-control h i = rw h
 
@@ -51,7 +52,7 @@ module _ (t : Tables) (e : Element) (b : Body) (p : ℤ) (axis : ℕ) where
       sampled-cong (direction along (parametersU t b)) p (controlAt (t .v) (t .corners) (e .first) axis) (controlOf t e axis)
       (λ j l. space-control h (firstControl (direction along (parametersU t b)) p + j))
 
-space-eq : {a b c d e f : ℤ} → a ≡ d → b ≡ e → c ≡ f → sampled.Space a b c ≡ sampled.Space d e f
+pub space-eq : {a b c d e f : ℤ} → a ≡ d → b ≡ e → c ≡ f → sampled.Space a b c ≡ sampled.Space d e f
 space-eq p q r = cc
 
 point-is : (t : Tables) (e : Element) (b : Body) (p : ℤ) (q : Bool) → eqb (e .kind) 5 ≡ q
@@ -66,23 +67,26 @@ module _ (used : Used) (t : Tables) (number : ℕ) (p : ℤ) where
   refused-curve {r} e h = rw (sym e, ne-eqb r 0 h)
 
   module _ (granted : refusalOf false used t number ≡ 0) where
-    pub curve-before : ltZ p (bodyOf t number .start-u) ≡ true → sampled.Refused 19 ≡ pointOnCurve used t number p
+    pub curve-outside : inside (bodyOf t number .start-u) (bodyOf t number .end-u) p ≡ false → sampled.Refused 19 ≡ pointOnCurve used t number p
     unfolding pointOnCurve
-    curve-before h = rw (granted, lt-no-le p (bodyOf t number .start-u) h)
+    curve-outside h = rw (granted, h)
 
-    module _ (low : ltZ p (bodyOf t number .start-u) ≡ false) where
-      pub curve-past : ltZ (bodyOf t number .end-u) p ≡ true → sampled.Refused 19 ≡ pointOnCurve used t number p
-      unfolding pointOnCurve
-      curve-past h = rw (granted, no-lt-le p (bodyOf t number .start-u) low, lt-no-le (bodyOf t number .end-u) p h)
+    pub curve-there : inside (bodyOf t number .start-u) (bodyOf t number .end-u) p ≡ true
+        → pointBy (elementOf t number .kind) (t .v) (t .vp) (t .corners) (elementOf t number .first)
+        (alongOf (bodyOf t number .type) (bodyOf t number .degree-u) (bodyOf t number .count-u)) (parametersU t (bodyOf t number)) p
+        ≡ pointOnCurve used t number p
+    unfolding pointOnCurve
+    curve-there h = rw (granted, h) (point-is t (elementOf t number) (bodyOf t number) p (eqb (elementOf t number .kind) 5) refl)
 
-      pub curve-there : ltZ (bodyOf t number .end-u) p ≡ false
-          → pointBy (elementOf t number .kind) (t .v) (t .vp) (t .corners) (elementOf t number .first)
-          (alongOf (bodyOf t number .type) (bodyOf t number .degree-u) (bodyOf t number .count-u)) (parametersU t (bodyOf t number)) p
-          ≡ pointOnCurve used t number p
-      unfolding pointOnCurve
-      curve-there h =
-          rw (granted, no-lt-le p (bodyOf t number .start-u) low, no-lt-le (bodyOf t number .end-u) p h)
-          (point-is t (elementOf t number) (bodyOf t number) p (eqb (elementOf t number .kind) 5) refl)
+-- a parameter that was found inside is sound in its direction
+pub sound-inside : {a : Along} {x : List ℤ} {s e : ℤ} → Ranged a x s e → (p : ℤ) → inside s e p ≡ true → Sound a x p
+sound-inside {a} {x} {s} {e} r p h = r .sound p (yes-le s p (and-left (leZ s p) (leZ p e) h)) (yes-le p e (and-right (leZ s p) (leZ p e) h))
+
+-- a part that is lent from `from` to `from + count` has `count` numbers
+pub part-is : (l : List ℤ) (from count : ℕ) → take (from + count - from) (drop from l) ≡ take count (drop from l)
+part-is l from count =
+    let c : from + count - from ≡ count = omega arith in
+    ap (λ (q : ℕ). take q (drop from l)) c
 
 -- what was read of the element and its body
 pub record Read (t : Tables) (e : Element) (b : Body) (kind first from count : ℕ) (a : Along) : Type 0 where
@@ -94,13 +98,11 @@ pub record Read (t : Tables) (e : Element) (b : Body) (kind first from count : �
 
 module _ {t : Tables} {e : Element} {b : Body} {kind first from count : ℕ} {a : Along} (r : Read t e b kind first from count a) where
   pub run-is : take (from + count - from) (drop from (t .parameters)) ≡ parametersU t b
-  run-is =
-      let c : from + count - from ≡ count = omega arith in
-      rw (c, r .from-is, r .count-is)
+  run-is = part-is (t .parameters) from count ∙ rw (r .from-is, r .count-is)
 
-  pub curve-asked : (p q : ℤ) → q ≡ p → Curved t e b → b .start-u ≤ℤ p → p ≤ℤ b .end-u
+  pub curve-asked : (p q : ℤ) → q ≡ p → Curved t e b → inside (b .start-u) (b .end-u) p ≡ true
       → Held (cond (eqb kind 5) (t .vp) (t .v)) (t .corners) first (a .controls) × Sound a (take (from + count - from) (drop from (t .parameters))) q
-  curve-asked p q k c l h = rw (run-is, k, r .kind-is, r .first-is, r .along-is) (c .held, c .ranged .sound p l h)
+  curve-asked p q k c h = rw (run-is, k, r .kind-is, r .first-is, r .along-is) (c .held, sound-inside (c .along .ranged) p h)
 
   pub point-read : (p q : ℤ) → q ≡ p
       → pointBy kind (t .v) (t .vp) (t .corners) first a (take (from + count - from) (drop from (t .parameters))) q

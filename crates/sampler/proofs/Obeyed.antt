@@ -1,5 +1,5 @@
 -- What an element that obeys gives the sampler: its records are lent, its controls held, its ranges those of a curve or a surface.
-use mathlib.Core.Path.{_≡_, refl, sym, ap, _∙_, subst}
+use mathlib.Core.Path.{_≡_, refl, sym, ap, ap₂, _∙_, subst}
 use mathlib.Core.Bool.{Bool, true, false, cond, _&&_, _||_}
 use mathlib.Core.Logic.{_⊎_, inl, inr, ⊎-elim}
 use mathlib.Core.List.{List}
@@ -27,6 +27,7 @@ use Rattle.rules.proofs.Facts.{Corners, corner-vertex, corner-control, Curve, S
 use Rattle.rules.proofs.Element.{Recorded, recorded, curve-of, surface-of, Obeys, obeys-facts, body-of}
 use Rattle.rules.proofs.Basis.{curve-enough, surface-enough-u, surface-enough-v}
 use Rattle.curves.specs.Directions.{at}
+use Rattle.sampler.specs.Places.{Sized}
 use Rattle.sampler.specs.Controls.{controlAt, Held}
 use Rattle.sampler.specs.Runs.{Ranged}
 use Rattle.sampler.specs.Points.{alongOf}
@@ -57,20 +58,31 @@ module _ (used : Used) (t : Tables) (kind first count : ℕ) (c : Corners used t
   pub held-either : Held (cond (eqb kind 5) (t .vp) (t .v)) (t .corners) first count
   held-either = ⊎-elim (λ e. rw e (held-plane (eqb-true kind 5 e))) (λ e. rw e (held-space (λ k. never (sym e ∙ eq-eqb kind 5 k)))) (test (eqb kind 5))
 
--- a run of parameters
-module _ (l : List ℤ) (first n : ℕ) (h : first + n ≤ length l) where
-  pub part-length : length (take n (drop first l)) ≡ n
-  part-length = length-take-le n (drop first l) (omega (arith, length-drop first l))
+knots-of : (type n p : ℕ) → enough (basisOf type) n p ≡ true → eqb type 2 ≡ true → n + 1 ≤ p
+knots-of type n p h e =
+    let k : leb (n + 1) (p - n - 1) ≡ true = subst (λ (q : ℕ). enough (basisOf q) n p ≡ true) (eqb-true type 2 e) h in
+    omega (arith, leb-true (n + 1) (p - n - 1) k)
 
-  part-small : ((k : ℕ) → k < n → small (getD l (first + k) (pos 0)) ≡ true) → (i : ℕ) → i < length (take n (drop first l)) → Small (at (take n (drop first l)) i)
+-- one direction of a body: its p parameters stand from number `first` on
+pub record Directed (l : List ℤ) (first type n p : ℕ) (s e : ℤ) : Type 0 where
+  pub sized : Sized type n p
+  pub ranged : Ranged (alongOf type n p) (take p (drop first l)) s e
+
+module _ (l : List ℤ) (first p : ℕ) (h : first + p ≤ length l) where
+  part-length : length (take p (drop first l)) ≡ p
+  part-length = length-take-le p (drop first l) (omega (arith, length-drop first l))
+
+  part-small : ((k : ℕ) → k < p → small (getD l (first + k) (pos 0)) ≡ true) → (i : ℕ) → i < length (take p (drop first l)) → Small (at (take p (drop first l)) i)
   part-small f i m =
-      let k : i < n = omega (arith, part-length) in
-      rw (getD-take n (drop first l) i (pos 0) k, getD-drop first l i (pos 0)) (is-small (getD l (first + i) (pos 0)) (f i k))
+      let k : i < p = omega (arith, part-length) in
+      rw (getD-take p (drop first l) i (pos 0) k, getD-drop first l i (pos 0)) (is-small (getD l (first + i) (pos 0)) (f i k))
 
-  pub part-ranged : (type m : ℕ) (s e : ℤ) → (type ≡ 1) ⊎ (type ≡ 2) → m ≤ 20 → 2 ≤ n → ((k : ℕ) → k < n → small (getD l (first + k) (pos 0)) ≡ true)
-      → enough (basisOf type) m n ≡ true → inOrder (basisOf type) m (take n (drop first l)) s e ≡ true → Ranged (alongOf type m n) (take n (drop first l)) s e
-  part-ranged type m s e c few many f g o =
-      ranged-of m (take n (drop first l)) s e (omega (arith, part-length)) few (part-small f) type n c part-length g o
+  directed : (type n : ℕ) (s e : ℤ) → (type ≡ 1) ⊎ (type ≡ 2) → n ≤ 20 → 2 ≤ p → ((k : ℕ) → k < p → small (getD l (first + k) (pos 0)) ≡ true)
+      → enough (basisOf type) n p ≡ true → inOrder (basisOf type) n (take p (drop first l)) s e ≡ true → Directed l first type n p s e
+  directed type n s e c few many f g o = record {
+    sized = record { few = few; many = many; knots = knots-of type n p g };
+    ranged = ranged-of n (take p (drop first l)) s e (omega (arith, part-length)) few (part-small f) type p c part-length g o;
+  }
 
 -- the two types that are sampled
 pub types : (rational type : ℕ) → carried rational type ≡ true → (type ≡ 1) ⊎ (type ≡ 2)
@@ -133,10 +145,14 @@ pub record Lent (t : Tables) (e : Element) : Type 0 where
 pub record Curved (t : Tables) (e : Element) (b : Body) : Type 0 where
   pub lent : Lent t e
   pub held : Held (cond (eqb (e .kind) 5) (t .vp) (t .v)) (t .corners) (e .first) (alongOf (b .type) (b .degree-u) (b .count-u) .controls)
-  pub ranged : Ranged (alongOf (b .type) (b .degree-u) (b .count-u)) (parametersU t b) (b .start-u) (b .end-u)
-  pub many : 2 ≤ b .count-u
-  pub few : b .degree-u ≤ 20
-  pub knots : eqb (b .type) 2 ≡ true → b .degree-u + 1 ≤ b .count-u
+  pub along : Directed (t .parameters) (b .first-parameter) (b .type) (b .degree-u) (b .count-u) (b .start-u) (b .end-u)
+
+-- a surface that is granted
+pub record Surfaced (t : Tables) (e : Element) (b : Body) : Type 0 where
+  pub lent : Lent t e
+  pub held : Held (t .v) (t .corners) (e .first) (alongOf (b .type) (b .degree-u) (b .count-u) .controls * alongOf (b .type) (b .degree-v) (b .count-v) .controls)
+  pub along-u : Directed (t .parameters) (b .first-parameter) (b .type) (b .degree-u) (b .count-u) (b .start-u) (b .end-u)
+  pub along-v : Directed (t .parameters) (b .first-parameter + b .count-u) (b .type) (b .degree-v) (b .count-v) (b .start-v) (b .end-v)
 
 pub lent-of : {used : Used} {t : Tables} {e : Element} → Recorded used t (e .kind) (e .body) → Lent t e
 lent-of {used} {t} {e} r = record {
@@ -145,11 +161,6 @@ lent-of {used} {t} {e} r = record {
   range = omega (arith, r .some, r .lent-range);
   run = r .run .lent-ones;
 }
-
-knots-of : (type n p : ℕ) → enough (basisOf type) n p ≡ true → eqb type 2 ≡ true → n + 1 ≤ p
-knots-of type n p h e =
-    let k : leb (n + 1) (p - n - 1) ≡ true = subst (λ (q : ℕ). enough (basisOf q) n p ≡ true) (eqb-true type 2 e) h in
-    omega (arith, leb-true (n + 1) (p - n - 1) k)
 
 pub curved : (used : Used) (t : Tables) (number : ℕ) → Granted false used t number → Curved t (elementOf t number) (bodyOf t number)
 unfolding curveCount
@@ -169,9 +180,37 @@ curved used t number g =
     record {
       lent = lent-of r;
       held = subst (λ (q : ℕ). Held (cond (eqb (e .kind) 5) (t .vp) (t .v)) (t .corners) (e .first) q) same (held-either used t (e .kind) (e .first) (e .count) (o .corners));
-      ranged = part-ranged (t .parameters) (b .first-parameter) (b .count-u) (omega (arith, r .run .lent-ones)) (b .type) (b .degree-u) (b .start-u) (b .end-u) (g .type)
+      along = directed (t .parameters) (b .first-parameter) (b .count-u) (omega (arith, r .run .lent-ones)) (b .type) (b .degree-u) (b .start-u) (b .end-u) (g .type)
           (r .typed .degree-u .most) (r .run .along-u) (λ j l. r .run .small-ones j (omega arith)) enough-there (c .in-order);
-      many = r .run .along-u;
-      few = r .typed .degree-u .most;
-      knots = knots-of (b .type) (b .degree-u) (b .count-u) enough-there;
+    }
+
+pub surfaced : (used : Used) (t : Tables) (number : ℕ) → Granted true used t number → Surfaced t (elementOf t number) (bodyOf t number)
+unfolding surfaceCount
+surfaced used t number g =
+    let i = number - 1 in
+    let e = elementOf t number in
+    let b = bodyOf t number in
+    let n = curvesBefore t i in
+    let o = obeys-facts used t n i (g .obeyed) in
+    let six = eqb-true (e .kind) 6 (g .kind) in
+    let four : 4 ≤ e .kind = omega (arith, six) in
+    let h = body-of o four in
+    let r = recorded used t n (e .kind) (e .count) (e .body) h in
+    let c = surface-of used t n (e .kind) (e .count) (e .body) h six in
+    let yes = eq-eqb (e .kind) 6 six in
+    let degree = degree-facts (b .type) (b .degree-v) (rw yes at (r .typed .degree-v)) in
+    let enough-u = surface-enough-u (basisOf (b .type)) (b .degree-u) (b .count-u) (b .degree-v) (b .count-v) (e .count) (c .counted) in
+    let enough-v = surface-enough-v (basisOf (b .type)) (b .degree-u) (b .count-u) (b .degree-v) (b .count-v) (e .count) (c .counted) in
+    let same = eqb-true (e .count) (controls (basisOf (b .type)) (b .degree-u) (b .count-u) * controls (basisOf (b .type)) (b .degree-v) (b .count-v))
+    (and-right (enough (basisOf (b .type)) (b .degree-u) (b .count-u) && enough (basisOf (b .type)) (b .degree-v) (b .count-v)) _ (c .counted))
+    ∙ ap₂ (λ (k l : ℕ). k * l) (same-controls (b .type) (b .degree-u) (b .count-u) (g .type)) (same-controls (b .type) (b .degree-v) (b .count-v) (g .type)) in
+    record {
+      lent = lent-of r;
+      held = subst (λ (q : ℕ). Held (t .v) (t .corners) (e .first) q) same (held-space used t (e .kind) (e .first) (e .count) (o .corners) (λ k. omega (arith, six)));
+      along-u = directed (t .parameters) (b .first-parameter) (b .count-u) (omega (arith, r .run .lent-ones)) (b .type) (b .degree-u) (b .start-u) (b .end-u) (g .type)
+          (r .typed .degree-u .most) (r .run .along-u) (λ j l. r .run .small-ones j (omega arith)) enough-u (c .along-u);
+      along-v = directed (t .parameters) (b .first-parameter + b .count-u) (b .count-v) (omega (arith, r .run .lent-ones)) (b .type) (b .degree-v) (b .start-v) (b .end-v) (g .type)
+          (degree .most) (leb-true 2 (b .count-v) (rw yes at (r .run .along-v)))
+          (λ j l. let k : b .first-parameter + (b .count-u + j) ≡ b .first-parameter + b .count-u + j = omega arith in
+          subst (λ (q : ℕ). small (getD (t .parameters) q (pos 0)) ≡ true) k (r .run .small-ones (b .count-u + j) (omega arith))) enough-v (c .along-v);
     }

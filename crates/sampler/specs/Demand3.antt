@@ -1,4 +1,5 @@
--- Demand 3 on curves: given room, a point is handed out, alone or as one of a run, and each of its coordinates differs from the exact value by at most n/2 millionths.
+-- Demand 3: given room, a point is handed out, on a curve alone or as one of a run, and each of its coordinates differs from the exact value
+-- by at most n/2 millionths on a curve of degree n, (m+n)/2 on a surface of degrees m and n.
 use mathlib.Core.Path.{_≡_}
 use mathlib.Core.Bool.{true}
 use mathlib.Core.Logic.{_⊎_}
@@ -14,8 +15,8 @@ use Rattle.tables.specs.declared.Used.{Used}
 use Rattle.rules.specs.Rules.{obeys, curvesBefore}
 use Rattle.curves.specs.Exact.{curveExact, surfaceExact}
 use Rattle.sampler.specs.Runs.{parameterAt}
-use Rattle.sampler.specs.Points.{directionU, controlOf, axesOf}
-use Rattle.sampler.specs.Answers.{elementOf, bodyOf, refusalIn, coordinatesIn, runRefusalIn, pointOnCurve, runOnCurve, pointsAfter}
+use Rattle.sampler.specs.Points.{directionU, directionV, controlOf, gridOf, axesOf}
+use Rattle.sampler.specs.Answers.{elementOf, bodyOf, refusalIn, coordinatesIn, runRefusalIn, pointOnCurve, pointOnSurface, runOnCurve, pointsAfter}
 
 -- "any non-rational Bezier or B-spline curve .. in tables that obey the rules": "tables obey the rules where nothing that 15 names is wrong for that element"
 pub record Curve (used : Used) (t : Tables) (number : ℕ) : Type 0 where
@@ -52,3 +53,31 @@ abbrev pub RunsOnCurves : Type 0
 RunsOnCurves =
     (used : Used) (t : Tables) (number steps at : ℕ) (points : List ℤ) → Curve used t number → 1 ≤ steps → steps ≤ 65536
     → at + axesOf (elementOf t number) * (steps + 1) ≤ length points → RunAnswer used t number steps at points
+
+-- "any non-rational Bezier or B-spline .. surface in tables that obey the rules"
+pub record Surface (used : Used) (t : Tables) (number : ℕ) : Type 0 where
+  pub some : 1 ≤ number
+  pub in-use : number ≤ used .elements
+  pub kind : elementOf t number .kind ≡ surfaceKind
+  pub obeyed : obeys used t (curvesBefore t (number - 1)) (number - 1) ≡ true
+  pub plain : bodyOf t number .rational ≡ 0
+  pub type : (bodyOf t number .type ≡ 1) ⊎ (bodyOf t number .type ≡ 2)
+
+-- z is at most (m+n)/2 from the exact value at p along u and q along v on that axis
+abbrev pub OnSurface : Tables → (number : ℕ) (p q : ℤ) (axis : ℕ) → ℤ → Type 0
+OnSurface t number p q axis z =
+    Close z
+    (surfaceExact (directionU t (bodyOf t number)) (directionV t (bodyOf t number)) p q (gridOf t (elementOf t number) (bodyOf t number) axis))
+    (bodyOf t number .degree-u + bodyOf t number .degree-v)
+
+pub record SurfaceAnswer (used : Used) (t : Tables) (number : ℕ) (p q : ℤ) : Type 0 where
+  pub given : refusalIn (pointOnSurface used t number p q) ≡ 0
+  pub axes : length (coordinatesIn (pointOnSurface used t number p q)) ≡ 3
+  pub near : (axis : ℕ) → axis < 3 → OnSurface t number p q axis (getD (coordinatesIn (pointOnSurface used t number p q)) axis (pos 0))
+
+-- "on a surface any two" parameters, each in its own direction's range, both ends included
+abbrev pub PointsOnSurfaces : Type 0
+PointsOnSurfaces =
+    (used : Used) (t : Tables) (number : ℕ) (p q : ℤ) → Surface used t number
+    → bodyOf t number .start-u ≤ℤ p → p ≤ℤ bodyOf t number .end-u → bodyOf t number .start-v ≤ℤ q → q ≤ℤ bodyOf t number .end-v
+    → SurfaceAnswer used t number p q

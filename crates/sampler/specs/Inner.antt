@@ -1,10 +1,10 @@
 -- The points as the functions below the entry points make them, from the parts of the tables that they are lent.
 use mathlib.Core.Bool.{cond}
 use mathlib.Core.List.{List}
-use Prim.Native.Nat.{ℕ, _+_}
+use Prim.Native.Nat.{ℕ, _+_, _*_}
 use lib.Dec.{eqb}
 use lib.IntN.{ℤ}
-use Rattle.curves.specs.Sampled.{curveSampled}
+use Rattle.curves.specs.Sampled.{curveSampled, surfaceSampled}
 use Rattle.sampler.specs.Places.{direction}
 use Rattle.sampler.specs.Controls.{controlAt}
 use Rattle.sampler.specs.Runs.{pointsUpto}
@@ -20,6 +20,14 @@ pointBy kind v vp corners first along x t =
     cond (eqb kind 5)
     (sampled.Plane (coordinateBy vp corners first along x t 1) (coordinateBy vp corners first along x t 2))
     (sampled.Space (coordinateBy v corners first along x t 0) (coordinateBy v corners first along x t 1) (coordinateBy v corners first along x t 2))
+
+abbrev pub acrossBy : List ℤ → List ℕ → (first : ℕ) (u v : Along) (x y : List ℤ) (s t : ℤ) (axis : ℕ) → ℤ
+acrossBy values corners first u v x y s t axis =
+    surfaceSampled (direction u x) (direction v y) s t (λ i j. controlAt values corners first axis (j * u .controls + i))
+
+unfoldable pub surfaceBy : List ℤ → List ℕ → (first : ℕ) (u v : Along) (x y : List ℤ) (s t : ℤ) → Sampled
+surfaceBy values corners first u v x y s t =
+    sampled.Space (acrossBy values corners first u v x y s t 0) (acrossBy values corners first u v x y s t 1) (acrossBy values corners first u v x y s t 2)
 
 abbrev pub axesBy : (kind : ℕ) → ℕ
 axesBy kind = cond (eqb kind 5) 2 3

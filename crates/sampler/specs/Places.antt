@@ -1,8 +1,8 @@
 -- What the code knows of one direction and of a parameter t in it.
-use mathlib.Core.Bool.{Bool, cond}
+use mathlib.Core.Bool.{Bool, true, cond}
 use mathlib.Core.List.{List}
 use mathlib.Core.Path.{_≡_}
-use Prim.Native.Nat.{ℕ, _-_, _≤_, _<_}
+use Prim.Native.Nat.{ℕ, _+_, _-_, _≤_, _<_}
 use lib.Dec.{leb, eqb}
 use lib.ListN.{length}
 use lib.IntN.{ℤ}
@@ -17,6 +17,12 @@ basisOf type = cond (eqb type 2) bspline bezier
 
 abbrev pub direction : Along → List ℤ → Direction
 direction a x = record { basis = basisOf (a .basis); degree = a .degree; controls = a .controls; parameters = x }
+
+-- a degree n and p parameters of a direction that obeys the rules, of either type
+pub record Sized (type n p : ℕ) : Type 0 where
+  pub few : n ≤ 20
+  pub many : 2 ≤ p
+  pub knots : eqb type 2 ≡ true → n + 1 ≤ p
 
 -- t lies in a direction that obeys the rules, and every number is small
 pub record Sound (a : Along) (x : List ℤ) (t : ℤ) : Type 0 where

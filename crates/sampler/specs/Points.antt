@@ -39,9 +39,13 @@ axesOf e = cond (eqb (e .kind) curve2Kind) 2 3
 unfoldable pub curveAt : Tables → Element → Body → (p : ℤ) (axis : ℕ) → ℤ
 curveAt t e b p axis = curveSampled (directionU t b) p (controlOf t e axis)
 
--- "A surface has k_u times k_v controls, u varying fastest"
+-- "A surface has k_u times k_v controls, u varying fastest": the number on that axis of the control at i along u and j along v
+abbrev pub gridOf : Tables → Element → Body → (axis i j : ℕ) → ℤ
+gridOf t e b axis i j = controlOf t e axis (j * directionU t b .controls + i)
+
+-- one coordinate of a surface's point
 unfoldable pub surfaceAt : Tables → Element → Body → (p q : ℤ) (axis : ℕ) → ℤ
-surfaceAt t e b p q axis = surfaceSampled (directionU t b) (directionV t b) p q (λ i j. controlOf t e axis (j * directionU t b .controls + i))
+surfaceAt t e b p q axis = surfaceSampled (directionU t b) (directionV t b) p q (gridOf t e b axis)
 
 -- the numbers of a run's points, one point after the other
 unfoldable pub runNumbers : Tables → Element → Body → (steps : ℕ) → List ℤ

@@ -1,12 +1,14 @@
 // Points on curves and surfaces, alone and in runs.
 ghost use mathlib.Core.Path.{_≡_};
 ghost use Rattle.tables.specs.Tables.{tables};
-ghost use Rattle.sampler.specs.Answers.{refusalOf, pointOnCurve, runOnCurve, pointsAfter};
+ghost use Rattle.sampler.specs.Answers.{refusalOf, pointOnCurve, pointOnSurface, runOnCurve, pointsAfter};
 ghost use lib.ListN.{length};
 use crate::points::curve_point;
-use crate::records::along_of;
+use crate::points::surface_point;
+use crate::records::along_at;
 use crate::records::axes_of;
 use crate::records::is_carried;
+use crate::records::is_inside;
 use crate::records::is_wanted;
 use crate::records::number_at;
 use crate::records::value_at;
@@ -133,20 +135,12 @@ pub fn point_on_curve(
     }
     let i = element as usize - 1;
     let body = number_at(elements, 9, i, 3) as usize - 1;
-    if t < value_at(ranges, 4, body, 0) {
+    if !is_inside(ranges, body, 0, t) {
         return Sampled::Refused { number: 19 };
     }
-    if value_at(ranges, 4, body, 1) < t {
-        return Sampled::Refused { number: 19 };
-    }
-    let count = number_at(bodies, 9, body, 5);
-    let along = along_of(
-        number_at(bodies, 9, body, 0),
-        number_at(bodies, 9, body, 2),
-        count,
-    );
+    let along = along_at(bodies, body, 0);
     let from = number_at(bodies, 9, body, 4) as usize;
-    let to = from + count as usize;
+    let to = from + number_at(bodies, 9, body, 5) as usize;
     let x = &parameters[from..to];
     let first = number_at(elements, 9, i, 1) as usize;
     curve_point(
@@ -159,6 +153,64 @@ pub fn point_on_curve(
         along,
         t,
     )
+}
+
+// The point at s along u and t along v of the surf of that number.
+pub fn point_on_surface(
+    used: Used,
+    v: &[i32],
+    vt: &[i32],
+    vn: &[i32],
+    vp: &[i32],
+    corners: &[u32],
+    elements: &[u32],
+    bodies: &[u32],
+    ranges: &[i32],
+    parameters: &[i32],
+    loops: &[u32],
+    spans: &[i32],
+    element: u32,
+    s: i32,
+    t: i32,
+) -> Sampled
+    ensures { λ r. ⌜ r ≡ pointOnSurface used (tables (now (v .entry)) (now (vt .entry)) (now (vn .entry)) (now (vp .entry)) (now (corners .entry)) (now (elements .entry)) (now (bodies .entry)) (now (ranges .entry)) (now (parameters .entry)) (now (loops .entry)) (now (spans .entry))) element s t ⌝ }
+{
+    let refused = refusal(
+        true,
+        used,
+        v,
+        vt,
+        vn,
+        vp,
+        corners,
+        elements,
+        bodies,
+        ranges,
+        parameters,
+        loops,
+        spans,
+        element,
+    );
+    if refused != 0 {
+        return Sampled::Refused { number: refused };
+    }
+    let i = element as usize - 1;
+    let body = number_at(elements, 9, i, 3) as usize - 1;
+    if !is_inside(ranges, body, 0, s) {
+        return Sampled::Refused { number: 19 };
+    }
+    if !is_inside(ranges, body, 1, t) {
+        return Sampled::Refused { number: 19 };
+    }
+    let along_u = along_at(bodies, body, 0);
+    let along_v = along_at(bodies, body, 1);
+    let from = number_at(bodies, 9, body, 4) as usize;
+    let middle = from + number_at(bodies, 9, body, 5) as usize;
+    let to = middle + number_at(bodies, 9, body, 6) as usize;
+    let x = &parameters[from..middle];
+    let y = &parameters[middle..to];
+    let first = number_at(elements, 9, i, 1) as usize;
+    surface_point(v, corners, first, x, along_u, s, y, along_v, t)
 }
 
 // A run of `steps` steps on a curv or curv2: its points fill the table from entry `at` on, counted in numbers.
@@ -220,14 +272,9 @@ pub fn run_on_curve(
     let body = number_at(elements, 9, i, 3) as usize - 1;
     let start = value_at(ranges, 4, body, 0);
     let end = value_at(ranges, 4, body, 1);
-    let count = number_at(bodies, 9, body, 5);
-    let along = along_of(
-        number_at(bodies, 9, body, 0),
-        number_at(bodies, 9, body, 2),
-        count,
-    );
+    let along = along_at(bodies, body, 0);
     let from = number_at(bodies, 9, body, 4) as usize;
-    let to = from + count as usize;
+    let to = from + number_at(bodies, 9, body, 5) as usize;
     let x = &parameters[from..to];
     write_run(
         &mut points[at..],

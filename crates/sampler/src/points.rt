@@ -1,10 +1,12 @@
 ghost use mathlib.Core.Path.{_≡_};
 ghost use mathlib.Core.Bool.{cond};
+ghost use Prim.Native.Nat.{_*_};
 ghost use lib.Dec.{eqb};
 ghost use Rattle.sampler.specs.Places.{Sound};
 ghost use Rattle.sampler.specs.Controls.{Held};
-ghost use Rattle.sampler.specs.Inner.{pointBy};
+ghost use Rattle.sampler.specs.Inner.{pointBy, surfaceBy};
 use crate::Sampled;
+use crate::controls::across;
 use crate::controls::coordinate;
 use crate::rows::Along;
 use crate::search::find;
@@ -34,5 +36,29 @@ pub fn curve_point(
         x: coordinate(v, corners, first, 0, x, along, t, chosen),
         y: coordinate(v, corners, first, 1, x, along, t, chosen),
         z: coordinate(v, corners, first, 2, x, along, t, chosen),
+    }
+}
+
+// The point at s and t of a surf; each direction's segment or span is found once.
+pub fn surface_point(
+    values: &[i32],
+    corners: &[u32],
+    first: usize,
+    x: &[i32],
+    u: Along,
+    s: i32,
+    y: &[i32],
+    v: Along,
+    t: i32,
+) -> Sampled
+    requires { ⌜ Held (now values) (now corners) first (u .controls * v .controls) × Sound u (now x) s × Sound v (now y) t ⌝ }
+    ensures { λ r. ⌜ r ≡ surfaceBy (now (values .entry)) (now (corners .entry)) first u v (now (x .entry)) (now (y .entry)) s t ⌝ }
+{
+    let in_u = find(x, u, s);
+    let in_v = find(y, v, t);
+    Sampled::Space {
+        x: across(values, corners, first, 0, x, u, s, in_u, y, v, t, in_v),
+        y: across(values, corners, first, 1, x, u, s, in_u, y, v, t, in_v),
+        z: across(values, corners, first, 2, x, u, s, in_u, y, v, t, in_v),
     }
 }

@@ -1,11 +1,10 @@
 ghost use mathlib.Core.Path.{_≡_};
-ghost use mathlib.Core.Bool.{true};
 ghost use Prim.Native.Nat.{_+_, _*_, _≤_, _<_};
-ghost use lib.Dec.{eqb};
 ghost use lib.ListN.{length};
 ghost use Rattle.tables.specs.Records.{numberAt, valueAt};
+ghost use Rattle.sampler.specs.Places.{Sized};
 ghost use Rattle.sampler.specs.Points.{alongOf};
-ghost use Rattle.sampler.specs.Answers.{wanted, carried};
+ghost use Rattle.sampler.specs.Answers.{wanted, carried, inside};
 ghost use Rattle.sampler.specs.Inner.{axesBy};
 use crate::rows::Along;
 
@@ -50,7 +49,7 @@ pub fn is_carried(rational: u32, basis: u32) -> bool
 
 // A direction of type 1 or 2 from its degree and the count of its parameters.
 pub fn along_of(basis: u32, degree: u32, count: u32) -> Along
-    requires { ⌜ (degree ≤ 20) × (1 ≤ count) × (eqb basis 2 ≡ true → degree + 1 ≤ count) ⌝ }
+    requires { ⌜ Sized basis degree count ⌝ }
     ensures { λ r. ⌜ r ≡ alongOf basis degree count ⌝ }
 {
     let n = degree as usize;
@@ -67,6 +66,32 @@ pub fn along_of(basis: u32, degree: u32, count: u32) -> Along
         degree: n,
         controls: n * (p - 1) + 1,
     }
+}
+
+// A body's direction: side 0 is u, side 1 is v.
+pub fn along_at(bodies: &[u32], body: usize, side: usize) -> Along
+    requires { ⌜ (side ≤ 1) × (9 * body + 9 ≤ length (now bodies)) × Sized (numberAt 9 (now bodies) body 0) (numberAt 9 (now bodies) body (2 + side)) (numberAt 9 (now bodies) body (5 + side)) ⌝ }
+    ensures { λ r. ⌜ r ≡ alongOf (numberAt 9 (now (bodies .entry)) body 0) (numberAt 9 (now (bodies .entry)) body (2 + side)) (numberAt 9 (now (bodies .entry)) body (5 + side)) ⌝ }
+{
+    along_of(
+        number_at(bodies, 9, body, 0),
+        number_at(bodies, 9, body, 2 + side),
+        number_at(bodies, 9, body, 5 + side),
+    )
+}
+
+// Whether t lies in the body's range of that side, both ends included.
+pub fn is_inside(ranges: &[i32], body: usize, side: usize, t: i32) -> bool
+    requires { ⌜ (side ≤ 1) × (4 * body + 4 ≤ length (now ranges)) ⌝ }
+    ensures { λ r. ⌜ r ≡ inside (valueAt 4 (now (ranges .entry)) body (2 * side)) (valueAt 4 (now (ranges .entry)) body (2 * side + 1)) t ⌝ }
+{
+    if t < value_at(ranges, 4, body, 2 * side) {
+        return false;
+    }
+    if value_at(ranges, 4, body, 2 * side + 1) < t {
+        return false;
+    }
+    true
 }
 
 // A curv2 has u v, every other kind x y z.

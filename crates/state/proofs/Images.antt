@@ -5,7 +5,7 @@ use mathlib.Core.List.{List, [], _∷_, _++_, append-assoc, append-nil}
 use mathlib.Core.Bool.{Bool, true, false, cond}
 use mathlib.Core.Option.{Option, none, some}
 use native.Mathlib.Omega.{arith}
-use lib.ListN.{length, length-append}
+use lib.ListN.{length, getD, length-append}
 use lib.Seq.{sets}
 use lib.IntN.{ℤ, pos}
 use Rattle.lists.specs.Lists.{flat, filled}
@@ -53,9 +53,20 @@ roomOf texture R = R .vt
 roomOf normal R = R .vn
 roomOf parametric R = R .vp
 
--- each vertex has as many numbers as its table says
+-- "vp the count given and u v w": four numbers, the first of them a count
+pub record Counted (z : List ℤ) : Type 0 where
+  pub wide : length z ≡ 4
+  pub count : ℕ
+  pub first : getD z 0 (pos 0) ≡ pos count
+
+abbrev pub AllCounted : List (List ℤ) → Type 0
+AllCounted [] = Unit {0}
+AllCounted (z ∷ zs) = Counted z × AllCounted zs
+
+-- each vertex has as many numbers as its table says, and each vp begins with its count
 pub record Wide (x : Vertices) : Type 0 where
   pub rows : (k : VertexKind) → length (flat itself (rowsOf k x)) ≡ widthOf k * length (rowsOf k x)
+  pub counts : AllCounted (x .vp)
 
 module _ (R : Rooms) (x : State) where
   pub vertex-image : (k : VertexKind) (z : List ℤ) → Wide (x .model .vertices) → length z ≡ widthOf k

@@ -22,7 +22,7 @@ pub record Within (a b : Rooms) : Type 0 where
   pub loops : a .loops ≤ b .loops
   pub spans : a .spans ≤ b .spans
 
-last : (t : Bool) (m n : ℕ) → (t && leb m n) ≡ true → (t ≡ true) × (m ≤ n)
+pub last : (t : Bool) (m n : ℕ) → (t && leb m n) ≡ true → (t ≡ true) × (m ≤ n)
 last t m n h = (and-left t (leb m n) h, leb-true m n (and-right t (leb m n) h))
 
 pub within-parts : (a b : Rooms) → within a b ≡ true → Within a b

@@ -9,6 +9,7 @@ ghost use Rattle.tables.specs.Asking.{held, elementOf, cornerWith, corne
 pub mod storing;
 
 // Records, but for the corners, which count numbers.
+#[repr(C)]
 pub struct Used {
     pub v: u32,
     pub vt: u32,
@@ -35,6 +36,7 @@ pub struct Element {
 }
 
 // A corner's references, each counted from 1; 0 for none.
+#[repr(C)]
 pub struct Corner {
     pub v: u32,
     pub vt: u32,

@@ -50,7 +50,7 @@ module _ (k : VertexKind) (z : List ℤ) (c : countedVertex k (length z) ≡ tru
       let l : length (defaults k) ≤ length (completed k z) = (let e = completed-length k z c in omega arith) in
       ap (λ (r : List ℤ). completed k z ++ r) (drop-of-length-le (defaults k) l) ∙ append-nil (completed k z)
 
-  completed-numbers : all numberFits (completed k z) ≡ true
+  pub completed-numbers : all numberFits (completed k z) ≡ true
   completed-numbers = all-append numberFits z (drop (length z) (defaults k)) h (all-drop numberFits (length z) (defaults k) (full k .1))
 
 -- what is written of a record: as many as may be, each a number, and the record again

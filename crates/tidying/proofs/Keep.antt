@@ -73,7 +73,7 @@ shut x n m a b (some o) h g = never h
 at-most : (m : ℕ) → (i : ℕ) × (whole m ≡ whole i) × (within 1 20 i ≡ true) → leb m 20 ≡ true
 at-most m q = ap (λ (i : ℕ). leb i 20) (let e = q .1 in let z : m ≡ q .0 = cc in z) ∙ and-right (leb 1 (q .0)) (leb (q .0) 20) (q .2)
 
-degrees-form : (x : Vertices) (n m k : ℕ) → Fine x n (degree m k) → (leb m 20 ≡ true) × (leb k 20 ≡ true)
+pub degrees-form : (x : Vertices) (n m k : ℕ) → Fine x n (degree m k) → (leb m 20 ≡ true) × (leb k 20 ≡ true)
 degrees-form x n m zero f = (at-most m (f .fits .0), refl)
 degrees-form x n m (suc k) f = (at-most m (f .fits .0), at-most (suc k) (f .fits .1 .0))
 

@@ -29,7 +29,7 @@ use Rattle.tidying.proofs.Rows.{append-inj, Wide, corners-length, corne
 use Rattle.tidying.proofs.Layouts.{fives, wordsIn, SameBodies, body-inj}
 
 -- ---- what reading keeps makes rows of fixed widths, and loops of one part or more
-record-length : (k : VertexKind) (z : List ℤ) → countedVertex k (length z) ≡ true → length (recordOf k z) ≡ length (recordOf k [])
+pub record-length : (k : VertexKind) (z : List ℤ) → countedVertex k (length z) ≡ true → length (recordOf k z) ≡ length (recordOf k [])
 record-length geometric z c = completed-length geometric z c
 record-length texture z c = completed-length texture z c
 record-length normal z c = completed-length normal z c
@@ -50,7 +50,7 @@ some-parts : (h : Bool) (n : ℕ) → counted (loopKey h) n ≡ true → 0 < n
 some-parts true n c = ltb-true 0 n (and-left (ltb 0 n) _ c)
 some-parts false n c = ltb-true 0 n (and-left (ltb 0 n) _ c)
 
-loops-parted : (x : Vertices) (n : ℕ) (ls : List Loop) → GoodLoops x n ls → Parted ls
+pub loops-parted : (x : Vertices) (n : ℕ) (ls : List Loop) → GoodLoops x n ls → Parted ls
 loops-parted x n [] g = tt
 loops-parted x n (l ∷ ls) g =
     let a = some-parts (l .hole) (length (flat partValues (l .parts))) (g .0 .many) in

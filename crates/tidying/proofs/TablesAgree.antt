@@ -24,11 +24,11 @@ use Rattle.tidying.proofs.Layouts.{fives, unnamed-is, wordsIn, names-in
 use Rattle.tidying.proofs.SameElements.{vertices-wide, PartedAll, elements-parted, same-elements}
 
 -- ---- the layout looks at places in the elements' last four numbers alone
-bodies-bare : (es : List Element) → bodiesOf (bareElements es) ≡ bodiesOf es
+pub bodies-bare : (es : List Element) → bodiesOf (bareElements es) ≡ bodiesOf es
 bodies-bare [] = refl
 bodies-bare (e ∷ es) = ap (λ (r : List Body). bodyOf (e .kind) ++ r) (bodies-bare es)
 
-corners-bare : (es : List Element) → flat cornerRows (bareElements es) ≡ flat cornerRows es
+pub corners-bare : (es : List Element) → flat cornerRows (bareElements es) ≡ flat cornerRows es
 corners-bare [] = refl
 corners-bare (e ∷ es) = ap (λ (r : List ℕ). cornerRows e ++ r) (corners-bare es)
 
@@ -49,7 +49,7 @@ words-bare (e ∷ es) =
     ∙ ap (λ (r : List (List (List ℕ))). bytesOf (e .names .group) ∷ bytesOf (listed (e .names .material)) ∷ r) (words-bare es)
 
 -- what a layout holds of elements, places forgotten, is the same of elements that agree
-agreed : {A : Type 0} (f : List Element → A) → ((es : List Element) → f (bareElements es) ≡ f es) → (es fs : List Element) → bareElements es ≡ bareElements fs → f es ≡ f fs
+pub agreed : {A : Type 0} (f : List Element → A) → ((es : List Element) → f (bareElements es) ≡ f es) → (es fs : List Element) → bareElements es ≡ bareElements fs → f es ≡ f fs
 agreed f h es fs e = sym (h es) ∙ ap f e ∙ h fs
 
 abbrev counting : Vertices → ℕ → ℕ → List Body → Used

@@ -14,6 +14,7 @@ use Rattle.vertices.specs.declared.Numbers.{Numbers}
 use Rattle.vertices.specs.declared.Numbers.the-variants.{Ended, Full, Stopped}
 use Rattle.vertices.specs.declared.Row.{Row}
 use Rattle.vertices.specs.declared.Row.the-variants.{Whole, Not}
+use Rattle.vertices.proofs.Walking.{before-stored}
 use Rattle.vertices.proofs.Closed.{nothing, closing-some, row-some, some-row}
 
 stopped-short : (n first : ℕ) (w : Walk) → ((zs : List ℤ) (q : ℕ) → w ≡ ended zs q → n < first + length zs)
@@ -41,6 +42,7 @@ module _ (least most : ℕ) (s : List ℕ) (at first : ℕ) (l m : List ℤ) whe
   no-row h =
       record {
         same = h .same;
+        before = h .before;
         short = λ zs q e.
             stopped-short (length l) first (numbersWalk most (restAt s at)) (h .ended-short) (h .full-short) zs q
             (row-some least most (restAt s at) zs q e .closes);
@@ -56,6 +58,7 @@ module _ (least most : ℕ) (s : List ℕ) (at first : ℕ) (l m : List ℤ) whe
     row-few k =
         record {
           same = ap length (h .stored) ∙ length-sets l first (h .found);
+          before = before-stored l m first (h .found) (h .stored);
           short = λ zs p e.
               let f = row-some least most (restAt s at) zs p e in
               let g : _≡_ {A = Option (List ℤ × ℕ)} (some (h .found, q)) (some (zs, p)) = sym (ap closed (h .walked)) ∙ f .closes in
@@ -74,6 +77,7 @@ module _ (least most : ℕ) (s : List ℕ) (at first : ℕ) (l m : List ℤ) whe
     unclosed k =
         record {
           same = ap length (h .stored) ∙ length-sets l first (h .found);
+          before = before-stored l m first (h .found) (h .stored);
           short = λ zs p f. nothing (sym (here ∙ k) ∙ row-some least most (restAt s at) zs p f .closes);
         }
 
@@ -81,6 +85,7 @@ module _ (least most : ℕ) (s : List ℕ) (at first : ℕ) (l m : List ℤ) whe
     full-few k =
         record {
           same = ap length (h .stored) ∙ length-sets l first (h .found);
+          before = before-stored l m first (h .found) (h .stored);
           short = λ zs p f.
               let g = row-some least most (restAt s at) zs p f in
               let i = closing-some (h .found) ((restAt s e) .words) ((restAt s e) .bad) ((restAt s e) .next) zs p (sym here ∙ g .closes) in

@@ -4,7 +4,7 @@ use mathlib.Core.Path.{_≡_, refl, sym, ap, subst, _∙_}
 use mathlib.Core.Bool.{Bool, true, false, cond}
 use mathlib.Core.List.{List, [], _∷_, _++_}
 use mathlib.Core.Option.{Option, none, some}
-use lib.ListN.{length, drop, set, length-set}
+use lib.ListN.{length, getD, drop, set, length-set}
 use lib.Seq.{sets, length-sets, set-set, set-comm}
 use lib.Dec.{leb}
 use lib.IntN.{ℤ, pos}
@@ -18,6 +18,7 @@ use Rattle.model.specs.Parse.{defaults, recordOf}
 use Rattle.vertices.specs.Into.{rowSaid, WholeRow, NoRow}
 use Rattle.vertices.specs.Vertex.{least, most, width, lead, layoutOf, recorded, vertexSaid, TakenVertex, NoVertex, blank}
 use Rattle.vertices.specs.declared.Layout.{Layout}
+use Rattle.vertices.proofs.Walking.{before-stored}
 use Rattle.vertices.proofs.Closed.{nothing, closed-some, row-some}
 
 -- ---- stores over stores
@@ -110,6 +111,7 @@ module _ (k : VertexKind) (s : List ℕ) (at used : ℕ) (l : List ℤ) {h : Lay
     no-room f =
         record {
           same = ap length (put .1 ∙ ap (λ (b : Bool). cond b (sets l (h .width * used) (blank (h .width))) l) f);
+          before = λ i b. ap (λ (x : List ℤ). getD x i (pos 0)) (put .1 ∙ ap (λ (b : Bool). cond b (sets l (h .width * used) (blank (h .width))) l) f);
           short = λ z q e.
               let g = leb-false (h .width * used + length (blank (h .width))) (length l) (sym (put .0) ∙ f) in
               let n = needs in
@@ -145,6 +147,7 @@ module _ (k : VertexKind) (s : List ℕ) (at used : ℕ) (l : List ℤ) {h : Lay
             subst (λ (g : Layout). NoRow (g .least) (g .most) s at (g .width * used + g .lead) u m) is row in
             record {
               same = no .same ∙ kept;
+              before = λ i b. no .before i (omega arith) ∙ before-stored l u (width k * used) (blank (width k)) blanked i b;
               short = λ z q e.
                   let v = vertex-row k (restAt s at) z q e in
                   let a = no .short (v .numbers) q (v .said) in

@@ -4,10 +4,10 @@ use mathlib.Core.Path.{_≡_, refl, sym, ap, subst, _∙_}
 use mathlib.Core.Bool.{Bool, true, false, cond}
 use mathlib.Core.List.{List, [], _∷_, _++_, append-assoc, append-nil}
 use mathlib.Core.Option.{Option, none, some}
-use lib.ListN.{length, drop, set, length-append}
-use lib.Seq.{sets, length-sets}
+use lib.ListN.{length, getD, drop, set, length-append}
+use lib.Seq.{sets, length-sets, getD-set-other}
 use lib.Dec.{leb}
-use lib.IntN.{ℤ}
+use lib.IntN.{ℤ, pos}
 use lib.Signed.{mag}
 use mir.Syntax.{w32}
 use mir.Val.{toZ, ofZ}
@@ -33,6 +33,16 @@ sets-append l i [] ys = ap (λ (k : ℕ). sets l k ys) (sym (add-zero i))
 sets-append l i (x ∷ xs) ys =
     let e : suc i + length xs ≡ i + suc (length xs) = omega arith in
     sets-append (set l i x) (suc i) xs ys ∙ ap (λ (k : ℕ). sets (sets (set l i x) (suc i) xs) k ys) e
+
+-- what stands before the first place stored to
+pub getD-sets-before : {A : Type 0} (l : List A) (i : ℕ) (vs : List A) (j : ℕ) (d : A) → j < i → getD (sets l i vs) j d ≡ getD l j d
+getD-sets-before l i [] j d h = refl
+getD-sets-before l i (v ∷ vs) j d h =
+    getD-sets-before (set l i v) (suc i) vs j d (omega arith)
+    ∙ getD-set-other l i j v d (λ e. let f : j ≡ i = e in omega arith)
+
+pub before-stored : (l m : List ℤ) (first : ℕ) (zs : List ℤ) → m ≡ sets l first zs → (i : ℕ) → i < first → getD m i (pos 0) ≡ getD l i (pos 0)
+before-stored l m first zs e i h = ap (λ (t : List ℤ). getD t i (pos 0)) e ∙ getD-sets-before l first zs i (pos 0) h
 
 -- a signed value that is handed on
 pub passed : {z : ℤ} → mag z < 2 ^ 31 → toZ w32 (ofZ w32 z) ≡ z
@@ -139,6 +149,7 @@ module _ (most : ℕ) (s : List ℕ) (at first : ℕ) (l : List ℤ) (i count : 
   stop e =
       record {
         same = w .same;
+        before = before-stored l t first (w .done) (w .stored);
         ended-short = λ zs q f. let g : stuck ≡ ended zs q = sym (w .rest ∙ e) ∙ f in let y : _≡_ {A = ℕ} 0 1 = cc in absurd (omega arith);
         full-short = λ zs r f. let g : stuck ≡ full zs r = sym (w .rest ∙ e) ∙ f in let y : _≡_ {A = ℕ} 0 1 = cc in absurd (omega arith);
       }
@@ -196,6 +207,7 @@ module _ (most : ℕ) (s : List ℕ) (at first : ℕ) (l : List ℤ) (i count : 
               let j = longer in
               record {
                 same = ap length (put .1 ∙ ap (λ (b : Bool). cond b (sets t (first + count) (x ∷ [])) t) f) ∙ w .same;
+                before = before-stored l u first (w .done) (put .1 ∙ ap (λ (b : Bool). cond b (sets t (first + count) (x ∷ [])) t) f ∙ w .stored);
                 ended-short = λ zs q g. let y = ended-long (w .done ++ z ∷ []) zs q (numbersWalk (most - (count + 1)) (restAt s e)) (sym on ∙ g) in omega arith;
                 full-short = λ zs q g. let y = full-long (w .done ++ z ∷ []) zs q (numbersWalk (most - (count + 1)) (restAt s e)) (sym on ∙ g) in omega arith;
               }

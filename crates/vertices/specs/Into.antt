@@ -4,9 +4,9 @@ use mathlib.Core.Path.{_≡_}
 use mathlib.Core.Bool.{cond}
 use mathlib.Core.List.{List, [], _∷_}
 use mathlib.Core.Option.{Option, none, some}
-use lib.ListN.{length}
+use lib.ListN.{length, getD}
 use lib.Dec.{leb}
-use lib.IntN.{ℤ}
+use lib.IntN.{ℤ, pos}
 use lib.Seq.{sets}
 use Rattle.text.specs.Words.{Word}
 use Rattle.text.specs.Rest.{Rest, restAt}
@@ -34,9 +34,10 @@ pub record FullAfter (most : ℕ) (s : List ℕ) (at first : ℕ) (l m : List �
   pub from : at ≤ end
   pub to : end ≤ length s
 
--- whatever numbers the line has pass the lent length
+-- whatever numbers the line has pass the lent length; what stands before them is as it was
 pub record StoppedAfter (most : ℕ) (s : List ℕ) (at first : ℕ) (l m : List ℤ) : Type 0 where
   pub same : length m ≡ length l
+  pub before : (i : ℕ) → i < first → getD m i (pos 0) ≡ getD l i (pos 0)
   pub ended-short : (zs : List ℤ) (q : ℕ) → numbersWalk most (restAt s at) ≡ ended zs q → length l < first + length zs
   pub full-short : (zs : List ℤ) (r : Rest) → numbersWalk most (restAt s at) ≡ full zs r → length l < first + length zs
 
@@ -72,6 +73,7 @@ pub record WholeRow (least most : ℕ) (s : List ℕ) (at first : ℕ) (l m : Li
 
 pub record NoRow (least most : ℕ) (s : List ℕ) (at first : ℕ) (l m : List ℤ) : Type 0 where
   pub same : length m ≡ length l
+  pub before : (i : ℕ) → i < first → getD m i (pos 0) ≡ getD l i (pos 0)
   pub short : (zs : List ℤ) (q : ℕ) → rowSaid least most (restAt s at) ≡ some (zs, q) → length l < first + length zs
 
 abbrev pub rowIs : ℕ → ℕ → List ℕ → ℕ → ℕ → List ℤ → List ℤ → Row → Type 0

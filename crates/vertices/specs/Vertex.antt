@@ -4,7 +4,7 @@ use mathlib.Core.Path.{_≡_}
 use mathlib.Core.Bool.{Bool, true, false, cond}
 use mathlib.Core.List.{List, [], _∷_}
 use mathlib.Core.Option.{Option, none, some}
-use lib.ListN.{length}
+use lib.ListN.{length, getD}
 use lib.Dec.{eqb}
 use lib.IntN.{ℤ, pos}
 use lib.Seq.{sets}
@@ -75,9 +75,10 @@ pub record TakenVertex (k : VertexKind) (s : List ℕ) (at used : ℕ) (l m : Li
   pub room : width k * used + width k ≤ length l
   pub stored : m ≡ sets l (width k * used) row
 
--- whatever vertex the line is has no room
+-- whatever vertex the line is has no room; the used records are as they were
 pub record NoVertex (k : VertexKind) (s : List ℕ) (at used : ℕ) (l m : List ℤ) : Type 0 where
   pub same : length m ≡ length l
+  pub before : (i : ℕ) → i < width k * used → getD m i (pos 0) ≡ getD l i (pos 0)
   pub short : (z : List ℤ) (q : ℕ) → vertexSaid k (restAt s at) ≡ some (z, q) → length l < width k * used + width k
 
 abbrev pub vertexIs : VertexKind → List ℕ → ℕ → ℕ → List ℤ → List ℤ → Vertex → Type 0

@@ -16,7 +16,8 @@ use mir.Facts.{toZ-ofZ}
 use Rattle.tables.specs.Tables.{Tables, tables}
 use Rattle.tables.specs.Records.{Body, numberAt, valueAt}
 use Rattle.tables.specs.declared.Element.{Element}
-use Rattle.sampler.specs.Points.{alongOf, axesOf, runNumbers}
+use Rattle.sampler.specs.Points.{axesOf, runNumbers}
+use Rattle.sampler.specs.Places.{Sized}
 use Rattle.sampler.specs.Answers.{elementOf, bodyOf, refusalOf}
 use Rattle.sampler.specs.Inner.{axesBy}
 use Rattle.sampler.specs.declared.Ran.the-variants as ran
@@ -84,90 +85,68 @@ module _ (c : tie.After-number-at3) where
   ranges-at : (j : ℕ) → valueAt 4 (s k3 .args .ranges .now) (c .number-at3 .result - 1) j ≡ valueAt 4 (s k3 .args .ranges .now) (el k3 .body - 1) j
   ranges-at j = ap (λ (q : ℕ). valueAt 4 (s k3 .args .ranges .now) (q - 1) j) body-is
 
-module _ (c : tie.After-number-at6) where
-  abbrev n3 : tie.After-number-at3
-  n3 = c .before .before .before .before .before
-
-  count-is : c .before .before .number-at4 .result ≡ bo (k3 n3) .count-u
-  count-is = c .before .before .number-at4 .ensures ∙ bodies-at n3 5
-
-  type-is : c .before .number-at5 .result ≡ bo (k3 n3) .type
-  type-is = c .before .number-at5 .ensures ∙ bodies-at n3 0
-
-  degree-is : c .number-at6 .result ≡ bo (k3 n3) .degree-u
-  degree-is = c .number-at6 .ensures ∙ bodies-at n3 2
-
 -- all that was read
-module _ (c : tie.After-number-at7) where
-  abbrev m6 : tie.After-number-at6
-  m6 = c .before .before
-
+module _ (c : tie.After-number-at5) where
   abbrev m3 : tie.After-number-at3
-  m3 = c .before .before .before .before .before .before .before
+  m3 = c .before .before .before .before .before
 
   abbrev ax : tie.After-axes-of
-  ax = c .before .before .before .before .before .before .before .before .before .before .before
+  ax = c .before .before .before .before .before .before .before .before .before
 
   abbrev j : tie.Else1
   j = k3 m3
 
-  read : Read (t j) (el j) (bo j) (c .before .before .before .before .before .before .before .before .before .before .before .before .number-at .result) (c .before .before .before .before .before .before .before .before .number-at2 .result) (c .number-at7 .result) (c .before .before .before .before .number-at4 .result) (c .before .along-of .result)
+  from-is : c .before .number-at4 .result ≡ bo j .first-parameter
+  from-is = c .before .number-at4 .ensures ∙ bodies-at m3 4
+
+  count-is : c .number-at5 .result ≡ bo j .count-u
+  count-is = c .number-at5 .ensures ∙ bodies-at m3 5
+
+  read : Read (t j) (el j) (bo j) (ax .before .number-at .result) (m3 .before .number-at2 .result) (c .before .number-at4 .result) (c .number-at5 .result) (c .before .before .along-at .result)
   read = record {
-    kind-is = c .before .before .before .before .before .before .before .before .before .before .before .before .number-at .ensures;
-    first-is = c .before .before .before .before .before .before .before .before .number-at2 .ensures;
-    from-is = c .number-at7 .ensures ∙ bodies-at m3 4;
-    count-is = count-is m6;
-    along-is = c .before .along-of .ensures ∙ ap (λ (q : ℕ). alongOf q (m6 .number-at6 .result) (c .before .before .before .before .number-at4 .result)) (type-is m6)
-        ∙ ap (λ (q : ℕ). alongOf (bo j .type) q (c .before .before .before .before .number-at4 .result)) (degree-is m6)
-        ∙ ap (λ (q : ℕ). alongOf (bo j .type) (bo j .degree-u) q) (count-is m6);
+    kind-is = ax .before .number-at .ensures;
+    first-is = m3 .before .number-at2 .ensures;
+    from-is = from-is;
+    count-is = count-is;
+    along-is = c .before .before .along-at .ensures ∙ rw (bodies-at m3 0, bodies-at m3 2, bodies-at m3 5);
   }
 
-  start-is : toZ w32 (ofZ w32 (c .before .before .before .before .before .before .value-at .result)) ≡ bo j .start-u
-  start-is = toZ-ofZ (record { sfits = c .before .before .before .before .before .before .value-at .ok }) ∙ c .before .before .before .before .before .before .value-at .ensures ∙ ranges-at m3 0
+  start-is : toZ w32 (ofZ w32 (c .before .before .before .before .value-at .result)) ≡ bo j .start-u
+  start-is = toZ-ofZ (record { sfits = c .before .before .before .before .value-at .ok }) ∙ c .before .before .before .before .value-at .ensures ∙ ranges-at m3 0
 
-  end-is : toZ w32 (ofZ w32 (c .before .before .before .before .before .value-at2 .result)) ≡ bo j .end-u
-  end-is = toZ-ofZ (record { sfits = c .before .before .before .before .before .value-at2 .ok }) ∙ c .before .before .before .before .before .value-at2 .ensures ∙ ranges-at m3 1
+  end-is : toZ w32 (ofZ w32 (c .before .before .before .value-at2 .result)) ≡ bo j .end-u
+  end-is = toZ-ofZ (record { sfits = c .before .before .before .value-at2 .ok }) ∙ c .before .before .before .value-at2 .ensures ∙ ranges-at m3 1
 
   room : s j .args .at + axesOf (el j) * (s j .args .steps + 1) ≤ length (s j .args .points .now)
-  room = omega (arith, numbers-are ax, c .before .before .before .before .before .before .before .before .before .if5 .left, c .before .before .before .before .before .before .before .before .before .before .if4 .left)
+  room = omega (arith, numbers-are ax, c .before .before .before .before .before .before .before .if5 .left, c .before .before .before .before .before .before .before .before .if4 .left)
 
--- src/lib.rt:185:9
 refusal-requires : tie.Need-refusal-requires
 refusal-requires c κs = search needs
 
--- src/lib.rt:202:9
 returns : tie.Need-returns
 returns c = let s = c .before .before .before .before .before .before in let a = s .args in run-refused (a .used) (lent-tables s) (a .element) (a .steps) (a .at) (a .points .now) (c .before .refusal .ensures) (c .if1 .taken)
 
--- src/lib.rt:205:9
 returns-2 : tie.Need-returns-2
 returns-2 c = let k = c .before in let s = s k in let a = s .args in run-none (a .used) (lent-tables s) (a .element) (a .steps) (a .at) (a .points .now) (given k) (c .if2 .taken)
 
--- src/lib.rt:208:9
 returns-3 : tie.Need-returns-3
 returns-3 c = let k = c .before .before in let s = s k in let a = s .args in run-many (a .used) (lent-tables s) (a .element) (a .steps) (a .at) (a .points .now) (given k) (c .if3 .taken)
 
--- src/lib.rt:210:13
 sub-i : tie.Need-sub-i
 sub-i c = omega (arith, grant (c .before .before) .some)
 
--- src/lib.rt:211:9
 number-at-requires : tie.Need-number-at-requires
 number-at-requires c κs = let g = grant (c .before .before) in (omega arith, omega (arith, g .some, g .lent))
 
--- src/lib.rt:212:19
 axes-of-requires : tie.Need-axes-of-requires
 axes-of-requires c κs = search needs
 
--- src/lib.rt:212:36
 add-numbers : tie.Need-add-numbers
 add-numbers c = search needs
 
--- src/lib.rt:212:19
 mul-numbers : tie.Need-mul-numbers
 mul-numbers c = record { fits = omega (arith, most c, mul-le-mul-right (s (k c) .args .steps + 1) (c .axes-of .ensures .1)) }
 
--- src/lib.rt:214:9
 returns-4 : tie.Need-returns-4
 returns-4 c =
     let m = c .before in
@@ -175,11 +154,9 @@ returns-4 c =
     let a = s .args in
     run-room (a .used) (lent-tables s) (a .element) (a .steps) (a .at) (a .points .now) (given (k m)) (some m) (most m) (omega (arith, numbers-are m, c .if4 .taken))
 
--- src/lib.rt:216:8
 sub-if5 : tie.Need-sub-if5
 sub-if5 c = search needs
 
--- src/lib.rt:217:9
 returns-5 : tie.Need-returns-5
 returns-5 c =
     let m = c .before .before in
@@ -187,117 +164,84 @@ returns-5 c =
     let a = s .args in
     run-room (a .used) (lent-tables s) (a .element) (a .steps) (a .at) (a .points .now) (given (k m)) (some m) (most m) (omega (arith, numbers-are m, c .before .if4 .left, c .if5 .taken))
 
--- src/lib.rt:219:17
 number-at-requires-2 : tie.Need-number-at-requires-2
 number-at-requires-2 c κs = let g = grant (c .before .before .before .before .before .before) in (omega arith, omega (arith, g .some, g .lent))
 
--- src/lib.rt:219:17
 cast-first : tie.Need-cast-first
 cast-first c = search needs
 
--- src/lib.rt:220:16
 number-at-requires-3 : tie.Need-number-at-requires-3
 number-at-requires-3 c κs = let g = grant (c .before .before .before .before .before .before .before) in (omega arith, omega (arith, g .some, g .lent))
 
--- src/lib.rt:220:16
 cast-body : tie.Need-cast-body
 cast-body c = search needs
 
--- src/lib.rt:220:16
 sub-body : tie.Need-sub-body
 sub-body c = omega (arith, body-is c, curve (k3 c) .lent .some)
 
--- src/lib.rt:221:9
 value-at-requires : tie.Need-value-at-requires
 value-at-requires c κs = (omega arith, omega (arith, body-is c, curve (k3 c) .lent .range))
 
--- src/lib.rt:222:9
 value-at-requires-2 : tie.Need-value-at-requires-2
 value-at-requires-2 c κs = (omega arith, omega (arith, body-is (c .before), curve (k3 (c .before)) .lent .range))
 
--- src/lib.rt:223:9
+along-at-requires : tie.Need-along-at-requires
+along-at-requires c κs =
+    let m = c .before .before in
+    let l = s (k3 m) .args .bodies .now in
+    let z = curve (k3 m) .along .sized in
+    (omega arith, omega (arith, body-is m, curve (k3 m) .lent .body), subst (λ (q : ℕ). Sized (numberAt 9 l (q - 1) 0) (numberAt 9 l (q - 1) 2) (numberAt 9 l (q - 1) 5)) (sym (body-is m)) z)
+
 number-at-requires-4 : tie.Need-number-at-requires-4
-number-at-requires-4 c κs = (omega arith, omega (arith, body-is (c .before .before), curve (k3 (c .before .before)) .lent .body))
+number-at-requires-4 c κs = let m = c .before .before .before in (omega arith, omega (arith, body-is m, curve (k3 m) .lent .body))
 
--- src/lib.rt:224:26
 number-at-requires-5 : tie.Need-number-at-requires-5
-number-at-requires-5 c κs = (omega arith, omega (arith, body-is (c .before .before .before), curve (k3 (c .before .before .before)) .lent .body))
+number-at-requires-5 c κs = let m = c .before .before .before .before in (omega arith, omega (arith, body-is m, curve (k3 m) .lent .body))
 
--- src/lib.rt:224:57
-number-at-requires-6 : tie.Need-number-at-requires-6
-number-at-requires-6 c κs = (omega arith, omega (arith, body-is (c .before .before .before .before), curve (k3 (c .before .before .before .before)) .lent .body))
-
--- src/lib.rt:224:9
-along-of-requires : tie.Need-along-of-requires
-along-of-requires c κs =
-    let v = curve (k3 (n3 c)) in (
-      omega (arith, degree-is c, v .few),
-      omega (arith, count-is c, v .many),
-      λ e. omega (arith, degree-is c, count-is c, v .knots (sym (ap (λ (q : ℕ). eqb q 2) (type-is c)) ∙ e)),
-    )
-
--- src/lib.rt:225:16
-number-at-requires-7 : tie.Need-number-at-requires-7
-number-at-requires-7 c κs = (omega arith, omega (arith, body-is (c .before .before .before .before .before .before), curve (k3 (c .before .before .before .before .before .before)) .lent .body))
-
--- src/lib.rt:225:16
 cast-from : tie.Need-cast-from
 cast-from c = search needs
 
--- src/lib.rt:226:21
 cast-to : tie.Need-cast-to
 cast-to c = search needs
 
--- src/lib.rt:226:14
 add-to : tie.Need-add-to
 add-to c = search needs
 
--- src/lib.rt:227:13
 mul-x : tie.Need-mul-x
 mul-x c = search needs
 
--- src/lib.rt:227:13
 sub-x : tie.Need-sub-x
 sub-x c = search needs
 
--- src/lib.rt:227:13
 part-x-start : tie.Need-part-x-start
 part-x-start c = search needs
 
--- src/lib.rt:227:13
 part-x-end : tie.Need-part-x-end
-part-x-end c = omega (arith, curve (j c) .lent .run, count-is (m6 c), c .number-at7 .ensures, bodies-at (m3 c) 4)
+part-x-end c = omega (arith, curve (j c) .lent .run, from-is c, count-is c)
 
--- src/lib.rt:228:15
 mul-write-run : tie.Need-mul-write-run
-mul-write-run c = omega (arith, c .before .before .before .before .before .before .before .before .before .before .if5 .left, s (j (c .before)) .good)
+mul-write-run c = omega (arith, c .before .before .before .before .before .before .before .before .if5 .left, s (j (c .before)) .good)
 
--- src/lib.rt:228:15
 sub-write-run : tie.Need-sub-write-run
 sub-write-run c = search needs
 
--- src/lib.rt:228:15
 part-write-run-start : tie.Need-part-write-run-start
 part-write-run-start c = search needs
 
--- src/lib.rt:228:15
 part-write-run-end : tie.Need-part-write-run-end
 part-write-run-end c = search needs
 
--- src/lib.rt:228:5
 write-run-requires : tie.Need-write-run-requires
 write-run-requires c κs =
     let m = c .before .before in
     let a = s (j m) .args in
-    let r = run-asked (read m) (toZ w32 (ofZ w32 (m .before .before .before .before .before .before .value-at .result))) (toZ w32 (ofZ w32 (m .before .before .before .before .before .value-at2 .result))) (start-is m) (end-is m) (curve (j m)) in
-    let n : axesBy (m .before .before .before .before .before .before .before .before .before .before .before .before .number-at .result) * (a .steps + 1) ≡ ax m .axes-of .result * (a .steps + 1) = ap (λ (q : ℕ). q * (a .steps + 1)) (sym (ax m .axes-of .ensures .0)) in
-    (r .0, r .1, some (ax m), most (ax m), simp (length-take, length-drop) (omega (arith, n, m .before .before .before .before .before .before .before .before .before .if5 .left, m .before .before .before .before .before .before .before .before .before .before .if4 .left)))
+    let r = run-asked (read m) (toZ w32 (ofZ w32 (m .before .before .before .before .value-at .result))) (toZ w32 (ofZ w32 (m .before .before .before .value-at2 .result))) (start-is m) (end-is m) (curve (j m)) in
+    let n : axesBy (ax m .before .number-at .result) * (a .steps + 1) ≡ ax m .axes-of .result * (a .steps + 1) = ap (λ (q : ℕ). q * (a .steps + 1)) (sym (ax m .axes-of .ensures .0)) in
+    (r .0, r .1, some (ax m), most (ax m), simp (length-take, length-drop) (omega (arith, n, m .before .before .before .before .before .before .before .if5 .left, m .before .before .before .before .before .before .before .before .if4 .left)))
 
--- src/lib.rt:165:1
 same-length : tie.Need-same-length
 same-length c = search needs
 
--- src/lib.rt:165:1
 returns-6 : tie.Need-returns-6
 returns-6 c =
     let m = c .before .before .before .before in
@@ -305,9 +249,9 @@ returns-6 c =
     let a = s d .args in
     let w = c .before in
     let y = take (length (a .points .now) - a .at) (drop (a .at) (a .points .now)) in
-    let kind = m .before .before .before .before .before .before .before .before .before .before .before .before .number-at .result in
+    let kind = ax m .before .number-at .result in
     let e = w .write-run .ensures
-    ∙ ap (λ (q : List ℤ). q ++ drop (axesBy kind * (a .steps + 1)) y) (run-read (read m) (toZ w32 (ofZ w32 (m .before .before .before .before .before .before .value-at .result))) (toZ w32 (ofZ w32 (m .before .before .before .before .before .value-at2 .result))) (a .steps) (start-is m) (end-is m))
+    ∙ ap (λ (q : List ℤ). q ++ drop (axesBy kind * (a .steps + 1)) y) (run-read (read m) (toZ w32 (ofZ w32 (m .before .before .before .before .value-at .result))) (toZ w32 (ofZ w32 (m .before .before .before .value-at2 .result))) (a .steps) (start-is m) (end-is m))
     ∙ ap (λ (q : ℕ). runNumbers (t d) (el d) (bo d) (a .steps) ++ drop (axesBy q * (a .steps + 1)) y) (read m .kind-is) in
     let r = run-filled (a .used) (t d) (a .element) (a .steps) (a .at) (a .points .now) (given d) (some (ax m)) (most (ax m)) (room m) e in
     subst (λ (q : ℕ). Same (a .used) (t d) (a .element) (a .steps) (a .at) (a .points .now) (ran.Filled (q * (a .steps + 1))) (putMid (a .at) (length (a .points .now) - a .at) (a .points .now) (w .write-run .last .0))) (sym (axes-is (ax m))) r
@@ -335,12 +279,10 @@ run-on-curve-spec =
     sub-body
     value-at-requires
     value-at-requires-2
+    along-at-requires
     number-at-requires-4
-    number-at-requires-5
-    number-at-requires-6
-    along-of-requires
-    number-at-requires-7
     cast-from
+    number-at-requires-5
     cast-to
     add-to
     mul-x

@@ -17,11 +17,9 @@ use Rattle.sampler.specs.Controls.{controlAt, Held}
 use Rattle.sampler.specs.Inner.{pointBy, coordinateBy}
 use Rattle.sampler.specs.declared.Sampled.{Sampled}
 use Rattle.sampler.specs.declared.Sampled.the-variants as sampled
+use Rattle.sampler.proofs.Entries.{space-eq}
 use Rattle.sampler.proofs.points.curve_point.Statement.{statement}
 use Rattle.sampler.proofs.points.curve_point.Tie as tie
-
-space-eq : {a b c d e f : ℤ} → a ≡ d → b ≡ e → c ≡ f → sampled.Space a b c ≡ sampled.Space d e f
-space-eq p q r = cc
 
 from-plane : (c : tie.Then1) → let s = c .before .before .before in Held (s .args .vp .now) (s .args .corners .now) (s .args .first) (s .args .along .controls)
 from-plane c = rw (eq-eqb _ _ (c .if1 .taken)) at (c .before .before .before .pre .0)

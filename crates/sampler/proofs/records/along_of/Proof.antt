@@ -8,16 +8,16 @@ use Rattle.sampler.proofs.records.along_of.Statement.{statement}
 use Rattle.sampler.proofs.records.along_of.Tie as tie
 
 sub-t7 : tie.Need-sub-t7
-sub-t7 c = omega (arith, c .before .pre .2 (eq-eqb _ _ (c .if1 .taken)))
+sub-t7 c = omega (arith, c .before .pre .knots (eq-eqb _ _ (c .if1 .taken)))
 
 sub-t8 : tie.Need-sub-t8
-sub-t8 c = omega (arith, c .before .pre .2 (eq-eqb _ _ (c .if1 .taken)))
+sub-t8 c = omega (arith, c .before .pre .knots (eq-eqb _ _ (c .if1 .taken)))
 
 returns : tie.Need-returns
 returns c = rw (c .if1 .taken)
 
 product : (c : tie.Else1) → c .before .args .degree * (c .before .args .count - 1) ≤ 20 * (c .before .args .count - 1)
-product c = mul-le-mul-right (c .before .args .count - 1) (c .before .pre .0)
+product c = mul-le-mul-right (c .before .args .count - 1) (c .before .pre .few)
 
 sub-t9 : tie.Need-sub-t9
 sub-t9 c = omega arith

@@ -1,0 +1,83 @@
+-- From what `take_vertex` answers to the step of its line: laws over plain variables, one for each way out.
+use Prim.Native.Nat.{ℕ, _+_, _*_, _≤_, _<_}
+use mathlib.Core.Path.{_≡_, refl, sym, ap, _∙_, subst}
+use mathlib.Core.Bool.{true}
+use mathlib.Core.List.{List}
+use native.Mathlib.Omega.{arith}
+use lib.ListN.{length, getD}
+use lib.IntN.{ℤ, pos}
+use Rattle.text.specs.Rest.{restAt}
+use Rattle.tables.specs.Tables.{Tables}
+use Rattle.tables.specs.declared.Used.{Used}
+use Rattle.model.specs.Model as model
+use Rattle.model.specs.Model.{VertexKind, geometric, texture, normal, parametric}
+use Rattle.model.specs.Parse.{a-vertex, outside}
+use Rattle.model.specs.Room.{Rooms}
+use Rattle.state.specs.declared.State.{State}
+use Rattle.state.proofs.Bounds.{Bounded}
+use Rattle.state.proofs.Images.{rowsOf, tableOf, withRow}
+use Rattle.vertices.specs.Vertex.{width, TakenVertex, NoVertex, vertexIs}
+use Rattle.vertices.specs.declared.Vertex.{Vertex}
+use Rattle.vertices.specs.declared.Vertex.the-variants as vertex
+use Rattle.blame.specs.Blame.{GivenIn}
+use Rattle.lines.specs.Holding.{Holds, NextLine}
+use Rattle.lines.specs.Stepping.{countIn, counted, withUsed, vertexStep}
+use Rattle.lines.specs.declared.Step.the-variants.{Taken, GaveUp}
+use Rattle.lines.proofs.Opened.{no-body, before-parse, before-allowed, given-kept, left-in-body}
+use Rattle.lines.proofs.Given.{given-in}
+use Rattle.lines.proofs.Vertices.{count-is, vertex-next, vertex-roomless}
+
+-- no count passes the bytes that were read
+rows-bounded : (k : VertexKind) (p : ℕ) (x : model.State) → Bounded p x → length (rowsOf k (x .model .vertices)) ≤ p
+rows-bounded geometric p x b = b .v
+rows-bounded texture p x b = b .vt
+rows-bounded normal p x b = b .vn
+rows-bounded parametric p x b = b .vp
+
+-- the vp that were there are there, whichever kind was stored past the used records
+row-given : (k : VertexKind) (R : Rooms) (s : List ℕ) (x : model.State) (c : State) (t : Tables) (p : ℕ) → Holds R s x c t p → (m : List ℤ)
+    → ((i : ℕ) → i < width k * countIn k (c .used) → getD m i (pos 0) ≡ getD (tableOf k t) i (pos 0)) → GivenIn (x .model .vertices .vp) (withRow k m t .vp)
+row-given geometric R s x c t p h m e = given-in R s x c t p h
+row-given texture R s x c t p h m e = given-in R s x c t p h
+row-given normal R s x c t p h m e = given-in R s x c t p h
+row-given parametric R s x c t p h m e =
+    let n : c .used .vp ≡ length (x .model .vertices .vp) = ap (λ (u : Used). u .vp) (h .state .used) in
+    given-kept (x .model .vertices .vp) (t .vp) m (given-in R s x c t p h) (λ i b. e i (let q : i < 4 * c .used .vp = omega arith in q))
+
+module _ (k : VertexKind) (s : List ℕ) (at : ℕ) (c : State) (l : List ℤ) where
+  pub vertex-open : (c .«open» .kind ≡ 0 → ⊥) → vertexStep k s at c l l GaveUp
+  vertex-open f t g R p x w b =
+      left-in-body R s p at x c t (withRow k l t) w (a-vertex k) b
+      (row-given k R s x c t p (b .holds) l (λ i j. ap (λ (y : List ℤ). getD y i (pos 0)) (sym g))) f (λ o. refl)
+
+  module _ (n : ℕ) (e : n ≡ countIn k (c .used)) where
+    pub vertex-full : 4294967295 ≤ n → vertexStep k s at c l l GaveUp
+    vertex-full f t g R p x w b =
+        let a : n ≡ length (rowsOf k (x .model .vertices)) = e ∙ ap (countIn k) (b .holds .state .used) ∙ count-is k x in
+        let i = rows-bounded k p x (b .holds .bounded) in
+        let j = b .small in
+        absurd (let q : ⊥ = omega arith in q)
+
+    module _ (m : List ℤ) (r : Vertex) (v : vertexIs k s at n l m r) where
+      pub vertex-gave : r ≡ vertex.GaveUp → vertexStep k s at c l m GaveUp
+      vertex-gave g t y R p x w b =
+          let no-vertex : NoVertex k s at (countIn k (c .used)) (tableOf k t) m =
+          subst (λ (a : List ℤ). NoVertex k s at (countIn k (c .used)) a m) (sym y) (subst (λ (i : ℕ). NoVertex k s at i l m) e (subst (vertexIs k s at n l m) g v)) in
+          let ws = (restAt s at) .words in
+          record {
+            given = row-given k R s x c t p (b .holds) m (no-vertex .before);
+            roomless = λ good u f.
+                vertex-roomless R s p at x c t (b .holds) w k (b .begins) (b .keyword) (before-allowed x (w .place) ws (a-vertex k) u f) m no-vertex good u
+                (sym (before-parse x (w .place) ws (a-vertex k) refl) ∙ f);
+          }
+
+      pub vertex-took : (q : ℕ) (u : Used) (d : State) → r ≡ vertex.Taken q → c .«open» .kind ≡ 0 → u ≡ counted k (n + 1) (c .used) → d ≡ withUsed u c
+          → vertexStep k s at c l m (Taken d q)
+      vertex-took q u d g o i j t y R p x w b =
+          let taken : TakenVertex k s at (countIn k (c .used)) (tableOf k t) m q =
+          subst (λ (a : List ℤ). TakenVertex k s at (countIn k (c .used)) a m q) (sym y) (subst (λ (i : ℕ). TakenVertex k s at i l m q) e (subst (vertexIs k s at n l m) g v)) in
+          let out : outside (x .open-body) ≡ true = ap outside (no-body s (c .«open») (x .open-body) (b .holds .state .open-body) o) in
+          let after : d ≡ withUsed (counted k (countIn k (c .used) + 1) (c .used)) c =
+          j ∙ ap (λ (a : Used). withUsed a c) (i ∙ ap (λ (z : ℕ). counted k (z + 1) (c .used)) e) in
+          subst (λ (a : State). NextLine R s p x a (withRow k m t) q × (q ≡ (restAt s p) .next)) (sym after)
+          (vertex-next R s p at x c t (b .holds) w k (b .begins) (b .keyword) out m q taken)

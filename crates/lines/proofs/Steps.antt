@@ -1,0 +1,87 @@
+-- One line: from what its statement parses to and whether there is room for it, to what the line comes to and what holds after it.
+use Prim.Native.Nat.{ℕ, zero, suc, _+_, _*_, _-_, _≤_, _<_}
+use mathlib.Core.Path.{_≡_, refl, sym, ap, ap₂, _∙_, subst}
+use mathlib.Core.List.{List, [], _∷_, _++_}
+use mathlib.Core.Bool.{Bool, true, false, cond}
+use mathlib.Core.Option.{Option, none, some}
+use native.Mathlib.Omega.{arith}
+use lib.ListN.{length, take, drop, length-take}
+use Rattle.text.specs.Lines.{Mode, gap, Look, goes, ends, look, onward, extent, ending, lineOf, strideOf}
+use Rattle.text.specs.Lines as lines
+use Rattle.text.specs.Words.{Word, words, opens, wordOf}
+use Rattle.text.specs.Rest.{Rest, restAt, push}
+use Rattle.tables.specs.Tables.{Tables}
+use Rattle.keywords.specs.Keywords.{statementOf}
+use Rattle.model.specs.Model as model
+use Rattle.model.specs.Statements.{Statement, apply}
+use Rattle.model.specs.Parse.{Parsed, fine, fault, then, must, unless, Keyword, parse}
+use Rattle.model.specs.Room.{Rooms, fits}
+use Rattle.model.specs.Read.{keywordOf, statement, step}
+use Rattle.state.proofs.Bounds.{Bounded, bounded-after}
+use Rattle.state.proofs.Lines.{Line, line-of, line-small}
+use Rattle.lines.specs.Holding.{lineSays}
+
+-- ---- a line has no more words than bytes
+one-word : (w : Word) (ws : List Word) (n : ℕ) (t : Bool) → length ws ≤ n → length (cond t (w ∷ ws) ws) ≤ suc n
+one-word w ws n true h = omega arith
+one-word w ws n false h = omega arith
+
+one-byte : (m : Mode) (p b : ℕ) (bs : List ℕ) → ((n : Mode) → length (words n (suc p) bs) ≤ length bs) → (l : Look)
+    → length (onward l (λ n. cond (opens m n) (record { place = p; bytes = wordOf (b ∷ bs) } ∷ words n (suc p) bs) (words n (suc p) bs)) [] []) ≤ suc (length bs)
+one-byte m p b bs h (goes n) = one-word (record { place = p; bytes = wordOf (b ∷ bs) }) (words n (suc p) bs) (length bs) (opens m n) (h n)
+one-byte m p b bs h ends = omega arith
+one-byte m p b bs h lines.refused = omega arith
+
+words-short : (m : Mode) (p : ℕ) (l : List ℕ) → length (words m p l) ≤ length l
+words-short m p [] = omega arith
+words-short m p (b ∷ bs) = one-byte m p b bs (λ n. words-short n (suc p) bs) (look m b bs)
+
+pub words-within : (s : List ℕ) (at : ℕ) → at + length ((restAt s at) .words) ≤ (restAt s at) .next
+unfolding restAt
+words-within s at =
+    let e : ℕ = extent gap (drop at s) in
+    let a = words-short gap at (take e (drop at s)) in
+    let b : length (take e (drop at s)) ≡ Prim.Native.Nat.min e (length (drop at s)) = length-take e (drop at s) in
+    let c : ℕ = ending (drop e (drop at s)) in
+    omega arith
+
+-- ---- the line at p begins with the word w, which is the keyword k, and goes on at `at`
+module _ (R : Rooms) (s : List ℕ) (p at : ℕ) (x : model.State) (w : Word) (k : Keyword) (opened : restAt s p ≡ push w (restAt s at))
+    (keyword : keywordOf (statementOf (w .bytes)) (w .place) ≡ fine k) where
+  abbrev r : Rest
+  r = restAt s at
+
+  line-is : lineSays R s p x ≡ unless (r .bad) 2 (statement R x w (r .words))
+  line-is = ap (λ (q : Rest). unless (q .bad) 2 (step R x (q .words))) opened
+
+  after : (t : Statement) → parse k x (w .place) (r .words) ≡ fine t
+      → statement R x w (r .words) ≡ must (fits R (apply t x)) 14 (w .place) (fine (apply t x))
+  unfolding statement
+  after t h =
+      ap (λ (q : Parsed Keyword). then q (λ k. then (parse k x (w .place) (r .words)) (λ t. must (fits R (apply t x)) 14 (w .place) (fine (apply t x))))) keyword
+      ∙ ap (λ (q : Parsed Statement). then q (λ t. must (fits R (apply t x)) 14 (w .place) (fine (apply t x)))) h
+
+  pub line-fine : (t : Statement) → r .bad ≡ none → parse k x (w .place) (r .words) ≡ fine t → fits R (apply t x) ≡ true → lineSays R s p x ≡ fine (apply t x)
+  line-fine t b h f = line-is ∙ ap₂ (λ (o : Option ℕ) (q : Parsed model.State). unless o 2 q) b (after t h ∙ ap (λ (y : Bool). must y 14 (w .place) (fine (apply t x))) f)
+
+  pub line-roomless : (t : Statement) → r .bad ≡ none → parse k x (w .place) (r .words) ≡ fine t → fits R (apply t x) ≡ false → lineSays R s p x ≡ fault 14 (w .place)
+  line-roomless t b h f = line-is ∙ ap₂ (λ (o : Option ℕ) (q : Parsed model.State). unless o 2 q) b (after t h ∙ ap (λ (y : Bool). must y 14 (w .place) (fine (apply t x))) f)
+
+  pub line-fault : (n q : ℕ) → r .bad ≡ none → parse k x (w .place) (r .words) ≡ fault n q → lineSays R s p x ≡ fault n q
+  unfolding statement
+  line-fault n q b h =
+      line-is ∙ ap₂ (λ (o : Option ℕ) (q : Parsed model.State). unless o 2 q) b
+      (ap (λ (q : Parsed Keyword). then q (λ k. then (parse k x (w .place) (r .words)) (λ t. must (fits R (apply t x)) 14 (w .place) (fine (apply t x))))) keyword
+      ∙ ap (λ (q : Parsed Statement). then q (λ t. must (fits R (apply t x)) 14 (w .place) (fine (apply t x)))) h)
+
+  -- the next line starts where this one's rest ends, and no count passes it
+  pub next-is : (restAt s p) .next ≡ r .next
+  next-is = ap (λ (q : Rest). q .next) opened
+
+  pub line-bounded : (t : Statement) → parse k x (w .place) (r .words) ≡ fine t → Bounded p x → Bounded (r .next) (apply t x)
+  line-bounded t h b =
+      let l = line-small k x (w .place) (r .words) t (line-of k x (w .place) (r .words) t h) in
+      let v = words-within s p in
+      let n : (restAt s p) .next ≡ r .next = next-is in
+      let c : length ((restAt s p) .words) ≡ suc (length (r .words)) = ap (λ (q : Rest). length (q .words)) opened in
+      bounded-after (x .model) (x .names) (x .form) t (x .open-body) (length (r .words)) p (r .next) (l .0) (l .1) (let g : p + suc (length (r .words)) ≤ r .next = omega arith in g) b

@@ -1,0 +1,17 @@
+-- By the direction.
+use mathlib.Core.Path.{refl}
+use Rattle.lines.proofs.inner_lines.keeping.Statement.{statement}
+use Rattle.lines.proofs.inner_lines.keeping.Tie as tie
+use Rattle.lines.proofs.inner_lines.keeping.Reads as reads
+use Rattle.lines.proofs.inner_lines.keeping.Lts as lts
+
+-- src/inner_lines.rt:31:9
+returns : tie.Need-returns
+returns c = rw (c .if1 .taken) refl
+
+-- src/inner_lines.rt:23:1
+returns-2 : tie.Need-returns-2
+returns-2 c = rw (c .if1 .left) refl
+
+pub keeping-spec : {M : Type 1} → statement M
+keeping-spec = tie.close (tie.spec returns returns-2)

@@ -1,0 +1,26 @@
+-- By the answer, each case computes.
+use mathlib.Core.Path.{refl}
+use borrow.Author.Needs.{needs}
+use Rattle.lines.proofs.setting_lines.form_step.Statement.{statement}
+use Rattle.lines.proofs.setting_lines.form_step.Tie as tie
+use Rattle.lines.proofs.setting_lines.form_step.Reads as reads
+use Rattle.lines.proofs.setting_lines.form_step.Lts as lts
+
+-- src/setting_lines.rt:28:30
+enum-told : tie.Need-enum-told
+enum-told c = search needs
+
+-- src/setting_lines.rt:29:28
+enum-known-taken : tie.Need-enum-known-taken
+enum-known-taken c = search needs
+
+-- src/setting_lines.rt:24:1
+returns : tie.Need-returns
+returns c = search needs
+
+-- src/setting_lines.rt:24:1
+returns-2 : tie.Need-returns-2
+returns-2 c = let taken = c .before .taken .given .1 in rw taken refl
+
+pub form-step-spec : {M : Type 1} → statement M
+form-step-spec = tie.close (tie.spec enum-told enum-known-taken returns returns-2)

@@ -1,0 +1,5 @@
+pub mod Stepping
+pub mod Counting
+pub mod Holding
+pub mod OpenBody
+pub mod InForce

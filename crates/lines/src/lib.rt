@@ -1,0 +1,85 @@
+// The lines of each statement, taken from just after the keyword on: what is in force after one, and its records in the lent tables.
+pub mod element_lines; // p, l, f
+pub mod body_lines; // curv, curv2, surf
+pub mod inner_lines; // parm, trim, hole, end
+pub mod setting_lines; // cstype, deg, g, s, usemtl and what is passed over
+
+use state::State;
+use tables::Used;
+use vertices::Kind;
+use vertices::Vertex;
+ghost use mathlib.Core.Path.{_≡_};
+ghost use Prim.Native.Nat.{_+_, _≤_, _<_};
+ghost use lib.ListN.{length};
+ghost use Rattle.vertices.specs.Vertex.{kindOf};
+ghost use Rattle.lines.specs.Stepping.{countIn, counted, withUsed, vertexStep};
+
+// What a line whose keyword is known comes to: the state after it, a refusal at its keyword, or a fault still to be found.
+pub enum Step {
+    Taken { state: State, next: usize },
+    Refuses(u32),
+    GaveUp,
+}
+
+fn count_of(kind: Kind, used: Used) -> u32
+    ensures { λ r. ⌜ r ≡ countIn (kindOf kind) used ⌝ }
+{
+    match kind {
+        Kind::Geometric => used.v,
+        Kind::Texture => used.vt,
+        Kind::Normal => used.vn,
+        Kind::Parametric => used.vp,
+    }
+}
+
+fn counted(kind: Kind, count: u32, used: Used) -> Used
+    ensures { λ r. ⌜ r ≡ counted (kindOf kind) count used ⌝ }
+{
+    let mut after = used;
+    match kind {
+        Kind::Geometric => {
+            after.v = count;
+        }
+        Kind::Texture => {
+            after.vt = count;
+        }
+        Kind::Normal => {
+            after.vn = count;
+        }
+        Kind::Parametric => {
+            after.vp = count;
+        }
+    }
+    after
+}
+
+fn with_used(used: Used, state: State) -> State
+    ensures { λ r. ⌜ r ≡ withUsed used state ⌝ }
+{
+    let mut after = state;
+    after.used = used;
+    after
+}
+
+// A line of v, vt, vn or vp, from just after its keyword on.
+pub fn vertex_line(kind: Kind, text: &[u8], at: usize, state: State, table: &mut [i32]) -> Step
+    requires { ⌜ at ≤ length (now text) ⌝ }
+    ensures { λ r. ⌜ vertexStep (kindOf kind) (now (text .entry)) at state (now (table .entry)) (now (table .exit)) r ⌝ }
+{
+    let open = state.open;
+    if open.kind != 0 {
+        return Step::GaveUp;
+    }
+    let used = state.used;
+    let count = count_of(kind, used);
+    if 4_294_967_295 <= count {
+        return Step::GaveUp;
+    }
+    match vertices::take_vertex(kind, text, at, count, table) {
+        Vertex::GaveUp => Step::GaveUp,
+        Vertex::Taken { next } => Step::Taken {
+            state: with_used(counted(kind, count + 1, used), state),
+            next: next,
+        },
+    }
+}

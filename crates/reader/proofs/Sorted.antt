@@ -1,0 +1,179 @@
+-- The line at a place, by what stands first in it: its end, a byte that is not allowed, or a keyword, whose statement's family decides.
+use Prim.Native.Nat.{ℕ, _≤_, _<_}
+use mathlib.Core.Path.{_≡_, refl, sym, ap, _∙_, subst}
+use mathlib.Core.Logic.{_⊎_, inl, inr, ⊎-elim}
+use mathlib.Core.List.{List, []}
+use mathlib.Core.Bool.{Bool, true, false, cond}
+use mathlib.Core.Option.{Option, none, some}
+use native.Mathlib.Omega.{arith}
+use lib.ListN.{length, drop}
+use lib.Dec.{eqb}
+use Rattle.text.specs.Words.{Word, wordOf}
+use Rattle.text.specs.Rest.{Rest, restAt, push, wordAt, endOf, WordMet, EndMet, BadMet}
+use lib.IntN.{ℤ}
+use Rattle.tables.specs.Tables.{Tables}
+use Rattle.vertices.specs.Vertex.{kindOf}
+use Rattle.vertices.specs.declared.Kind.{Kind}
+use Rattle.vertices.specs.declared.Kind.the-variants.{Geometric, Texture, Normal, Parametric}
+use Rattle.keywords.specs.Keywords.{statementOf, letterOf, keywordAt}
+use Rattle.keywords.specs.declared.Keyword as spelled
+use Rattle.keywords.specs.declared.Statement.{Statement}
+use Rattle.keywords.specs.declared.Statement.the-variants.{Vertex, TextureVertex, VertexNormal, ParameterVertex, BodyType, Degree, Point, Line, Face, Curve, Curve2, Surface, Parameters, Trim, Hole, End, Group, Smoothing, Material, PassedOver, Refused, Unknown}
+use Rattle.model.specs.Model as model
+use Rattle.model.specs.Parse as parse
+use Rattle.model.specs.Parse.{fine, fault, unless, Keyword}
+use Rattle.model.specs.Room.{Rooms}
+use Rattle.model.specs.Read.{keywordOf, step}
+use Rattle.state.specs.declared.State.{State}
+use Rattle.state.proofs.Bounds.{later}
+use Rattle.blame.specs.declared.Refusal.{Refusal}
+use Rattle.blame.specs.declared.Refusal.the-variants as refusal
+use Rattle.blame.specs.Blame.{BlameIs}
+use Rattle.reader.specs.declared.families.Family.{Family}
+use Rattle.reader.specs.declared.Line as lines
+use Rattle.reader.specs.declared.Line.the-variants.{Next, Stopped}
+use Rattle.lines.specs.declared.Step.{Step}
+use Rattle.lines.specs.declared.Step.the-variants.{Taken, Refuses, GaveUp}
+use Rattle.lines.specs.Holding.{Holds, NextLine, lineSays}
+use Rattle.lines.specs.Stepping.{Began, stepIs, vertexStep}
+use Rattle.reader.specs.Taking.{lineIs, familyOf, familyIs, withVertices, verticesIs, stoppedBy}
+use Rattle.lines.proofs.Given.{given-in}
+use Rattle.reader.proofs.Blamed.{stops, blamed, unknown-blamed}
+
+-- ---- a statement by its family: the step of its keyword, or given up
+record Known (s : List ℕ) (at : ℕ) (c : State) (t u : Tables) (r : Step) (k : Statement) (key : ℕ) : Type 0 where
+  pub keyword : Keyword
+  pub is : keywordOf k key ≡ fine keyword
+  pub ended : eqb (letterOf k) 32 ≡ false
+  pub step : stepIs s at keyword c t u r
+
+record Strange (t u : Tables) (r : Step) (k : Statement) (key : ℕ) : Type 0 where
+  pub number : ℕ
+  pub is : keywordOf k key ≡ fault number key
+  pub gave-up : r ≡ GaveUp
+  pub kept : u ≡ t
+
+module _ (s : List ℕ) (at : ℕ) (c : State) (t u : Tables) (r : Step) (key : ℕ) where
+  sorted : (k : Statement) → familyIs (familyOf k) s at c t u r → Known s at c t u r k key ⊎ Strange t u r k key
+  sorted Vertex h = inl (record { keyword = parse.a-vertex model.geometric; is = refl; ended = refl; step = h })
+  sorted TextureVertex h = inl (record { keyword = parse.a-vertex model.texture; is = refl; ended = refl; step = h })
+  sorted VertexNormal h = inl (record { keyword = parse.a-vertex model.normal; is = refl; ended = refl; step = h })
+  sorted ParameterVertex h = inl (record { keyword = parse.a-vertex model.parametric; is = refl; ended = refl; step = h })
+  sorted BodyType h = inl (record { keyword = parse.cstype; is = refl; ended = refl; step = h })
+  sorted Degree h = inl (record { keyword = parse.deg; is = refl; ended = refl; step = h })
+  sorted Point h = inl (record { keyword = parse.an-element model.point; is = refl; ended = refl; step = h })
+  sorted Line h = inl (record { keyword = parse.an-element model.line; is = refl; ended = refl; step = h })
+  sorted Face h = inl (record { keyword = parse.an-element model.face; is = refl; ended = refl; step = h })
+  sorted Curve h = inl (record { keyword = parse.a-body model.curve; is = refl; ended = refl; step = h })
+  sorted Curve2 h = inl (record { keyword = parse.a-body model.curve2; is = refl; ended = refl; step = h })
+  sorted Surface h = inl (record { keyword = parse.a-body model.surface; is = refl; ended = refl; step = h })
+  sorted Parameters h = inl (record { keyword = parse.parm; is = refl; ended = refl; step = h })
+  sorted Trim h = inl (record { keyword = parse.trim; is = refl; ended = refl; step = h })
+  sorted Hole h = inl (record { keyword = parse.hole; is = refl; ended = refl; step = h })
+  sorted End h = inl (record { keyword = parse.ends; is = refl; ended = refl; step = h })
+  sorted Group h = inl (record { keyword = parse.g; is = refl; ended = refl; step = h })
+  sorted Smoothing h = inl (record { keyword = parse.s; is = refl; ended = refl; step = h })
+  sorted Material h = inl (record { keyword = parse.usemtl; is = refl; ended = refl; step = h })
+  sorted PassedOver h = inl (record { keyword = parse.over; is = refl; ended = refl; step = h })
+  sorted Refused h = inr (record { number = 4; is = refl; gave-up = h .0; kept = h .1 })
+  sorted Unknown h = inr (record { number = 3; is = refl; gave-up = h .0; kept = h .1 })
+
+-- ---- the tables lent on
+module _ (s : List ℕ) (at : ℕ) (c : State) (r : Step) where
+  pub family-step : (t u : Tables) {f g : Family} → f ≡ g → familyIs g s at c t u r → familyIs f s at c t u r
+  family-step t u e h = subst (λ (f : Family). familyIs f s at c t u r) (sym e) h
+
+  module _ (k : Kind) (v vt vn vp l : List ℤ) where
+    pub geometric-lent : k ≡ Geometric → vertexStep (kindOf k) s at c v l r → verticesIs (kindOf k) s at c v vt vn vp l vt vn vp r
+    geometric-lent e h = subst (λ (k : Kind). vertexStep (kindOf k) s at c v l r → verticesIs (kindOf k) s at c v vt vn vp l vt vn vp r) (sym e) (λ h t. h (withVertices v vt vn vp t) refl) h
+
+    pub texture-lent : k ≡ Texture → vertexStep (kindOf k) s at c vt l r → verticesIs (kindOf k) s at c v vt vn vp v l vn vp r
+    texture-lent e h = subst (λ (k : Kind). vertexStep (kindOf k) s at c vt l r → verticesIs (kindOf k) s at c v vt vn vp v l vn vp r) (sym e) (λ h t. h (withVertices v vt vn vp t) refl) h
+
+    pub normal-lent : k ≡ Normal → vertexStep (kindOf k) s at c vn l r → verticesIs (kindOf k) s at c v vt vn vp v vt l vp r
+    normal-lent e h = subst (λ (k : Kind). vertexStep (kindOf k) s at c vn l r → verticesIs (kindOf k) s at c v vt vn vp v vt l vp r) (sym e) (λ h t. h (withVertices v vt vn vp t) refl) h
+
+    pub parametric-lent : k ≡ Parametric → vertexStep (kindOf k) s at c vp l r → verticesIs (kindOf k) s at c v vt vn vp v vt vn l r
+    parametric-lent e h = subst (λ (k : Kind). vertexStep (kindOf k) s at c vp l r → verticesIs (kindOf k) s at c v vt vn vp v vt vn l r) (sym e) (λ h t. h (withVertices v vt vn vp t) refl) h
+
+-- ---- no keyword
+module _ (s : List ℕ) (p : ℕ) (c : State) (t : Tables) where
+  pub line-empty : {q : ℕ} → EndMet s p q → lineIs s p c t t (Next c q)
+  line-empty {q} m R x h = (
+    record {
+      after = x;
+      said = ap (λ (r : Rest). unless (r .bad) 2 (step R x (r .words))) (m .rest);
+      holds = record { state = h .state; image = h .image; wide = h .wide; room = h .room; bounded = later (m .from) (h .bounded); body = h .body };
+    },
+    sym (ap (λ (r : Rest). r .next) (m .rest)),
+  )
+
+  pub line-bad : {q : ℕ} → BadMet s p q → lineIs s p c t t (Stopped 2 q)
+  line-bad m R x h = ap (λ (o : Option ℕ). unless o 2 (step R x ((restAt s p) .words))) (m .bad-at)
+
+-- ---- a keyword at `key`
+module _ (s : List ℕ) (p key : ℕ) (kw : spelled.Keyword) (met : WordMet s p key) (found : kw ≡ keywordAt s key) where
+  pub keyword-to : kw .end ≤ length s
+  unfolding keywordAt
+  keyword-to = subst (λ (i : ℕ). i ≤ length s) (sym (ap (λ (q : spelled.Keyword). q .end) found)) (go (eqb (letterOf (statementOf (wordOf (drop key s)))) 32))
+    where
+      go : (b : Bool) → cond b key (endOf s key) ≤ length s
+      go true = (let x = met .more in let y = met .to in omega arith)
+      go false = met .to
+
+pub near : (a b : ℕ) → a < b → b ≤ 16777216 → a ≤ 16777216
+near a b h l = omega arith
+
+module _ (s : List ℕ) (p key : ℕ) (c : State) (t u : Tables) (kw : spelled.Keyword) (f : Family) (r : Step) (small : p ≤ 16777216) (met : WordMet s p key)
+    (found : kw ≡ keywordAt s key) (family : f ≡ familyOf (kw .statement)) (done : familyIs f s (kw .end) c t u r) where
+  abbrev w : Word
+  w = wordAt s key
+
+  abbrev k : Statement
+  k = statementOf (w .bytes)
+
+  here : Known s (endOf s key) c t u r k key ⊎ Strange t u r k key
+  unfolding keywordAt
+  here =
+      let k-is : kw .statement ≡ k = ap (λ (q : spelled.Keyword). q .statement) found in
+      let e-is : kw .end ≡ cond (eqb (letterOf k) 32) key (endOf s key) = ap (λ (q : spelled.Keyword). q .end) found in
+      let g : familyIs (familyOf k) s (kw .end) c t u r = subst (λ (g : Family). familyIs g s (kw .end) c t u r) (family ∙ ap familyOf k-is) done in
+      ⊎-elim
+      (λ (n : Known s (kw .end) c t u r k key).
+      let e : kw .end ≡ endOf s key = e-is ∙ ap (λ (b : Bool). cond b key (endOf s key)) (n .ended) in
+      inl (record { keyword = n .keyword; is = n .is; ended = n .ended; step = subst (λ (i : ℕ). stepIs s i (n .keyword) c t u r) e (n .step) }))
+      (λ n. inr n)
+      (sorted s (kw .end) c t u r key k g)
+
+  began : (R : Rooms) (x : model.State) → Holds R s x c t p → (n : Keyword) → keywordOf k key ≡ fine n → Began R s p (endOf s key) x c t w n
+  began R x h n e = record { small = small; holds = h; begins = met .rest; keyword = e }
+
+  pub line-taken : (d : State) (q : ℕ) → r ≡ Taken d q → lineIs s p c t u (Next d q)
+  line-taken d q e R x h =
+      ⊎-elim
+      (λ (n : Known s (endOf s key) c t u r k key). subst (stepIs s (endOf s key) (n .keyword) c t u) e (n .step) R p x w (began R x h (n .keyword) (n .is)))
+      (λ (n : Strange t u r k key). absurd (let g = n .gave-up in let z : _≡_ {A = ℕ} 0 1 = cc in omega arith))
+      here
+
+  pub line-refuses : (n : ℕ) → r ≡ Refuses n → lineIs s p c t u (Stopped n key)
+  line-refuses i e R x h =
+      ⊎-elim
+      (λ (n : Known s (endOf s key) c t u r k key). subst (stepIs s (endOf s key) (n .keyword) c t u) e (n .step) R p x w (began R x h (n .keyword) (n .is)))
+      (λ (n : Strange t u r k key). absurd (let g = n .gave-up in let z : _≡_ {A = ℕ} 0 1 = cc in omega arith))
+      here
+
+  stopped-is : (a : Refusal) → ((R : Rooms) (x : model.State) → Holds R s x c t p → stops R s p x (stoppedBy key a)) → lineIs s p c t u (stoppedBy key a)
+  stopped-is (refusal.Refused n q) g = g
+  stopped-is refusal.Nothing g = g
+
+  pub line-gave-up : r ≡ GaveUp → (a : Refusal) → BlameIs s p c (u .vp) a → (l : lines.Line) → l ≡ stoppedBy key a → lineIs s p c t u l
+  line-gave-up e a b l is =
+      subst (lineIs s p c t u) (sym is)
+      (stopped-is a (λ R x h.
+      ⊎-elim
+      (λ (n : Known s (endOf s key) c t u r k key).
+      let v = began R x h (n .keyword) (n .is) in
+      blamed R s p (endOf s key) x c t u w (n .keyword) v (subst (stepIs s (endOf s key) (n .keyword) c t u) e (n .step) R p x w v) a b)
+      (λ (n : Strange t u r k key).
+      unknown-blamed R s p (endOf s key) x c t w (n .number) key h (met .rest) (n .is) (given-in R s x c t p h) a (subst (λ (y : Tables). BlameIs s p c (y .vp) a) (n .kept) b) key)
+      here))

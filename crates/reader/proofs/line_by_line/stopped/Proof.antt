@@ -1,0 +1,26 @@
+-- By the answer, each case computes.
+use mathlib.Core.Path.{refl}
+use borrow.Author.Needs.{needs}
+use Rattle.reader.proofs.line_by_line.stopped.Statement.{statement}
+use Rattle.reader.proofs.line_by_line.stopped.Tie as tie
+use Rattle.reader.proofs.line_by_line.stopped.Reads as reads
+use Rattle.reader.proofs.line_by_line.stopped.Lts as lts
+
+-- src/line_by_line.rt:29:28
+enum-known-refusal : tie.Need-enum-known-refusal
+enum-known-refusal c = search needs
+
+-- src/line_by_line.rt:33:29
+enum-told : tie.Need-enum-told
+enum-told c = search needs
+
+-- src/line_by_line.rt:25:1
+returns : tie.Need-returns
+returns c = let refusal = c .before .refusal .given .1 in rw refusal refl
+
+-- src/line_by_line.rt:25:1
+returns-2 : tie.Need-returns-2
+returns-2 c = let refusal = c .enum-told .given .1 in rw refusal refl
+
+pub stopped-spec : {M : Type 1} → statement M
+stopped-spec = tie.close (tie.spec enum-known-refusal enum-told returns returns-2)

@@ -1,0 +1,120 @@
+-- What is asked of the functions that find a line's family and hand the tables on.
+use Prim.Native.Nat.{ℕ}
+use mathlib.Core.Path.{_≡_}
+use mathlib.Core.Bool.{Bool, true, false}
+use mathlib.Core.List.{List}
+use lib.ListN.{length}
+use lib.IntN.{ℤ}
+use Rattle.text.specs.Lines.{linesAt}
+use Rattle.text.specs.Rest.{restAt}
+use Rattle.tables.specs.Tables.{Tables}
+use Rattle.keywords.specs.declared.Statement.{Statement}
+use Rattle.keywords.specs.declared.Statement.the-variants as statement
+use Rattle.model.specs.Parse.{fault, a-vertex, an-element, a-body, parm, ends}
+use Rattle.model.specs.Model as model
+use Rattle.model.specs.Model.{VertexKind, start}
+use Rattle.model.specs.Room.{Rooms}
+use Rattle.model.specs.Read.{refused, readLines}
+use Rattle.model.specs.Layout.{tablesOf, nothing}
+use Rattle.state.specs.declared.State.{State}
+use Rattle.vertices.specs.Vertex.{kindOf}
+use Rattle.vertices.specs.declared.Kind.the-variants.{Geometric, Texture, Normal, Parametric}
+use Rattle.elements.specs.Elements.{shapeOf}
+use Rattle.elements.specs.declared.Shape.the-variants.{Point, Line, Face}
+use Rattle.elements.specs.Bodies.{freeOf}
+use Rattle.elements.specs.declared.body.Free.the-variants.{Curve, Curve2, Surface}
+use Rattle.bodies.proofs.Says.{loopWord}
+use Rattle.blame.specs.declared.Refusal.{Refusal}
+use Rattle.blame.specs.declared.Refusal.the-variants as refusal
+use Rattle.lines.specs.declared.setting_lines.Setting.{Setting}
+use Rattle.lines.specs.declared.setting_lines.Setting.the-variants.{BodyType, Degree, Group, Smoothing, Material, PassedOver}
+use Rattle.reader.specs.declared.families.Family.{Family}
+use Rattle.reader.specs.declared.families.Family.the-variants.{Vertex, Element, Body, Parameters, Loop, End, Set, Other}
+use Rattle.reader.specs.declared.Line as lines
+use Rattle.reader.specs.declared.Line.the-variants.{Next, Stopped}
+use Rattle.lines.specs.declared.Step.{Step}
+use Rattle.lines.specs.declared.Step.the-variants.{GaveUp}
+use Rattle.reader.specs.declared.Reading.{Reading}
+use Rattle.reader.specs.declared.Reading.the-variants.{Read, Refused}
+use Rattle.reader.specs.Reading.{Result, roomsOf, result, answered}
+use Rattle.lines.specs.Holding.{Holds, lineSays, NextLine}
+use Rattle.lines.specs.InForce.{settingOf}
+use Rattle.lines.specs.Stepping.{stepIs}
+
+-- ---- statements by the tables that their lines fill
+abbrev pub familyOf : Statement → Family
+familyOf statement.Vertex = Vertex Geometric
+familyOf statement.TextureVertex = Vertex Texture
+familyOf statement.VertexNormal = Vertex Normal
+familyOf statement.ParameterVertex = Vertex Parametric
+familyOf statement.BodyType = Set BodyType
+familyOf statement.Degree = Set Degree
+familyOf statement.Point = Element Point
+familyOf statement.Line = Element Line
+familyOf statement.Face = Element Face
+familyOf statement.Curve = Body Curve
+familyOf statement.Curve2 = Body Curve2
+familyOf statement.Surface = Body Surface
+familyOf statement.Parameters = Parameters
+familyOf statement.Trim = Loop false
+familyOf statement.Hole = Loop true
+familyOf statement.End = End
+familyOf statement.Group = Set Group
+familyOf statement.Smoothing = Set Smoothing
+familyOf statement.Material = Set Material
+familyOf statement.PassedOver = Set PassedOver
+familyOf statement.Refused = Other
+familyOf statement.Unknown = Other
+
+-- the tables held t and then hold u; a statement that is known to be refused, or is not known, is left to be refused
+abbrev pub familyIs : Family → List ℕ → ℕ → State → Tables → Tables → Step → Type 0
+familyIs (Vertex k) s at c t u r = stepIs s at (a-vertex (kindOf k)) c t u r
+familyIs (Element k) s at c t u r = stepIs s at (an-element (shapeOf k)) c t u r
+familyIs (Body k) s at c t u r = stepIs s at (a-body (freeOf k)) c t u r
+familyIs Parameters s at c t u r = stepIs s at parm c t u r
+familyIs (Loop hole) s at c t u r = stepIs s at (loopWord hole) c t u r
+familyIs End s at c t u r = stepIs s at ends c t u r
+familyIs (Set k) s at c t u r = stepIs s at (settingOf k) c t u r
+familyIs Other s at c t u r = (r ≡ GaveUp) × (u ≡ t)
+
+-- the four tables of vertices among the others
+abbrev pub withVertices : List ℤ → List ℤ → List ℤ → List ℤ → Tables → Tables
+withVertices v vt vn vp t = record { v = v; vt = vt; vn = vn; vp = vp; corners = t .corners; elements = t .elements; bodies = t .bodies; ranges = t .ranges; parameters = t .parameters; loops = t .loops; spans = t .spans }
+
+abbrev pub verticesIs : VertexKind → List ℕ → ℕ → State → List ℤ → List ℤ → List ℤ → List ℤ → List ℤ → List ℤ → List ℤ → List ℤ → Step → Type 0
+verticesIs k s at c v vt vn vp v′ vt′ vn′ vp′ r = (t : Tables) → stepIs s at (a-vertex k) c (withVertices v vt vn vp t) (withVertices v′ vt′ vn′ vp′ t) r
+
+-- ---- a line
+-- what the code finds in the line at `at`, in the state c with the tables t, which it leaves as u
+abbrev pub lineIs : List ℕ → ℕ → State → Tables → Tables → lines.Line → Type 0
+lineIs s at c t u (Next d q) = (R : Rooms) (x : model.State) → Holds R s x c t at → NextLine R s at x d u q × (q ≡ (restAt s at) .next)
+lineIs s at c t u (Stopped n p) = (R : Rooms) (x : model.State) → Holds R s x c t at → lineSays R s at x ≡ fault n p
+
+-- one that was given up: what was found wrong with it, or 14 at its keyword
+abbrev pub stoppedBy : ℕ → Refusal → lines.Line
+stoppedBy key (refusal.Refused n p) = Stopped n p
+stoppedBy key refusal.Nothing = Stopped 14 key
+
+-- ---- the whole text
+abbrev pub begin : State
+begin =
+    record {
+      used = record { v = 0; vt = 0; vn = 0; vp = 0; corners = 0; elements = 0; bodies = 0; parameters = 0; loops = 0 };
+      curves = 0;
+      names = record { «group_place» = 0; «group_length» = 0; «material_place» = 0; «material_length» = 0; smoothing = 0 };
+      form = record { basis = 0; rational = 0; «degree_u» = 0; «degree_v» = 0 };
+      «open» = record { kind = 0; controls = 0; parts = 0; «u_at» = 0; «v_at» = 0 };
+    }
+
+-- tables that hold nothing
+abbrev pub Blank : Tables → Type 0
+Blank t = t ≡ tablesOf (roomsOf t) nothing
+
+-- what all lines of the text come to, with the tables cleared on a refusal
+abbrev pub linesRead : List ℕ → Rooms → Result
+linesRead s R = answered R (readLines R (length s) (linesAt s 0) start)
+
+-- the same before they are cleared: they held nothing and then hold u
+abbrev pub linesIs : List ℕ → Rooms → Tables → Reading → Type 0
+linesIs s R u (Read n) = result (Read n) u ≡ linesRead s R
+linesIs s R u (Refused n p) = readLines R (length s) (linesAt s 0) start ≡ refused n p

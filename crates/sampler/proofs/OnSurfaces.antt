@@ -1,0 +1,65 @@
+-- Demand 3 on surfaces: the refusals are passed as on curves, and what is handed out is the rounded rule at rules that hold in both directions.
+use mathlib.Core.Path.{_≡_, refl, sym, ap, _∙_, subst}
+use mathlib.Core.Bool.{true}
+use mathlib.Core.List.{List}
+use Prim.Native.Nat.{ℕ}
+use borrow.Author.Tests.{eq-eqb}
+use lib.ListN.{length, getD}
+use lib.IntN.{ℤ, pos}
+use lib.Signed.{_≤ℤ_}
+use Rattle.whole.proofs.Order.{le-yes}
+use Rattle.tables.specs.Tables.{Tables}
+use Rattle.tables.specs.Records.{Body}
+use Rattle.tables.specs.declared.Used.{Used}
+use Rattle.tables.specs.declared.Element.{Element}
+use Rattle.curves.proofs.SurfaceNear.{surface-near}
+use Rattle.sampler.specs.Runs.{listed}
+use Rattle.sampler.specs.Points.{directionU, directionV, gridOf, surfaceAt}
+use Rattle.sampler.specs.Answers.{elementOf, bodyOf, refusalOf, coordinatesIn, refusalIn, surfacePoint, pointOnSurface}
+use Rattle.sampler.specs.Demand3.{Surface, OnSurface, SurfaceAnswer, PointsOnSurfaces}
+use Rattle.sampler.proofs.Obeyed.{granted, Surfaced, surfaced}
+use Rattle.sampler.proofs.Written.{listed-length}
+use Rattle.sampler.proofs.Demanded.{all-passed, listed-at}
+
+module _ {used : Used} {t : Tables} {number : ℕ} (c : Surface used t number) where
+  abbrev e : Element
+  e = elementOf t number
+
+  abbrev b : Body
+  b = bodyOf t number
+
+  surface-given : refusalOf true used t number ≡ 0
+  surface-given = all-passed true used t number (c .some) (c .in-use) (eq-eqb (e .kind) 6 (c .kind)) (c .obeyed) (c .plain) (c .type)
+
+  facts : Surfaced t e b
+  facts = surfaced used t number (granted true used t number surface-given)
+
+  module _ (p q : ℤ) (p-from : b .start-u ≤ℤ p) (p-upto : p ≤ℤ b .end-u) (q-from : b .start-v ≤ℤ q) (q-upto : q ≤ℤ b .end-v) where
+    -- the rounded rule is near the exact value, at every two parameters of the ranges
+    surface-close : (axis : ℕ) → OnSurface t number p q axis (surfaceAt t e b p q axis)
+    unfolding surfaceAt
+    surface-close axis =
+        surface-near (directionU t b) (directionV t b) p q (facts .along-u .ranged .sound p p-from p-upto .rules) (facts .along-v .ranged .sound q q-from q-upto .rules) (gridOf t e b axis)
+
+    answer-is : pointOnSurface used t number p q ≡ surfacePoint t e b p q
+    unfolding pointOnSurface
+    answer-is = rw (surface-given, le-yes (b .start-u) p p-from, le-yes p (b .end-u) p-upto, le-yes (b .start-v) q q-from, le-yes q (b .end-v) q-upto)
+
+coordinates-are : (t : Tables) (e : Element) (b : Body) (p q : ℤ) → coordinatesIn (surfacePoint t e b p q) ≡ listed 3 (surfaceAt t e b p q)
+unfolding surfacePoint
+coordinates-are t e b p q = refl
+
+not-refused : (t : Tables) (e : Element) (b : Body) (p q : ℤ) → refusalIn (surfacePoint t e b p q) ≡ 0
+unfolding surfacePoint
+not-refused t e b p q = refl
+
+pub points-on-surfaces : PointsOnSurfaces
+points-on-surfaces used t number p q c f g h k =
+    let s = answer-is c p q f g h k in
+    let l = ap coordinatesIn s ∙ coordinates-are t (elementOf t number) (bodyOf t number) p q in
+    let z : ℕ → ℤ = surfaceAt t (elementOf t number) (bodyOf t number) p q in
+    record {
+      given = ap refusalIn s ∙ not-refused t (elementOf t number) (bodyOf t number) p q;
+      axes = ap length l ∙ listed-length 3 z;
+      near = λ axis m. subst (OnSurface t number p q axis) (sym (ap (λ (i : List ℤ). getD i axis (pos 0)) l ∙ listed-at 3 axis z m)) (surface-close c p q f g h k axis);
+    }
