@@ -18,6 +18,7 @@ use Rattle.model.specs.Layout.{tablesOf, usedOf, nothing}
 use Rattle.tidying.specs.Printed.{tidyText}
 use Rattle.tidier.specs.Emitting.{Emitted}
 use Rattle.tidier.specs.TidyFrom.{tidyFrom}
+use Rattle.tidied.proofs.TidyFrom.{tidy-from}
 use Rattle.reader.specs.Reading.{Result, result, roomsOf, readInto}
 use Rattle.reader.specs.Reading as reader
 use Rattle.reader.specs.declared.Reading.{Reading}
@@ -25,9 +26,6 @@ use Rattle.reader.specs.declared.Reading.the-variants as reading
 use Rattle.tidy_file.specs.declared.Tidied.{Tidied}
 use Rattle.tidy_file.specs.declared.Tidied.the-variants.{Written, TooLong, Refused}
 use Rattle.tidy_file.specs.Tidying.{TidyResult, tidyResult, hasRoom, written, answered, tidyInto}
-
-tidy-from : (R : Rooms) (s : List ℕ) (m : Model) → readOf R s ≡ read m → tidyFrom s (usedOf m) (tablesOf R m) ≡ tidyText m
-tidy-from R s m e = ?
 
 -- ---- writing: k is the length of w, as it is measured
 module _ (w out : List ℕ) (used : Used) (t : Tables) (k : ℕ) (e : k ≡ min (length w) 16777217) where
