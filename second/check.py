@@ -6,6 +6,7 @@ from pathlib import Path
 
 from damage import cases
 from exact import exact_on_curve, exact_on_surface, within
+from packed import PROGRAM, files
 from reader import corner_of, group_of, material_of, read
 from records import CURV, CURV2, SURF, TABLES, TEXT_LIMIT, Read, Refused, Used
 from rules import body_of, element_record, obeys
@@ -75,6 +76,12 @@ def check_cases(tally):
     points = {row[0] for row in rows(CASES / "points.txt")}
     tidied = {name for name in stored if name.startswith("tidy/")}
     tally.hold("files without a row", sorted(stored - listed - points - tidied), [])
+
+
+def check_packed(tally):
+    """What the proved program is run on, and what it must write."""
+    for name, data in zip(("stdin", "stdout"), files(rows)):
+        tally.hold(f"reader_cases/{name}", (PROGRAM / name).read_bytes() == data, True)
 
 
 def check_size(tally):
@@ -318,6 +325,7 @@ def check_tidied(tally, folder):
 def main():
     tally = Tally()
     check_cases(tally)
+    check_packed(tally)
     check_size(tally)
     check_program(tally)
     check_points(tally)
