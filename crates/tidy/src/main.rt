@@ -2,9 +2,6 @@
 use libc::STDIN_FILENO;
 use libc::STDOUT_FILENO;
 use tidy_file::Tidied;
-ghost use mathlib.Core.Path.{_≡_};
-ghost use Prim.Native.Nat.{_≤_};
-ghost use lib.ListN.{length};
 
 fn put(bytes: &[u8]) {
     io::write_all(STDOUT_FILENO, bytes);
@@ -18,18 +15,16 @@ fn put_refusal(number: u32, place: usize) {
     put(b"\n");
 }
 
-fn least(a: usize, b: usize) -> usize
-    ensures { λ r. ⌜ (r ≤ a) × (r ≤ b) ⌝ }
-{
-    if a < b { a } else { b }
+// A tidy text that was written is within the buffer.
+fn put_front(out: &[u8], length: usize) {
+    if length <= out.len() {
+        put(&out[0..length]);
+    }
 }
 
 fn put_tidied(tidied: Tidied, out: &[u8]) {
     match tidied {
-        Tidied::Written { length, used: _ } => {
-            let end = least(length, out.len());
-            put(&out[..end]);
-        }
+        Tidied::Written { length, used: _ } => put_front(out, length),
         Tidied::TooLong { used: _ } => put_refusal(16, 0),
         Tidied::Refused { number, place } => put_refusal(number, place),
     }
