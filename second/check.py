@@ -6,7 +6,7 @@ from pathlib import Path
 
 from damage import cases
 from exact import exact_on_curve, exact_on_surface, within
-from packed import PROGRAM, files
+from packed import files
 from reader import corner_of, group_of, material_of, read
 from records import CURV, CURV2, SURF, TABLES, TEXT_LIMIT, Read, Refused, Used
 from rules import body_of, element_record, obeys
@@ -79,9 +79,9 @@ def check_cases(tally):
 
 
 def check_packed(tally):
-    """What the proved program is run on, and what it must write."""
-    for name, data in zip(("stdin", "stdout"), files(rows)):
-        tally.hold(f"reader_cases/{name}", (PROGRAM / name).read_bytes() == data, True)
+    """What the proved programs are run on, and what they must write."""
+    for path, data in files(rows):
+        tally.hold(f"{path.parent.name}/{path.name}", path.read_bytes() == data, True)
 
 
 def check_size(tally):

@@ -1,6 +1,7 @@
-"""The cases as the proved program takes them: `python3 second/packed.py` writes
-crates/reader_cases/stdin and stdout anew from cases/expected.txt and from
-seeded texts, valid and damaged.
+"""The cases as the proved programs take them: `python3 second/packed.py` writes
+stdin and stdout of crates/reader_cases anew from cases/expected.txt and from
+seeded texts, valid and damaged, and of crates/sampler_cases from seeded curves
+and surfaces.
 
 A case is a line (the text's length, the file's name and why) and then the
 text.  The answer to it is that name and reason, the answer, and one number for
@@ -10,32 +11,34 @@ are not in it.
 
 from pathlib import Path
 
+from curves import requests
 from damage import cases
 from reader import read
 from records import TABLES, Read, Refused, zeros
+from sampler import RefusedPoint, point_on_curve, point_on_surface, run_on_curve
 
 SECOND = Path(__file__).resolve().parent
 CASES = SECOND / "cases"
-PROGRAM = SECOND.parent / "crates" / "reader_cases"
+CRATES = SECOND.parent / "crates"
 PRIME = 1_000_000_007
-SEED, SEEDED = 2026, 400
+SEED, SEEDED, SAMPLED = 2026, 400, 240
+POINTS, PLACE = 64, 2
 ROOMS = dict.fromkeys(TABLES, 16_384)
-
-
-def in_one(table):
-    """A table's numbers in one; 0 where all are 0."""
-    numbers = list(table)
-    used = len(numbers)
-    while used and numbers[used - 1] == 0:
-        used -= 1
-    total = 0
-    for number in numbers[:used]:
-        total = (total * 31 + number) % PRIME
-    return total * pow(31, len(numbers) - used, PRIME) % PRIME
 
 
 def unsigned(number):
     return -2 * number + 1 if number < 0 else 2 * number
+
+
+def in_one(table, form):
+    """A table's numbers in one; 0 where all are 0."""
+    used = len(table)
+    while used and not any(table[max(0, used - 256):used]):
+        used = max(0, used - 256)
+    total = 0
+    for number in table[:used]:
+        total = (total * 31 + form(number)) % PRIME
+    return total * pow(31, len(table) - used, PRIME) % PRIME
 
 
 SIGNED = {"v", "vt", "vn", "vp", "ranges", "parameters", "spans"}
@@ -43,7 +46,7 @@ SIGNED = {"v", "vt", "vn", "vp", "ranges", "parameters", "spans"}
 
 def numbers_of(tables):
     return [
-        in_one([unsigned(number) for number in table] if name in SIGNED else table)
+        in_one(table, unsigned if name in SIGNED else int)
         for name, table in zip(TABLES, tables)
     ]
 
@@ -77,12 +80,47 @@ def seeded_cases():
         yield f"seeded {number}", data
 
 
+def answers(used, tables, element, steps, s, t):
+    """What the program writes of one element."""
+    curve = point_on_curve(used, tables, element, s)
+    surface = point_on_surface(used, tables, element, s, t)
+    table = [7] * POINTS
+    run = run_on_curve(used, tables, element, steps, table, PLACE)
+    if isinstance(run, RefusedPoint):
+        filled = f"refused {run.number}"
+    else:
+        filled, table = str(run.numbers), run.points
+    points = [
+        f"refused {point.number}" if isinstance(point, RefusedPoint) else " ".join(map(str, point))
+        for point in (curve, surface)
+    ]
+    return f" | curve {points[0]} | surface {points[1]} | run {filled}: " + " ".join(map(str, table))
+
+
+def sampled():
+    """stdin and stdout of the program that samples."""
+    given, wanted = [], []
+    for label, data, steps, s, t in requests(SEED, SAMPLED):
+        answer = read(data, ROOMS)
+        given.append(f"{len(data)} {steps} {label}\n".encode() + data)
+        lines = [answers(answer.used, answer.tables, element, steps, s, t) for element in range(3)]
+        wanted.append(f"{label}{''.join(lines)}\n".encode())
+    return b"".join(given), b"".join(wanted)
+
+
 def files(rows):
-    return packed([*stored_cases(rows), *seeded_cases()])
+    """Each stored file with what it must hold."""
+    programs = {
+        "reader_cases": packed([*stored_cases(rows), *seeded_cases()]),
+        "sampler_cases": sampled(),
+    }
+    for program, (given, wanted) in programs.items():
+        yield CRATES / program / "stdin", given
+        yield CRATES / program / "stdout", wanted
 
 
 if __name__ == "__main__":
     from check import rows
 
-    for name, data in zip(("stdin", "stdout"), files(rows)):
-        (PROGRAM / name).write_bytes(data)
+    for path, data in files(rows):
+        path.write_bytes(data)

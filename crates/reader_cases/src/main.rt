@@ -1,16 +1,14 @@
 // Texts, and what reading each comes to in tables of 16,384 entries. A case is a line and then the text: the text's length, and what the case shows, which is
 // written again before the answer.
+use case_files::least;
+use case_files::line_end;
+use case_files::number_at;
 use libc::STDIN_FILENO;
 use libc::STDOUT_FILENO;
 use reader::Reading;
 use tables::Used;
 ghost use Prim.Native.Nat.{_≤_, _<_};
 ghost use lib.ListN.{length};
-
-struct Number {
-    value: usize,
-    next: usize,
-}
 
 fn put(bytes: &[u8]) {
     io::write_all(STDOUT_FILENO, bytes);
@@ -19,53 +17,6 @@ fn put(bytes: &[u8]) {
 fn put_number(n: u64) {
     put(b" ");
     io::print_decimal(STDOUT_FILENO, n);
-}
-
-fn least(a: usize, b: usize) -> usize
-    ensures { λ r. ⌜ (r ≤ a) × (r ≤ b) ⌝ }
-{
-    if a < b { a } else { b }
-}
-
-// The whole number at `at`, and the place after the blank behind it.
-fn number_at(cases: &[u8], at: usize) -> Number
-    requires { ⌜ at ≤ length (now cases) ⌝ }
-    ensures { λ r. ⌜ r .next ≤ length (now (cases .entry)) ⌝ }
-{
-    let mut value: usize = 0;
-    let mut i = at;
-    while i < cases.len() {
-        let b = cases[i];
-        i += 1;
-        if b < 48 {
-            break;
-        }
-        if 57 < b {
-            break;
-        }
-        if 16_777_216 < value {
-            break;
-        }
-        value = value * 10 + (b as usize - 48);
-    }
-    Number {
-        value: value,
-        next: i,
-    }
-}
-
-fn line_end(cases: &[u8], at: usize) -> usize
-    requires { ⌜ at ≤ length (now cases) ⌝ }
-    ensures { λ r. ⌜ (at ≤ r) × (r ≤ length (now (cases .entry))) ⌝ }
-{
-    let mut i = at;
-    while i < cases.len() {
-        if cases[i] == 10 {
-            return i;
-        }
-        i += 1;
-    }
-    i
 }
 
 // Twice its magnitude, and one more below zero.

@@ -1,3 +1,4 @@
+-- Each case takes bytes off what is left.
 use Prim.Native.Nat.{_-_}
 use lib.ListN.{length}
 use borrow.Author.Needs.{needs}

@@ -1,3 +1,4 @@
+-- Each number takes one off what is left of the table.
 use Prim.Native.Nat.{_-_}
 use lib.ListN.{length}
 use borrow.Author.Needs.{needs}

@@ -1,13 +1,14 @@
+-- The value stays small enough for one more digit, the place within the bytes.
 use Prim.Native.Nat.{_-_, _≤_, _<_}
 use lib.ListN.{length}
 use borrow.Author.Needs.{needs}
-use Rattle.reader_cases.proofs.number_at.Statement.{statement}
-use Rattle.reader_cases.proofs.number_at.Tie as tie
-use Rattle.reader_cases.proofs.number_at.Reads as reads
-use Rattle.reader_cases.proofs.number_at.Lts as lts
+use Rattle.case_files.proofs.number_at.Statement.{statement}
+use Rattle.case_files.proofs.number_at.Tie as tie
+use Rattle.case_files.proofs.number_at.Reads as reads
+use Rattle.case_files.proofs.number_at.Lts as lts
 
 abbrev Inv-loop : tie.InvT-loop
-Inv-loop cases at value₀ i₀ value i = (value ≤ 200000000) × (i ≤ length cases)
+Inv-loop cases at value₀ i₀ value i = (value ≤ 50000000000) × (i ≤ length cases)
 
 abbrev μ-loop : tie.MeasureT-loop
 μ-loop cases at value₀ i₀ value i = length cases - i

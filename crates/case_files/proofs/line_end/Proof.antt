@@ -1,10 +1,11 @@
+-- The place stays between the start and the end, and each byte takes one off what is left.
 use Prim.Native.Nat.{_-_, _≤_, _<_}
 use lib.ListN.{length}
 use borrow.Author.Needs.{needs}
-use Rattle.reader_cases.proofs.line_end.Statement.{statement}
-use Rattle.reader_cases.proofs.line_end.Tie as tie
-use Rattle.reader_cases.proofs.line_end.Reads as reads
-use Rattle.reader_cases.proofs.line_end.Lts as lts
+use Rattle.case_files.proofs.line_end.Statement.{statement}
+use Rattle.case_files.proofs.line_end.Tie as tie
+use Rattle.case_files.proofs.line_end.Reads as reads
+use Rattle.case_files.proofs.line_end.Lts as lts
 
 abbrev Inv-loop : tie.InvT-loop
 Inv-loop cases at i₀ i = (at ≤ i) × (i ≤ length cases)
