@@ -1,0 +1,112 @@
+/*
+ * Prints points of a curve of an .obj file, one a line.
+ *
+ *     rt staticlib boundary
+ *     gcc -O2 -Iinclude examples/points.c target/staticlib/libboundary.a -o points
+ *     ./points examples/chair-rail.obj 1 8
+ */
+#include <inttypes.h>
+#include <stdio.h>
+#include <stdlib.h>
+
+#include "kuhlabires.h"
+
+/* The file's bytes, at most one more than is ever read; NULL where it cannot be read. */
+static uint8_t *bytes_of(const char *name, size_t *length)
+{
+    const size_t most = (size_t)KUHLABIRES_MOST_BYTES + 1;
+    uint8_t *text = malloc(most);
+    FILE *file = fopen(name, "rb");
+    *length = file && text ? fread(text, 1, most, file) : 0;
+    if (!file || !text || ferror(file)) {
+        free(text);
+        text = NULL;
+    }
+    if (file)
+        fclose(file);
+    return text;
+}
+
+/* A table of at least one entry, so that its pointer is not NULL; malloc may give NULL for none. */
+static void *table_of(size_t entries)
+{
+    void *table = calloc(entries + 1, sizeof(int32_t));
+    if (!table) {
+        fprintf(stderr, "no memory for a table of %zu entries\n", entries);
+        exit(2);
+    }
+    return table;
+}
+
+static kuhlabires_tables tables_for(size_t n)
+{
+    const size_t other = KUHLABIRES_OTHER_ROOM(n), corners = KUHLABIRES_CORNER_ROOM(n), elements = KUHLABIRES_ELEMENT_ROOM(n);
+    kuhlabires_tables t = {
+        table_of(other), other, table_of(other), other, table_of(other), other, table_of(other), other,
+        table_of(corners), corners, table_of(elements), elements,
+        table_of(other), other, table_of(other), other, table_of(other), other, table_of(other), other, table_of(other), other,
+    };
+    return t;
+}
+
+static void drop(kuhlabires_tables *t)
+{
+    free(t->v);
+    free(t->vt);
+    free(t->vn);
+    free(t->vp);
+    free(t->corners);
+    free(t->elements);
+    free(t->bodies);
+    free(t->ranges);
+    free(t->parameters);
+    free(t->loops);
+    free(t->spans);
+}
+
+/* A number in millionths, with six places. */
+static void print_number(int32_t number, const char *after)
+{
+    const uint32_t whole = number < 0 ? 0u - (uint32_t)number : (uint32_t)number;
+    printf("%s%" PRIu32 ".%06" PRIu32 "%s", number < 0 ? "-" : "", whole / 1000000, whole % 1000000, after);
+}
+
+static int print_run(kuhlabires_used used, const kuhlabires_tables *t, uint32_t element, uint32_t steps)
+{
+    const size_t room = steps > KUHLABIRES_MOST_STEPS ? 0 : 3 * ((size_t)steps + 1);
+    int32_t *points = table_of(room);
+    const kuhlabires_run run = kuhlabires_run_on_curve(used, KUHLABIRES_LEND(t), element, steps, points, room, 0);
+    if (run.refusal)
+        fprintf(stderr, "element %" PRIu32 ": refused %" PRIu32 "\n", element, run.refusal);
+    else {
+        const size_t axes = run.numbers / ((size_t)steps + 1);
+        for (size_t i = 0; i < run.numbers; i++)
+            print_number(points[i], (i + 1) % axes ? " " : "\n");
+    }
+    free(points);
+    return run.refusal != 0;
+}
+
+int main(int count, char **words)
+{
+    if (count != 4) {
+        fprintf(stderr, "usage: %s FILE ELEMENT STEPS\n", words[0]);
+        return 2;
+    }
+    size_t length;
+    uint8_t *text = bytes_of(words[1], &length);
+    if (!text) {
+        perror(words[1]);
+        return 2;
+    }
+    kuhlabires_tables t = tables_for(length);
+    const kuhlabires_reading reading = kuhlabires_read(text, length, KUHLABIRES_LEND(&t));
+    int failed = reading.refusal != 0;
+    if (failed)
+        fprintf(stderr, "%s: refused %" PRIu32 " at %zu\n", words[1], reading.refusal, reading.place);
+    else
+        failed = print_run(reading.used, &t, (uint32_t)strtoul(words[2], NULL, 10), (uint32_t)strtoul(words[3], NULL, 10));
+    drop(&t);
+    free(text);
+    return failed;
+}

@@ -1,0 +1,51 @@
+#!/usr/bin/env bash
+# Builds the static library, the Rust crate with its command, and the C example, and holds what they write against host/tests/expected.
+set -euo pipefail
+cd "$(dirname "$0")/.."
+
+need() {
+    command -v "$1" > /dev/null || { apt-get update -qq && apt-get install -y -qq "$2"; }
+}
+need cargo cargo
+need gcc gcc
+
+rt staticlib boundary
+(cd host && cargo build --release --offline --quiet && cargo test --release --offline --quiet)
+gcc -std=c11 -O2 -Wall -Wextra -Werror -Iinclude examples/points.c target/staticlib/libboundary.a -o target/points
+
+command=host/target/release/kuhlabires
+passed=0
+failed=0
+
+# holds NAME STATUS PROGRAM ARGUMENT..: the program writes expected/NAME.txt and ends with that status.
+holds() {
+    local name=$1 status=$2 got=0
+    shift 2
+    "$@" > target/written.txt 2>&1 || got=$?
+    if [ "$got" = "$status" ] && cmp -s target/written.txt "host/tests/expected/$name.txt"; then
+        passed=$((passed + 1))
+    else
+        failed=$((failed + 1))
+        echo "$name: $* ended with $got, not $status, or wrote something else:"
+        diff "host/tests/expected/$name.txt" target/written.txt | head -n 5 || true
+    fi
+}
+
+while read -r name status arguments; do
+    case $name in '' | '#'*) continue ;; esac
+    # shellcheck disable=SC2086
+    holds "$name" "$status" "$command" $arguments < /dev/null
+done < host/tests/calls.txt
+holds rail-points 0 "$command" points - 1 16 < examples/chair-rail.obj
+holds rail-points 0 target/points examples/chair-rail.obj 1 16
+holds wing-points 0 target/points examples/foam-wing.obj 1 100
+holds seat-points-curv2 0 target/points examples/seat.obj 1 5
+for arguments in "" "check" "points examples/plate.obj 1" "points examples/plate.obj one 8" "check no-such-file.obj" "paint examples/plate.obj"; do
+    got=0
+    # shellcheck disable=SC2086
+    "$command" $arguments > /dev/null 2>&1 || got=$?
+    if [ "$got" = 2 ]; then passed=$((passed + 1)); else failed=$((failed + 1)) && echo "'$arguments' ended with $got, not 2"; fi
+done
+
+echo "host: $passed passed, $failed failed"
+[ "$failed" = 0 ]

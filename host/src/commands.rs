@@ -1,0 +1,191 @@
+//! What each command does.
+use crate::show;
+use crate::Failure;
+use kuhlabires::{
+    group_of, material_of, point_on_surface, read, run_on_curve, Body, Decimal, Element, Kind, Refusal, Tables,
+    MOST_BYTES, MOST_STEPS,
+};
+use std::fs::File;
+use std::io::{self, Read, Write};
+use std::time::Instant;
+
+// Files over this many bytes are told of on standard error while they are worked on.
+const LARGE: usize = 1_000_000;
+
+struct Input {
+    name: String,
+    text: Vec<u8>,
+}
+
+// At most a byte more than is ever read: what is longer is refused whatever it says.
+fn open(file: &str) -> Result<Input, Failure> {
+    let name = if file == "-" { "standard input" } else { file };
+    let most = MOST_BYTES as u64 + 1;
+    let mut text = Vec::new();
+    let taken = if file == "-" {
+        io::stdin().lock().take(most).read_to_end(&mut text)
+    } else {
+        File::open(file).and_then(|opened| opened.take(most).read_to_end(&mut text))
+    };
+    taken.map_err(|error| Failure::Io(format!("{name}: {error}")))?;
+    Ok(Input { name: name.into(), text })
+}
+
+// Works on a text, and says so on standard error where that may take a while.
+fn told<T>(input: &Input, doing: &str, work: impl FnOnce() -> T) -> T {
+    if input.text.len() <= LARGE {
+        return work();
+    }
+    eprintln!("{doing} {}, {} bytes ..", input.name, show::thousands(input.text.len()));
+    let start = Instant::now();
+    let answer = work();
+    eprintln!("{doing} took {:.2} s", start.elapsed().as_secs_f64());
+    answer
+}
+
+fn refused(input: &Input, refusal: Refusal) -> Failure {
+    eprint!("{}", show::refusal(&input.name, &input.text, refusal));
+    Failure::Refused
+}
+
+fn tables_of(input: &Input) -> Result<Tables, Failure> {
+    told(input, "reading", || {
+        let mut tables = Tables::for_text(&input.text);
+        read(&input.text, &mut tables).map(|()| tables)
+    })
+    .map_err(|refusal| refused(input, refusal))
+}
+
+pub fn check(file: &str, out: &mut dyn Write) -> Result<(), Failure> {
+    let input = open(file)?;
+    let tables = tables_of(&input)?;
+    let used = tables.used;
+    writeln!(out, "{}: read, {} bytes", input.name, show::thousands(input.text.len()))?;
+    let vertices = [("v", used.v), ("vt", used.vt), ("vn", used.vn), ("vp", used.vp)];
+    let elements = Kind::ALL.map(|kind| {
+        let many = tables.elements().filter(|(_, element)| element.kind == Some(kind)).count();
+        (kind.keyword(), many as u32)
+    });
+    for (keyword, many) in vertices.into_iter().chain(elements) {
+        if many > 0 {
+            writeln!(out, "{keyword:>8} {}", show::thousands(many as usize))?;
+        }
+    }
+    Ok(())
+}
+
+pub fn elements(file: &str, out: &mut dyn Write) -> Result<(), Failure> {
+    let input = open(file)?;
+    let tables = tables_of(&input)?;
+    for (number, element) in tables.elements() {
+        let keyword = element.kind.map_or("?", Kind::keyword);
+        write!(out, "{number} {keyword}, {}", counted(element.corners, "corner"))?;
+        if let Some(body) = tables.body(element.body) {
+            write!(out, ", {}", body_of(element, body))?;
+        }
+        if element.smoothing != 0 {
+            write!(out, ", smoothing {}", element.smoothing)?;
+        }
+        let group = show::names(group_of(&input.text, &tables, number));
+        if !group.is_empty() {
+            write!(out, ", group {group}")?;
+        }
+        let material = show::names(material_of(&input.text, &tables, number));
+        if !material.is_empty() {
+            write!(out, ", material {material}")?;
+        }
+        writeln!(out)?;
+    }
+    Ok(())
+}
+
+fn counted(many: u32, what: &str) -> String {
+    let s = if many == 1 { "" } else { "s" };
+    format!("{many} {what}{s}")
+}
+
+fn body_of(element: Element, body: Body) -> String {
+    let rational = if body.rational { "rational " } else { "" };
+    let basis = body.basis.map_or("?", |basis| basis.word());
+    let mut shown = format!("{rational}{basis} of degree {}", body.u_degree);
+    if element.kind == Some(Kind::Surf) {
+        shown += &format!(" by {}", body.v_degree);
+    }
+    shown += &format!(", from {} to {}", Decimal(body.u_start), Decimal(body.u_end));
+    if element.kind == Some(Kind::Surf) {
+        shown += &format!(" by {} to {}", Decimal(body.v_start), Decimal(body.v_end));
+    }
+    if body.loop_parts > 0 {
+        shown += &format!(", {}", counted(body.loop_parts, "loop part"));
+    }
+    shown
+}
+
+pub fn points(file: &str, element: u32, steps: u32, out: &mut dyn Write) -> Result<(), Failure> {
+    let input = open(file)?;
+    let tables = tables_of(&input)?;
+    let asked = tables.element(element);
+    let written = match asked {
+        Some(Element { kind: Some(Kind::Surf), body, .. }) => grid(&tables, element, body, steps, out),
+        _ => run(&tables, element, steps, out),
+    };
+    written?.map_err(|refusal| {
+        eprintln!("{}: element {element}, {steps} steps: refused {}: {}", input.name, refusal.number, refusal.words());
+        Failure::Refused
+    })
+}
+
+fn run(tables: &Tables, element: u32, steps: u32, out: &mut dyn Write) -> io::Result<Result<(), Refusal>> {
+    let room = 3 * (steps.min(MOST_STEPS) as usize + 1);
+    let mut numbers = vec![0; room];
+    let written = match run_on_curve(tables, element, steps, &mut numbers, 0) {
+        Ok(written) => written,
+        Err(refusal) => return Ok(Err(refusal)),
+    };
+    let axes = written / (steps as usize + 1);
+    for point in numbers[..written].chunks(axes) {
+        let shown: Vec<String> = point.iter().map(|&n| Decimal(n).to_string()).collect();
+        writeln!(out, "{}", shown.join(" "))?;
+    }
+    Ok(Ok(()))
+}
+
+// On a surface the parameters of a run, along u and along v.
+fn grid(tables: &Tables, element: u32, body: u32, steps: u32, out: &mut dyn Write) -> io::Result<Result<(), Refusal>> {
+    let body = match tables.body(body) {
+        Some(body) => body,
+        None => return Ok(Err(Refusal { number: 15, place: 0 })),
+    };
+    if steps == 0 || MOST_STEPS < steps {
+        return Ok(Err(Refusal { number: 19, place: 0 }));
+    }
+    for row in 0..=steps {
+        let t = parameter(body.v_start, body.v_end, steps, row);
+        for column in 0..=steps {
+            let s = parameter(body.u_start, body.u_end, steps, column);
+            match point_on_surface(tables, element, s, t) {
+                Ok(point) => writeln!(out, "{point}")?,
+                Err(refusal) => return Ok(Err(refusal)),
+            }
+        }
+    }
+    Ok(Ok(()))
+}
+
+// start + floor(j (end - start) / steps), as in a run.
+fn parameter(start: i32, end: i32, steps: u32, j: u32) -> i32 {
+    let (start, end) = (i64::from(start), i64::from(end));
+    (start + i64::from(j) * (end - start) / i64::from(steps)) as i32
+}
+
+#[cfg(test)]
+mod tests {
+    use super::*;
+
+    #[test]
+    fn parameters_reach_from_start_to_end() {
+        let all: Vec<i32> = (0..=3).map(|j| parameter(-2_000_000_000, 2_000_000_000, 3, j)).collect();
+        assert_eq!(all, [-2_000_000_000, -666_666_667, 666_666_666, 2_000_000_000]);
+        assert_eq!(parameter(5, 6, 65_536, 65_535), 5);
+    }
+}

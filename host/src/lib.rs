@@ -1,0 +1,99 @@
+//! Kuhlabires: a verified reader, tidier and sampler of Wavefront .obj files.
+//!
+//! What a call answers is proved of the library behind it, for every text, all tables and all numbers: `docs/API.md` says what each
+//! promises. This crate only lends its memory and gives the answers types. Every `i32` is a number in millionths.
+//!
+//! ```
+//! use kuhlabires::{group_of, read, Tables};
+//!
+//! let text = b"v 0 0 0\nv 1 0 0\nv 1 .5 0\ng top\nf -3 -2 -1\n";
+//! let mut tables = Tables::for_text(text);
+//! read(text, &mut tables)?;
+//! assert_eq!(tables.used.elements, 1);
+//! assert_eq!(tables.vertex(3).unwrap().y, 500_000);
+//! assert_eq!(group_of(text, &tables, 1), b"top");
+//!
+//! let refusal = read(b"v 0 0 0\nf 1 1 2\n", &mut tables).unwrap_err();
+//! assert_eq!((refusal.number, refusal.place), (8, 14));
+//! # Ok::<(), kuhlabires::Refusal>(())
+//! ```
+
+mod raw;
+mod records;
+mod refusal;
+mod rooms;
+mod tables;
+
+pub use records::*;
+pub use refusal::{position, Position, Refusal};
+pub use rooms::{Rooms, MOST_BYTES};
+pub use tables::Tables;
+
+/// The most steps of a run.
+pub const MOST_STEPS: u32 = 65_536;
+
+/// Reads a text into the tables and sets their used counts. After a refusal every entry and every count is 0.
+pub fn read(text: &[u8], tables: &mut Tables) -> Result<(), Refusal> {
+    let answer = raw::read(text, tables);
+    tables.used = answer.used;
+    unless_refused(answer.refusal, answer.place)
+}
+
+/// The point at `t` of the `curv` or `curv2` of that number, from 1 over all elements. Refuses 17, 15, 18, 19, in this order.
+pub fn point_on_curve(tables: &Tables, element: u32, t: i32) -> Result<Point, Refusal> {
+    point(raw::point_on_curve(tables, element, t))
+}
+
+/// The point at `s` along u and `t` along v of the `surf` of that number. Refuses 17, 15, 18, 19, in this order.
+pub fn point_on_surface(tables: &Tables, element: u32, s: i32, t: i32) -> Result<Point, Refusal> {
+    point(raw::point_on_surface(tables, element, s, t))
+}
+
+/// A run of `steps` steps, 1 to 65,536, on the `curv` or `curv2` of that number: its `steps + 1` points, of three or two numbers each, fill
+/// `points` from entry `at` on. Answers how many numbers were written. A refusal, 17, 15, 18, 19, 16, leaves `points` as it was.
+pub fn run_on_curve(
+    tables: &Tables,
+    element: u32,
+    steps: u32,
+    points: &mut [i32],
+    at: usize,
+) -> Result<usize, Refusal> {
+    let answer = raw::run_on_curve(tables, element, steps, points, at);
+    unless_refused(answer.refusal, 0)?;
+    Ok(answer.numbers)
+}
+
+/// Corner `k`, from 0, of the element of that number; three zeros for no such corner.
+pub fn corner_of(tables: &Tables, element: u32, k: u32) -> Corner {
+    raw::corner_of(tables, element, k)
+}
+
+/// The group names of the element of that number as they stand in the text that was read, from the first to the last; empty for none.
+pub fn group_of<'a>(text: &'a [u8], tables: &Tables, element: u32) -> &'a [u8] {
+    part(text, raw::group_of(text, tables, element))
+}
+
+/// The same of its material's name.
+pub fn material_of<'a>(text: &'a [u8], tables: &Tables, element: u32) -> &'a [u8] {
+    part(text, raw::material_of(text, tables, element))
+}
+
+fn unless_refused(number: u32, place: usize) -> Result<(), Refusal> {
+    if number == 0 {
+        return Ok(());
+    }
+    Err(Refusal { number, place })
+}
+
+fn point(answer: raw::Point) -> Result<Point, Refusal> {
+    unless_refused(answer.refusal, 0)?;
+    let raw::Point { x, y, z, .. } = answer;
+    Ok(if answer.axes == 2 { Point::Plane { u: x, v: y } } else { Point::Space { x, y, z } })
+}
+
+fn part(text: &[u8], part: raw::Part) -> &[u8] {
+    &text[part.place..part.place + part.length]
+}
+
+#[cfg(test)]
+mod tests;

@@ -1,0 +1,167 @@
+//! The boundary as the archive has it: `crates/boundary/src/lib.rt` and `include/kuhlabires.h` say the same. A slice is a pointer, then a length.
+use crate::{Corner, Tables, Used};
+
+#[repr(C)]
+pub struct Reading {
+    pub refusal: u32,
+    pub place: usize,
+    pub used: Used,
+}
+
+#[repr(C)]
+pub struct Point {
+    pub refusal: u32,
+    pub axes: u32,
+    pub x: i32,
+    pub y: i32,
+    pub z: i32,
+}
+
+#[repr(C)]
+pub struct Run {
+    pub refusal: u32,
+    pub numbers: usize,
+}
+
+#[repr(C)]
+pub struct Part {
+    pub place: usize,
+    pub length: usize,
+}
+
+// The eleven tables stand in every signature alike: to be filled, and to be read.
+macro_rules! boundary {
+    ($($name:ident($($before:ident: $b:ty),*; $signed:ty, $unsigned:ty; $($after:ident: $a:ty),*) -> $answer:ty;)*) => {
+        extern "C" {
+            $(pub fn $name(
+                $($before: $b,)*
+                v: $signed, v_length: usize,
+                vt: $signed, vt_length: usize,
+                vn: $signed, vn_length: usize,
+                vp: $signed, vp_length: usize,
+                corners: $unsigned, corners_length: usize,
+                elements: $unsigned, elements_length: usize,
+                bodies: $unsigned, bodies_length: usize,
+                ranges: $signed, ranges_length: usize,
+                parameters: $signed, parameters_length: usize,
+                loops: $unsigned, loops_length: usize,
+                spans: $signed, spans_length: usize,
+                $($after: $a,)*
+            ) -> $answer;)*
+        }
+    };
+}
+
+boundary! {
+    kuhlabires_read(text: *const u8, text_length: usize; *mut i32, *mut u32;) -> Reading;
+    kuhlabires_point_on_curve(used: Used; *const i32, *const u32; element: u32, t: i32) -> Point;
+    kuhlabires_point_on_surface(used: Used; *const i32, *const u32; element: u32, s: i32, t: i32) -> Point;
+    kuhlabires_run_on_curve(
+        used: Used; *const i32, *const u32;
+        element: u32, steps: u32, points: *mut i32, points_length: usize, at: usize
+    ) -> Run;
+}
+
+extern "C" {
+    pub fn kuhlabires_corner_of(
+        used: Used,
+        elements: *const u32,
+        elements_length: usize,
+        corners: *const u32,
+        corners_length: usize,
+        element: u32,
+        k: u32,
+    ) -> Corner;
+    pub fn kuhlabires_group_of(
+        text: *const u8,
+        text_length: usize,
+        used: Used,
+        elements: *const u32,
+        elements_length: usize,
+        element: u32,
+    ) -> Part;
+    pub fn kuhlabires_material_of(
+        text: *const u8,
+        text_length: usize,
+        used: Used,
+        elements: *const u32,
+        elements_length: usize,
+        element: u32,
+    ) -> Part;
+}
+
+/// Calls a function of the boundary with the tables lent as `as_ptr` or `as_mut_ptr` says.
+macro_rules! with_tables {
+    ($lend:ident, $tables:expr, $name:ident($($before:expr),*; $($after:expr),*)) => {{
+        let lent = $tables;
+        // SAFETY: every pointer comes from a slice that is borrowed for the call, with that slice's length; what is
+        // written is borrowed mutably; and the function takes any contents and any numbers.
+        unsafe {
+            crate::raw::$name(
+                $($before,)*
+                lent.v.$lend(), lent.v.len(),
+                lent.vt.$lend(), lent.vt.len(),
+                lent.vn.$lend(), lent.vn.len(),
+                lent.vp.$lend(), lent.vp.len(),
+                lent.corners.$lend(), lent.corners.len(),
+                lent.elements.$lend(), lent.elements.len(),
+                lent.bodies.$lend(), lent.bodies.len(),
+                lent.ranges.$lend(), lent.ranges.len(),
+                lent.parameters.$lend(), lent.parameters.len(),
+                lent.loops.$lend(), lent.loops.len(),
+                lent.spans.$lend(), lent.spans.len(),
+                $($after,)*
+            )
+        }
+    }};
+}
+
+pub fn read(text: &[u8], tables: &mut Tables) -> Reading {
+    with_tables!(as_mut_ptr, tables, kuhlabires_read(text.as_ptr(), text.len();))
+}
+
+pub fn point_on_curve(tables: &Tables, element: u32, t: i32) -> Point {
+    with_tables!(as_ptr, tables, kuhlabires_point_on_curve(tables.used; element, t))
+}
+
+pub fn point_on_surface(tables: &Tables, element: u32, s: i32, t: i32) -> Point {
+    with_tables!(as_ptr, tables, kuhlabires_point_on_surface(tables.used; element, s, t))
+}
+
+pub fn run_on_curve(tables: &Tables, element: u32, steps: u32, points: &mut [i32], at: usize) -> Run {
+    with_tables!(
+        as_ptr,
+        tables,
+        kuhlabires_run_on_curve(tables.used; element, steps, points.as_mut_ptr(), points.len(), at)
+    )
+}
+
+pub fn corner_of(tables: &Tables, element: u32, k: u32) -> Corner {
+    let (elements, corners) = (&tables.elements, &tables.corners);
+    // SAFETY: as in `with_tables`.
+    unsafe {
+        kuhlabires_corner_of(
+            tables.used,
+            elements.as_ptr(),
+            elements.len(),
+            corners.as_ptr(),
+            corners.len(),
+            element,
+            k,
+        )
+    }
+}
+
+pub fn group_of(text: &[u8], tables: &Tables, element: u32) -> Part {
+    let elements = &tables.elements;
+    // SAFETY: as in `with_tables`.
+    unsafe { kuhlabires_group_of(text.as_ptr(), text.len(), tables.used, elements.as_ptr(), elements.len(), element) }
+}
+
+pub fn material_of(text: &[u8], tables: &Tables, element: u32) -> Part {
+    let elements = &tables.elements;
+    // SAFETY: as in `with_tables`.
+    unsafe {
+        kuhlabires_material_of(text.as_ptr(), text.len(), tables.used, elements.as_ptr(), elements.len(), element)
+    }
+}

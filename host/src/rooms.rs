@@ -1,0 +1,179 @@
+//! How much room a text can need, counted without reading it.
+
+/// The lengths of the eleven tables, in entries: 4,096 entries hold 1,024 `v`.
+#[derive(Clone, Copy, Debug, Default, PartialEq, Eq)]
+pub struct Rooms {
+    pub v: usize,
+    pub vt: usize,
+    pub vn: usize,
+    pub vp: usize,
+    pub corners: usize,
+    pub elements: usize,
+    pub bodies: usize,
+    pub ranges: usize,
+    pub parameters: usize,
+    pub loops: usize,
+    pub spans: usize,
+}
+
+/// The longest text that is read, and the longest tidy text, in bytes.
+pub const MOST_BYTES: usize = 16_777_216;
+
+// The keywords that take room. Corners are words of the lines of p, l, f, curv, curv2, surf, parameters of parm, loop parts of trim and hole.
+const KEYWORDS: [(&[u8], Takes); 13] = [
+    (b"v", Takes::V),
+    (b"vt", Takes::Vt),
+    (b"vn", Takes::Vn),
+    (b"vp", Takes::Vp),
+    (b"p", Takes::Element),
+    (b"l", Takes::Element),
+    (b"f", Takes::Element),
+    (b"curv", Takes::Body),
+    (b"curv2", Takes::Body),
+    (b"surf", Takes::Body),
+    (b"parm", Takes::Parameters),
+    (b"trim", Takes::Loop),
+    (b"hole", Takes::Loop),
+];
+
+#[derive(Clone, Copy)]
+enum Takes {
+    V,
+    Vt,
+    Vn,
+    Vp,
+    Element,
+    Body,
+    Parameters,
+    Loop,
+}
+
+impl Rooms {
+    /// Room for whatever the text holds, by one walk over its bytes.
+    ///
+    /// A keyword is the first word of the physical line it stands in, so lines are counted by their first words. The words of a line that a
+    /// backslash joins to others count for every keyword met since the first of them. What is counted too often only makes the tables longer.
+    pub fn for_text(text: &[u8]) -> Rooms {
+        let mut rooms = Rooms::default();
+        if MOST_BYTES < text.len() {
+            return rooms;
+        }
+        let mut met = [false; KEYWORDS.len()];
+        for line in text.split(|&b| b == b'\n') {
+            let line = line.strip_suffix(b"\r").unwrap_or(line);
+            let words = words(line);
+            let keyword = words.first.and_then(|first| KEYWORDS.iter().position(|(spelling, _)| *spelling == first));
+            for (index, (_, takes)) in KEYWORDS.iter().enumerate() {
+                if met[index] {
+                    rooms.add_words(*takes, words.count);
+                }
+            }
+            if let Some(index) = keyword {
+                let takes = KEYWORDS[index].1;
+                rooms.add_line(takes);
+                rooms.add_words(takes, words.count - 1);
+                met[index] = true;
+            }
+            if !line.ends_with(b"\\") {
+                met = [false; KEYWORDS.len()];
+            }
+        }
+        rooms
+    }
+
+    // What a line takes for its keyword alone.
+    fn add_line(&mut self, takes: Takes) {
+        match takes {
+            Takes::V => self.v += 4,
+            Takes::Vt => self.vt += 3,
+            Takes::Vn => self.vn += 3,
+            Takes::Vp => self.vp += 4,
+            Takes::Element => self.elements += 9,
+            Takes::Body => {
+                self.elements += 9;
+                self.bodies += 9;
+                self.ranges += 4;
+            }
+            Takes::Parameters => {}
+            Takes::Loop => {
+                self.loops += 2;
+                self.spans += 2;
+            }
+        }
+    }
+
+    // What it takes for its words after the keyword; a loop part has three.
+    fn add_words(&mut self, takes: Takes, count: usize) {
+        match takes {
+            Takes::V | Takes::Vt | Takes::Vn | Takes::Vp => {}
+            Takes::Element | Takes::Body => self.corners += 3 * count,
+            Takes::Parameters => self.parameters += count,
+            Takes::Loop => {
+                self.loops += 2 * ((count + 2) / 3);
+                self.spans += 2 * ((count + 2) / 3);
+            }
+        }
+    }
+}
+
+struct Words<'a> {
+    first: Option<&'a [u8]>,
+    count: usize,
+}
+
+// The first word of a physical line, and how many it has up to a comment.
+fn words(line: &[u8]) -> Words<'_> {
+    let mut first = None;
+    let mut count = 0;
+    for word in line.split(|b| matches!(b, b' ' | b'\t' | b'\\')) {
+        if word.is_empty() {
+            continue;
+        }
+        if word[0] == b'#' {
+            break;
+        }
+        first = first.or(Some(word));
+        count += 1;
+    }
+    Words { first, count }
+}
+
+#[cfg(test)]
+mod tests {
+    use super::*;
+
+    #[test]
+    fn lines_are_counted_by_their_keywords() {
+        let rooms =
+            Rooms::for_text(b"v 0 0 0\r\n  vt 1\n# v 1 2 3\nvn 0 0 1\nf 1/1/1 1/1/1 1/1/1 # and no more\nvx 1\n");
+        let expected = Rooms { v: 4, vt: 3, vn: 3, elements: 9, corners: 9, ..Rooms::default() };
+        assert_eq!(rooms, expected);
+    }
+
+    #[test]
+    fn joined_lines_count_for_the_first() {
+        let rooms = Rooms::for_text(b"\\\nf 1 2 \\\n 3 \\\r\n 4\nparm \\\n v 0 1 \\\n 2 3\n 9 9 9\n");
+        assert_eq!(rooms.corners, 3 * 4);
+        assert_eq!(rooms.elements, 9);
+        assert!(rooms.parameters >= 4);
+    }
+
+    #[test]
+    fn a_backslash_in_a_comment_hides_no_line() {
+        let rooms = Rooms::for_text(b"# a \\\nv 0 0 0\nf 1 1 1 # \\\nv 0 0 0\n");
+        assert_eq!(rooms.v, 8);
+    }
+
+    #[test]
+    fn bodies_and_loops() {
+        let rooms =
+            Rooms::for_text(b"curv 0 1 1 2\nparm u 0 1\nend\nsurf 0 1 0 1 1 2 3 4\ntrim 0 1 1 1 2 1\nhole 0 1 1\n");
+        assert_eq!((rooms.bodies, rooms.ranges, rooms.elements), (18, 8, 18));
+        assert!(rooms.loops >= 6 && rooms.spans >= 6 && rooms.parameters >= 2 && rooms.corners >= 18);
+    }
+
+    #[test]
+    fn a_text_that_is_too_long_takes_no_room() {
+        assert_eq!(Rooms::for_text(&vec![b'v'; MOST_BYTES + 1]), Rooms::default());
+    }
+}

@@ -1,0 +1,122 @@
+//! What a person is shown: a refusal with its line, names as words, sizes.
+use kuhlabires::{Position, Refusal};
+
+// The most columns of a line that are shown, around the place.
+const MOST_COLUMNS: usize = 100;
+
+/// The refusal of a file: number, words, line and column, and the line with a mark under the place.
+pub fn refusal(name: &str, text: &[u8], refusal: Refusal) -> String {
+    let at = refusal.position(text);
+    let mut shown = format!(
+        "{name}:{}:{}: refused {} at {}: {}\n",
+        at.line,
+        at.column,
+        refusal.number,
+        refusal.place,
+        reason(text, refusal)
+    );
+    if !text.is_empty() && !matches!(refusal.number, 1 | 16) {
+        shown.push_str(&marked(text, at));
+    }
+    shown
+}
+
+// The words of the number; of 10 the half that holds.
+fn reason(text: &[u8], refusal: Refusal) -> &'static str {
+    if refusal.number != 10 {
+        return refusal.words();
+    }
+    let (here, ends) = refusal.words().split_once("; ").unwrap_or((refusal.words(), refusal.words()));
+    if refusal.place == text.len() {
+        ends
+    } else {
+        here
+    }
+}
+
+// The line, or the part of it around the place, and a mark below.
+fn marked(text: &[u8], at: Position) -> String {
+    let line = &text[at.start..at.end];
+    let column = at.column - 1;
+    let from = if line.len() <= MOST_COLUMNS { 0 } else { column.saturating_sub(MOST_COLUMNS / 2) };
+    let to = line.len().min(from + MOST_COLUMNS);
+    let before = if from == 0 { "" } else { ".. " };
+    let after = if to == line.len() { "" } else { " .." };
+    let margin = format!("{:>5} | ", at.line);
+    let blank = format!("{} | ", " ".repeat(margin.len() - 3));
+    let mark: String =
+        line[from..column.clamp(from, to)].iter().map(|&b| if b == b'\t' { '\t' } else { ' ' }).collect();
+    format!("{margin}{before}{}{after}\n{blank}{}{mark}^\n", visible(&line[from..to]), " ".repeat(before.len()))
+}
+
+/// Bytes as a terminal may show them: any but 32 to 126 and tabs as a question mark.
+pub fn visible(bytes: &[u8]) -> String {
+    bytes.iter().map(|&b| if matches!(b, 32..=126 | b'\t') { b as char } else { '?' }).collect()
+}
+
+/// Names as words, whatever joins and blanks stand between them.
+pub fn names(part: &[u8]) -> String {
+    let words: Vec<String> =
+        part.split(|b| !matches!(b, 33..=126) || *b == b'\\').filter(|word| !word.is_empty()).map(visible).collect();
+    words.join(" ")
+}
+
+/// A number with its thousands apart.
+pub fn thousands(number: usize) -> String {
+    let digits = number.to_string();
+    let mut shown = String::new();
+    for (index, digit) in digits.chars().enumerate() {
+        if index > 0 && (digits.len() - index) % 3 == 0 {
+            shown.push(',');
+        }
+        shown.push(digit);
+    }
+    shown
+}
+
+#[cfg(test)]
+mod tests {
+    use super::*;
+
+    #[test]
+    fn a_refusal_shows_its_line_with_a_mark() {
+        let text = b"v 0 0 0\nf 1\t1 2\n";
+        assert_eq!(
+            refusal("a.obj", text, Refusal { number: 8, place: 14 }),
+            "a.obj:2:7: refused 8 at 14: a reference to nothing\n    2 | f 1\t1 2\n      |    \t  ^\n"
+        );
+    }
+
+    #[test]
+    fn a_text_that_ends_in_a_body_is_told_so() {
+        let text = b"curv 0 1 1 2\n";
+        let shown = refusal("-", text, Refusal { number: 10, place: text.len() });
+        assert!(shown.starts_with("-:2:1: refused 10 at 13: the text ends in a body\n"), "{shown}");
+    }
+
+    #[test]
+    fn a_long_line_is_cut_around_the_place() {
+        let mut text = vec![b'x'; 500];
+        text[300] = 7;
+        let shown = refusal("a", &text, Refusal { number: 2, place: 300 });
+        let lines: Vec<&str> = shown.lines().collect();
+        assert!(lines[1].len() < 130);
+        assert_eq!(lines[1].find('?'), lines[2].find('^'));
+    }
+
+    #[test]
+    fn the_mark_stands_under_the_place_whatever_the_line() {
+        let text = [b"\n".repeat(1_234_567), b"f 1 2 0".to_vec()].concat();
+        let shown = refusal("a", &text, Refusal { number: 8, place: 1_234_573 });
+        let lines: Vec<&str> = shown.lines().collect();
+        assert_eq!(lines[1].find('0'), lines[2].find('^'));
+    }
+
+    #[test]
+    fn names_are_words() {
+        assert_eq!(names(b"rail \\\n\ttop"), "rail top");
+        assert_eq!(names(b""), "");
+        assert_eq!(thousands(16_777_216), "16,777,216");
+        assert_eq!(thousands(999), "999");
+    }
+}

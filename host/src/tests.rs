@@ -1,0 +1,86 @@
+//! The wrappers against answers worked out by hand; the texts of `examples/` and what the second program makes of them are in `check.sh`.
+use super::*;
+
+const CURVE: &[u8] = b"v 0 0 0\nv 1 0 0\nv 2 0 0\nv 3 0 0\ncstype bezier\ndeg 3\ng rail top\nusemtl oak\ncurv 0 1 1 2 3 4\nparm u 0 1\nend\n";
+const SURFACE: &[u8] =
+    b"v 0 0 0\nv 2 0 0\nv 0 2 0\nv 2 2 4\ncstype bezier\ndeg 1 1\nsurf 0 1 0 1 1 2 3 4\nparm u 0 1\nparm v 0 1\nend\n";
+
+fn read_whole(text: &[u8]) -> Tables {
+    let mut tables = Tables::for_text(text);
+    read(text, &mut tables).unwrap();
+    tables
+}
+
+#[test]
+fn a_curve_is_read_asked_and_sampled() {
+    let tables = read_whole(CURVE);
+    assert_eq!(tables.used, Used { v: 4, corners: 12, elements: 1, bodies: 1, parameters: 2, ..Used::default() });
+    assert_eq!(corner_of(&tables, 1, 3), Corner { v: 4, vt: 0, vn: 0 });
+    assert_eq!(corner_of(&tables, 1, 4), Corner::default());
+    assert_eq!(group_of(CURVE, &tables, 1), b"rail top");
+    assert_eq!(material_of(CURVE, &tables, 1), b"oak");
+    assert_eq!(group_of(CURVE, &tables, 2), b"");
+    assert_eq!(group_of(&CURVE[..9], &tables, 1), b"");
+    let element = tables.element(1).unwrap();
+    assert_eq!((element.kind, element.corners, element.body), (Some(Kind::Curv), 4, 1));
+    let body = tables.body(1).unwrap();
+    assert_eq!((body.basis, body.u_degree, body.u_start, body.u_end), (Some(Basis::Bezier), 3, 0, 1_000_000));
+    assert_eq!(point_on_curve(&tables, 1, 500_000), Ok(Point::Space { x: 1_500_000, y: 0, z: 0 }));
+}
+
+#[test]
+fn a_run_fills_its_part_alone() {
+    let tables = read_whole(CURVE);
+    let mut points = [7; 11];
+    assert_eq!(run_on_curve(&tables, 1, 2, &mut points, 1), Ok(9));
+    assert_eq!(points, [7, 0, 0, 0, 1_500_000, 0, 0, 3_000_000, 0, 0, 7]);
+    let before = points;
+    assert_eq!(run_on_curve(&tables, 1, 2, &mut points, 3), Err(Refusal { number: 16, place: 0 }));
+    assert_eq!(run_on_curve(&tables, 1, 0, &mut points, 0), Err(Refusal { number: 19, place: 0 }));
+    assert_eq!(run_on_curve(&tables, 2, 1, &mut points, 0), Err(Refusal { number: 17, place: 0 }));
+    assert_eq!(points, before);
+}
+
+#[test]
+fn a_surface_is_sampled() {
+    let tables = read_whole(SURFACE);
+    assert_eq!(
+        point_on_surface(&tables, 1, 500_000, 500_000),
+        Ok(Point::Space { x: 1_000_000, y: 1_000_000, z: 1_000_000 })
+    );
+    assert_eq!(point_on_surface(&tables, 1, 0, 1_000_001), Err(Refusal { number: 19, place: 0 }));
+    assert_eq!(point_on_curve(&tables, 1, 0), Err(Refusal { number: 17, place: 0 }));
+}
+
+#[test]
+fn broken_tables_are_refused_with_15() {
+    let mut tables = read_whole(CURVE);
+    tables.corners[0] = 99;
+    assert_eq!(point_on_curve(&tables, 1, 0), Err(Refusal { number: 15, place: 0 }));
+    tables.corners.clear();
+    assert_eq!(corner_of(&tables, 1, 0), Corner::default());
+    assert_eq!(point_on_curve(&tables, 1, 0), Err(Refusal { number: 15, place: 0 }));
+}
+
+#[test]
+fn a_refusal_leaves_zeros() {
+    let text = b"v 0 0 0\nf 1 1 2\n";
+    let mut tables = read_whole(CURVE);
+    assert_eq!(read(text, &mut tables), Err(Refusal { number: 8, place: 14 }));
+    assert_eq!(tables.used, Used::default());
+    assert!(tables.v.iter().all(|&n| n == 0) && tables.elements.iter().all(|&n| n == 0));
+}
+
+#[test]
+fn room_is_counted_in_entries() {
+    let rooms = Rooms { v: 7, ..Rooms::default() };
+    let mut tables = Tables::with_rooms(&rooms);
+    assert_eq!(read(b"v 1 2 3\n", &mut tables), Ok(()));
+    assert_eq!(tables.v, [1_000_000, 2_000_000, 3_000_000, 1_000_000, 0, 0, 0]);
+    assert_eq!(read(b"v 1 2 3\nv 1 2 3\n", &mut tables), Err(Refusal { number: 14, place: 8 }));
+}
+
+#[test]
+fn the_empty_text_is_read() {
+    assert_eq!(read_whole(b""), Tables::default());
+}

@@ -1,0 +1,151 @@
+"""Writes expected/*.txt: what the command has to write for each call of calls.txt, by the second reader, tidier and sampler.
+
+    python3 host/tests/expected.py
+
+Nothing of the proved crates or of the Rust crate is used, so that equal outputs say something.
+"""
+
+import sys
+from pathlib import Path
+
+HERE = Path(__file__).resolve().parent
+ROOT = HERE.parent.parent
+sys.path.insert(0, str(ROOT / "second"))
+
+from reader import group_of, material_of, read  # noqa: E402
+from records import KINDS, SURF, TABLES, TYPES, Refused  # noqa: E402
+from rules import body_of, element_record  # noqa: E402
+from sampler import MOST_STEPS, Filled, RefusedPoint, point_on_surface, run_on_curve, run_parameters  # noqa: E402
+from tidier import tidy  # noqa: E402
+
+ROOMS = [65_536] * 11
+
+
+def words_of_refusals():
+    rows = [line.split(" | ") for line in (ROOT / "docs/REFUSALS.md").read_text().splitlines() if line.startswith("| ")]
+    return {int(row[0][2:]): row[1].rstrip(" |") for row in rows if row[0][2:].isdigit()}
+
+
+WORDS = words_of_refusals()
+
+
+def decimal(number):
+    sign = "-" if number < 0 else ""
+    return f"{sign}{abs(number) // 1_000_000}.{abs(number) % 1_000_000:06d}"
+
+
+def point(numbers):
+    return " ".join(decimal(number) for number in numbers)
+
+
+def visible(data):
+    return "".join(chr(b) if 32 <= b <= 126 or b == 9 else "?" for b in data)
+
+
+def refused(name, text, answer):
+    """The lines for a refusal; those of the cases are short, so none is cut."""
+    number, place = answer
+    reason = WORDS[number]
+    if number == 10:
+        reason = reason.split("; ")[place == len(text)]
+    line = text.count(b"\n", 0, place)
+    start = sum(len(each) + 1 for each in text.split(b"\n")[:line])
+    whole = text.split(b"\n")[line].removesuffix(b"\r")
+    blanks = "".join("\t" if b == 9 else " " for b in text[start:place])
+    return (
+        f"{name}:{line + 1}:{place - start + 1}: refused {number} at {place}: {reason}\n"
+        f"{line + 1:>5} | {visible(whole)}\n      | {blanks}^\n"
+    )
+
+
+def check(name, text, used, tables):
+    kinds = [element_record(tables, k)[0] for k in range(1, used.elements + 1)]
+    counts = [("v", used.v), ("vt", used.vt), ("vn", used.vn), ("vp", used.vp)]
+    counts += [(KINDS[kind], kinds.count(kind)) for kind in KINDS]
+    return f"{name}: read, {len(text):,} bytes\n" + "".join(f"{word:>8} {many:,}\n" for word, many in counts if many)
+
+
+def counted(many, what):
+    return f"{many} {what}" + ("" if many == 1 else "s")
+
+
+def body_words(tables, element, kind):
+    body = body_of(tables, element)
+    at = element_record(tables, element)[3] - 1
+    parts = dict(zip(TABLES, tables))["bodies"][9 * at + 8]
+    surface = kind == SURF
+    words = ("rational " if body.rational else "") + f"{TYPES[body.type]} of degree {body.degrees[0]}"
+    words += f" by {body.degrees[1]}" if surface else ""
+    words += f", from {decimal(body.range[0])} to {decimal(body.range[1])}"
+    words += f" by {decimal(body.range[2])} to {decimal(body.range[3])}" if surface else ""
+    return words + (", " + counted(parts, "loop part") if parts else "")
+
+
+def elements(name, text, used, tables):
+    table = dict(zip(TABLES, tables))["elements"]
+    lines = []
+    for number in range(1, used.elements + 1):
+        kind, _, corners, body, smoothing = element_record(tables, number)[:5]
+        parts = [f"{number} {KINDS[kind]}", counted(corners, "corner")]
+        parts += [body_words(tables, number, kind)] if body else []
+        parts += [f"smoothing {smoothing}"] if smoothing else []
+        for word, asked in (("group", group_of), ("material", material_of)):
+            names = asked(text, table, used.elements, number).replace(b"\\", b" ").decode().split()
+            parts += [word + " " + " ".join(names)] if names else []
+        lines.append(", ".join(parts) + "\n")
+    return "".join(lines)
+
+
+def grid(used, tables, element, steps):
+    if not 1 <= steps <= MOST_STEPS:
+        return RefusedPoint(19)
+    u_start, u_end, v_start, v_end = body_of(tables, element).range
+    return "".join(
+        point(point_on_surface(used, tables, element, s, t)) + "\n"
+        for t in run_parameters(v_start, v_end, steps)
+        for s in run_parameters(u_start, u_end, steps)
+    )
+
+
+def run(used, tables, element, steps):
+    answer = run_on_curve(used, tables, element, steps, [0] * (3 * (steps + 1)), 0)
+    if isinstance(answer, Filled):
+        axes = answer.numbers // (steps + 1)
+        numbers = answer.points[:answer.numbers]
+        answer = "".join(point(numbers[k:k + axes]) + "\n" for k in range(0, len(numbers), axes))
+    return answer
+
+
+def points(name, text, used, tables, element, steps):
+    element, steps = int(element), int(steps)
+    surface = element <= used.elements and element_record(tables, element)[0] == SURF
+    answer = (grid if surface else run)(used, tables, element, steps)
+    if isinstance(answer, RefusedPoint):
+        return f"{name}: element {element}, {steps} steps: refused {answer.number}: {WORDS[answer.number]}\n"
+    return answer
+
+
+def tidied(name, text, used, tables):
+    return tidy(text, ROOMS, 65_536).text.decode()
+
+
+COMMANDS = {"check": check, "tidy": tidied, "elements": elements, "points": points}
+
+
+def written(command, name, *rest):
+    text = (ROOT / name).read_bytes()
+    answer = read(text, ROOMS)
+    if isinstance(answer, Refused):
+        return refused(name, text, answer)
+    return COMMANDS[command](name, text, answer.used, answer.tables, *rest)
+
+
+def main():
+    for line in (HERE / "calls.txt").read_text().splitlines():
+        if not line.startswith("#"):
+            name, _, *call = line.split()
+            (HERE / "expected" / f"{name}.txt").write_text(written(*call))
+
+
+if __name__ == "__main__":
+    main()

@@ -1,0 +1,255 @@
+/*
+ * Kuhlabires: a verified reader and sampler of Wavefront .obj files.
+ *
+ * Link the archive that `rt staticlib boundary` makes, target/staticlib/libboundary.a.
+ *
+ * Memory. Everything is lent and nothing is kept: a call reads and writes only the arrays it is given, allocates nothing, opens nothing, holds no
+ * state between calls and always returns. So any thread may call, as long as no array is written by one call while another uses it.
+ *   - An array goes as a pointer and then a length, which counts entries (for a text: bytes), never bytes of 32-bit tables.
+ *   - No pointer may be NULL, not even for a length of 0. Tables are aligned as their type asks.
+ *   - Arrays that a call writes overlap no other array of the same call.
+ *
+ * Units. Every int32_t is a number of the file in millionths: 1500000 is 1.5. Parameters of curves are in millionths too.
+ *
+ * Numbering. References, elements, bodies and curv2s count from 1; 0 is none. Every "first" field, and a corner of an element, counts from 0.
+ * A place is a byte offset in the text, from 0.
+ *
+ * Every function takes any contents of its arrays and any numbers: there is no input for which its behaviour is not stated.
+ */
+#ifndef KUHLABIRES_H
+#define KUHLABIRES_H
+
+#include <stddef.h>
+#include <stdint.h>
+
+#ifdef __cplusplus
+extern "C" {
+#endif
+
+/* The longest text that is read, in bytes. */
+#define KUHLABIRES_MOST_BYTES 16777216u
+/* The most steps of a run. */
+#define KUHLABIRES_MOST_STEPS 65536u
+
+/*
+ * Room that no text of n bytes passes, in entries: with these lengths refusal 14 cannot come. A program that counts the lines of its file by
+ * keyword needs far less.
+ */
+#define KUHLABIRES_ELEMENT_ROOM(n) (3 * (size_t)(n))
+#define KUHLABIRES_CORNER_ROOM(n) (2 * (size_t)(n))
+#define KUHLABIRES_OTHER_ROOM(n) ((size_t)(n))
+
+/* ---- The eleven tables: how many entries one record has, and where each of its numbers stands in it ---- */
+
+/* v, int32_t: x, y, z, w (w is 1000000 where the file gives none). */
+#define KUHLABIRES_V_WIDTH 4
+/* vt, int32_t: u, v, w (0 where the file gives none). */
+#define KUHLABIRES_VT_WIDTH 3
+/* vn, int32_t: i, j, k. */
+#define KUHLABIRES_VN_WIDTH 3
+/* vp, int32_t: how many were given (1 to 3; a plain count), u, v, w (v is 0, w is 1000000 where not given). */
+#define KUHLABIRES_VP_WIDTH 4
+/* corners, uint32_t: v, vt, vn (0 for none); of a control of a curv2 its vp number, 0, 0. */
+#define KUHLABIRES_CORNER_WIDTH 3
+/* elements, uint32_t: see enum kuhlabires_element_field. */
+#define KUHLABIRES_ELEMENT_WIDTH 9
+/* bodies, uint32_t: see enum kuhlabires_body_field. */
+#define KUHLABIRES_BODY_WIDTH 9
+/* ranges, int32_t, one record a body: u start, u end, v start, v end. */
+#define KUHLABIRES_RANGE_WIDTH 4
+/* parameters, int32_t, one number a record: of a body first those along u, then those along v. */
+#define KUHLABIRES_PARAMETER_WIDTH 1
+/* loops, uint32_t, one record a loop part: what begins with it (1 a trim, 2 a hole, 0 the loop goes on), the number of the curv2. */
+#define KUHLABIRES_LOOP_WIDTH 2
+/* spans, int32_t, one record a loop part, beside loops: its two numbers. */
+#define KUHLABIRES_SPAN_WIDTH 2
+
+enum kuhlabires_element_field {
+    KUHLABIRES_ELEMENT_KIND = 0,            /* enum kuhlabires_kind */
+    KUHLABIRES_ELEMENT_FIRST_CORNER = 1,    /* in numbers of the corner table, from 0 */
+    KUHLABIRES_ELEMENT_CORNERS = 2,         /* how many corners */
+    KUHLABIRES_ELEMENT_BODY = 3,            /* the body's number, 0 for none (p, l, f) */
+    KUHLABIRES_ELEMENT_SMOOTHING = 4,       /* 0 for off */
+    KUHLABIRES_ELEMENT_GROUP_PLACE = 5,     /* from the first byte of the first name .. */
+    KUHLABIRES_ELEMENT_GROUP_LENGTH = 6,    /* .. to the last byte of the last; both 0 for none */
+    KUHLABIRES_ELEMENT_MATERIAL_PLACE = 7,
+    KUHLABIRES_ELEMENT_MATERIAL_LENGTH = 8
+};
+
+enum kuhlabires_body_field {
+    KUHLABIRES_BODY_TYPE = 0,               /* enum kuhlabires_type */
+    KUHLABIRES_BODY_RATIONAL = 1,           /* 0 or 1 */
+    KUHLABIRES_BODY_U_DEGREE = 2,
+    KUHLABIRES_BODY_V_DEGREE = 3,           /* 0 on a curve, as the v counts and ranges are */
+    KUHLABIRES_BODY_FIRST_PARAMETER = 4,    /* in parameters, from 0 */
+    KUHLABIRES_BODY_U_PARAMETERS = 5,
+    KUHLABIRES_BODY_V_PARAMETERS = 6,
+    KUHLABIRES_BODY_FIRST_LOOP_PART = 7,    /* in loop parts, from 0 */
+    KUHLABIRES_BODY_LOOP_PARTS = 8
+};
+
+/* The kinds of element. */
+enum kuhlabires_kind {
+    KUHLABIRES_P = 1,
+    KUHLABIRES_L = 2,
+    KUHLABIRES_F = 3,
+    KUHLABIRES_CURV = 4,
+    KUHLABIRES_CURV2 = 5,
+    KUHLABIRES_SURF = 6
+};
+
+/* The types of body. */
+enum kuhlabires_type {
+    KUHLABIRES_BEZIER = 1,
+    KUHLABIRES_BSPLINE = 2,
+    KUHLABIRES_CARDINAL = 3,
+    KUHLABIRES_TAYLOR = 4
+};
+
+/*
+ * The numbers of refusal; 0 is none. 1 to 14 are of reading and come with a place: the first line at fault is reported, by its keyword, its word
+ * or its byte. Sampling gives, in this order, 17, 15, 18, 19, 16.
+ */
+enum kuhlabires_refusal {
+    KUHLABIRES_ACCEPTED = 0,
+    KUHLABIRES_TEXT_TOO_LONG = 1,           /* over 16,777,216 bytes; at 0 */
+    KUHLABIRES_BYTE_NOT_ALLOWED = 2,        /* at that byte */
+    KUHLABIRES_KEYWORD_UNKNOWN = 3,         /* at the keyword */
+    KUHLABIRES_KNOWN_AND_REFUSED = 4,       /* at the keyword or the type */
+    KUHLABIRES_WORD_COUNT = 5,              /* at the keyword */
+    KUHLABIRES_WORD_MALFORMED = 6,          /* at the word */
+    KUHLABIRES_OUT_OF_RANGE = 7,            /* a number, a degree or a smoothing; at the word */
+    KUHLABIRES_REFERENCE_TO_NOTHING = 8,    /* at the word */
+    KUHLABIRES_PATTERN_DIFFERS = 9,         /* a corner's pattern differs from the first; at the word */
+    KUHLABIRES_NOT_ALLOWED_HERE = 10,       /* at the keyword; at the text's length where the text ends in a body */
+    KUHLABIRES_TYPE_DEGREE_OR_PARM = 11,    /* one of them is missing; at the keyword */
+    KUHLABIRES_CONTROL_COUNT = 12,          /* at `end`; at the word of a curv2 control with one coordinate */
+    KUHLABIRES_PARAMETER_ORDER = 13,        /* or range; at `end` */
+    KUHLABIRES_TABLE_LACKS_ROOM = 14,       /* at the keyword; exactly when the entries needed pass the lent length */
+    KUHLABIRES_RECORDS_BREAK_RULES = 15,    /* a record of the element, or a vertex it names, breaks a rule or passes the used or lent entries */
+    KUHLABIRES_OUTPUT_LACKS_ROOM = 16,      /* the tidy text passes the lent buffer or 16,777,216 bytes; a run passes the point table */
+    KUHLABIRES_NO_SUCH_ELEMENT = 17,        /* no element of that number, or one of another kind */
+    KUHLABIRES_NOT_SAMPLED = 18,            /* the body is rational, cardinal or taylor */
+    KUHLABIRES_PARAMETER_OUTSIDE = 19       /* outside start..end; a run of 0 or over 65,536 steps */
+};
+
+/* ---- Records that pass by value ---- */
+
+/* How many records of each table are used, but for the corners, which count numbers. Ranges share the bodies' count, spans the loops'. */
+typedef struct kuhlabires_used {
+    uint32_t v, vt, vn, vp, corners, elements, bodies, parameters, loops;
+} kuhlabires_used;
+
+/* The answer of reading. Where refusal is 0, place is 0; else every count of used is 0. */
+typedef struct kuhlabires_reading {
+    uint32_t refusal;
+    size_t place;
+    kuhlabires_used used;
+} kuhlabires_reading;
+
+/* A point: with 3 axes x, y, z (curv, surf); with 2 axes u and v in x and y (curv2). All 0 but refusal where it is refused. */
+typedef struct kuhlabires_point {
+    uint32_t refusal;
+    uint32_t axes;
+    int32_t x, y, z;
+} kuhlabires_point;
+
+/* A run: how many numbers were written, (steps + 1) times 3 for a curv, times 2 for a curv2. */
+typedef struct kuhlabires_run {
+    uint32_t refusal;
+    size_t numbers;
+} kuhlabires_run;
+
+/* A corner's references, each from 1; 0 for none. */
+typedef struct kuhlabires_corner {
+    uint32_t v, vt, vn;
+} kuhlabires_corner;
+
+/* A part of the caller's text; length 0 for none. */
+typedef struct kuhlabires_part {
+    size_t place;
+    size_t length;
+} kuhlabires_part;
+
+/* ---- The functions ---- */
+
+/* The eleven tables as parameters, in the order in which every function takes them: to be written, and to be read. */
+#define KUHLABIRES_TABLES_OUT                                                                                                                        \
+    int32_t *v, size_t v_length, int32_t *vt, size_t vt_length, int32_t *vn, size_t vn_length, int32_t *vp, size_t vp_length, uint32_t *corners,     \
+        size_t corners_length, uint32_t *elements, size_t elements_length, uint32_t *bodies, size_t bodies_length, int32_t *ranges,                  \
+        size_t ranges_length, int32_t *parameters, size_t parameters_length, uint32_t *loops, size_t loops_length, int32_t *spans,                   \
+        size_t spans_length
+#define KUHLABIRES_TABLES_IN                                                                                                                         \
+    const int32_t *v, size_t v_length, const int32_t *vt, size_t vt_length, const int32_t *vn, size_t vn_length, const int32_t *vp,                  \
+        size_t vp_length, const uint32_t *corners, size_t corners_length, const uint32_t *elements, size_t elements_length, const uint32_t *bodies,  \
+        size_t bodies_length, const int32_t *ranges, size_t ranges_length, const int32_t *parameters, size_t parameters_length,                      \
+        const uint32_t *loops, size_t loops_length, const int32_t *spans, size_t spans_length
+
+/*
+ * Reads a text into the tables. Every entry of every table is written: records, and 0 after the used ones. After a refusal all are 0.
+ */
+kuhlabires_reading kuhlabires_read(const uint8_t *text, size_t text_length, KUHLABIRES_TABLES_OUT);
+
+/* The point at t of the curv or curv2 of that number. Refuses 17, 15, 18, 19. */
+kuhlabires_point kuhlabires_point_on_curve(kuhlabires_used used, KUHLABIRES_TABLES_IN, uint32_t element, int32_t t);
+
+/* The point at s along u and t along v of the surf of that number. Refuses 17, 15, 18, 19. */
+kuhlabires_point kuhlabires_point_on_surface(kuhlabires_used used, KUHLABIRES_TABLES_IN, uint32_t element, int32_t s, int32_t t);
+
+/*
+ * steps + 1 points of the curv or curv2 of that number, point j at start + floor(j (end - start) / steps), written to points from entry `at` on;
+ * no other entry is written, and none where it is refused. Refuses 17, 15, 18, 19, 16.
+ */
+kuhlabires_run kuhlabires_run_on_curve(kuhlabires_used used, KUHLABIRES_TABLES_IN, uint32_t element, uint32_t steps, int32_t *points,
+                                       size_t points_length, size_t at);
+
+/* Corner k, from 0, of the element of that number; three zeros for no such corner. */
+kuhlabires_corner kuhlabires_corner_of(kuhlabires_used used, const uint32_t *elements, size_t elements_length, const uint32_t *corners,
+                                       size_t corners_length, uint32_t element, uint32_t k);
+
+/* The part of the text that holds the element's group names, from the first to the last; length 0 for none, and for no such element. */
+kuhlabires_part kuhlabires_group_of(const uint8_t *text, size_t text_length, kuhlabires_used used, const uint32_t *elements, size_t elements_length,
+                                    uint32_t element);
+
+/* The same for its material's name. */
+kuhlabires_part kuhlabires_material_of(const uint8_t *text, size_t text_length, kuhlabires_used used, const uint32_t *elements,
+                                       size_t elements_length, uint32_t element);
+
+/* ---- The same with the tables in one struct, for shorter calls ---- */
+
+typedef struct kuhlabires_tables {
+    int32_t *v;
+    size_t v_length;
+    int32_t *vt;
+    size_t vt_length;
+    int32_t *vn;
+    size_t vn_length;
+    int32_t *vp;
+    size_t vp_length;
+    uint32_t *corners;
+    size_t corners_length;
+    uint32_t *elements;
+    size_t elements_length;
+    uint32_t *bodies;
+    size_t bodies_length;
+    int32_t *ranges;
+    size_t ranges_length;
+    int32_t *parameters;
+    size_t parameters_length;
+    uint32_t *loops;
+    size_t loops_length;
+    int32_t *spans;
+    size_t spans_length;
+} kuhlabires_tables;
+
+/* The eleven tables of a kuhlabires_tables as arguments. */
+#define KUHLABIRES_LEND(t)                                                                                                                           \
+    (t)->v, (t)->v_length, (t)->vt, (t)->vt_length, (t)->vn, (t)->vn_length, (t)->vp, (t)->vp_length, (t)->corners, (t)->corners_length,             \
+        (t)->elements, (t)->elements_length, (t)->bodies, (t)->bodies_length, (t)->ranges, (t)->ranges_length, (t)->parameters,                      \
+        (t)->parameters_length, (t)->loops, (t)->loops_length, (t)->spans, (t)->spans_length
+
+#ifdef __cplusplus
+}
+#endif
+
+#endif
