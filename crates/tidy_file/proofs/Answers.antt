@@ -1,21 +1,18 @@
 -- What each way out of tidying comes to: `sets-eq` at the buffer's front, and the law that the tables of a text that is read hold its tidy text.
 use Prim.Native.Nat.{ℕ, _+_, _≤_, _<_, min}
 use mathlib.Core.Path.{_≡_, refl, sym, ap, ap₂, _∙_, subst}
-use mathlib.Core.List.{List, [], _++_}
-use mathlib.Core.Bool.{Bool, true, false, cond, _&&_}
+use mathlib.Core.List.{List, _++_}
+use mathlib.Core.Bool.{Bool, true, false}
 use native.Mathlib.Omega.{arith}
 use borrow.Author.Tests.{le-leb, lt-leb}
 use lib.Dec.{leb}
 use lib.ListN.{length, drop}
-use lib.Seq.{sets, sets-eq}
+use lib.Seq.{sets-eq}
 use Rattle.lists.proofs.Tests.{and-both, and-first, and-second, never}
 use Rattle.tables.specs.Tables.{Tables}
 use Rattle.tables.specs.declared.Used.{Used}
-use Rattle.model.specs.Model.{Model}
-use Rattle.model.specs.Room.{Rooms}
 use Rattle.model.specs.Read.{Answer, read, refused, readOf}
-use Rattle.model.specs.Layout.{tablesOf, usedOf, nothing}
-use Rattle.tidying.specs.Printed.{tidyText}
+use Rattle.model.specs.Layout.{tablesOf, usedOf}
 use Rattle.tidier.specs.Emitting.{Emitted}
 use Rattle.tidier.specs.TidyFrom.{tidyFrom}
 use Rattle.tidied.proofs.TidyFrom.{tidy-from}
@@ -47,7 +44,7 @@ module _ (w out : List ℕ) (used : Used) (t : Tables) (k : ℕ) (e : k ≡ min 
       let held : m ≡ w ++ drop (length w) out = x .stored (omega arith) (omega arith) ∙ sets-eq w out 0 (omega arith) ∙ ap (λ (n : ℕ). w ++ drop n out) (let z : 0 + length w ≡ length w = omega arith in z) in
       rw room (ap₂ (λ (n : ℕ) (l : List ℕ). tidyResult (Written n used) t l) same held)
 
--- ---- tidying: the text s was read into the tables t, which then held u
+-- ---- tidying: the text s was read into the tables t, which then held u. An equation of two answers gives one of what each holds.
 abbrev usedIn : Used → Reading → Used
 usedIn d (reading.Read n) = n
 usedIn d (reading.Refused n p) = d
