@@ -1,7 +1,7 @@
 """The cases as the proved programs take them: `python3 second/packed.py` writes
 stdin and stdout of crates/reader_cases anew from cases/expected.txt and from
-seeded texts, valid and damaged, and of crates/sampler_cases from seeded curves
-and surfaces.
+seeded texts, valid and damaged, of crates/sampler_cases from seeded curves and
+surfaces, and of crates/points from one of the examples.
 
 A case is a line (the text's length, the file's name and why) and then the
 text.  The answer to it is that name and reason, the answer, and one number for
@@ -11,7 +11,7 @@ are not in it.
 
 from pathlib import Path
 
-from curves import requests
+from curves import requests, words
 from damage import cases
 from reader import read
 from records import TABLES, Read, Refused, zeros
@@ -23,6 +23,7 @@ CRATES = SECOND.parent / "crates"
 PRIME = 1_000_000_007
 SEED, SEEDED, SAMPLED = 2026, 400, 240
 POINTS, PLACE = 64, 2
+RUN_FILE, RUN_ELEMENT, RUN_STEPS = "chair-rail.obj", 1, 16
 ROOMS = dict.fromkeys(TABLES, 16_384)
 
 
@@ -108,6 +109,18 @@ def sampled():
     return b"".join(given), b"".join(wanted)
 
 
+def run_of_points():
+    """stdin, args and stdout of the program that writes a run's points."""
+    data = (SECOND.parent / "examples" / RUN_FILE).read_bytes()
+    answer = read(data, ROOMS)
+    run = run_on_curve(answer.used, answer.tables, RUN_ELEMENT, RUN_STEPS, [0] * 51, 0)
+    axes = run.numbers // (RUN_STEPS + 1)
+    lines = [
+        words(run.points[at:at + axes]) + "\n" for at in range(0, run.numbers, axes)
+    ]
+    return data, f"{RUN_ELEMENT}\n{RUN_STEPS}\n".encode(), "".join(lines).encode()
+
+
 def files(rows):
     """Each stored file with what it must hold."""
     programs = {
@@ -117,6 +130,8 @@ def files(rows):
     for program, (given, wanted) in programs.items():
         yield CRATES / program / "stdin", given
         yield CRATES / program / "stdout", wanted
+    for name, data in zip(("stdin", "args", "stdout"), run_of_points()):
+        yield CRATES / "points" / name, data
 
 
 if __name__ == "__main__":
