@@ -1,7 +1,8 @@
 """The cases as the proved programs take them: `python3 second/packed.py` writes
 stdin and stdout of crates/reader_cases anew from cases/expected.txt and from
 seeded texts, valid and damaged, of crates/sampler_cases from seeded curves and
-surfaces, and of crates/points from one of the examples.
+surfaces and document 000's examples, and of crates/points from one of the
+files in examples/.
 
 A case is a line (the text's length, the file's name and why) and then the
 text.  The answer to it is that name and reason, the answer, and one number for
@@ -14,7 +15,8 @@ from pathlib import Path
 from curves import requests, words
 from damage import cases
 from reader import read
-from records import TABLES, Read, Refused, zeros
+from records import CURV, CURV2, SURF, TABLES, Read, Refused, zeros
+from rules import body_of, element_record
 from sampler import RefusedPoint, point_on_curve, point_on_surface, run_on_curve
 
 SECOND = Path(__file__).resolve().parent
@@ -98,13 +100,38 @@ def answers(used, tables, element, steps, s, t):
     return f" | curve {points[0]} | surface {points[1]} | run {filled}: " + " ".join(map(str, table))
 
 
+def examples():
+    """The examples of document 000 that have a curve or a surface, at both ends and
+    the middle of its range; (label, text, steps, first element, s, t)."""
+    for path in sorted((CASES / "000").glob("*.obj")):
+        data = path.read_bytes()
+        answer = read(data, ROOMS)
+        if not isinstance(answer, Read):
+            continue
+        for element in range(1, answer.used.elements + 1):
+            if element_record(answer.tables, element)[0] not in (CURV, CURV2, SURF):
+                continue
+            start, end, start_v, end_v = body_of(answer.tables, element).range
+            for name, s, t in (
+                ("start", start, start_v),
+                ("middle", (start + end) // 2, (start_v + end_v) // 2),
+                ("end", end, end_v),
+            ):
+                asked = f"vn {words((s, t, 0))}\n".encode()
+                yield f"000/{path.name} element {element} {name}", asked + data, 7, element, s, t
+
+
 def sampled():
     """stdin and stdout of the program that samples."""
     given, wanted = [], []
-    for label, data, steps, s, t in requests(SEED, SAMPLED):
+    seeded = ((label, data, steps, 0, s, t) for label, data, steps, s, t in requests(SEED, SAMPLED))
+    for label, data, steps, first, s, t in (*examples(), *seeded):
         answer = read(data, ROOMS)
-        given.append(f"{len(data)} {steps} {label}\n".encode() + data)
-        lines = [answers(answer.used, answer.tables, element, steps, s, t) for element in range(3)]
+        given.append(f"{len(data)} {steps} {first} {label}\n".encode() + data)
+        lines = [
+            answers(answer.used, answer.tables, element, steps, s, t)
+            for element in range(first, first + 3)
+        ]
         wanted.append(f"{label}{''.join(lines)}\n".encode())
     return b"".join(given), b"".join(wanted)
 

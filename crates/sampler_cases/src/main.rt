@@ -1,5 +1,5 @@
-// Texts, and the points on each of their elements, in tables of 16,384 entries. A case is a line and then the text: the text's length, the steps of a run, and
-// what the case shows, which is written again before the answers. The parameters asked for are the first two numbers of the text's first vn.
+// Texts, and the points on each of their elements, in tables of 16,384 entries. A case is a line and then the text: the text's length, the steps of a run, a
+// number of element, and what the case shows, which is written again before the answers for that number and the next two. The parameters asked for are the first two numbers of the text's first vn.
 use case_files::least;
 use case_files::line_end;
 use case_files::number_at;
@@ -178,7 +178,7 @@ fn sample(
     );
 }
 
-// The one element of a case, the number before it and the one after it.
+// Three numbers of element, one after the other.
 fn sample_elements(
     used: Used,
     v: &[i32],
@@ -193,12 +193,14 @@ fn sample_elements(
     loops: &[u32],
     spans: &[i32],
     steps: u32,
+    first: usize,
 ) {
     if vn.len() < 2 {
         return;
     }
     let s = vn[0];
     let t = vn[1];
+    let from = least(first, 1000) as u32;
     let mut element: u32 = 0;
     while element < 3 {
         sample(
@@ -214,7 +216,7 @@ fn sample_elements(
             parameters,
             loops,
             spans,
-            element,
+            from + element,
             steps,
             s,
             t,
@@ -238,6 +240,7 @@ fn answer(
     loops: &[u32],
     spans: &[i32],
     steps: u32,
+    first: usize,
 ) {
     match reading {
         Reading::Read(used) => sample_elements(
@@ -254,6 +257,7 @@ fn answer(
             loops,
             spans,
             steps,
+            first,
         ),
         Reading::Refused { number, place: _ } => put_refusal(number),
     }
@@ -273,6 +277,7 @@ fn read_into(
     loops: &mut [u32],
     spans: &mut [i32],
     steps: u32,
+    first: usize,
 ) {
     let reading = reader::read(
         text,
@@ -302,10 +307,11 @@ fn read_into(
         loops,
         spans,
         steps,
+        first,
     );
 }
 
-fn with_tables(text: &[u8], steps: u32) {
+fn with_tables(text: &[u8], steps: u32, first: usize) {
     let mut v = [0i32; 16384];
     let mut vt = [0i32; 16384];
     let mut vn = [0i32; 16384];
@@ -331,6 +337,7 @@ fn with_tables(text: &[u8], steps: u32) {
         &mut loops,
         &mut spans,
         steps,
+        first,
     );
 }
 
@@ -341,12 +348,17 @@ fn sample_case(cases: &[u8], at: usize) -> usize
 {
     let count = number_at(cases, at);
     let steps = number_at(cases, count.next);
-    let label = steps.next;
+    let first = number_at(cases, steps.next);
+    let label = first.next;
     let end = line_end(cases, label);
     put(&cases[label..end]);
     let from = least(end + 1, cases.len());
     let to = from + least(count.value, cases.len() - from);
-    with_tables(&cases[from..to], least(steps.value, 65537) as u32);
+    with_tables(
+        &cases[from..to],
+        least(steps.value, 65537) as u32,
+        first.value,
+    );
     to
 }
 
