@@ -6,6 +6,7 @@ from pathlib import Path
 
 from damage import cases
 from exact import exact_on_curve, exact_on_surface, within
+from packed import files
 from reader import corner_of, group_of, material_of, read
 from records import CURV, CURV2, SURF, TABLES, TEXT_LIMIT, Read, Refused, Used
 from rules import body_of, element_record, obeys
@@ -77,6 +78,12 @@ def check_cases(tally):
     tally.hold("files without a row", sorted(stored - listed - points - tidied), [])
 
 
+def check_packed(tally):
+    """What the proved programs are run on, and what they must write."""
+    for path, data in files(rows):
+        tally.hold(f"{path.parent.name}/{path.name}", path.read_bytes() == data, True)
+
+
 def check_size(tally):
     """Refusal 1 needs a text too large to store."""
     rooms = [0] * 11
@@ -85,23 +92,25 @@ def check_size(tally):
     tally.hold("1 before 2", shown(read(b"\x01" * 16_777_217, rooms)), "refused 1 at 0")
 
 
+VERTEX = b"v 0 0 0\n"
+TIDY_VERTEX = b"v 0.000000 0.000000 0.000000 1.000000\n"
+NAMES = b"v 0 0 0\ng " + b" ".join([b"n" * 255] * 255)
+# what the program prints at its own limits
+PROGRAM_TEXTS = (
+    ("nothing", b"", b""),
+    ("a refusal", b"v 0 0 0\nf 1 1 2\n", b"refused 8 at 14\n"),
+    ("65,536 bytes", VERTEX + b"#" * (65_536 - len(VERTEX)), TIDY_VERTEX),
+    ("65,537 bytes", VERTEX + b"#" * (65_537 - len(VERTEX)), b"refused 1 at 0\n"),
+    ("65,537 bad bytes", b"\x01" * 65_537, b"refused 1 at 0\n"),
+    ("4,097 vertices", VERTEX * 4_097, b"refused 14 at 32768\n"),
+    ("a text of 64 KiB", VERTEX * 1_724, TIDY_VERTEX * 1_724),
+    ("a text too long", VERTEX * 1_725, b"refused 16 at 0\n"),
+    ("a long group", NAMES + b"\np 1\n", TIDY_VERTEX + NAMES[8:] + b"\np 1\n"),
+)
+
+
 def check_program(tally):
-    """What the program prints at its own limits."""
-    vertex = b"v 0 0 0\n"
-    line = b"v 0.000000 0.000000 0.000000 1.000000\n"
-    names = b"v 0 0 0\ng " + b" ".join([b"n" * 255] * 255)
-    listing = b"v 0 0 0\nf 1 1 2\n"
-    for label, data, wanted in (
-        ("nothing", b"", b""),
-        ("a refusal", listing, b"refused 8 at 14\n"),
-        ("65,536 bytes", vertex + b"#" * (65_536 - len(vertex)), line),
-        ("65,537 bytes", vertex + b"#" * (65_537 - len(vertex)), b"refused 1 at 0\n"),
-        ("65,537 bad bytes", b"\x01" * 65_537, b"refused 1 at 0\n"),
-        ("4,097 vertices", vertex * 4_097, b"refused 14 at 32768\n"),
-        ("a text of 64 KiB", vertex * 1_724, line * 1_724),
-        ("a text too long", vertex * 1_725, b"refused 16 at 0\n"),
-        ("a long group", names + b"\np 1\n", line + names[8:] + b"\np 1\n"),
-    ):
+    for label, data, wanted in PROGRAM_TEXTS:
         tally.hold(f"the program on {label}", printed(data), wanted)
 
 
@@ -318,6 +327,7 @@ def check_tidied(tally, folder):
 def main():
     tally = Tally()
     check_cases(tally)
+    check_packed(tally)
     check_size(tally)
     check_program(tally)
     check_points(tally)

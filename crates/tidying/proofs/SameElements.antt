@@ -62,7 +62,7 @@ parted-in x n curve ls g = subst Parted (sym g) tt
 parted-in x n curve2 ls g = subst Parted (sym g) tt
 parted-in x n surface ls g = loops-parted x n ls g
 
-abbrev PartedKind : Kind → Type 0
+abbrev pub PartedKind : Kind → Type 0
 PartedKind (plain k) = Unit {0}
 PartedKind (free b) = Parted (b .loops)
 

@@ -74,15 +74,15 @@ module _ (R : Rooms) (t : List ℕ) (m : Model) (h : readOf R t ≡ read m) wher
   abbrev bs : List Body
   bs = bodiesOf es
 
-  parted : PartedAll es
+  pub parted : PartedAll es
   parted =
       let c = read-came R t m h in
       subst (λ (i : Model). PartedAll (i .elements)) (c .model) (elements-parted (m .vertices) 0 none (c .state .model .elements) (c .state .names .material) (c .good .elements))
 
-  abbrev Widths : Vertices → Type 0
+  abbrev pub Widths : Vertices → Type 0
   Widths x = Wide 4 (x .v) × Wide 3 (x .vt) × Wide 3 (x .vn) × Wide 4 (x .vp)
 
-  widths : Widths (m .vertices)
+  pub widths : Widths (m .vertices)
   widths =
       let c = read-came R t m h in
       let x = c .state .model .vertices in

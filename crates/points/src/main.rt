@@ -1,0 +1,203 @@
+// The points of a run on a curve of an .obj file: the element's number and the steps are the arguments, the file is standard input.
+use libc::STDIN_FILENO;
+use libc::STDOUT_FILENO;
+use reader::Reading;
+use sampler::Ran;
+use tables::Used;
+ghost use mathlib.Core.Path.{_≡_};
+ghost use Prim.Native.Nat.{_≤_};
+ghost use lib.ListN.{length};
+
+fn put(bytes: &[u8]) {
+    io::write_all(STDOUT_FILENO, bytes);
+}
+
+fn put_whole(n: u64) {
+    io::print_decimal(STDOUT_FILENO, n);
+}
+
+// A number of millionths with six places, by way of the bytes lent.
+fn put_written(bytes: &mut [u8], value: i32) {
+    let n = writing::number_length(value);
+    if n <= bytes.len() {
+        writing::write_number(bytes, 0, value);
+        put(&bytes[0..n]);
+    }
+}
+
+fn put_number(value: i32, behind: &[u8]) {
+    let mut bytes = [0u8; 16];
+    put_written(&mut bytes, value);
+    put(behind);
+}
+
+// Points of `axes` numbers each, a line for each point.
+fn put_points(points: &[i32], axes: usize) {
+    let mut i: usize = 0;
+    let mut axis: usize = 1;
+    while i < points.len() {
+        if axis < axes {
+            put_number(points[i], b" ");
+            axis += 1;
+        } else {
+            put_number(points[i], b"\n");
+            axis = 1;
+        }
+        i += 1;
+    }
+}
+
+// The whole number that an argument says, at most 4,294,967,295; 0 where it says none.
+fn whole_of(word: &[u8]) -> u32 {
+    let mut value: u64 = 0;
+    let mut i: usize = 0;
+    while i < word.len() {
+        let b = word[i];
+        if b < 48 {
+            return 0;
+        }
+        if 57 < b {
+            return 0;
+        }
+        value = least(value * 10 + (b as u64 - 48), 4_294_967_295);
+        i += 1;
+    }
+    value as u32
+}
+
+fn least(a: u64, b: u64) -> u64
+    ensures { λ r. ⌜ r ≤ b ⌝ }
+{
+    if a < b { a } else { b }
+}
+
+fn put_refusal(number: u32) {
+    put(b"refused ");
+    put_whole(number as u64);
+    put(b"\n");
+}
+
+fn put_refusal_at(number: u32, place: usize) {
+    put(b"refused ");
+    put_whole(number as u64);
+    put(b" at ");
+    put_whole(place as u64);
+    put(b"\n");
+}
+
+// A point of a run has as many numbers as there are numbers for each of its steps + 1 points.
+fn put_run(ran: Ran, points: &[i32], steps: u32) {
+    match ran {
+        Ran::Filled { numbers } => {
+            if numbers <= points.len() {
+                put_points(&points[0..numbers], numbers / (steps as usize + 1));
+            }
+        }
+        Ran::Refused { number } => put_refusal(number),
+    }
+}
+
+fn run(
+    used: Used,
+    v: &[i32],
+    vt: &[i32],
+    vn: &[i32],
+    vp: &[i32],
+    corners: &[u32],
+    elements: &[u32],
+    bodies: &[u32],
+    ranges: &[i32],
+    parameters: &[i32],
+    loops: &[u32],
+    spans: &[i32],
+    element: u32,
+    steps: u32,
+) {
+    let mut points = [0i32; 196611];
+    let ran = sampler::run_on_curve(
+        used,
+        v,
+        vt,
+        vn,
+        vp,
+        corners,
+        elements,
+        bodies,
+        ranges,
+        parameters,
+        loops,
+        spans,
+        element,
+        steps,
+        &mut points,
+        0,
+    );
+    put_run(ran, &points, steps);
+}
+
+fn run_on_text(text: &[u8], element: u32, steps: u32) {
+    let mut v = [0i32; 16384];
+    let mut vt = [0i32; 16384];
+    let mut vn = [0i32; 16384];
+    let mut vp = [0i32; 16384];
+    let mut corners = [0u32; 16384];
+    let mut elements = [0u32; 16384];
+    let mut bodies = [0u32; 16384];
+    let mut ranges = [0i32; 16384];
+    let mut parameters = [0i32; 16384];
+    let mut loops = [0u32; 16384];
+    let mut spans = [0i32; 16384];
+    match reader::read(
+        text,
+        &mut v,
+        &mut vt,
+        &mut vn,
+        &mut vp,
+        &mut corners,
+        &mut elements,
+        &mut bodies,
+        &mut ranges,
+        &mut parameters,
+        &mut loops,
+        &mut spans,
+    ) {
+        Reading::Refused { number, place } => put_refusal_at(number, place),
+        Reading::Read(used) => run(
+            used,
+            &v,
+            &vt,
+            &vn,
+            &vp,
+            &corners,
+            &elements,
+            &bodies,
+            &ranges,
+            &parameters,
+            &loops,
+            &spans,
+            element,
+            steps,
+        ),
+    }
+}
+
+fn argument(i: usize) -> u32 {
+    let mut buffer = io::buffer();
+    let n = os::arg(i, &mut buffer);
+    whole_of(&buffer[..n])
+}
+
+// The room is one byte more than is taken, to see that a text is longer.
+fn run_on_input(input: &mut [u8], element: u32, steps: u32) {
+    let n = io::read_full(STDIN_FILENO, input);
+    if 65536 < n {
+        put_refusal_at(1, 0);
+        return;
+    }
+    run_on_text(&input[..n], element, steps);
+}
+
+fn main() {
+    let mut input = [0u8; 65537];
+    run_on_input(&mut input, argument(1), argument(2));
+}

@@ -1,0 +1,68 @@
+-- Each number takes one off what is left of the table.
+use Prim.Native.Nat.{_-_}
+use lib.ListN.{length}
+use borrow.Author.Needs.{needs}
+use Rattle.reader_cases.proofs.sum_u32.Statement.{statement}
+use Rattle.reader_cases.proofs.sum_u32.Tie as tie
+use Rattle.reader_cases.proofs.sum_u32.Reads as reads
+use Rattle.reader_cases.proofs.sum_u32.Lts as lts
+use Rattle.reader_cases.proofs.added.Reads as added-reads
+use Rattle.reader_cases.proofs.wide.Reads as wide-reads
+
+abbrev Inv-loop : tie.InvT-loop
+Inv-loop table sum₀ i₀ sum i = Unit {0}
+
+abbrev μ-loop : tie.MeasureT-loop
+μ-loop table sum₀ i₀ sum i = length table - i
+
+-- src/main.rt:126:5
+loop-holds : tie.Need-loop-holds Inv-loop μ-loop
+loop-holds c = search needs
+
+-- src/main.rt:127:31
+mul-wide : tie.Need-mul-wide Inv-loop μ-loop
+mul-wide c = search needs
+
+-- src/main.rt:127:31
+shared-slice-read-wide : tie.Need-shared-slice-read-wide Inv-loop μ-loop
+shared-slice-read-wide c = search needs
+
+-- src/main.rt:127:26
+wide-requires : tie.Need-wide-requires Inv-loop μ-loop
+wide-requires c κs = search needs
+
+-- src/main.rt:127:9
+added-requires : tie.Need-added-requires Inv-loop μ-loop
+added-requires c κs = search needs
+
+-- src/main.rt:128:9
+add-i : tie.Need-add-i Inv-loop μ-loop
+add-i c = search needs
+
+-- src/main.rt:126:5
+loop-less : tie.Need-loop-less Inv-loop μ-loop
+loop-less c = search needs
+
+-- src/main.rt:126:5
+loop-again : tie.Need-loop-again Inv-loop μ-loop
+loop-again c = search needs
+
+-- src/main.rt:123:1
+returns : tie.Need-returns Inv-loop μ-loop
+returns c = search needs
+
+pub sum-u32-spec : {M : Type 1} → statement M
+sum-u32-spec =
+    tie.close
+    (tie.spec
+    Inv-loop
+    μ-loop
+    loop-holds
+    mul-wide
+    shared-slice-read-wide
+    wide-requires
+    added-requires
+    add-i
+    loop-less
+    loop-again
+    returns)

@@ -1,0 +1,79 @@
+-- What each way out of tidying comes to: `sets-eq` at the buffer's front, and the law that the tables of a text that is read hold its tidy text.
+use Prim.Native.Nat.{ℕ, _+_, _≤_, _<_, min}
+use mathlib.Core.Path.{_≡_, refl, sym, ap, ap₂, _∙_, subst}
+use mathlib.Core.List.{List, _++_}
+use mathlib.Core.Bool.{Bool, true, false}
+use native.Mathlib.Omega.{arith}
+use borrow.Author.Tests.{le-leb, lt-leb}
+use lib.Dec.{leb}
+use lib.ListN.{length, drop}
+use lib.Seq.{sets-eq}
+use Rattle.lists.proofs.Tests.{and-both, and-first, and-second, never}
+use Rattle.tables.specs.Tables.{Tables}
+use Rattle.tables.specs.declared.Used.{Used}
+use Rattle.model.specs.Read.{Answer, read, refused, readOf}
+use Rattle.model.specs.Layout.{tablesOf, usedOf}
+use Rattle.tidier.specs.Emitting.{Emitted}
+use Rattle.tidier.specs.TidyFrom.{tidyFrom}
+use Rattle.tidied.proofs.TidyFrom.{tidy-from}
+use Rattle.reader.specs.Reading.{Result, result, roomsOf, readInto}
+use Rattle.reader.specs.Reading as reader
+use Rattle.reader.specs.declared.Reading.{Reading}
+use Rattle.reader.specs.declared.Reading.the-variants as reading
+use Rattle.tidy_file.specs.declared.Tidied.{Tidied}
+use Rattle.tidy_file.specs.declared.Tidied.the-variants.{Written, TooLong, Refused}
+use Rattle.tidy_file.specs.Tidying.{TidyResult, tidyResult, hasRoom, written, answered, tidyInto}
+
+-- ---- writing: k is the length of w, as it is measured
+module _ (w out : List ℕ) (used : Used) (t : Tables) (k : ℕ) (e : k ≡ min (length w) 16777217) where
+  no-room : hasRoom w out ≡ false → tidyResult (TooLong used) t out ≡ written w used t out
+  no-room h = rw h refl
+
+  pub past-buffer : length out < k → tidyResult (TooLong used) t out ≡ written w used t out
+  past-buffer h = no-room (and-first (leb (length w) 16777216) (lt-leb (length w) (length out) (omega arith)))
+
+  pub past-longest : 16777216 < k → tidyResult (TooLong used) t out ≡ written w used t out
+  past-longest h = no-room (and-second (leb (length w) (length out)) (lt-leb (length w) 16777216 (omega arith)))
+
+  pub written-whole : k ≤ length out → k ≤ 16777216 → (m : List ℕ) (r : ℕ) → Emitted 0 w out m r → tidyResult (Written k used) t m ≡ written w used t out
+  written-whole h g m r x =
+      let same : k ≡ length w = omega arith in
+      let fits : length w ≤ length out = omega arith in
+      let short : length w ≤ 16777216 = omega arith in
+      let room : hasRoom w out ≡ true = and-both (le-leb (length w) (length out) fits) (le-leb (length w) 16777216 short) in
+      let held : m ≡ w ++ drop (length w) out = x .stored (omega arith) (omega arith) ∙ sets-eq w out 0 (omega arith) ∙ ap (λ (n : ℕ). w ++ drop n out) (let z : 0 + length w ≡ length w = omega arith in z) in
+      rw room (ap₂ (λ (n : ℕ) (l : List ℕ). tidyResult (Written n used) t l) same held)
+
+-- ---- tidying: the text s was read into the tables t, which then held u. An equation of two answers gives one of what each holds.
+abbrev usedIn : Used → Reading → Used
+usedIn d (reading.Read n) = n
+usedIn d (reading.Refused n p) = d
+
+abbrev isRead : Reading → Bool
+isRead (reading.Read n) = true
+isRead (reading.Refused n p) = false
+
+abbrev passedOn : Reading → Tables → List ℕ → TidyResult
+passedOn (reading.Read n) t out = tidyResult (TooLong n) t out
+passedOn (reading.Refused n p) t out = tidyResult (Refused n p) t out
+
+module _ (s : List ℕ) (t u : Tables) (out : List ℕ) where
+  from-read : (n : Used) (x : Answer) → readOf (roomsOf t) s ≡ x → result (reading.Read n) u ≡ reader.answered (roomsOf t) x
+      → written (tidyFrom s n u) n u out ≡ answered (roomsOf t) x out
+  from-read n (read m) e f =
+      ap₂ (λ (k : Used) (y : Tables). written (tidyFrom s k y) k y out) (ap (λ (r : Result). usedIn n (r .answer)) f) (ap (λ (r : Result). r .tables) f)
+      ∙ ap (λ (w : List ℕ). written w (usedOf m) (tablesOf (roomsOf t) m) out) (tidy-from (roomsOf t) s m e)
+  from-read n (refused k p) e f = never (sym (ap (λ (r : Result). isRead (r .answer)) f))
+
+  from-refused : (k p : ℕ) (x : Answer) → result (reading.Refused k p) u ≡ reader.answered (roomsOf t) x → tidyResult (Refused k p) u out ≡ answered (roomsOf t) x out
+  from-refused k p (read m) f = never (ap (λ (r : Result). isRead (r .answer)) f)
+  from-refused k p (refused n q) f = ap (λ (r : Result). passedOn (r .answer) (r .tables) out) f
+
+  module _ (a : Reading) (is : result a u ≡ readInto s t) where
+    pub tidied-read : (n : Used) → a ≡ reading.Read n → (r : Tidied) (m : List ℕ) → tidyResult r u m ≡ written (tidyFrom s n u) n u out → tidyResult r u m ≡ tidyInto s t out
+    unfolding readInto tidyInto
+    tidied-read n k r m f = f ∙ from-read n (readOf (roomsOf t) s) refl (subst (λ (b : Reading). result b u ≡ readInto s t) k is)
+
+    pub tidied-refused : (n p : ℕ) → a ≡ reading.Refused n p → tidyResult (Refused n p) u out ≡ tidyInto s t out
+    unfolding readInto tidyInto
+    tidied-refused n p k = from-refused n p (readOf (roomsOf t) s) (subst (λ (b : Reading). result b u ≡ readInto s t) k is)

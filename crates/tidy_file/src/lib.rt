@@ -1,0 +1,171 @@
+// A text read into lent tables, and its tidy text written into a lent buffer: 01, "The tidy text".
+use reader::Reading;
+use tables::Used;
+use tidier::tidy_text::write_tidy;
+ghost use mathlib.Core.Path.{_≡_};
+ghost use Prim.Native.Nat.{min};
+ghost use lib.ListN.{length};
+ghost use Rattle.tables.specs.Tables.{tables};
+ghost use Rattle.tidier.specs.TidyFrom.{tidyFrom};
+ghost use Rattle.tidy_file.specs.Tidying.{tidyResult, written, tidyInto};
+
+// What tidying a text comes to: the tidy text's length, a tidy text that does not fit (16 at place 0), or the reader's refusal.
+pub enum Tidied {
+    Written { length: usize, used: Used },
+    TooLong { used: Used },
+    Refused { number: u32, place: usize },
+}
+
+// The length of the tidy text, 16,777,217 for every one that is too long.
+fn measure(
+    text: &[u8],
+    used: Used,
+    v: &[i32],
+    vt: &[i32],
+    vn: &[i32],
+    vp: &[i32],
+    corners: &[u32],
+    elements: &[u32],
+    bodies: &[u32],
+    ranges: &[i32],
+    parameters: &[i32],
+    loops: &[u32],
+    spans: &[i32],
+) -> usize
+    ensures { λ r. ⌜ r ≡ min (length (tidyFrom (now (text .entry)) used (tables (now (v .entry)) (now (vt .entry)) (now (vn .entry)) (now (vp .entry)) (now (corners .entry)) (now (elements .entry)) (now (bodies .entry)) (now (ranges .entry)) (now (parameters .entry)) (now (loops .entry)) (now (spans .entry))))) 16777217 ⌝ }
+{
+    let mut none = [0u8; 1];
+    write_tidy(
+        text,
+        used,
+        v,
+        vt,
+        vn,
+        vp,
+        corners,
+        elements,
+        bodies,
+        ranges,
+        parameters,
+        loops,
+        spans,
+        &mut none,
+    )
+}
+
+// The tidy text of what the tables hold, where there is room for all of it.
+fn write_whole(
+    text: &[u8],
+    used: Used,
+    v: &[i32],
+    vt: &[i32],
+    vn: &[i32],
+    vp: &[i32],
+    corners: &[u32],
+    elements: &[u32],
+    bodies: &[u32],
+    ranges: &[i32],
+    parameters: &[i32],
+    loops: &[u32],
+    spans: &[i32],
+    out: &mut [u8],
+) -> Tidied
+    ensures { λ r. ⌜ tidyResult r (tables (now (v .entry)) (now (vt .entry)) (now (vn .entry)) (now (vp .entry)) (now (corners .entry)) (now (elements .entry)) (now (bodies .entry)) (now (ranges .entry)) (now (parameters .entry)) (now (loops .entry)) (now (spans .entry))) (now (out .exit)) ≡ written (tidyFrom (now (text .entry)) used (tables (now (v .entry)) (now (vt .entry)) (now (vn .entry)) (now (vp .entry)) (now (corners .entry)) (now (elements .entry)) (now (bodies .entry)) (now (ranges .entry)) (now (parameters .entry)) (now (loops .entry)) (now (spans .entry)))) used (tables (now (v .entry)) (now (vt .entry)) (now (vn .entry)) (now (vp .entry)) (now (corners .entry)) (now (elements .entry)) (now (bodies .entry)) (now (ranges .entry)) (now (parameters .entry)) (now (loops .entry)) (now (spans .entry))) (now (out .entry)) ⌝ }
+{
+    let length = measure(
+        text,
+        used,
+        v,
+        vt,
+        vn,
+        vp,
+        corners,
+        elements,
+        bodies,
+        ranges,
+        parameters,
+        loops,
+        spans,
+    );
+    if out.len() < length {
+        return Tidied::TooLong { used: used };
+    }
+    if 16_777_216 < length {
+        return Tidied::TooLong { used: used };
+    }
+    write_tidy(
+        text,
+        used,
+        v,
+        vt,
+        vn,
+        vp,
+        corners,
+        elements,
+        bodies,
+        ranges,
+        parameters,
+        loops,
+        spans,
+        out,
+    );
+    Tidied::Written {
+        length: length,
+        used: used,
+    }
+}
+
+// Reads a text into the lent tables and writes its tidy text from the front of `out` on.
+pub fn tidy(
+    text: &[u8],
+    v: &mut [i32],
+    vt: &mut [i32],
+    vn: &mut [i32],
+    vp: &mut [i32],
+    corners: &mut [u32],
+    elements: &mut [u32],
+    bodies: &mut [u32],
+    ranges: &mut [i32],
+    parameters: &mut [i32],
+    loops: &mut [u32],
+    spans: &mut [i32],
+    out: &mut [u8],
+) -> Tidied
+    ensures { λ r. ⌜ tidyResult r (tables (now (v .exit)) (now (vt .exit)) (now (vn .exit)) (now (vp .exit)) (now (corners .exit)) (now (elements .exit)) (now (bodies .exit)) (now (ranges .exit)) (now (parameters .exit)) (now (loops .exit)) (now (spans .exit))) (now (out .exit)) ≡ tidyInto (now (text .entry)) (tables (now (v .entry)) (now (vt .entry)) (now (vn .entry)) (now (vp .entry)) (now (corners .entry)) (now (elements .entry)) (now (bodies .entry)) (now (ranges .entry)) (now (parameters .entry)) (now (loops .entry)) (now (spans .entry))) (now (out .entry)) ⌝ }
+{
+    match reader::read(
+        text,
+        v,
+        vt,
+        vn,
+        vp,
+        corners,
+        elements,
+        bodies,
+        ranges,
+        parameters,
+        loops,
+        spans,
+    ) {
+        Reading::Read(used) => write_whole(
+            text,
+            used,
+            v,
+            vt,
+            vn,
+            vp,
+            corners,
+            elements,
+            bodies,
+            ranges,
+            parameters,
+            loops,
+            spans,
+            out,
+        ),
+        Reading::Refused { number, place } => Tidied::Refused {
+            number: number,
+            place: place,
+        },
+    }
+}

@@ -1,0 +1,168 @@
+"""The cases as the proved programs take them: `python3 second/packed.py` writes
+stdin and stdout of crates/reader_cases anew from cases/expected.txt and from
+seeded texts, valid and damaged, of crates/sampler_cases from seeded curves and
+surfaces and document 000's examples, and of crates/points from one of the
+files in examples/.
+
+A case is a line (the text's length, the file's name and why) and then the
+text.  The answer to it is that name and reason, the answer, and one number for
+each table.  The program lends tables of 16,384 entries; cases with other rooms
+are not in it.
+"""
+
+from pathlib import Path
+
+from curves import requests, words
+from damage import cases
+from reader import read
+from records import CURV, CURV2, SURF, TABLES, Read, Refused, zeros
+from rules import body_of, element_record
+from sampler import RefusedPoint, point_on_curve, point_on_surface, run_on_curve
+
+SECOND = Path(__file__).resolve().parent
+CASES = SECOND / "cases"
+CRATES = SECOND.parent / "crates"
+PRIME = 1_000_000_007
+SEED, SEEDED, SAMPLED = 2026, 400, 240
+POINTS, PLACE = 64, 2
+RUN_FILE, RUN_ELEMENT, RUN_STEPS = "chair-rail.obj", 1, 16
+ROOMS = dict.fromkeys(TABLES, 16_384)
+
+
+def unsigned(number):
+    return -2 * number + 1 if number < 0 else 2 * number
+
+
+def in_one(table, form):
+    """A table's numbers in one; 0 where all are 0."""
+    used = len(table)
+    while used and not any(table[max(0, used - 256):used]):
+        used = max(0, used - 256)
+    total = 0
+    for number in table[:used]:
+        total = (total * 31 + form(number)) % PRIME
+    return total * pow(31, len(table) - used, PRIME) % PRIME
+
+
+SIGNED = {"v", "vt", "vn", "vp", "ranges", "parameters", "spans"}
+
+
+def numbers_of(tables):
+    return [
+        in_one(table, unsigned if name in SIGNED else int)
+        for name, table in zip(TABLES, tables)
+    ]
+
+
+def shown(answer):
+    if isinstance(answer, Refused):
+        return f"refused {answer.number} at {answer.place}"
+    return " ".join(["read", *map(str, answer.used)])
+
+
+def packed(cases):
+    """stdin and stdout of the program for (label, data) cases."""
+    given, wanted = [], []
+    for label, data in cases:
+        answer = read(data, ROOMS)
+        tables = answer.tables if isinstance(answer, Read) else zeros(ROOMS)
+        given.append(f"{len(data)} {label}\n".encode() + data)
+        numbers = " ".join(map(str, numbers_of(tables)))
+        wanted.append(f"{label} | {shown(answer)} | {numbers}\n".encode())
+    return b"".join(given), b"".join(wanted)
+
+
+def stored_cases(rows):
+    for name, rooms, _, _, why in rows(CASES / "expected.txt"):
+        if rooms == "-":
+            yield f"{name} | {why}", (CASES / name).read_bytes()
+
+
+def seeded_cases():
+    for number, (data, _) in enumerate(cases(SEED, SEEDED), 1):
+        yield f"seeded {number}", data
+
+
+def answers(used, tables, element, steps, s, t):
+    """What the program writes of one element."""
+    curve = point_on_curve(used, tables, element, s)
+    surface = point_on_surface(used, tables, element, s, t)
+    table = [7] * POINTS
+    run = run_on_curve(used, tables, element, steps, table, PLACE)
+    if isinstance(run, RefusedPoint):
+        filled = f"refused {run.number}"
+    else:
+        filled, table = str(run.numbers), run.points
+    points = [
+        f"refused {point.number}" if isinstance(point, RefusedPoint) else " ".join(map(str, point))
+        for point in (curve, surface)
+    ]
+    return f" | curve {points[0]} | surface {points[1]} | run {filled}: " + " ".join(map(str, table))
+
+
+def examples():
+    """The examples of document 000 that have a curve or a surface, at both ends and
+    the middle of its range; (label, text, steps, first element, s, t)."""
+    for path in sorted((CASES / "000").glob("*.obj")):
+        data = path.read_bytes()
+        answer = read(data, ROOMS)
+        if not isinstance(answer, Read):
+            continue
+        for element in range(1, answer.used.elements + 1):
+            if element_record(answer.tables, element)[0] not in (CURV, CURV2, SURF):
+                continue
+            start, end, start_v, end_v = body_of(answer.tables, element).range
+            for name, s, t in (
+                ("start", start, start_v),
+                ("middle", (start + end) // 2, (start_v + end_v) // 2),
+                ("end", end, end_v),
+            ):
+                asked = f"vn {words((s, t, 0))}\n".encode()
+                yield f"000/{path.name} element {element} {name}", asked + data, 7, element, s, t
+
+
+def sampled():
+    """stdin and stdout of the program that samples."""
+    given, wanted = [], []
+    seeded = ((label, data, steps, 0, s, t) for label, data, steps, s, t in requests(SEED, SAMPLED))
+    for label, data, steps, first, s, t in (*examples(), *seeded):
+        answer = read(data, ROOMS)
+        given.append(f"{len(data)} {steps} {first} {label}\n".encode() + data)
+        lines = [
+            answers(answer.used, answer.tables, element, steps, s, t)
+            for element in range(first, first + 3)
+        ]
+        wanted.append(f"{label}{''.join(lines)}\n".encode())
+    return b"".join(given), b"".join(wanted)
+
+
+def run_of_points():
+    """stdin, args and stdout of the program that writes a run's points."""
+    data = (SECOND.parent / "examples" / RUN_FILE).read_bytes()
+    answer = read(data, ROOMS)
+    run = run_on_curve(answer.used, answer.tables, RUN_ELEMENT, RUN_STEPS, [0] * 51, 0)
+    axes = run.numbers // (RUN_STEPS + 1)
+    lines = [
+        words(run.points[at:at + axes]) + "\n" for at in range(0, run.numbers, axes)
+    ]
+    return data, f"{RUN_ELEMENT}\n{RUN_STEPS}\n".encode(), "".join(lines).encode()
+
+
+def files(rows):
+    """Each stored file with what it must hold."""
+    programs = {
+        "reader_cases": packed([*stored_cases(rows), *seeded_cases()]),
+        "sampler_cases": sampled(),
+    }
+    for program, (given, wanted) in programs.items():
+        yield CRATES / program / "stdin", given
+        yield CRATES / program / "stdout", wanted
+    for name, data in zip(("stdin", "args", "stdout"), run_of_points()):
+        yield CRATES / "points" / name, data
+
+
+if __name__ == "__main__":
+    from check import rows
+
+    for path, data in files(rows):
+        path.write_bytes(data)
