@@ -6,7 +6,7 @@ from pathlib import Path
 
 from damage import cases
 from exact import exact_on_curve, exact_on_surface, within
-from packed import files
+from packed import ROOMS, files, sampled_cases
 from reader import corner_of, group_of, material_of, read
 from records import CURV, CURV2, SURF, TABLES, TEXT_LIMIT, Read, Refused, Used
 from rules import body_of, element_record, obeys
@@ -82,6 +82,28 @@ def check_packed(tally):
     """What the proved programs are run on, and what they must write."""
     for path, data in files(rows):
         tally.hold(f"{path.parent.name}/{path.name}", path.read_bytes() == data, True)
+
+
+def check_sampled(tally):
+    """What the sampling program must write lies within its bound of the exact value."""
+    for label, data, _, first, s, t in sampled_cases():
+        answer = read(data, ROOMS)
+        for element in range(max(first, 1), min(first + 2, answer.used.elements) + 1):
+            kind = element_record(answer.tables, element)[0]
+            if kind not in (CURV, CURV2, SURF):
+                continue
+            if kind == SURF:
+                point = point_on_surface(answer.used, answer.tables, element, s, t)
+            else:
+                point = point_on_curve(answer.used, answer.tables, element, s)
+            if isinstance(point, RefusedPoint):
+                continue
+            degrees = body_of(answer.tables, element).degrees
+            if kind == SURF:
+                near = within(point, exact_on_surface(answer.tables, element, s, t), sum(degrees))
+            else:
+                near = within(point, exact_on_curve(answer.tables, element, s), degrees[0])
+            tally.hold(f"exact value of {label}", near, True)
 
 
 def check_size(tally):
@@ -328,6 +350,7 @@ def main():
     tally = Tally()
     check_cases(tally)
     check_packed(tally)
+    check_sampled(tally)
     check_size(tally)
     check_program(tally)
     check_points(tally)

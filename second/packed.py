@@ -121,11 +121,17 @@ def examples():
                 yield f"000/{path.name} element {element} {name}", asked + data, 7, element, s, t
 
 
+def sampled_cases():
+    """(label, text, steps, first element, s, t) of what the program samples."""
+    yield from examples()
+    for label, data, steps, s, t in requests(SEED, SAMPLED):
+        yield label, data, steps, 0, s, t
+
+
 def sampled():
     """stdin and stdout of the program that samples."""
     given, wanted = [], []
-    seeded = ((label, data, steps, 0, s, t) for label, data, steps, s, t in requests(SEED, SAMPLED))
-    for label, data, steps, first, s, t in (*examples(), *seeded):
+    for label, data, steps, first, s, t in sampled_cases():
         answer = read(data, ROOMS)
         given.append(f"{len(data)} {steps} {first} {label}\n".encode() + data)
         lines = [
