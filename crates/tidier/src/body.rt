@@ -57,7 +57,7 @@ fn basis_argument(basis: u32) -> keywords::Argument
     }
 }
 
-// A space and a body's type, `rat` before it where it is rational, and the line's end.
+// The cstype line: a body's type, `rat` before it where it is rational.
 fn type_line(
     body: Body,
     table: &[u8; 528],
