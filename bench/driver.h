@@ -6,10 +6,11 @@
 #include <stdlib.h>
 #include <time.h>
 
+/* The processor time that the program took so far: what others run beside it counts less than on a clock on the wall. */
 static inline double seconds(void)
 {
     struct timespec now;
-    clock_gettime(CLOCK_MONOTONIC, &now);
+    clock_gettime(CLOCK_PROCESS_CPUTIME_ID, &now);
     return (double)now.tv_sec + (double)now.tv_nsec * 1e-9;
 }
 

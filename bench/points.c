@@ -30,6 +30,7 @@ static double knot[MOST_SIDE + 4], control[3 * MOST_CONTROLS];
 static int32_t spread[SPREAD];     /* parameters in no order .. */
 static double spread_real[SPREAD]; /* .. and the same as numbers */
 static double along_run[STEPS + 1], along_grid[SIDE];
+static int32_t grid_parameter[SIDE]; /* along_grid in millionths */
 static double answer[3 * SIDE * SIDE];
 static double grid_normal[3 * SIDE * SIDE];
 
@@ -90,8 +91,7 @@ static void grid_kuhlabires(void)
 {
     for (int j = 0; j < SIDE; j++)
         for (int i = 0; i < SIDE; i++)
-            keep(SIDE * j + i, kuhlabires_point_on_surface(used, KUHLABIRES_LEND(&tables), 1, (int32_t)lround(along_grid[i] * MILLION),
-                                                          (int32_t)lround(along_grid[j] * MILLION)));
+            keep(SIDE * j + i, kuhlabires_point_on_surface(used, KUHLABIRES_LEND(&tables), 1, grid_parameter[i], grid_parameter[j]));
 }
 
 /* ---- SISL: a Bezier curve is one with threefold knots ---- */
@@ -236,8 +236,10 @@ static void make_shape(void)
     }
     for (int j = 0; j <= STEPS; j++)
         along_run[j] = (double)((int64_t)j * end * MILLION / STEPS) / MILLION;
-    for (int j = 0; j < SIDE; j++)
-        along_grid[j] = (double)((int64_t)j * end * MILLION / (SIDE - 1)) / MILLION;
+    for (int j = 0; j < SIDE; j++) {
+        grid_parameter[j] = (int32_t)((int64_t)j * end * MILLION / (SIDE - 1));
+        along_grid[j] = (double)grid_parameter[j] / MILLION;
+    }
 }
 
 /* One batch of points; answers how many. */

@@ -1,7 +1,17 @@
 // Reads a text so many times into tables that are sized by counting it so many times; prints the best time of each and what was read.
-use std::{env, fs, time::Instant};
+use std::{env, fs};
 
 use kuhlabires::{read, Tables};
+
+extern "C" {
+    fn clock() -> std::os::raw::c_long;
+}
+
+// The processor time that the program took so far, as driver.h has it.
+fn seconds() -> f64 {
+    // SAFETY: the C library's clock takes nothing and keeps nothing.
+    unsafe { clock() as f64 * 1e-6 }
+}
 
 fn main() {
     let arguments: Vec<String> = env::args().collect();
@@ -10,14 +20,14 @@ fn main() {
     let mut tables = Tables::default();
     let (mut counting, mut reading) = (f64::MAX, f64::MAX);
     for _ in 0..times(2) {
-        let from = Instant::now();
+        let from = seconds();
         tables = Tables::for_text(&text);
-        counting = counting.min(from.elapsed().as_secs_f64());
+        counting = counting.min(seconds() - from);
     }
     for _ in 0..times(3) {
-        let from = Instant::now();
+        let from = seconds();
         read(&text, &mut tables).unwrap_or_else(|refusal| panic!("{refusal:?}"));
-        reading = reading.min(from.elapsed().as_secs_f64());
+        reading = reading.min(seconds() - from);
     }
     let status = fs::read_to_string("/proc/self/status").unwrap_or_default();
     let peak = status.lines().find_map(|line| line.strip_prefix("VmHWM:")).unwrap_or("0").trim().trim_end_matches(" kB");

@@ -1,0 +1,228 @@
+"""This library beside its peers, in one run; prints the tables of docs/SPEED.md.
+
+    rt staticlib boundary && python3 bench/peers.py [ROUNDS]
+
+Times are paired: in each round every program runs once, one after the other, and the ratios are those of a round; the tables give their median
+and their worst. A time is the best of three readings, or of one batch of points. Instructions are counted by valgrind, so that nothing else on
+the machine matters: those of a run with one reading less those of a run with none.
+"""
+
+import os
+import re
+import shutil
+import statistics
+import subprocess
+import sys
+import tempfile
+from pathlib import Path
+
+from texts import texts
+
+ROOT = Path(__file__).resolve().parent.parent
+ARCHIVE = ROOT / "target" / "staticlib" / "libboundary.a"
+MEGABYTE = 1_000_000
+SIZES = [1, 2, 4, 8, 16]
+READERS = ["kuhlabires", "tinyobjloader", "assimp"]
+SAMPLERS = ["kuhlabires", "sisl", "gsl"]
+PACKAGES = ["libtinyobjloader-dev", "libassimp-dev", "libsisl-dev", "libgsl-dev", "valgrind", "gcc", "g++", "cargo"]
+
+
+# ---- Installing and building ----
+
+
+def installed(package):
+    asked = subprocess.run(["dpkg-query", "-W", "-f", "${Status} ${Version}", package], capture_output=True, text=True)
+    return asked.stdout.split()[-1] if asked.stdout.startswith("install ok") else None
+
+
+def install():
+    missing = [p for p in PACKAGES if not installed(p) and not shutil.which(p)]
+    if missing:
+        subprocess.run(["apt-get", "update", "-qq"], check=True)
+        subprocess.run(["apt-get", "install", "-y", "-qq", *missing], check=True, stdout=subprocess.DEVNULL)
+
+
+def build(folder):
+    bench, host = ROOT / "bench", ROOT / "host"
+
+    def run(*words, **more):
+        subprocess.run([str(w) for w in words], check=True, **more)
+
+    run("cargo", "build", "--release", "--offline", "--quiet", cwd=host)
+    run("rustc", "--edition", "2021", "-C", "opt-level=3", bench / "read_kuhlabires.rs", "--extern",
+        f"kuhlabires={host}/target/release/libkuhlabires.rlib", "-o", folder / "read_kuhlabires")
+    run("g++", "-std=c++17", "-O3", bench / "read_tinyobjloader.cpp", "-o", folder / "read_tinyobjloader")
+    run("g++", "-std=c++17", "-O3", bench / "read_assimp.cpp", "-lassimp", "-o", folder / "read_assimp")
+    run("gcc", "-std=gnu11", "-O3", "-I", ROOT / "include", bench / "points.c", ARCHIVE, "-lsisl", "-lgsl", "-lgslcblas", "-lm", "-o",
+        folder / "points")
+
+
+# ---- Measuring ----
+
+
+def answer(words):
+    """What a driver prints, NAME NUMBER NAME NUMBER ..; None where it gave up."""
+    run = subprocess.run([str(w) for w in words], capture_output=True, text=True)
+    if run.returncode:
+        return None
+    said = run.stdout.split()
+    return {name: float(number) for name, number in zip(said[::2], said[1::2])}
+
+
+def by_valgrind(tool, pattern, words):
+    run = subprocess.run(["valgrind", *tool, *[str(w) for w in words]], capture_output=True, text=True, check=True)
+    return int(re.search(pattern, run.stderr).group(1).replace(",", ""))
+
+
+def instructions(words):
+    return by_valgrind(["--tool=callgrind", "--callgrind-out-file=/dev/null"], r"Collected : (\d+)", words)
+
+
+def allocations(words):
+    return by_valgrind(["--leak-check=no"], r"total heap usage: ([\d,]+) allocs", words)
+
+
+def reading_words(folder, reader, path, countings, readings):
+    words = [folder / f"read_{reader}", path]
+    return words + [countings, readings] if reader == "kuhlabires" else words + [readings]
+
+
+def spent_reading(measure, folder, reader, path):
+    """What one reading takes, in instructions or allocations."""
+    return measure(reading_words(folder, reader, path, 1, 1)) - measure(reading_words(folder, reader, path, 1, 0))
+
+
+def ratios(ours, theirs):
+    each = [b / a for a, b in zip(ours, theirs)]
+    return f"{statistics.median(each):.2f} ({min(each):.2f})"
+
+
+def row(*cells):
+    print("| " + " | ".join(str(c) for c in cells) + " |", flush=True)
+
+
+def head(*cells):
+    row(*cells)
+    print("|" + "---|" * len(cells))
+
+
+# ---- Reading ----
+
+
+def reading_rows(folder, rounds, counted):
+    """Speed, of each kind and size; and, kept for the next table, the path of one text of each kind."""
+    head("text", "MB", "this, MB/s", "with counting", "tinyobjloader", "assimp", "this : tinyobjloader, median (worst)", "with counting",
+         "this : assimp")
+    for kind, sizes in (("v and f", SIZES), ("v, vt, vn and f", SIZES), ("polygons of 4,000 corners", SIZES), ("curves and surfaces", SIZES)):
+        for size, text in texts(kind, [n * MEGABYTE for n in sizes]):
+            path = folder / f"{kind} {size}.obj"
+            path.write_bytes(text)
+            times = {name: [] for name in ["kuhlabires", "counted", "tinyobjloader", "assimp"]}
+            for _ in range(rounds):
+                for reader in READERS:
+                    said = answer(reading_words(folder, reader, path, 3, 3))
+                    if said:
+                        times[reader].append(said["reading"])
+                        if reader == "kuhlabires":
+                            times["counted"].append(said["reading"] + said["counting"])
+            speed = {name: f"{len(text) / statistics.median(t) / 1e6:.0f}" if t else "refused" for name, t in times.items()}
+            row(kind, f"{len(text) / 1e6:.1f}", speed["kuhlabires"], speed["counted"], speed["tinyobjloader"], speed["assimp"],
+                ratios(times["kuhlabires"], times["tinyobjloader"]), ratios(times["counted"], times["tinyobjloader"]),
+                ratios(times["kuhlabires"], times["assimp"]) if times["assimp"] else "-")
+            if size == 4 * MEGABYTE:
+                counted.append((kind, path, len(text)))
+            elif kind != "v, vt, vn and f":
+                path.unlink()
+
+
+def cost_rows(folder, counted):
+    head("text of 4 MB", "instructions a byte: this", "counting", "tinyobjloader", "assimp", "peak memory, MB: this", "tinyobjloader", "assimp")
+    for kind, path, length in counted:
+        cost = {reader: f"{spent_reading(instructions, folder, reader, path) / length:.1f}" for reader in READERS}
+        none = instructions(reading_words(folder, "kuhlabires", path, 0, 0))
+        counting = (instructions(reading_words(folder, "kuhlabires", path, 1, 0)) - none) / length
+        peak = {reader: f"{answer(reading_words(folder, reader, path, 1, 1))['peak'] * 1024 / 1e6:.1f}" for reader in READERS}
+        row(kind, cost["kuhlabires"], f"{counting:.1f}", cost["tinyobjloader"], cost["assimp"], *(peak[reader] for reader in READERS))
+
+
+def growth_rows(folder):
+    head("text", "MB", "instructions a byte")
+    for size in SIZES:
+        path = folder / f"v, vt, vn and f {size * MEGABYTE}.obj"
+        row("v, vt, vn and f", size, f"{spent_reading(instructions, folder, 'kuhlabires', path) / path.stat().st_size:.2f}")
+    for size, text in texts("one single line", [MEGABYTE, 16 * MEGABYTE]):
+        path = folder / "line.obj"
+        path.write_bytes(text)
+        row("one single line", size // MEGABYTE, f"{spent_reading(instructions, folder, 'kuhlabires', path) / len(text):.2f}")
+
+
+def allocation_rows(folder):
+    path = folder / f"v, vt, vn and f {MEGABYTE}.obj"
+    head("allocations", "this", "tinyobjloader", "assimp", "SISL", "GSL")
+    row("one reading of 1 MB", *(spent_reading(allocations, folder, reader, path) for reader in READERS), "", "")
+    for name, surface, mode in (("curve points one by one, 1,024", 0, "alone"), ("a run of 1,001", 0, "run"), ("a grid of 101 x 101", 1, "grid")):
+        each = [allocations(points_words(folder, s, "bezier", surface, 4, mode, 1)) - allocations(points_words(folder, s, "bezier", surface, 4, mode, 0))
+                for s in SAMPLERS]
+        row(name, each[0], "", "", *each[1:])
+    undefined = subprocess.run(["nm", "-u", ARCHIVE], capture_output=True, text=True, check=True).stdout
+    print("\nWhat the archive asks of the program that links it:", ", ".join(re.findall(r" U (\S+)", undefined)))
+
+
+# ---- Points ----
+
+
+def points_words(folder, sampler, basis, surface, segments, mode, count):
+    return [folder / "points", sampler, basis, surface, segments, mode, count]
+
+
+def points_rows(folder, rounds):
+    head("cubic", "asked for", "this, million points/s", "SISL", "GSL", "this : SISL, median (worst)", "this : GSL", "instructions a point: this", "SISL",
+         "GSL", "apart at most, millionths")
+    for surface, segments, modes in ((0, 1, ["alone", "run"]), (0, 16, ["alone", "run"]), (1, 1, ["alone", "grid"]), (1, 4, ["alone", "grid"])):
+        for basis in ("bezier", "bspline"):
+            for mode in modes:
+                times, cost = {s: [] for s in SAMPLERS}, {}
+                for _ in range(rounds):
+                    for sampler in SAMPLERS:
+                        said = answer(points_words(folder, sampler, basis, surface, segments, mode, 200_000))
+                        times[sampler].append(said["seconds"] / said["points"])
+                for sampler in SAMPLERS:
+                    none, some = (instructions(points_words(folder, sampler, basis, surface, segments, mode, n)) for n in (0, 20_000))
+                    batch = {"alone": 1024, "run": 1001, "grid": 101 * 101}[mode]
+                    cost[sampler] = f"{(some - none) / (-(-20_000 // batch) * batch):.0f}"
+                speed = {s: f"{1e-6 / statistics.median(t):.2f}" for s, t in times.items()}
+                apart = answer(points_words(folder, "difference", basis, surface, segments, mode, 0))["difference"]
+                side = 3 * segments + 1
+                name = f"{basis} {'surface' if surface else 'curve'}, {f'{side} x {side}' if surface else side} controls"
+                row(name, mode, *(speed[s] for s in SAMPLERS), ratios(times["kuhlabires"], times["sisl"]), ratios(times["kuhlabires"], times["gsl"]),
+                    *(cost[s] for s in SAMPLERS), f"{apart * 1e6:.2f}")
+
+
+def machine():
+    model = re.search(r"model name\s*: (.*)", Path("/proc/cpuinfo").read_text()).group(1)
+    memory = int(re.search(r"MemTotal:\s*(\d+)", Path("/proc/meminfo").read_text()).group(1)) * 1024 / 1e9
+    peers = ", ".join(f"{p} {installed(p)}" for p in PACKAGES[:4])
+    print(f"{model}, {os.cpu_count()} cores, {memory:.0f} GB of memory; {peers}.")
+
+
+def main():
+    rounds = int(sys.argv[1]) if 1 < len(sys.argv) else 7
+    install()
+    with tempfile.TemporaryDirectory() as name:
+        folder, counted = Path(name), []
+        build(folder)
+        machine()
+        print("\n### Reading: speed\n")
+        reading_rows(folder, rounds, counted)
+        print("\n### Reading: instructions and memory\n")
+        cost_rows(folder, counted)
+        print("\n### Reading: growth\n")
+        growth_rows(folder)
+        print("\n### Points\n")
+        points_rows(folder, rounds)
+        print("\n### Allocation\n")
+        allocation_rows(folder)
+
+
+if __name__ == "__main__":
+    main()

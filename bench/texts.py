@@ -1,0 +1,91 @@
+"""Seeded texts to read: a text of a kind is a row of blocks, and a shorter one is the same row, cut earlier."""
+
+import random
+
+
+def _numbers(rng, count, most, places):
+    return " ".join(f"{rng.uniform(-most, most):.{places}f}" for _ in range(count))
+
+
+def _mesh(rng, corner, kinds):
+    """Patches of 32 by 32 vertices with two triangles to a vertex, as exporters write them: each table, then the faces."""
+    side, first = 32, 1
+    while True:
+        lines = [f"{kind} {_numbers(rng, count, most, places)}" for kind, count, most, places in kinds for _ in range(side * side)]
+        for row in range(side - 1):
+            for at in range(first + row * side, first + row * side + side - 1):
+                lines.append(f"f {corner(at)} {corner(at + 1)} {corner(at + side)}")
+                lines.append(f"f {corner(at + 1)} {corner(at + side + 1)} {corner(at + side)}")
+        first += side * side
+        yield "\n".join(lines) + "\n"
+
+
+def plain(rng):
+    return _mesh(rng, str, [("v", 3, 900, 6)])
+
+
+def full(rng):
+    return _mesh(rng, lambda at: f"{at}/{at}/{at}", [("v", 3, 900, 6), ("vt", 2, 1, 6), ("vn", 3, 1, 4)])
+
+
+def long_lines(rng):
+    """Polygons of 4,000 corners."""
+    count = 0
+    while True:
+        lines = [f"v {_numbers(rng, 3, 900, 6)}" for _ in range(1000)]
+        count += 1000
+        lines.append("f " + " ".join(str(rng.randint(1, count)) for _ in range(4000)))
+        yield "\n".join(lines) + "\n"
+
+
+def one_line(_):
+    """A point element of all corners there are: one line from the second on, two bytes a corner."""
+    yield "v 0 0 0\np 1"
+    while True:
+        yield " 1" * 500
+
+
+def free_form(rng):
+    """Cubic Bezier and B-spline curves of 13 controls, bicubic surfaces of 7 by 7."""
+    first = 1
+
+    def body(basis, keyword, side, directions):
+        nonlocal first
+        count = side**directions
+        lines = [f"v {_numbers(rng, 3, 900, 6)}" for _ in range(count)]
+        pieces = (side - 1) // 3 if basis == "bezier" else side - 3
+        knots = list(range(pieces + 1)) if basis == "bezier" else [0] * 3 + list(range(pieces + 1)) + [pieces] * 3
+        lines.append(f"cstype {basis}")
+        lines.append("deg" + " 3" * directions)
+        lines.append(keyword + f" 0 {pieces}" * directions + "".join(f" {first + k}" for k in range(count)))
+        lines += [f"parm {'uv'[k]} " + " ".join(f"{knot:.6f}" for knot in knots) for k in range(directions)]
+        lines.append("end")
+        first += count
+        return "\n".join(lines) + "\n"
+
+    while True:
+        for basis in ("bezier", "bspline"):
+            yield body(basis, "curv", 13, 1)
+            yield body(basis, "surf", 7, 2)
+
+
+KINDS = {
+    "v and f": plain,
+    "v, vt, vn and f": full,
+    "polygons of 4,000 corners": long_lines,
+    "curves and surfaces": free_form,
+    "one single line": one_line,
+}
+
+
+def texts(kind, sizes):
+    """For each size, least first, the longest row of whole blocks that it holds."""
+    blocks, length, sizes = [], 0, sorted(sizes)
+    for block in KINDS[kind](random.Random(1)):
+        block = block.encode()
+        while sizes and sizes[0] <= length + len(block) + 1:
+            yield sizes.pop(0), b"".join(blocks).rstrip(b"\n") + b"\n"
+        if not sizes:
+            return
+        blocks.append(block)
+        length += len(block)
