@@ -1,10 +1,11 @@
 """This library beside its peers, in one run; prints the tables of docs/SPEED.md.
 
-    rt staticlib boundary && python3 bench/peers.py [ROUNDS]
+    python3 bench/peers.py [ROUNDS]
 
-Times are paired: in each round every program runs once, one after the other, and the ratios are those of a round; the tables give their median
-and their worst. A time is the best of three readings, or of one batch of points. Instructions are counted by valgrind, so that nothing else on
-the machine matters: those of a run with one reading less those of a run with none.
+It installs the peers, makes the archive (or takes the one that KUHLABIRES_ARCHIVE names) and builds all for release. Times are the processor's,
+and paired: in each round every program runs once, one after the other, and the ratios are those of a round; the tables give their median and
+their worst. A time is the best of three readings, or of 200,000 points. Instructions are counted by valgrind, so that nothing else on the machine
+matters: those of a run with one reading less those of a run with none.
 """
 
 import os
@@ -16,14 +17,15 @@ import sys
 import tempfile
 from pathlib import Path
 
-from texts import texts
+from texts import BROKEN, texts
 
 ROOT = Path(__file__).resolve().parent.parent
-ARCHIVE = ROOT / "target" / "staticlib" / "libboundary.a"
+ARCHIVE = Path(os.environ.get("KUHLABIRES_ARCHIVE", ROOT / "target" / "staticlib" / "libboundary.a"))
 MEGABYTE = 1_000_000
 SIZES = [1, 2, 4, 8, 16]
 READERS = ["kuhlabires", "tinyobjloader", "assimp"]
 SAMPLERS = ["kuhlabires", "sisl", "gsl"]
+BATCH = {"alone": 1024, "run": 1001, "grid": 101 * 101}  # as points.c has them
 PACKAGES = ["libtinyobjloader-dev", "libassimp-dev", "libsisl-dev", "libgsl-dev", "valgrind", "gcc", "g++", "cargo"]
 
 
@@ -48,6 +50,8 @@ def build(folder):
     def run(*words, **more):
         subprocess.run([str(w) for w in words], check=True, **more)
 
+    if "KUHLABIRES_ARCHIVE" not in os.environ:
+        run("rt", "staticlib", "boundary", cwd=ROOT, stdout=subprocess.DEVNULL)
     run("cargo", "build", "--release", "--offline", "--quiet", cwd=host)
     run("rustc", "--edition", "2021", "-C", "opt-level=3", bench / "read_kuhlabires.rs", "--extern",
         f"kuhlabires={host}/target/release/libkuhlabires.rlib", "-o", folder / "read_kuhlabires")
@@ -74,8 +78,22 @@ def by_valgrind(tool, pattern, words):
     return int(re.search(pattern, run.stderr).group(1).replace(",", ""))
 
 
-def instructions(words):
-    return by_valgrind(["--tool=callgrind", "--callgrind-out-file=/dev/null"], r"Collected : (\d+)", words)
+def instructions(words, out="/dev/null"):
+    return by_valgrind(["--tool=callgrind", f"--callgrind-out-file={out}"], r"Collected : (\d+)", words)
+
+
+def by_function(words):
+    """The instructions that a run spends in each function of the archive, and in memset, the one that it asks for."""
+    own = set(re.findall(r" [tT] (.+)", subprocess.run(["nm", ARCHIVE], capture_output=True, text=True, check=True).stdout))
+    with tempfile.NamedTemporaryFile() as file:
+        instructions(words, file.name)
+        said = subprocess.run(["callgrind_annotate", file.name], capture_output=True, text=True, check=True).stdout
+    spent = {}
+    for count, name in re.findall(r"^ *([\d,]+) \( *[\d.]+%\) +[^:]*:(.+?) \[", said, re.M):
+        name = "memset" if "memset" in name else name
+        if name in own or name == "memset":
+            spent[name] = spent.get(name, 0) + int(count.replace(",", ""))
+    return sorted(spent.items(), key=lambda pair: -pair[1])
 
 
 def allocations(words):
@@ -94,7 +112,7 @@ def spent_reading(measure, folder, reader, path):
 
 def ratios(ours, theirs):
     each = [b / a for a, b in zip(ours, theirs)]
-    return f"{statistics.median(each):.2f} ({min(each):.2f})"
+    return f"{statistics.median(each):.2g} ({min(each):.2g})"
 
 
 def row(*cells):
@@ -110,11 +128,11 @@ def head(*cells):
 
 
 def reading_rows(folder, rounds, counted):
-    """Speed, of each kind and size; and, kept for the next table, the path of one text of each kind."""
-    head("text", "MB", "this, MB/s", "with counting", "tinyobjloader", "assimp", "this : tinyobjloader, median (worst)", "with counting",
-         "this : assimp")
-    for kind, sizes in (("v and f", SIZES), ("v, vt, vn and f", SIZES), ("polygons of 4,000 corners", SIZES), ("curves and surfaces", SIZES)):
-        for size, text in texts(kind, [n * MEGABYTE for n in sizes]):
+    """Speed, of each kind and size. The texts of the tables that follow stay: one of each kind, named in `counted`, and every mesh."""
+    head("text", "MB", "this, MB/s", "with counting", "tinyobjloader", "assimp", "times tinyobjloader, median (worst)",
+         "with counting", "times assimp")
+    for kind in ("v and f", "v, vt, vn and f", "polygons of 4,000 corners", "curves and surfaces"):
+        for size, text in texts(kind, [n * MEGABYTE for n in SIZES]):
             path = folder / f"{kind} {size}.obj"
             path.write_bytes(text)
             times = {name: [] for name in ["kuhlabires", "counted", "tinyobjloader", "assimp"]}
@@ -168,6 +186,15 @@ def allocation_rows(folder):
     print("\nWhat the archive asks of the program that links it:", ", ".join(re.findall(r" U (\S+)", undefined)))
 
 
+def refusal_rows(folder):
+    head("broken text", "this", "tinyobjloader", "assimp")
+    path = folder / "broken.obj"
+    for name, text in BROKEN.items():
+        path.write_text(text)
+        runs = [subprocess.run([str(w) for w in reading_words(folder, reader, path, 1, 1)], capture_output=True, text=True) for reader in READERS]
+        row(name, *(run.stdout.strip() if run.returncode else "read" for run in runs))
+
+
 # ---- Points ----
 
 
@@ -176,8 +203,8 @@ def points_words(folder, sampler, basis, surface, segments, mode, count):
 
 
 def points_rows(folder, rounds):
-    head("cubic", "asked for", "this, million points/s", "SISL", "GSL", "this : SISL, median (worst)", "this : GSL", "instructions a point: this", "SISL",
-         "GSL", "apart at most, millionths")
+    head("cubic", "asked for", "this, million points/s", "SISL", "GSL", "times SISL, median (worst)", "times GSL", "instructions a point: this", "SISL", "GSL",
+         "apart at most, millionths")
     for surface, segments, modes in ((0, 1, ["alone", "run"]), (0, 16, ["alone", "run"]), (1, 1, ["alone", "grid"]), (1, 4, ["alone", "grid"])):
         for basis in ("bezier", "bspline"):
             for mode in modes:
@@ -187,15 +214,26 @@ def points_rows(folder, rounds):
                         said = answer(points_words(folder, sampler, basis, surface, segments, mode, 200_000))
                         times[sampler].append(said["seconds"] / said["points"])
                 for sampler in SAMPLERS:
-                    none, some = (instructions(points_words(folder, sampler, basis, surface, segments, mode, n)) for n in (0, 20_000))
-                    batch = {"alone": 1024, "run": 1001, "grid": 101 * 101}[mode]
-                    cost[sampler] = f"{(some - none) / (-(-20_000 // batch) * batch):.0f}"
+                    none, some = (instructions(points_words(folder, sampler, basis, surface, segments, mode, n)) for n in (0, 2 * BATCH[mode]))
+                    cost[sampler] = f"{(some - none) / (2 * BATCH[mode]):.0f}"
                 speed = {s: f"{1e-6 / statistics.median(t):.2f}" for s, t in times.items()}
                 apart = answer(points_words(folder, "difference", basis, surface, segments, mode, 0))["difference"]
                 side = 3 * segments + 1
                 name = f"{basis} {'surface' if surface else 'curve'}, {f'{side} x {side}' if surface else side} controls"
                 row(name, mode, *(speed[s] for s in SAMPLERS), ratios(times["kuhlabires"], times["sisl"]), ratios(times["kuhlabires"], times["gsl"]),
                     *(cost[s] for s in SAMPLERS), f"{apart * 1e6:.2f}")
+
+
+def function_rows(folder, counted):
+    head("instructions of this library by function", "each")
+    for kind, path, length in counted:
+        spent = by_function(reading_words(folder, "kuhlabires", path, 1, 1))
+        row(f"{kind}, a byte", ", ".join(f"{name} {count / length:.1f}" for name, count in spent if length < 10 * count))
+    for name, surface, segments, mode in (("curve of 4 controls, alone", 0, 1, "alone"), ("curve of 49 controls, alone", 0, 16, "alone"),
+                                          ("curve of 49 controls, run", 0, 16, "run"), ("surface of 4 x 4 controls, alone", 1, 1, "alone")):
+        batch = BATCH[mode]
+        spent = by_function(points_words(folder, "kuhlabires", "bezier", surface, segments, mode, 20 * batch))
+        row(f"bezier {name}, a point", ", ".join(f"{name} {count / (20 * batch):.0f}" for name, count in spent if 100 * batch < count))
 
 
 def machine():
@@ -218,8 +256,12 @@ def main():
         cost_rows(folder, counted)
         print("\n### Reading: growth\n")
         growth_rows(folder)
+        print("\n### Reading: what is refused\n")
+        refusal_rows(folder)
         print("\n### Points\n")
         points_rows(folder, rounds)
+        print("\n### Where the instructions go\n")
+        function_rows(folder, counted)
         print("\n### Allocation\n")
         allocation_rows(folder)
 

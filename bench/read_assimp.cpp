@@ -19,7 +19,7 @@ int main(int count, char **arguments)
         const aiScene *scene = importer.ReadFileFromMemory(text, length, 0, "obj");
         best = std::min(best, seconds() - from);
         if (!scene) {
-            printf("refused: %s\n", importer.GetErrorString());
+            printf("refused, \"%s\"\n", importer.GetErrorString());
             return 1;
         }
         corners = vertices = 0;

@@ -19,8 +19,10 @@ int main(int count, char **arguments)
     for (int i = 0; i < atoi(arguments[2]); i++) {
         double from = seconds();
         tinyobj::ObjReader reader;
-        if (!reader.ParseFromString(text, "", config))
+        if (!reader.ParseFromString(text, "", config)) {
+            printf("refused\n");
             return 1;
+        }
         best = std::min(best, seconds() - from);
         vertices = reader.GetAttrib().vertices.size() / 3;
         corners = 0;

@@ -78,6 +78,18 @@ KINDS = {
 }
 
 
+MESH = "v 0 0 0\nv 1 0 0\nv 1 1 0\nv 0 1 0\n"
+BROKEN = {
+    "a word that is no number": "v 0 x 0\n" + MESH + "f 1 2 3\n",
+    "a number missing": "v 0 0\n" + MESH + "f 1 2 3\n",
+    "a number out of range": "v 0 0 123456789012345678901234567890\n" + MESH + "f 1 2 3\n",
+    "a reference to nothing": MESH + "f 1 2 99\n",
+    "an unknown keyword": MESH + "face 1 2 3\nf 1 2 3\n",
+    "a curve with too few controls": MESH + "cstype bezier\ndeg 3\ncurv 0 2 1 2 3 4\nparm u 0 1 2\nend\nf 1 2 3\n",
+    "a curve that does not end": MESH + "cstype bezier\ndeg 3\ncurv 0 1 1 2 3 4\nparm u 0 1\n",
+}
+
+
 def texts(kind, sizes):
     """For each size, least first, the longest row of whole blocks that it holds."""
     blocks, length, sizes = [], 0, sorted(sizes)
