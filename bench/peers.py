@@ -233,7 +233,7 @@ def function_rows(folder, counted):
                                           ("curve of 49 controls, run", 0, 16, "run"), ("surface of 4 x 4 controls, alone", 1, 1, "alone")):
         batch = BATCH[mode]
         spent = by_function(points_words(folder, "kuhlabires", "bezier", surface, segments, mode, 20 * batch))
-        row(f"bezier {name}, a point", ", ".join(f"{name} {count / (20 * batch):.0f}" for name, count in spent if 100 * batch < count))
+        row(f"bezier {name}, a point", ", ".join(f"{name} {count / (20 * batch):.0f}" for name, count in spent if 400 * batch < count))
 
 
 def machine():
