@@ -18,7 +18,8 @@ use Rattle.model.specs.Statements.{settled}
 use Rattle.model.specs.Parse.{some?, complete, countsAgree, inRange}
 use Rattle.state.specs.declared.Form.{Form}
 use Rattle.bodies.specs.Numbers.{numbersAt, NumberMet}
-use Rattle.bodies.specs.Types.{basisOf, freeOf}
+use Rattle.bodies.specs.Types.{freeOf}
+use Rattle.basis.specs.Types.{basisOf}
 use Rattle.bodies.specs.Closing.{parmOf, completeOf, agreeOf, rangedOf, bodyFor, judgedIs}
 use Rattle.bodies.specs.declared.closing.Judged.the-variants as judged
 use Rattle.bodies.proofs.Steps.{numbers-more}

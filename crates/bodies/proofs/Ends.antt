@@ -23,7 +23,8 @@ use Rattle.model.specs.Layout.{flag, freeNumber, bodyRow, rangeRow, parameterRo
 use Rattle.state.specs.declared.Form.{Form}
 use Rattle.state.specs.declared.Open.{Open}
 use Rattle.state.specs.State.{ParmAt}
-use Rattle.bodies.specs.Types.{basisOf, freeOf}
+use Rattle.bodies.specs.Types.{freeOf}
+use Rattle.basis.specs.Types.{basisOf}
 use Rattle.bodies.specs.Closing.{parmOf, bodyIn, refusalOf, recordOf, Kept, NotKept}
 use Rattle.bodies.proofs.Closings.{parm-none, parm-some}
 use Rattle.bodies.proofs.Parms.{kept-is}

@@ -15,7 +15,8 @@ use Rattle.model.specs.Parse.{complete, countsAgree, inRange}
 use Rattle.model.specs.Layout.{firstPart, rangeRow}
 use Rattle.state.specs.declared.Form.{Form}
 use Rattle.state.specs.declared.Open.{Open}
-use Rattle.bodies.specs.Types.{basisOf, freeOf}
+use Rattle.bodies.specs.Types.{freeOf}
+use Rattle.basis.specs.Types.{basisOf}
 use Rattle.bodies.specs.Numbers.{numbersAt}
 use Rattle.bodies.specs.declared.closing.Judged.{Judged}
 use Rattle.bodies.specs.declared.closing.Judged.the-variants as judged

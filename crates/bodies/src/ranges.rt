@@ -8,7 +8,7 @@ ghost use lib.ListN.{length};
 ghost use lib.Dec.{eqb};
 ghost use Rattle.tables.specs.Bodies.{low, high, inOrder};
 ghost use Rattle.bodies.specs.Numbers.{numbersAt};
-ghost use Rattle.bodies.specs.Types.{basisOf};
+ghost use Rattle.basis.specs.Types.{basisOf};
 
 fn less(a: usize, b: usize) -> usize
     ensures { λ r. ⌜ r ≡ a - b ⌝ }

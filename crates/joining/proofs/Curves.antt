@@ -28,7 +28,7 @@ use Rattle.tidying.specs.Tidied.{unsettled, unfilled}
 use Rattle.tidying.proofs.Standing.{Sound, Opens}
 use Rattle.tidying.proofs.Good.{formIn, LoopsIn, SecondIn, GoodBody}
 use Rattle.rules.specs.Numbers.{eqZ}
-use Rattle.rules.specs.Directions.{widest}
+use Rattle.basis.specs.Types.{widest}
 use Rattle.rules.specs.Bodies.{flatObeys, curveObeys, recordObeys}
 use Rattle.joining.proofs.BodyRows.{laidBody, BodyRow, us-are}
 use Rattle.joining.proofs.Directions.{basis-back, Needed, degree-obeys, needed-u, type-obeys, Parameters, parameters-obey}

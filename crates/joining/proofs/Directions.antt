@@ -24,7 +24,8 @@ use Rattle.tidying.proofs.Words.{Fitting}
 use Rattle.tidying.proofs.Shapes.{fitting-is}
 use Rattle.tidying.proofs.Standing.{seenOf, Fine}
 use Rattle.tidying.proofs.Good.{Always}
-use Rattle.rules.specs.Directions.{basisOf, degreeObeys, typeObeys, parametersObey}
+use Rattle.rules.specs.Directions.{degreeObeys, typeObeys, parametersObey}
+use Rattle.basis.specs.Types.{basisOf}
 use Rattle.joining.proofs.Stands.{Stands}
 use Rattle.joining.proofs.Vertices.{numbers-all, small-run}
 

@@ -10,7 +10,8 @@ use Rattle.tables.specs.Records.{Body, bodyAt, bodyWidth, rangeWidth, parameter
 use Rattle.tables.specs.Bodies.{inOrder, curveCount, surfaceCount}
 use Rattle.tables.specs.declared.Used.{Used}
 use Rattle.rules.specs.Numbers.{eqZ}
-use Rattle.rules.specs.Directions.{basisOf, typeObeys, parametersObey, widest}
+use Rattle.rules.specs.Directions.{typeObeys, parametersObey}
+use Rattle.basis.specs.Types.{basisOf, widest}
 use Rattle.rules.specs.Loops.{loopsObey}
 
 -- "a curve's v entries are 0"; trims and holes "belong to surfaces"

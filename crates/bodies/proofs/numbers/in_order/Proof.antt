@@ -4,8 +4,8 @@ use denote.Ref.{now}
 use borrow.Author.Needs.{needs}
 use Rattle.bodies.proofs.Steps as S
 use Rattle.tables.specs.Bodies.{ordered}
-use Rattle.bodies.specs.Types.{basisOf}
-use Rattle.bodies.proofs.Tests.{fitted}
+use Rattle.basis.specs.Types.{basisOf}
+use Rattle.basis.proofs.Tests.{fitted}
 use Rattle.bodies.proofs.numbers.in_order.Statement.{statement}
 use Rattle.bodies.proofs.numbers.in_order.Tie as tie
 
