@@ -14,8 +14,7 @@ use lib.Seq.{drop-cons}
 use lib.IntN.{ℤ, pos}
 use lib.Signed.{ltZ, leZ}
 use Rattle.lists.proofs.Tests.{test, and-left, and-right}
-use Rattle.tables.specs.Bodies.{Basis, bezier, bspline, cardinal, taylor, enough, controls, ordered, low, high, curveCount, surfaceCount}
-use Rattle.basis.specs.Types.{basisOf}
+use Rattle.tables.specs.Bodies.{Basis, bezier, bspline, cardinal, taylor, enough, controls, ordered, low, high, curveCount, surfaceCount, basisOf}
 
 -- what holds of the other three holds of a type that is no bspline
 pub not-bspline : (P : Basis → Type 0) → P bezier → P cardinal → P taylor → (type : ℕ) → (type ≡ 2 → ⊥) → P (basisOf type)

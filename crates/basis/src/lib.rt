@@ -5,8 +5,8 @@ ghost use mathlib.Core.Bool.{true};
 ghost use Prim.Native.Nat.{_+_, _*_, _≤_};
 ghost use lib.Dec.{eqb};
 ghost use lib.ListN.{length};
-ghost use Rattle.tables.specs.Bodies.{enough, controls, ordered, low, high, inOrder, curveCount, surfaceCount};
-ghost use Rattle.basis.specs.Types.{basisOf, widest};
+ghost use Rattle.tables.specs.Bodies.{enough, controls, ordered, low, high, inOrder, curveCount, surfaceCount, basisOf};
+ghost use Rattle.basis.specs.Widest.{widest};
 
 // Along a direction of p parameters and degree n: whether a bspline's controls are enough.
 fn enough(basis: u32, n: u32, p: u32) -> bool

@@ -9,9 +9,8 @@ ghost use mathlib.Core.List.{_∷_};
 ghost use Prim.Native.Nat.{_≤_};
 ghost use lib.ListN.{length, getD};
 ghost use lib.IntN.{pos};
-ghost use Rattle.tables.specs.Bodies.{ordered};
+ghost use Rattle.tables.specs.Bodies.{ordered, basisOf};
 ghost use Rattle.bodies.specs.Numbers.{numbersAt, stepIs, countedIs};
-ghost use Rattle.basis.specs.Types.{basisOf};
 
 pub enum Step {
     Number { value: i32, end: usize },

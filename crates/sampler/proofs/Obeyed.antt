@@ -14,11 +14,10 @@ use Rattle.lists.proofs.Tests.{and-left, and-right, test, never}
 use Rattle.whole.specs.Round.{Small}
 use Rattle.tables.specs.Tables.{Tables}
 use Rattle.tables.specs.Records.{Body, bodyAt, elementAt, cornerAt, parametersU, parametersV}
-use Rattle.tables.specs.Bodies.{enough, controls, inOrder, curveCount, surfaceCount}
+use Rattle.tables.specs.Bodies.{enough, controls, inOrder, curveCount, surfaceCount, basisOf}
 use Rattle.tables.specs.declared.Used.{Used}
 use Rattle.tables.specs.declared.Element.{Element}
 use Rattle.rules.specs.Numbers.{small}
-use Rattle.basis.specs.Types.{basisOf}
 use Rattle.rules.specs.Rules.{obeys, curvesBefore}
 use Rattle.rules.specs.Bodies.{bodyObeys}
 use Rattle.rules.proofs.OneVertex.{Vertex}

@@ -3,8 +3,7 @@ use borrow.Author.Needs.{needs}
 use mathlib.Core.Path.{_≡_, refl, sym, _∙_}
 use Prim.Native.Nat.{_-_, _≤_}
 use lib.ListN.{length, drop}
-use Rattle.tables.specs.Bodies.{ordered}
-use Rattle.basis.specs.Types.{basisOf}
+use Rattle.tables.specs.Bodies.{ordered, basisOf}
 use Rattle.basis.proofs.Tests.{failed, passed, fitted}
 use Rattle.basis.proofs.Basis.{ordered-step, ordered-end}
 use native.Mathlib.Omega.{arith}

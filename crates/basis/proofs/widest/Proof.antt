@@ -2,7 +2,7 @@
 use borrow.Author.Needs.{needs}
 use borrow.Author.Tests.{not-true, not-false}
 use mir.Facts.{toZ-ofZ}
-use Rattle.basis.specs.Types.{widest}
+use Rattle.basis.specs.Widest.{widest}
 use Rattle.basis.proofs.Tests.{fitted}
 use Rattle.basis.proofs.Order.{lt-no-le, no-lt-le}
 use Rattle.basis.proofs.widest.Statement.{statement}

@@ -11,8 +11,7 @@ use mathlib.Core.Bool.{cond}
 use lib.ListN.{length}
 use lib.Dec.{eqb}
 use lib.IntN.{ℤ}
-use Rattle.tables.specs.Bodies.{low, high}
-use Rattle.basis.specs.Types.{basisOf}
+use Rattle.tables.specs.Bodies.{low, high, basisOf}
 use Rattle.bodies.specs.Numbers.{numbersAt}
 use Rattle.bodies.specs.Closing.{parmOf}
 use Rattle.bodies.proofs.closing.judge.Statement.{statement}

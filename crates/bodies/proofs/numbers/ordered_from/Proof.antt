@@ -11,7 +11,7 @@ use mir.Syntax.{w32}
 use mir.Val.{toZ}
 use mir.Facts.{toZ-ofZ}
 use borrow.Author.Tests.{not-true, not-false}
-use Rattle.basis.specs.Types.{basisOf}
+use Rattle.tables.specs.Bodies.{basisOf}
 use Rattle.bodies.proofs.numbers.ordered_from.Statement.{statement}
 use Rattle.bodies.proofs.numbers.ordered_from.Tie as tie
 

@@ -5,15 +5,16 @@ use mathlib.Core.List.{List, [], _∷_, _++_, append-assoc}
 use mathlib.Core.Bool.{Bool, true, false}
 use mathlib.Core.Option.{Option, none, some}
 use native.Mathlib.Omega.{arith}
+use lib.Dec.{eqb}
 use lib.ListN.{length, length-append}
 use lib.IntN.{ℤ, pos}
 use Rattle.lists.specs.Lists.{flat, filled}
 use Rattle.tables.specs.Records.{cornerWidth}
 use Rattle.tables.proofs.Flat.{flat-append}
 use Rattle.forms.specs.Corner.{Corner}
 use Rattle.model.specs.Model.{Kind, plain, free, Body, Part, Loop, Element, Open, State}
 use Rattle.model.specs.Room.{summed, ofKind, partCount}
-use Rattle.model.specs.Layout.{cornerRow, cornerRows, elementRow, elementRows, bodyRow, bodyRows, bodyOf, bodiesOf, rangeRow, parameterRow, partRow, partRows, loopRow, spanRow, loopRows, spanRows, beginning}
+use Rattle.model.specs.Layout.{cornerRow, cornerRows, elementRow, elementRows, flag, bodyRow, bodyRows, bodyOf, bodiesOf, rangeRow, parameterRow, partRow, partRows, loopRow, spanRow, loopRows, spanRows, beginning}
 
 -- ---- sums
 pub summed-append : {A : Type 0} (f : A → ℕ) (xs ys : List A) → summed f (xs ++ ys) ≡ summed f xs + summed f ys
@@ -63,14 +64,14 @@ pub spans-length : (ps : List Part) → length (flat spanRow ps) ≡ 2 * length 
 spans-length [] = refl
 spans-length (p ∷ ps) = let i = spans-length ps in omega arith
 
-loops-length : (ls : List Loop) → length (flat loopRow ls) ≡ 2 * summed (λ l. length (l .parts)) ls
+pub loops-length : (ls : List Loop) → length (flat loopRow ls) ≡ 2 * summed (λ l. length (l .parts)) ls
 loops-length [] = refl
 loops-length (l ∷ ls) =
     let i = loops-length ls in
     let j = partRows-length (beginning (l .hole)) (l .parts) in
     length-append (loopRow l) (flat loopRow ls) ∙ (let k : length (loopRow l) + length (flat loopRow ls) ≡ 2 * (length (l .parts) + summed (λ l. length (l .parts)) ls) = omega arith in k)
 
-loopSpans-length : (ls : List Loop) → length (flat (λ l. flat spanRow (l .parts)) ls) ≡ 2 * summed (λ l. length (l .parts)) ls
+pub loopSpans-length : (ls : List Loop) → length (flat (λ l. flat spanRow (l .parts)) ls) ≡ 2 * summed (λ l. length (l .parts)) ls
 loopSpans-length [] = refl
 loopSpans-length (l ∷ ls) =
     let i = loopSpans-length ls in
@@ -140,3 +141,8 @@ length-summed (x ∷ xs) = let i = length-summed xs in omega arith
 
 pub bodies-length : (es : List Element) → length (bodiesOf es) ≡ summed (λ e. ofKind (λ b. 1) (e .kind)) es
 bodies-length es = length-summed (bodiesOf es) ∙ bodies-summed (λ b. 1) es
+
+-- ---- a number told back
+pub flag-back : (b : Bool) → eqb (flag b) 1 ≡ b
+flag-back true = refl
+flag-back false = refl
