@@ -12,13 +12,13 @@ use lib.Seq.{sets, take-nil}
 use lib.Dec.{eqb, eqb·suc-zero}
 use lib.IntN.{ℤ}
 use Rattle.lists.proofs.Tests.{and-left, and-right, test, never}
-use Rattle.tables.specs.Bodies.{low, high, inOrder, curveCount, surfaceCount}
+use Rattle.tables.specs.Bodies.{low, high, inOrder, curveCount, surfaceCount, basisOf}
 use Rattle.model.specs.Model.{Free, curve, curve2, surface, Body}
 use Rattle.model.specs.Statements.{settled}
 use Rattle.model.specs.Parse.{some?, complete, countsAgree, inRange}
 use Rattle.state.specs.declared.Form.{Form}
 use Rattle.bodies.specs.Numbers.{numbersAt, NumberMet}
-use Rattle.bodies.specs.Types.{basisOf, freeOf}
+use Rattle.bodies.specs.Types.{freeOf}
 use Rattle.bodies.specs.Closing.{parmOf, completeOf, agreeOf, rangedOf, bodyFor, judgedIs}
 use Rattle.bodies.specs.declared.closing.Judged.the-variants as judged
 use Rattle.bodies.proofs.Steps.{numbers-more}

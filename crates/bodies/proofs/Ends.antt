@@ -12,7 +12,7 @@ use lib.Seq.{sets}
 use lib.Dec.{eqb}
 use lib.IntN.{ℤ, pos}
 use Rattle.lists.proofs.Tests.{test}
-use Rattle.tables.specs.Bodies.{Basis, bezier, bspline, cardinal, taylor, basisNumber}
+use Rattle.tables.specs.Bodies.{Basis, bezier, bspline, cardinal, taylor, basisNumber, basisOf}
 use Rattle.tables.specs.declared.Used.{Used}
 use Rattle.model.specs.Model.{Free, curve, curve2, surface, Body}
 use Rattle.model.specs.Model as model
@@ -23,10 +23,12 @@ use Rattle.model.specs.Layout.{flag, freeNumber, bodyRow, rangeRow, parameterRo
 use Rattle.state.specs.declared.Form.{Form}
 use Rattle.state.specs.declared.Open.{Open}
 use Rattle.state.specs.State.{ParmAt}
-use Rattle.bodies.specs.Types.{basisOf, freeOf}
+use Rattle.bodies.specs.Types.{freeOf}
 use Rattle.bodies.specs.Closing.{parmOf, bodyIn, refusalOf, recordOf, Kept, NotKept}
 use Rattle.bodies.proofs.Closings.{parm-none, parm-some}
 use Rattle.bodies.proofs.Parms.{kept-is}
+use Rattle.tables.proofs.Types.{basis-back}
+use Rattle.model.proofs.Rows.{flag-back}
 
 -- the form f, the open body c and the ranges r stand for the body o, whose last parm lines stand in the texts s and t
 pub record Stands (s t : List ℕ) (f : Form) (c : Open) (used : Used) (r : List ℤ) (o : model.Open) : Type 0 where
@@ -45,20 +47,10 @@ pub record Stands (s t : List ℕ) (f : Form) (c : Open) (used : Used) (r : List
   pub end-v : getD r (4 * (used .bodies - 1) + 3) (pos 0) ≡ o .body .end-v
 
 -- ---- numbers read back
-type-back : (t : Basis) → basisOf (basisNumber t) ≡ t
-type-back bezier = refl
-type-back bspline = refl
-type-back cardinal = refl
-type-back taylor = refl
-
 kind-back : (k : Free) → freeOf (freeNumber k) ≡ k
 kind-back curve = refl
 kind-back curve2 = refl
 kind-back surface = refl
-
-flag-back : (b : Bool) → eqb (flag b) 1 ≡ b
-flag-back true = refl
-flag-back false = refl
 
 pub parm-is : (s : List ℕ) (at : ℕ) (zs : List ℤ) → ParmAt s at zs → parmOf s at ≡ zs
 parm-is s at zs k =
@@ -121,7 +113,7 @@ module _ (s t : List ℕ) (f : Form) (c : Open) (used : Used) (r : List ℤ) (o 
   pub body-is : bodyIn f c used s t r ≡ unlooped (o .body)
   body-is =
       let e₁ : freeOf (c .kind) ≡ o .body .free = ap freeOf (w .kind) ∙ kind-back (o .body .free) in
-      let e₂ : basisOf (f .basis) ≡ o .body .basis = ap basisOf (w .basis) ∙ type-back (o .body .basis) in
+      let e₂ : basisOf (f .basis) ≡ o .body .basis = ap basisOf (w .basis) ∙ basis-back (o .body .basis) in
       let e₃ : eqb (f .rational) 1 ≡ o .body .rational = ap (λ (n : ℕ). eqb n 1) (w .rational) ∙ flag-back (o .body .rational) in
       let e₄ : parmOf s (c .«u_at») ≡ o .body .us = parm-is s (c .«u_at») (o .body .us) (w .u) in
       let e₅ : parmOf t (c .«v_at») ≡ o .body .vs = parm-is t (c .«v_at») (o .body .vs) (w .v) in

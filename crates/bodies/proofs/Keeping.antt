@@ -19,7 +19,7 @@ use Rattle.bodies.specs.Numbers.{numbersAt}
 use Rattle.bodies.specs.Closing.{parmOf, bodyFor, refusalOf, Passed, judgedIs, recordOf, Kept, NotKept}
 use Rattle.bodies.specs.declared.closing.Judged.{Judged}
 use Rattle.bodies.specs.declared.closing.Judged.the-variants as judged
-use Rattle.bodies.proofs.Looping.{sets-append}
+use Rattle.lists.proofs.Laws.{sets-append}
 use Rattle.bodies.proofs.Closings.{parm-none, parm-some, settled-rest}
 
 -- ---- `store_parameters`

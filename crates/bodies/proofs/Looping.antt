@@ -18,26 +18,10 @@ use Rattle.tables.proofs.Flat.{flat-append}
 use Rattle.model.specs.Model.{Part}
 use Rattle.model.specs.Layout.{beginning, partRow, partRows, spanRow}
 use Rattle.bodies.specs.Loops.{parts, partsAt, Found, NoPart, begins, LoopLine, LoopTaken, LoopLeft}
+use Rattle.lists.proofs.Laws.{sets-append}
+use Rattle.model.proofs.Rows.{partRows-length, spans-length}
 
 -- ---- rows laid one after the other
-pub sets-append : {A : Type 0} (l : List A) (i : ℕ) (xs ys : List A) → sets l i (xs ++ ys) ≡ sets (sets l i xs) (i + length xs) ys
-sets-append l i [] ys = ap (λ (k : ℕ). sets l k ys) (sym (add-zero i))
-sets-append l i (x ∷ xs) ys =
-    let e : suc i + length xs ≡ i + suc (length xs) = omega arith in
-    sets-append (set l i x) (suc i) xs ys ∙ ap (λ (k : ℕ). sets (sets (set l i x) (suc i) xs) k ys) e
-
-long-rest : (ps : List Part) → length (flat (partRow 0) ps) ≡ 2 * length ps
-long-rest [] = refl
-long-rest (p ∷ ps) = let i = long-rest ps in omega arith
-
-long-rows : (n : ℕ) (ps : List Part) → length (partRows n ps) ≡ 2 * length ps
-long-rows n [] = refl
-long-rows n (p ∷ ps) = let i = long-rest ps in omega arith
-
-long-spans : (ps : List Part) → length (flat spanRow ps) ≡ 2 * length ps
-long-spans [] = refl
-long-spans (p ∷ ps) = let i = long-spans ps in omega arith
-
 rows-more : (hole : Bool) (ps : List Part) (p : Part) → partRows (beginning hole) (ps ++ p ∷ []) ≡ partRows (beginning hole) ps ++ begins hole (length ps) ∷ p .curve ∷ []
 rows-more hole [] p = refl
 rows-more hole (q ∷ ps) p =
@@ -208,8 +192,8 @@ module _ (s : List ℕ) (at : ℕ) (hole : Bool) (curves used : ℕ) (l : List �
             let wa = w .ahead in
             let wd = w .words in
             let fw = f .words in
-            let lr = long-rows (beginning hole) (w .done) in
-            let ls = long-spans (w .done) in
+            let lr = partRows-length (beginning hole) (w .done) in
+            let ls = spans-length (w .done) in
             let here : 2 * used + length (partRows (beginning hole) (w .done)) ≡ place = omega arith in
             let there : 2 * used + length (flat spanRow (w .done)) ≡ place = omega arith in
             let row : _≡_ {A = List ℕ} (b ∷ c ∷ []) (begins hole (length (w .done)) ∷ p .curve ∷ []) = rw (e₁, e₂, ct) refl in

@@ -22,13 +22,11 @@ use Rattle.model.specs.Parse.{Parsed, fine, fault, then, must, Keyword, parm, t
 use Rattle.bodies.specs.Numbers.{before, leading}
 use Rattle.bodies.specs.Parm.{ParmLine}
 use Rattle.bodies.specs.Loops.{onPart, parts, LoopLine}
+use Rattle.model.proofs.Parsed.{fine-fault}
 
 -- ---- a line that passes, and one that passed
 passes : {A : Type 0} {a b : Bool} {c : Parsed (List Value)} {xs : List Value} (key : ℕ) (f : List Value → Parsed A) → a ≡ true → b ≡ true → c ≡ fine xs → must a 10 key (must b 5 key (then c f)) ≡ f xs
 passes key f p q r = rw (p, q, r) refl
-
-no-fault : {A C : Type 0} {n p : ℕ} {t : A} → fault n p ≡ fine t → C
-no-fault h = absurd (let z : _≡_ {A = ℕ} 0 1 = cc in omega arith)
 
 record Past {A : Type 0} (a b : Bool) (c : Parsed (List Value)) (f : List Value → Parsed A) (t : A) : Type 0 where
   first : a ≡ true
@@ -38,14 +36,14 @@ record Past {A : Type 0} (a b : Bool) (c : Parsed (List Value)) (f : List Value 
   last : f values ≡ fine t
 
 past : {A : Type 0} (a b : Bool) (c : Parsed (List Value)) (f : List Value → Parsed A) (key : ℕ) {t : A} → must a 10 key (must b 5 key (then c f)) ≡ fine t → Past a b c f t
-past false b c f key h = no-fault h
-past true false c f key h = no-fault h
-past true true (fault n p) f key h = no-fault h
+past false b c f key h = fine-fault h
+past true false c f key h = fine-fault h
+past true true (fault n p) f key h = fine-fault h
 past true true (fine xs) f key h = record { first = refl; second = refl; values = xs; third = refl; last = h }
 
 rest : (v : Value) (c : Parsed (List Value)) {xs : List Value} → then c (λ vs. fine (v ∷ vs)) ≡ fine xs → (ys : List Value) × (c ≡ fine ys)
 rest v (fine ys) k = (ys, refl)
-rest v (fault n m) k = no-fault k
+rest v (fault n m) k = fine-fault k
 
 -- ---- numbers, word by word
 abbrev numbers : List ℤ → List Value
@@ -75,8 +73,8 @@ module _ (n : Seen) (f : ℕ → WordForm) (all : (j : ℕ) → f (suc j) ≡ a-
           (x : Said ℤ) (c : Parsed (List Value)) → then (placed (onSaid number x) (w .place)) (λ v. then c (λ vs. fine (v ∷ vs))) ≡ fine xs →
           ((ys : List Value) → c ≡ fine ys → (length (leading ws) ≡ length ws) × (ys ≡ numbers (leading ws))) →
           (length (before x (leading ws)) ≡ suc (length ws)) × (xs ≡ numbers (before x (leading ws)))
-      go (wrong m) c k r = no-fault k
-      go (says z) (fault m p) k r = no-fault k
+      go (wrong m) c k r = fine-fault k
+      go (says z) (fault m p) k r = fine-fault k
       go (says z) (fine ys) k r =
           let e = r ys refl in
           let d : number z ∷ ys ≡ xs = cc in
@@ -111,7 +109,7 @@ module _ (x : State) (o : Open) (is : x .open-body ≡ some o) (key : ℕ) (r : 
         ∙ ap (λ (z : List ℤ). fine (parameters d z)) (numbers-of zs)
 
   no-direction : (e : Option Direction) (p : ℕ) {A : Type 0} (g : Value → Parsed A) {t : A} → then (placed (directionSaid e) p) g ≡ fine t → (d : Direction) × (e ≡ some d)
-  no-direction none p g h = no-fault h
+  no-direction none p g h = fine-fault h
   no-direction (some d) p g h = (d, refl)
 
   -- what a parm line that passes says
@@ -222,10 +220,10 @@ module _ (n : Seen) where
           ((ys : List Value) → c ≡ fine ys → 3 * length (parts (n .curves) ws) ≡ length ws) →
           3 * length (onPart x y z (parts (n .curves) ws)) ≡ suc (suc (suc (length ws)))
       go (says u) (says v) (says l) (fine ys) d r = let j = r ys refl in omega arith
-      go (says u) (says v) (says l) (fault q p) d r = no-fault d
-      go (says u) (says v) (wrong l) c d r = no-fault d
-      go (says u) (wrong l) z c d r = no-fault d
-      go (wrong l) y z c d r = no-fault d
+      go (says u) (says v) (says l) (fault q p) d r = fine-fault d
+      go (says u) (says v) (wrong l) c d r = fine-fault d
+      go (says u) (wrong l) z c d r = fine-fault d
+      go (wrong l) y z c d r = fine-fault d
 
 module _ (x : State) (o : Open) (is : x .open-body ≡ some o) (surface : isSurface (o .body .free) ≡ true) (key : ℕ) (r : Rest) where
   may-loop : inBody (x .open-body) isSurface ≡ true

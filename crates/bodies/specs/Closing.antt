@@ -7,7 +7,7 @@ use lib.ListN.{length, getD}
 use lib.Dec.{eqb}
 use lib.Seq.{sets}
 use lib.IntN.{ℤ, pos}
-use Rattle.tables.specs.Bodies.{inOrder, curveCount, surfaceCount}
+use Rattle.tables.specs.Bodies.{inOrder, curveCount, surfaceCount, basisOf}
 use Rattle.tables.specs.declared.Used.{Used}
 use Rattle.model.specs.Model.{Body}
 use Rattle.model.specs.Statements.{settled}
@@ -15,7 +15,7 @@ use Rattle.model.specs.Parse.{complete, countsAgree, inRange}
 use Rattle.model.specs.Layout.{firstPart, rangeRow}
 use Rattle.state.specs.declared.Form.{Form}
 use Rattle.state.specs.declared.Open.{Open}
-use Rattle.bodies.specs.Types.{basisOf, freeOf}
+use Rattle.bodies.specs.Types.{freeOf}
 use Rattle.bodies.specs.Numbers.{numbersAt}
 use Rattle.bodies.specs.declared.closing.Judged.{Judged}
 use Rattle.bodies.specs.declared.closing.Judged.the-variants as judged

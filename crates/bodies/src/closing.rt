@@ -1,6 +1,4 @@
 // The end of a body: its parameters held against its controls and ranges, then stored with its record.
-use crate::counts::curve_count;
-use crate::counts::surface_count;
 use crate::numbers::Counted;
 use crate::numbers::Step;
 use crate::numbers::count_numbers;
@@ -8,6 +6,8 @@ use crate::numbers::next_number;
 use crate::ranges::end_of;
 use crate::ranges::in_range;
 use crate::ranges::start_of;
+use basis::curve_count;
+use basis::surface_count;
 use state::Form;
 use state::Open;
 use tables::Used;

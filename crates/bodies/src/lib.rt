@@ -1,6 +1,5 @@
 // The statements of a body: parm, trim, hole, and its end.
 pub mod closing; // end
-pub mod counts; // the controls that parameters ask for
 pub mod loops; // trim and hole
 pub mod numbers;
 pub mod parm;

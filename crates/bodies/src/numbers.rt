@@ -1,16 +1,16 @@
 // The numbers of a line, gone through without storing them: those of a parm are wanted at the body's end only.
+use basis::follows;
 use forms::number::Number;
 use forms::number::number_at;
 use text::Met;
 use text::gap;
 ghost use mathlib.Core.Path.{_≡_};
-ghost use mathlib.Core.List.{[], _∷_};
+ghost use mathlib.Core.List.{_∷_};
 ghost use Prim.Native.Nat.{_≤_};
 ghost use lib.ListN.{length, getD};
 ghost use lib.IntN.{pos};
-ghost use Rattle.tables.specs.Bodies.{ordered};
+ghost use Rattle.tables.specs.Bodies.{ordered, basisOf};
 ghost use Rattle.bodies.specs.Numbers.{numbersAt, stepIs, countedIs};
-ghost use Rattle.bodies.specs.Types.{basisOf};
 
 pub enum Step {
     Number { value: i32, end: usize },
@@ -92,16 +92,6 @@ pub fn number_of(text: &[u8], at: usize, index: usize) -> i32
             }
         }
     }
-}
-
-// Whether b may follow a: knots never decrease, other parameters increase.
-fn follows(basis: u32, a: i32, b: i32) -> bool
-    ensures { λ r. ⌜ r ≡ ordered (basisOf basis) (a ∷ b ∷ []) ⌝ }
-{
-    if basis == 2 {
-        return a <= b;
-    }
-    a < b
 }
 
 // Whether the numbers that follow `first` are in the order that the type asks for.

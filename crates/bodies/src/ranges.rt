@@ -6,9 +6,8 @@ ghost use mathlib.Core.Bool.{cond};
 ghost use Prim.Native.Nat.{_≤_, _-_};
 ghost use lib.ListN.{length};
 ghost use lib.Dec.{eqb};
-ghost use Rattle.tables.specs.Bodies.{low, high, inOrder};
+ghost use Rattle.tables.specs.Bodies.{low, high, inOrder, basisOf};
 ghost use Rattle.bodies.specs.Numbers.{numbersAt};
-ghost use Rattle.bodies.specs.Types.{basisOf};
 
 fn less(a: usize, b: usize) -> usize
     ensures { λ r. ⌜ r ≡ a - b ⌝ }

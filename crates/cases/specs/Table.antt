@@ -14,6 +14,7 @@ use Rattle.model.specs.Room.{Rooms}
 use Rattle.model.specs.Read.{Answer, read, refused, readOf}
 use Rattle.curves.specs.Directions.{Basis, bezier, bspline, Direction, at}
 use Rattle.curves.specs.Sampled.{curveSampled}
+use Rattle.forms.specs.Examples.{sameInt, sameSaid}
 
 pub data Row : Type 0 where
   -- the word is a number of so many millionths, or is refused
@@ -26,18 +27,6 @@ pub data Row : Type 0 where
   reads : String → Row
   -- the curve with these parameters and controls has that point at t
   curve : Basis → ℕ → List ℤ → List ℤ → ℤ → ℤ → Row
-
-abbrev pub sameValue : ℤ → ℤ → Bool
-sameValue (pos a) (pos b) = eqb a b
-sameValue (pos a) (negsuc b) = false
-sameValue (negsuc a) (pos b) = false
-sameValue (negsuc a) (negsuc b) = eqb a b
-
-abbrev pub sameSaid : {A : Type 0} → (A → A → Bool) → Said A → Said A → Bool
-sameSaid f (says a) (says b) = f a b
-sameSaid f (says a) (wrong n) = false
-sameSaid f (wrong m) (says b) = false
-sameSaid f (wrong m) (wrong n) = eqb m n
 
 abbrev pub isRead : Answer → Bool
 isRead (read m) = true
@@ -52,11 +41,11 @@ abbrev pub roomy : Rooms
 roomy = record { v = 100; vt = 100; vn = 100; vp = 100; corners = 100; elements = 100; bodies = 100; ranges = 100; parameters = 100; loops = 100; spans = 100 }
 
 abbrev pub holds : Row → Bool
-holds (number w a) = sameSaid sameValue (numberOf (bytes w)) a
+holds (number w a) = sameSaid sameInt (numberOf (bytes w)) a
 holds (reference n w a) = sameSaid eqb (referenceOf n (bytes w)) a
 holds (refuses t n p) = isRefused (readOf roomy (bytes t)) n p
 holds (reads t) = isRead (readOf roomy (bytes t))
-holds (curve b n x c t y) = sameValue (curveSampled (record { basis = b; degree = n; controls = length c; parameters = x }) t (at c)) y
+holds (curve b n x c t y) = sameInt (curveSampled (record { basis = b; degree = n; controls = length c; parameters = x }) t (at c)) y
 
 abbrev pub minus : ℕ → ℤ
 minus n = pos 0 -ℤ pos n

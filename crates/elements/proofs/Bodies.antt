@@ -19,7 +19,7 @@ use Rattle.model.specs.Model as model
 use Rattle.model.specs.Layout.{cornerRow}
 use Rattle.state.specs.declared.Form.{Form}
 use Rattle.elements.specs.Bodies.{degreesIn, wideAt, wides, widesFor, wideIn}
-use Rattle.elements.proofs.Walking.{length-corners}
+use Rattle.model.proofs.Rows.{corners-length}
 
 -- ---- 11
 pub one-degree : (n : ℕ) → (n ≡ 0 → ⊥) → leb 1 n ≡ true
@@ -74,6 +74,6 @@ pub wides-for : (k : model.Free) (vp : List ℤ) (l : List ℕ) (first : ℕ) (c
 wides-for model.curve vp l first cs h = refl
 wides-for model.surface vp l first cs h = refl
 wides-for model.curve2 vp l first cs h =
-    let n = length-corners cs in
+    let n = corners-length cs in
     ap (wides vp (length cs)) (drop-sets l first (flat cornerRow cs) (omega arith))
     ∙ wides-stored vp cs (drop (first + length (flat cornerRow cs)) l)

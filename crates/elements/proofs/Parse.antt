@@ -21,10 +21,7 @@ use Rattle.elements.specs.Corners.{cornerSaid, cornersWalk}
 use Rattle.elements.specs.Elements.{ruleOf, elementSaid}
 use Rattle.elements.proofs.Taking.{enough, of-enough}
 use Rattle.elements.proofs.Values as W
-
-pub corners-map : (cs : List Corner) → cornersOf (map corner cs) ≡ cs
-corners-map [] = refl
-corners-map (c ∷ cs) = ap (λ (l : List Corner). c ∷ l) (corners-map cs)
+use Rattle.model.proofs.Values.{corners-of}
 
 -- ---- the words of a p, l or f line are read as its corners
 reads : (k : Shape) (x : State) → W.Reads (cornerSaid (usedIn x) (ruleOf k .form)) (seenIn x) (λ i. a-corner (parts k)) 0
@@ -50,7 +47,7 @@ taken-parse k x n r cs q u out e =
     let same = w .counted in
     let count : leb (fewest k) (length (r .words)) ≡ true = le-leb (fewest k) (length (r .words)) (omega arith) in
     let values : valuesOf (seenIn x) (λ i. a-corner (parts k)) 0 (r .words) ≡ fine (map corner cs) = w .values (seenIn x) (λ i. a-corner (parts k)) 0 (reads k x) in
-    let these = corners-map cs in
+    let these = corners-of cs in
     let alone = w .alone in
     record {
       bad = w .bad;
@@ -77,7 +74,7 @@ parse-said k x n r key t u good e =
     let c = then-fine values told t (b .1) in
     let v = W.valued h (seenIn x) (λ i. a-corner (parts k)) 0 (reads k x) ws (r .next) (c .0) (c .1) in
     let cs = v .corners in
-    let these : cornersOf (c .0) ≡ cs = ap cornersOf (v .whole) ∙ corners-map cs in
+    let these : cornersOf (c .0) ≡ cs = ap cornersOf (v .whole) ∙ corners-of cs in
     let d = unless-fine (unlike ws (cornersOf (c .0))) 9 (fine (element k (cornersOf (c .0)))) t (c .2) in
     let alone : unlike ws cs ≡ none = ap (unlike ws) (sym these) ∙ d .0 in
     let many = leb-true (fewest k) (length ws) (b .0) in

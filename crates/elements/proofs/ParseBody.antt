@@ -31,6 +31,7 @@ use Rattle.model.proofs.Parsed.{fine-is, must-fine, unless-fine, then-fine}
 use Rattle.elements.proofs.Wide.{Given, in-force, wide-narrow, narrow-wide}
 use Rattle.elements.proofs.Values as W
 use Rattle.elements.proofs.Ranges as R
+use Rattle.model.proofs.Values.{line-numbers, line-corners}
 
 -- ---- the words of the line: a range, then controls
 abbrev formIs : Free → ℕ → WordForm
@@ -91,7 +92,7 @@ module _ (k : Free) (x : State) (n : Used) (g : Form) (vp : List ℤ) (u : n ≡
         next = w .next;
         parsed = λ key.
             rw (out, count, values)
-            (ap₂ (λ (a : List Corner) (b : List ℤ). opened k x key after a b) (R.corners-after zs cs) (R.numbers-before zs cs) ∙ told key);
+            (ap₂ (λ (a : List Corner) (b : List ℤ). opened k x key after a b) (line-corners zs cs) (line-numbers zs cs) ∙ told key);
       }
 
   -- ---- and back
@@ -119,8 +120,8 @@ module _ (k : Free) (x : State) (n : Used) (g : Form) (vp : List ℤ) (u : n ≡
       let cs = w .corners in
       let zs = range .range in
       let all : c .0 ≡ map number zs ++ map corner cs = range .is ∙ ap (λ (l : List Value). map number zs ++ l) (w .whole) in
-      let these : cs ≡ cornersOf (c .0) = sym (ap cornersOf all ∙ R.corners-after zs cs) in
-      let those : zs ≡ numbersOf (c .0) = sym (ap numbersOf all ∙ R.numbers-before zs cs) in
+      let these : cs ≡ cornersOf (c .0) = sym (ap cornersOf all ∙ line-corners zs cs) in
+      let those : zs ≡ numbersOf (c .0) = sym (ap numbersOf all ∙ line-numbers zs cs) in
       let begun : opened k x key after cs zs ≡ fine s = ap₂ (λ (p : List Corner) (q : List ℤ). opened k x key after p q) these those ∙ c .2 in
       let last : Parsed Statement = fine (body (bodyOf k (x .form) zs) cs) in
       let wide : Parsed Statement = unless (narrowIn k (x .model .vertices) after cs) 12 last in

@@ -106,14 +106,3 @@ module _ (x : Seen) (form : ℕ → WordForm) where
             ap (λ (v : Said ℤ). onNumber v (numbersFrom m ws b q)) (a .said) ∙ ap (onto (a .head)) (t .walked);
         values = ap (λ (j : ℕ). valuesOf x form j (drop m ws)) at ∙ t .values;
       }
-
--- ---- a range and then corners
-pub corners-after : (zs : List ℤ) (cs : List Corner) → cornersOf (map number zs ++ map corner cs) ≡ cs
-corners-after [] [] = refl
-corners-after [] (c ∷ cs) = ap (λ (l : List Corner). c ∷ l) (corners-after [] cs)
-corners-after (z ∷ zs) cs = corners-after zs cs
-
-pub numbers-before : (zs : List ℤ) (cs : List Corner) → numbersOf (map number zs ++ map corner cs) ≡ zs
-numbers-before [] [] = refl
-numbers-before [] (c ∷ cs) = numbers-before [] cs
-numbers-before (z ∷ zs) cs = ap (λ (l : List ℤ). z ∷ l) (numbers-before zs cs)

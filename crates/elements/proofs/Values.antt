@@ -12,9 +12,10 @@ use Rattle.text.specs.Words.{Word}
 use Rattle.forms.specs.Said.{Said, says, wrong}
 use Rattle.forms.specs.Corner.{Corner, alike}
 use Rattle.model.specs.Parse.{Parsed, fine, fault, then, WordForm, Value, number, corner, onSaid, Seen, saidOf, placed, valuesOf, differing, unlike}
-use Rattle.vertices.proofs.Closed.{nothing, faulty}
+use Rattle.vertices.proofs.Closed.{nothing}
 use Rattle.elements.specs.Corners.{patternOf, follows, Found, ahead, onCorner, cornersFrom}
 use Rattle.elements.proofs.Patterns.{follows-alike, same-pattern}
+use Rattle.model.proofs.Parsed.{fine-fault}
 
 -- a value before the others
 pub record Headed {A : Type 0} (make : A → Value) (v : Said A) (y : Parsed (List Value)) (xs : List Value) : Type 0 where
@@ -26,8 +27,8 @@ pub record Headed {A : Type 0} (make : A → Value) (v : Said A) (y : Parsed (Li
 
 pub headed : {A : Type 0} (make : A → Value) (v : Said A) (p : ℕ) (y : Parsed (List Value)) (xs : List Value)
     → then (placed (onSaid make v) p) (λ a. then y (λ bs. fine (a ∷ bs))) ≡ fine xs → Headed make v y xs
-headed make (wrong n) p y xs e = faulty e
-headed make (says z) p (fault n m) xs e = faulty e
+headed make (wrong n) p y xs e = fine-fault e
+headed make (says z) p (fault n m) xs e = fine-fault e
 headed make (says z) p (fine ys) xs e = record { head = z; tail = ys; said = refl; rest = refl; whole = let f : make z ∷ ys ≡ xs = cc in sym f }
 
 module _ (h : List ℕ → Said Corner) where

@@ -21,13 +21,11 @@ use Rattle.forms.specs.declared.reference.Reference.{Reference}
 use Rattle.forms.specs.declared.reference.Reference.the-variants as reference
 use Rattle.model.specs.Parse.{onSaid}
 use Rattle.forms.proofs.Saids.{ended-says, ended-wrong}
-use Rattle.tables.proofs.Flat.{flat-append, length-flat}
+use Rattle.tables.proofs.Flat.{flat-append}
 use Rattle.model.specs.Layout.{cornerRow}
-use Rattle.vertices.proofs.Walking.{sets-append}
+use Rattle.lists.proofs.Laws.{sets-append}
 use Rattle.elements.specs.Corners.{control, patternOf, follows, Found, ahead, onCorner, cornersWalk, TookCorners, StoppedCorners}
-
-pub length-corners : (cs : List Corner) → length (flat cornerRow cs) ≡ 3 * length cs
-length-corners = length-flat cornerRow 3 (λ c. refl)
+use Rattle.model.proofs.Rows.{corners-length}
 
 -- corners already stored, before those to come
 abbrev pub after : List Corner → Found → Found
@@ -179,7 +177,7 @@ module _ (h : List ℕ → Said Corner) (s : List ℕ) (at first : ℕ) (l : Lis
             let o = w .counted in
             let b = w .small in
             let fu = further in
-            let lf = length-corners (w .done) in
+            let lf = corners-length (w .done) in
             let pl : first + length (flat cornerRow (w .done)) ≡ n = omega arith in
             record {
               to = fu .1;

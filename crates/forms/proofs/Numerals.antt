@@ -30,7 +30,7 @@ pub full-length : (k n : ℕ) → length (full k n) ≡ k
 full-length zero n = refl
 full-length (suc k) n = let z = full-length k (n / 10) in let y = length-append (full k (n / 10)) ((n % 10 + 48) ∷ []) in omega arith
 
-smaller : (k n : ℕ) → n < 10 ^ suc k → n / 10 < 10 ^ k
+pub smaller : (k n : ℕ) → n < 10 ^ suc k → n / 10 < 10 ^ k
 smaller k n h = let e = pow-suc 10 k in omega arith
 
 pub full-value : (k a n : ℕ) → n < 10 ^ k → natOf a (full k n) ≡ a * 10 ^ k + n

@@ -1,4 +1,4 @@
--- 01's cases at the edges, and the cases that follow from its forms: rows of one table with one claim.
+-- Cases that follow from 01's forms of words: rows of one table with one claim. 01's own cases at the edges are the table of the crate cases.
 use Prim.Native.Nat.{ℕ}
 use Prim.{tt}
 use mathlib.Core.List.{List, [], _∷_, _++_}
@@ -28,7 +28,7 @@ pub data Row : Type 0 where
 abbrev append : List ℕ → List ℕ → List ℕ
 append a b = a ++ b
 
-abbrev sameInt : ℤ → ℤ → Bool
+abbrev pub sameInt : ℤ → ℤ → Bool
 sameInt (pos a) (pos b) = eqb a b
 sameInt (pos a) (negsuc b) = false
 sameInt (negsuc a) (pos b) = false
@@ -37,7 +37,7 @@ sameInt (negsuc a) (negsuc b) = eqb a b
 abbrev sameCorner : Corner → Corner → Bool
 sameCorner x y = eqb (x .v) (y .v) && (eqb (x .vt) (y .vt) && eqb (x .vn) (y .vn))
 
-abbrev sameSaid : {A : Type 0} → (A → A → Bool) → Said A → Said A → Bool
+abbrev pub sameSaid : {A : Type 0} → (A → A → Bool) → Said A → Said A → Bool
 sameSaid f (says a) (says b) = f a b
 sameSaid f (says a) (wrong n) = false
 sameSaid f (wrong n) (says b) = false
@@ -54,33 +54,14 @@ holds (written w a) = same w a
 
 unfoldable pub table : List Row
 table =
-    -- ---- the cases at the edges marked * : numbers
-    -- 0.0000005
-    number (48 ∷ 46 ∷ 48 ∷ 48 ∷ 48 ∷ 48 ∷ 48 ∷ 48 ∷ 53 ∷ []) (says (pos 1)) ∷
-    -- -0.0000005
-    number (45 ∷ 48 ∷ 46 ∷ 48 ∷ 48 ∷ 48 ∷ 48 ∷ 48 ∷ 48 ∷ 53 ∷ []) (says (negsuc 0)) ∷
-    -- 0.0000004999
-    number (48 ∷ 46 ∷ 48 ∷ 48 ∷ 48 ∷ 48 ∷ 48 ∷ 48 ∷ 52 ∷ 57 ∷ 57 ∷ 57 ∷ []) (says (pos 0)) ∷
-    -- -0
-    number (45 ∷ 48 ∷ []) (says (pos 0)) ∷
-    -- 2000.0000004
-    number (50 ∷ 48 ∷ 48 ∷ 48 ∷ 46 ∷ 48 ∷ 48 ∷ 48 ∷ 48 ∷ 48 ∷ 48 ∷ 52 ∷ []) (says (pos 2000000000)) ∷
-    -- 2000.0000005
-    number (50 ∷ 48 ∷ 48 ∷ 48 ∷ 46 ∷ 48 ∷ 48 ∷ 48 ∷ 48 ∷ 48 ∷ 48 ∷ 53 ∷ []) (wrong 7) ∷
-    -- .
-    number (46 ∷ []) (wrong 6) ∷
-    -- 1e3
-    number (49 ∷ 101 ∷ 51 ∷ []) (wrong 6) ∷
-    -- ---- with 4 vertices
-    -- -4 of 4
-    reference 4 (45 ∷ 52 ∷ []) (says 1) ∷
-    -- -5 of 4
-    reference 4 (45 ∷ 53 ∷ []) (wrong 8) ∷
+    -- ---- references to one of 4
     -- 0 of 4
     reference 4 (48 ∷ []) (wrong 8) ∷
     -- 5 of 4
     reference 4 (53 ∷ []) (wrong 8) ∷
-    -- ---- further numbers
+    -- ---- numbers
+    -- 1.2345675
+    number (49 ∷ 46 ∷ 50 ∷ 51 ∷ 52 ∷ 53 ∷ 54 ∷ 55 ∷ 53 ∷ []) (says (pos 1234568)) ∷
     -- 5.
     number (53 ∷ 46 ∷ []) (says (pos 5000000)) ∷
     -- .5

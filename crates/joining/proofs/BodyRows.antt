@@ -17,7 +17,7 @@ use Rattle.tables.specs.declared.Used.{Used}
 use Rattle.model.specs.Model.{Body, Kind, free, Element, Model}
 use Rattle.model.specs.Room.{summed, partCount}
 use Rattle.model.specs.Layout.{firstPart, flag, bodyRow, bodyRows, rangeRow, bodyOf, bodiesOf, parameterRow, loopRows, spanRows}
-use Rattle.state.proofs.Rows.{bodyRows-length, bodyRows-append, rangeRows-length, parameterRows-length, loopRows-length, spanRows-length, bodies-append, summed-append}
+use Rattle.model.proofs.Rows.{bodyRows-length, bodyRows-append, rangeRows-length, parameterRows-length, loopRows-length, spanRows-length, bodies-append, summed-append}
 use Rattle.rules.specs.Bodies.{recordObeys, bodyObeys}
 use Rattle.joining.proofs.Stands.{Stands, stands-at, stands-is, stands-part, stands-flat, Among}
 use Rattle.joining.proofs.Laid.{Laid}

@@ -19,7 +19,7 @@ use Rattle.tables.specs.declared.Used.{Used}
 use Rattle.tables.proofs.Flat.{getD-flat}
 use Rattle.model.specs.Layout.{cornerRow}
 use Rattle.tidying.proofs.Standing.{uniform}
-use Rattle.state.proofs.Rows.{corners-length}
+use Rattle.model.proofs.Rows.{corners-length}
 use Rattle.rules.specs.Vertices.{vertexObeys}
 use Rattle.rules.specs.Corners.{leastCorners, withTexture, withNormal, attributeObeys, pointObeys, cornerObeys, eachCorner, cornersObey}
 use Rattle.rules.proofs.Below.{below-all}

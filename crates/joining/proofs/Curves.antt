@@ -28,16 +28,12 @@ use Rattle.tidying.specs.Tidied.{unsettled, unfilled}
 use Rattle.tidying.proofs.Standing.{Sound, Opens}
 use Rattle.tidying.proofs.Good.{formIn, LoopsIn, SecondIn, GoodBody}
 use Rattle.rules.specs.Numbers.{eqZ}
-use Rattle.rules.specs.Directions.{widest}
+use Rattle.basis.specs.Widest.{widest}
 use Rattle.rules.specs.Bodies.{flatObeys, curveObeys, recordObeys}
+use Rattle.tidying.proofs.Bodies.{unsettled-free}
 use Rattle.joining.proofs.BodyRows.{laidBody, BodyRow, us-are}
-use Rattle.joining.proofs.Directions.{basis-back, Needed, degree-obeys, needed-u, type-obeys, Parameters, parameters-obey}
-
--- ---- the kind stays that of the line
-pub unsettled-free : (k : Free) (b : Body) → unsettled k b .free ≡ b .free
-unsettled-free curve b = refl
-unsettled-free curve2 b = refl
-unsettled-free surface b = refl
+use Rattle.tables.proofs.Types.{basis-back}
+use Rattle.joining.proofs.Directions.{Needed, degree-obeys, needed-u, type-obeys, Parameters, parameters-obey}
 
 module _ (x : Vertices) (n : ℕ) (b : Body) (cs : List Corner) (g : GoodBody x n b cs) (k : Free) (q : b .free ≡ k) where
   pub forced : inForce k (formIn b) (some (b .basis)) ≡ true

@@ -14,7 +14,7 @@ use Rattle.lists.proofs.Tests.{and-left, and-right, and-both}
 use Rattle.lists.proofs.Laws.{all-append}
 use Rattle.forms.specs.Corner.{Corner}
 use Rattle.forms.specs.Fits.{numberFits}
-use Rattle.tables.specs.Bodies.{Basis, bezier, bspline, cardinal, taylor, basisNumber}
+use Rattle.tables.specs.Bodies.{Basis, bezier, bspline, cardinal, taylor, basisNumber, basisOf}
 use Rattle.model.specs.Model.{Vertices, Free, curve, curve2, surface, Direction, Body, Form, start}
 use Rattle.model.specs.Statements.{body, parameters}
 use Rattle.model.specs.Parse.{WordForm, a-number, controlForm, formOf, a-body, parm, Value, number, corner, Seen, degreesNeeded, inForce, degreeIn, rangeWords, fewestControls}
@@ -24,15 +24,9 @@ use Rattle.tidying.proofs.Words.{Fitting}
 use Rattle.tidying.proofs.Shapes.{fitting-is}
 use Rattle.tidying.proofs.Standing.{seenOf, Fine}
 use Rattle.tidying.proofs.Good.{Always}
-use Rattle.rules.specs.Directions.{basisOf, degreeObeys, typeObeys, parametersObey}
+use Rattle.rules.specs.Directions.{degreeObeys, typeObeys, parametersObey}
 use Rattle.joining.proofs.Stands.{Stands}
 use Rattle.joining.proofs.Vertices.{numbers-all, small-run}
-
-pub basis-back : (t : Basis) → basisOf (basisNumber t) ≡ t
-basis-back bezier = refl
-basis-back bspline = refl
-basis-back cardinal = refl
-basis-back taylor = refl
 
 -- ---- degrees
 abbrev pub Needed : Basis → ℕ → Type 0

@@ -19,7 +19,7 @@ use Rattle.model.specs.Model.{Vertices, Free, curve, curve2, surface, point, li
 use Rattle.model.specs.Statements.{smoothing}
 use Rattle.model.specs.Room.{summed, ofKind}
 use Rattle.model.specs.Layout.{cornerRow, cornerRows, kindNumber, bodyNumber, elementRow, elementRows, bodiesOf}
-use Rattle.state.proofs.Rows.{elementRows-length, elementRows-append, cornerRows-length, bodies-length}
+use Rattle.model.proofs.Rows.{elementRows-length, elementRows-append, cornerRows-length, bodies-length}
 use Rattle.tidying.proofs.Good.{Always, GoodNames, GoodKind, plus, GoodElements}
 use Rattle.tidying.proofs.Keep.{after, after-is, curves-add}
 use Rattle.rules.specs.Corners.{cornersObey}

@@ -15,7 +15,7 @@ use Rattle.model.specs.Room.{Rooms, summed, partCount, needed}
 use Rattle.model.specs.Read.{read, readOf}
 use Rattle.model.specs.Layout.{cornerRows, elementRows, bodiesOf, bodyRows, rangeRow, parameterRow, loopRows, spanRows, itself, tablesOf, usedOf}
 use Rattle.state.proofs.Rooms.{Within, fits-parts}
-use Rattle.state.proofs.Rows.{cornerRows-length, elementRows-length, bodyRows-length, rangeRows-length, parameterRows-length, loopRows-length, spanRows-length, bodies-summed, bodies-length}
+use Rattle.model.proofs.Rows.{cornerRows-length, elementRows-length, bodyRows-length, rangeRows-length, parameterRows-length, loopRows-length, spanRows-length, bodies-summed, bodies-length}
 use Rattle.tidying.proofs.Good.{GoodVertices, GoodElements}
 use Rattle.tidying.proofs.Reading.{read-came}
 use Rattle.tidying.proofs.Rows.{wide-length}

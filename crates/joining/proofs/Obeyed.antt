@@ -26,6 +26,7 @@ use Rattle.rules.specs.Corners.{leastCorners, withTexture, withNormal, pointObe
 use Rattle.rules.specs.Bodies.{recordObeys}
 use Rattle.rules.specs.Rules.{obeys, curvesBefore}
 use Rattle.joining.specs.Joined.{EveryElementObeys}
+use Rattle.tidying.proofs.Bodies.{unsettled-free}
 use Rattle.joining.proofs.Stands.{Among, among}
 use Rattle.joining.proofs.Vertices.{all-at, control-obeys}
 use Rattle.joining.proofs.Corners.{noCorner, CornerKept}
@@ -34,7 +35,7 @@ use Rattle.joining.proofs.Elements.{Good, good-element, cornersIn, row-
 use Rattle.joining.proofs.Plain.{fitting-at, corner-fits, Pattern, corner-kept, its-corners, plain-obeys}
 use Rattle.joining.proofs.BodyRows.{body-among, laidBody, parametersIn, BodyRow, body-row, body-obeys}
 use Rattle.joining.proofs.Directions.{Controls, controls-of, parameters-of}
-use Rattle.joining.proofs.Curves.{unsettled-free, curve-kept, curve2-kept, curve-record}
+use Rattle.joining.proofs.Curves.{curve-kept, curve2-kept, curve-record}
 use Rattle.joining.proofs.Surfaces.{surface-kept, surface-record}
 
 curve-pattern : Pattern 4 2 (record { vt = false; vn = false })

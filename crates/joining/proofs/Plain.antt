@@ -16,7 +16,7 @@ use Rattle.model.specs.Model.{geometric, texture, normal, Vertices, Shape, poin
 use Rattle.model.specs.Statements.{element}
 use Rattle.model.specs.Parse.{WordForm, a-corner, corner, Seen, parts, fewest}
 use Rattle.model.specs.Layout.{shapeNumber, kindNumber, bodyNumber, bodiesOf}
-use Rattle.state.proofs.Rows.{summed-append}
+use Rattle.model.proofs.Rows.{summed-append}
 use Rattle.tidying.proofs.Words.{Fits, Fitting}
 use Rattle.tidying.proofs.Standing.{seenOf, uniform, Fine}
 use Rattle.tidying.proofs.Good.{GoodKind}

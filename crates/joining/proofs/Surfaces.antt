@@ -19,7 +19,8 @@ use Rattle.tidying.proofs.Good.{formIn, GoodLoops, GoodBody}
 use Rattle.tidying.proofs.SameElements.{loops-parted}
 use Rattle.rules.specs.Bodies.{directionsObey, surfaceObeys, recordObeys}
 use Rattle.joining.proofs.BodyRows.{laidBody, BodyRow, us-are, vs-are}
-use Rattle.joining.proofs.Directions.{basis-back, Needed, degree-obeys, needed-u, needed-v, type-obeys, Parameters, parameters-of, parameters-obey}
+use Rattle.tables.proofs.Types.{basis-back}
+use Rattle.joining.proofs.Directions.{Needed, degree-obeys, needed-u, needed-v, type-obeys, Parameters, parameters-of, parameters-obey}
 use Rattle.joining.proofs.Curves.{forced, gives, counts, ranged, seconds, loops-in}
 use Rattle.joining.proofs.Loops.{begun-ok, loops-obey}
 

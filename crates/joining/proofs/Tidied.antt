@@ -14,7 +14,7 @@ use Rattle.tables.proofs.Filled.{getD-filled}
 use Rattle.model.specs.Model.{Vertices, Body, Element, Model}
 use Rattle.model.specs.Room.{Rooms, summed, ofKind}
 use Rattle.model.specs.Layout.{cornerRows, elementRow, elementRows, bodiesOf, bodyRows, rangeRow, parameterRow, loopRows, spanRows, itself, tablesOf, usedOf}
-use Rattle.state.proofs.Rows.{elementRows-length}
+use Rattle.model.proofs.Rows.{elementRows-length}
 use Rattle.tidying.specs.Agree.{bareElement, bareElements, bare, Agree}
 use Rattle.tidying.proofs.Bare.{summed-bare, length-bare}
 use Rattle.tidying.proofs.TablesAgree.{bodies-bare, corners-bare, agreed}

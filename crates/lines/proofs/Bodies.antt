@@ -30,7 +30,7 @@ use Rattle.state.specs.declared.Names.{Names}
 use Rattle.state.specs.State.{ParmAt, usedIn}
 use Rattle.state.specs.Image.{imageOf}
 use Rattle.state.specs.Numbers.{numbersWalk}
-use Rattle.state.proofs.Rows.{bodyRows-length, rangeRows-length, bodies-length}
+use Rattle.model.proofs.Rows.{bodyRows-length, rangeRows-length, bodies-length}
 use Rattle.state.proofs.Stored.{range-stored, half-range-stored, no-range-stored}
 use Rattle.state.proofs.Images.{state, withElement, withRange, body-image}
 use Rattle.state.proofs.Bounds.{Bounded}

@@ -28,7 +28,7 @@ use Rattle.state.specs.declared.State.{State}
 use Rattle.state.specs.declared.Names.{Names}
 use Rattle.state.specs.State.{usedIn}
 use Rattle.state.specs.Image.{imageOf}
-use Rattle.state.proofs.Rows.{summed-append, cornerRows-length, elementRows-length}
+use Rattle.model.proofs.Rows.{summed-append, cornerRows-length, elementRows-length}
 use Rattle.state.proofs.Images.{state, withElement, element-image}
 use Rattle.state.proofs.Bounds.{Bounded}
 use Rattle.state.proofs.Rooms.{fits-parts, parts-fit}

@@ -31,7 +31,7 @@ use Rattle.state.specs.declared.State.{State}
 use Rattle.state.specs.declared.Form.{Form}
 use Rattle.state.specs.State.{StateIs, formIn, usedIn}
 use Rattle.state.specs.Image.{imageOf}
-use Rattle.state.proofs.Rows.{summed-append, bodyRows-length, rangeRows-length, parameterRows-length, bodies-length, bodies-summed}
+use Rattle.model.proofs.Rows.{summed-append, bodyRows-length, rangeRows-length, parameterRows-length, bodies-length, bodies-summed}
 use Rattle.state.proofs.Bounds.{Bounded}
 use Rattle.state.proofs.Images.{state, withBody}
 use Rattle.state.proofs.Ends.{end-image, settled-us, settled-vs, settled-loops}

@@ -27,7 +27,7 @@ use Rattle.model.specs.Read.{keywordOf}
 use Rattle.state.specs.declared.State.{State}
 use Rattle.state.specs.State.{StateIs, usedIn}
 use Rattle.state.specs.Image.{imageOf}
-use Rattle.state.proofs.Rows.{summed-append, loopRows-length, spanRows-length, bodies-summed}
+use Rattle.model.proofs.Rows.{summed-append, loopRows-length, spanRows-length, bodies-summed}
 use Rattle.state.proofs.Bounds.{Bounded}
 use Rattle.state.proofs.Images.{state, withLoops, loop-image}
 use Rattle.state.proofs.Rooms.{Within, fits-parts, parts-fit}

@@ -19,7 +19,7 @@ use Rattle.model.specs.Parse as says
 use Rattle.model.specs.Layout.{freeNumber, bodyRow, rangeRow, parameterRow}
 use Rattle.state.specs.declared.Form.{Form}
 use Rattle.state.specs.State.{basisIn, formIn}
-use Rattle.state.proofs.Rows.{rangeRows-length}
+use Rattle.model.proofs.Rows.{rangeRows-length}
 use Rattle.state.proofs.Ends.{settled-free}
 use Rattle.lines.specs.OpenBody.{typeFor, degreeFor, formFor, curvesWith}
 

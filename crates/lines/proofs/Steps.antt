@@ -20,27 +20,14 @@ use Rattle.model.specs.Read.{keywordOf, statement, step}
 use Rattle.state.proofs.Bounds.{Bounded, bounded-after}
 use Rattle.state.proofs.Lines.{Line, line-of, line-small}
 use Rattle.lines.specs.Holding.{lineSays}
+use Rattle.text.proofs.Tokens.{few}
 
 -- ---- a line has no more words than bytes
-one-word : (w : Word) (ws : List Word) (n : ℕ) (t : Bool) → length ws ≤ n → length (cond t (w ∷ ws) ws) ≤ suc n
-one-word w ws n true h = omega arith
-one-word w ws n false h = omega arith
-
-one-byte : (m : Mode) (p b : ℕ) (bs : List ℕ) → ((n : Mode) → length (words n (suc p) bs) ≤ length bs) → (l : Look)
-    → length (onward l (λ n. cond (opens m n) (record { place = p; bytes = wordOf (b ∷ bs) } ∷ words n (suc p) bs) (words n (suc p) bs)) [] []) ≤ suc (length bs)
-one-byte m p b bs h (goes n) = one-word (record { place = p; bytes = wordOf (b ∷ bs) }) (words n (suc p) bs) (length bs) (opens m n) (h n)
-one-byte m p b bs h ends = omega arith
-one-byte m p b bs h lines.refused = omega arith
-
-words-short : (m : Mode) (p : ℕ) (l : List ℕ) → length (words m p l) ≤ length l
-words-short m p [] = omega arith
-words-short m p (b ∷ bs) = one-byte m p b bs (λ n. words-short n (suc p) bs) (look m b bs)
-
 pub words-within : (s : List ℕ) (at : ℕ) → at + length ((restAt s at) .words) ≤ (restAt s at) .next
 unfolding restAt
 words-within s at =
     let e : ℕ = extent gap (drop at s) in
-    let a = words-short gap at (take e (drop at s)) in
+    let a = few gap at (take e (drop at s)) in
     let b : length (take e (drop at s)) ≡ Prim.Native.Nat.min e (length (drop at s)) = length-take e (drop at s) in
     let c : ℕ = ending (drop e (drop at s)) in
     omega arith

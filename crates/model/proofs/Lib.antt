@@ -1,3 +1,4 @@
 mod Examples
 pub mod Parsed
 pub mod Values
+pub mod Rows

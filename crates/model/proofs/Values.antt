@@ -1,11 +1,12 @@
--- The values of a line are as many as its words, and no kind of them is more.
+-- The values of a line are as many as its words, no kind of them is more, and numbers and corners are told back.
 use Prim.Native.Nat.{ℕ, zero, suc, _+_, _*_, _≤_, _<_}
 use mathlib.Core.Path.{_≡_, refl, sym, ap, _∙_}
-use mathlib.Core.List.{List, [], _∷_, _++_}
+use mathlib.Core.List.{List, [], _∷_, _++_, map}
 use native.Mathlib.Omega.{arith}
 use lib.ListN.{length, drop}
 use lib.IntN.{ℤ}
 use Rattle.text.specs.Words.{Word}
+use Rattle.forms.specs.Corner.{Corner}
 use Rattle.model.specs.Parse.{Parsed, fine, fault, then, placed, WordForm, Value, number, corner, whole, direction, basis, name, nothing, Seen, saidOf, valuesOf, numbersOf, cornersOf, wholesOf, namesOf, partsOf}
 use Rattle.model.proofs.Parsed.{then-fine, fine-is}
 
@@ -50,3 +51,24 @@ wholes-few (nothing ∷ xs) = let i = wholes-few xs in omega arith
 pub parts-length : (zs : List ℤ) (ks : List ℕ) → length (partsOf zs ks) ≡ length ks
 parts-length zs [] = refl
 parts-length zs (k ∷ ks) = ap suc (parts-length (drop 2 zs) ks)
+
+-- ---- told back
+pub numbers-of : (z : List ℤ) → numbersOf (map number z) ≡ z
+numbers-of [] = refl
+numbers-of (a ∷ z) = ap (λ (r : List ℤ). a ∷ r) (numbers-of z)
+
+pub corners-of : (cs : List Corner) → cornersOf (map corner cs) ≡ cs
+corners-of [] = refl
+corners-of (c ∷ cs) = ap (λ (r : List Corner). c ∷ r) (corners-of cs)
+
+no-numbers : (cs : List Corner) → numbersOf (map corner cs) ≡ []
+no-numbers [] = refl
+no-numbers (c ∷ cs) = no-numbers cs
+
+pub line-numbers : (z : List ℤ) (cs : List Corner) → numbersOf (map number z ++ map corner cs) ≡ z
+line-numbers [] cs = no-numbers cs
+line-numbers (a ∷ z) cs = ap (λ (r : List ℤ). a ∷ r) (line-numbers z cs)
+
+pub line-corners : (z : List ℤ) (cs : List Corner) → cornersOf (map number z ++ map corner cs) ≡ cs
+line-corners [] cs = corners-of cs
+line-corners (a ∷ z) cs = line-corners z cs

@@ -25,7 +25,7 @@ use Rattle.model.specs.Layout.{tablesOf, usedOf, nothing, bodiesOf}
 use Rattle.state.specs.declared.State.{State}
 use Rattle.state.specs.State.{StateIs, usedIn, namesIn, formIn}
 use Rattle.state.specs.Image.{imageOf}
-use Rattle.state.proofs.Rows.{bodies-length, bodies-summed}
+use Rattle.model.proofs.Rows.{bodies-length, bodies-summed}
 use Rattle.state.proofs.Images.{Wide}
 use Rattle.state.proofs.Bounds.{Bounded}
 use Rattle.state.proofs.Rooms.{Within, parts-fit}

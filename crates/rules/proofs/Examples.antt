@@ -12,7 +12,8 @@ use Rattle.tables.specs.declared.Used.{Used}
 use Rattle.rules.specs.Numbers.{small, smallRun}
 use Rattle.rules.specs.Vertices.{vertexObeys, givenObeys, parameterVertexObeys, controlObeys}
 use Rattle.rules.specs.Corners.{leastCorners, withTexture, withNormal, attributeObeys, pointObeys, cornerObeys, eachCorner, cornersObey}
-use Rattle.rules.specs.Directions.{degreeObeys, typeObeys, parametersObey, widest}
+use Rattle.rules.specs.Directions.{degreeObeys, typeObeys, parametersObey}
+use Rattle.basis.specs.Widest.{widest}
 use Rattle.rules.specs.Loops.{beginsObeys, partObeys, eachPart, loopsObey}
 use Rattle.rules.specs.Bodies.{flatObeys, curveObeys, directionsObey, surfaceObeys, recordObeys, bodyObeys}
 use Rattle.rules.specs.Rules.{obeys, elementObeys, curvesBefore}

@@ -11,11 +11,12 @@ use lib.Signed.{leZ}
 use Rattle.lists.proofs.Tests.{and-left, and-right}
 use Rattle.tables.specs.Tables.{Tables}
 use Rattle.tables.specs.Records.{Body, cornerAt, valueAt}
-use Rattle.tables.specs.Bodies.{inOrder, curveCount, surfaceCount}
+use Rattle.tables.specs.Bodies.{inOrder, curveCount, surfaceCount, basisOf}
 use Rattle.tables.specs.declared.Used.{Used}
 use Rattle.rules.specs.Vertices.{parameterVertexObeys, controlObeys}
 use Rattle.rules.specs.Corners.{leastCorners, withTexture, attributeObeys, pointObeys, cornerObeys, eachCorner, cornersObey}
-use Rattle.rules.specs.Directions.{basisOf, degreeObeys, typeObeys, widest}
+use Rattle.rules.specs.Directions.{degreeObeys, typeObeys}
+use Rattle.basis.specs.Widest.{widest}
 use Rattle.rules.specs.Bodies.{curveObeys, directionsObey}
 use Rattle.rules.proofs.Below.{below-at}
 use Rattle.rules.proofs.OneVertex.{Vertex, vertex-facts, parameter-facts}

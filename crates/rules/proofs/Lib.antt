@@ -1,12 +1,8 @@
-pub mod Tests
 pub mod Below
 pub mod Small
 pub mod Runs
-pub mod Order
-pub mod Products
 pub mod OneVertex
 pub mod EachCorner
-pub mod Basis
 pub mod EachPart
 pub mod OneBody
 pub mod Facts

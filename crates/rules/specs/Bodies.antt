@@ -7,10 +7,11 @@ use lib.Dec.{leb, eqb}
 use lib.IntN.{ℤ, pos}
 use Rattle.tables.specs.Tables.{Tables}
 use Rattle.tables.specs.Records.{Body, bodyAt, bodyWidth, rangeWidth, parametersU, parametersV, curve2Kind, surfaceKind}
-use Rattle.tables.specs.Bodies.{inOrder, curveCount, surfaceCount}
+use Rattle.tables.specs.Bodies.{inOrder, curveCount, surfaceCount, basisOf}
 use Rattle.tables.specs.declared.Used.{Used}
 use Rattle.rules.specs.Numbers.{eqZ}
-use Rattle.rules.specs.Directions.{basisOf, typeObeys, parametersObey, widest}
+use Rattle.rules.specs.Directions.{typeObeys, parametersObey}
+use Rattle.basis.specs.Widest.{widest}
 use Rattle.rules.specs.Loops.{loopsObey}
 
 -- "a curve's v entries are 0"; trims and holes "belong to surfaces"

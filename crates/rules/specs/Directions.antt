@@ -1,16 +1,10 @@
--- 01, "Records" and "Bodies": a body's type, degrees, parameters and ranges.
+-- 01, "Records" and "Bodies": a body's type, degrees and parameters.
 use Prim.Native.Nat.{ℕ, _+_}
 use mathlib.Core.List.{List}
 use mathlib.Core.Bool.{Bool, cond, not, _&&_, _||_}
 use lib.Dec.{leb, eqb}
 use lib.IntN.{ℤ}
-use lib.Signed.{leZ}
-use Rattle.tables.specs.Bodies.{Basis, bezier, bspline, cardinal, taylor, low, high}
 use Rattle.rules.specs.Numbers.{smallRun}
-
--- the type whose number is 1 to 4
-abbrev pub basisOf : ℕ → Basis
-basisOf type = cond (eqb type 1) bezier (cond (eqb type 2) bspline (cond (eqb type 3) cardinal taylor))
 
 -- "Degree: 1 to 3 digits, 1 to 20, else 7"; "Cardinal needs no deg; its degree is 3"
 unfoldable pub degreeObeys : ℕ → ℕ → Bool
@@ -25,7 +19,3 @@ typeObeys surface type rational m n =
 unfoldable pub parametersObey : Bool → List ℤ → ℕ → ℕ → ℕ → ℕ → Bool
 parametersObey surface l used first p q =
     leb (first + (p + q)) used && smallRun l first (p + q) && leb 2 p && cond surface (leb 2 q) (eqb q 0)
-
--- "A curv2's range is the widest allowed"
-unfoldable pub widest : Bool → Basis → ℕ → List ℤ → ℤ → ℤ → Bool
-widest curv2 t n x start end = not curv2 || leZ start (low t n x) && leZ (high t n x) end

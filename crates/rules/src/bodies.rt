@@ -7,13 +7,13 @@ ghost use Rattle.tables.specs.Records.{bodyAt, numberAt};
 ghost use Rattle.rules.specs.Directions.{degreeObeys, typeObeys, parametersObey};
 ghost use Rattle.rules.specs.Bodies.{flatObeys, curveObeys, directionsObey, surfaceObeys, recordObeys, bodyObeys, Lies};
 ghost use Rattle.rules.specs.Lent.{lent};
-use crate::directions::curve_count;
-use crate::directions::in_order;
-use crate::directions::surface_count;
-use crate::directions::widest;
 use crate::loops::loops_obey;
 use crate::numbers::same;
 use crate::numbers::small_run;
+use basis::curve_count;
+use basis::in_order;
+use basis::surface_count;
+use basis::widest;
 use tables::Used;
 
 fn degree_obeys(basis: u32, n: u32) -> bool

@@ -11,7 +11,6 @@ use tables::Used;
 
 mod bodies;
 mod corners;
-mod directions;
 mod loops;
 mod numbers;
 mod vertices;

@@ -14,18 +14,17 @@ use Rattle.lists.proofs.Tests.{and-left, and-right, test, never}
 use Rattle.whole.specs.Round.{Small}
 use Rattle.tables.specs.Tables.{Tables}
 use Rattle.tables.specs.Records.{Body, bodyAt, elementAt, cornerAt, parametersU, parametersV}
-use Rattle.tables.specs.Bodies.{enough, controls, inOrder, curveCount, surfaceCount}
+use Rattle.tables.specs.Bodies.{enough, controls, inOrder, curveCount, surfaceCount, basisOf}
 use Rattle.tables.specs.declared.Used.{Used}
 use Rattle.tables.specs.declared.Element.{Element}
 use Rattle.rules.specs.Numbers.{small}
-use Rattle.rules.specs.Directions.{basisOf}
 use Rattle.rules.specs.Rules.{obeys, curvesBefore}
 use Rattle.rules.specs.Bodies.{bodyObeys}
 use Rattle.rules.proofs.OneVertex.{Vertex}
 use Rattle.rules.proofs.OneBody.{Run, run-v}
 use Rattle.rules.proofs.Facts.{Corners, corner-vertex, corner-control, Curve, Surface, degree-facts}
 use Rattle.rules.proofs.Element.{Recorded, recorded, curve-of, surface-of, Obeys, obeys-facts, body-of}
-use Rattle.rules.proofs.Basis.{curve-enough, surface-enough-u, surface-enough-v}
+use Rattle.basis.proofs.Basis.{curve-enough, surface-enough-u, surface-enough-v}
 use Rattle.curves.specs.Directions.{at}
 use Rattle.sampler.specs.Places.{Sized}
 use Rattle.sampler.specs.Controls.{controlAt, Held}

@@ -14,8 +14,7 @@ use lib.Signed.{_≤ℤ_, _<ℤ_, leZ, ltZ, <ℤ-≤ℤ-trans}
 use Rattle.lists.proofs.Tests.{and-left, and-right}
 use Rattle.whole.specs.Round.{Small}
 use Rattle.whole.proofs.Order.{yes-le, yes-lt, ≤ℤ-trans, ≤ℤ-<ℤ-trans, <ℤ→≤ℤ}
-use Rattle.tables.specs.Bodies.{Basis, bezier, bspline, enough, rising, steady, ordered, low, high, ranged, inOrder}
-use Rattle.rules.specs.Directions.{basisOf}
+use Rattle.tables.specs.Bodies.{Basis, bezier, bspline, enough, rising, steady, ordered, low, high, ranged, inOrder, basisOf}
 use Rattle.curves.specs.Directions.{at, BezierRules, SplineRules, Rules}
 use Rattle.sampler.specs.Places.{direction, Sound}
 use Rattle.sampler.specs.Runs.{Ranged}

@@ -15,7 +15,7 @@ use Rattle.model.specs.Model.{VertexKind, geometric, texture, normal, parametri
 use Rattle.model.specs.Statements.{Statement, vertex, element, group, smoothing, material, type, degree, body, parameters, loop, end, passed, apply, settled, closed}
 use Rattle.model.specs.Parse.{Parsed, fine, fault, outside, inBody}
 use Rattle.model.specs.Room.{Rooms, summed, ofKind, ofOpen, partCount, cornerCount, elementCount, bodyCount, parameterCount, loopPartCount}
-use Rattle.state.proofs.Rows.{summed-append}
+use Rattle.model.proofs.Rows.{summed-append}
 use Rattle.state.proofs.Ends.{settled-us, settled-vs, settled-loops}
 
 -- the parameters of a body that has no end yet

@@ -15,7 +15,7 @@ use Rattle.model.specs.Statements.{Statement, end, apply, settled, closed}
 use Rattle.model.specs.Room.{Rooms, summed, ofKind, partCount}
 use Rattle.model.specs.Layout.{Run, runOf, listed, freeNumber, cornerRow, cornerRows, elementRow, elementRows, bodyRow, bodyRows, bodyOf, bodiesOf, rangeRow, parameterRow, loopRows, spanRows}
 use Rattle.state.specs.Image.{imageOf}
-use Rattle.state.proofs.Rows.{elementRows-append}
+use Rattle.model.proofs.Rows.{elementRows-append}
 use Rattle.state.proofs.Stored.{body-stored, range-stored, no-range-stored, parameters-stored}
 use Rattle.state.proofs.Images.{state, withBody}
 

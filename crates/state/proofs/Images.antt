@@ -19,7 +19,7 @@ use Rattle.model.specs.Statements.{Statement, vertex, element, group, smoothing
 use Rattle.model.specs.Room.{Rooms, summed, ofKind, partCount, cornerCount, elementCount, bodyCount, parameterCount, loopPartCount}
 use Rattle.model.specs.Layout.{Run, runOf, listed, freeNumber, beginning, itself, cornerRow, cornerRows, elementRow, elementRows, bodyRow, bodyRows, bodyOf, bodiesOf, rangeRow, parameterRow, loopRow, spanRow, loopRows, spanRows}
 use Rattle.state.specs.Image.{openElement, openBody, elementsIn, bodiesIn, imageOf}
-use Rattle.state.proofs.Rows.{summed-append, elementRows-append, loopRows-length, spanRows-length, partRows-length, spans-length, bodyRows-append, bodies-append, bodies-length}
+use Rattle.model.proofs.Rows.{summed-append, elementRows-append, loopRows-length, spanRows-length, partRows-length, spans-length, bodyRows-append, bodies-append, bodies-length}
 use Rattle.state.proofs.Stored.{stored-at, vertex-stored, corners-stored, element-stored, body-stored, range-stored, half-range-stored, no-range-stored, parameters-stored}
 
 -- ---- the tables with one of them changed

@@ -14,7 +14,7 @@ use Rattle.forms.specs.Corner.{Corner}
 use Rattle.model.specs.Model.{Kind, plain, free, Body, Part, Loop, Element}
 use Rattle.model.specs.Room.{summed, ofKind, partCount}
 use Rattle.model.specs.Layout.{itself, cornerRow, cornerRows, elementRow, elementRows, bodyRow, bodyRows, bodyOf, bodiesOf, rangeRow, parameterRow, loopRow, spanRow, loopRows, spanRows}
-use Rattle.state.proofs.Rows.{cornerRows-length, corners-length, elementRows-length, elementRows-append, bodyRows-length, bodyRows-append, rangeRows-length, parameterRows-length, loopRows-length, spanRows-length}
+use Rattle.model.proofs.Rows.{cornerRows-length, corners-length, elementRows-length, elementRows-append, bodyRows-length, bodyRows-append, rangeRows-length, parameterRows-length, loopRows-length, spanRows-length}
 
 -- at a place that is the number of used entries
 module _ {A : Type 0} (n : ℕ) (z : A) where

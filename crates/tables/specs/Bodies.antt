@@ -1,7 +1,7 @@
 -- 01, "Bodies": the rules of controls, parameters and ranges along one direction of a body. The reader and the test of records both use them.
 use Prim.Native.Nat.{ℕ, suc, _+_, _*_, _-_}
 use mathlib.Core.List.{List, [], _∷_}
-use mathlib.Core.Bool.{Bool, true, false, _&&_}
+use mathlib.Core.Bool.{Bool, true, false, cond, _&&_}
 use mathlib.Core.Option.{Option, none, some}
 use lib.ListN.{length, getD}
 use lib.Dec.{leb, eqb}
@@ -17,6 +17,10 @@ basisNumber bezier = 1
 basisNumber bspline = 2
 basisNumber cardinal = 3
 basisNumber taylor = 4
+
+-- the type whose number is 1 to 4
+abbrev pub basisOf : ℕ → Basis
+basisOf type = cond (eqb type 1) bezier (cond (eqb type 2) bspline (cond (eqb type 3) cardinal taylor))
 
 -- "Controls k along one direction, from p parameters and degree n"
 abbrev pub controls : Basis → ℕ → ℕ → ℕ

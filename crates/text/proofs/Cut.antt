@@ -31,13 +31,13 @@ less true y u v i h = h
 less false true u v i h = i h
 less false false u v i h = refl
 
-lf-cut : (k : ℕ) (l : List ℕ) → lf l ≡ false → lf (take k l) ≡ false
+pub lf-cut : (k : ℕ) (l : List ℕ) → lf l ≡ false → lf (take k l) ≡ false
 lf-cut zero [] h = refl
 lf-cut zero (b ∷ bs) h = refl
 lf-cut (suc k) [] h = refl
 lf-cut (suc k) (b ∷ bs) h = h
 
-end-cut : (k : ℕ) (l : List ℕ) → lineEnd l ≡ false → lineEnd (take k l) ≡ false
+pub end-cut : (k : ℕ) (l : List ℕ) → lineEnd l ≡ false → lineEnd (take k l) ≡ false
 end-cut zero [] h = refl
 end-cut zero (b ∷ bs) h = refl
 end-cut (suc k) [] h = refl
@@ -62,10 +62,10 @@ end-kept (b ∷ bs) h =
     (test (eqb b 10))
 
 -- ---- `plain` over its tests
-abbrev tested : Bool → Bool → Bool → Bool → Bool → Look
+abbrev pub tested : Bool → Bool → Bool → Bool → Bool → Look
 tested w k e f g = cond w (goes word) (cond k (goes gap) (cond e ends (cond f (cond g (goes join) refused) refused)))
 
-stays : (w k e f g e′ g′ : Bool) (n : Mode) → (e ≡ false → e′ ≡ false) → (n ≡ join → g ≡ true → g′ ≡ true) → tested w k e f g ≡ goes n
+pub stays : (w k e f g e′ g′ : Bool) (n : Mode) → (e ≡ false → e′ ≡ false) → (n ≡ join → g ≡ true → g′ ≡ true) → tested w k e f g ≡ goes n
     → tested w k e′ f g′ ≡ goes n
 stays true k e f g e′ g′ n a j h = h
 stays false true e f g e′ g′ n a j h = h
@@ -123,7 +123,7 @@ look-refused join b bs k h =
     ⊎-elim (λ (t : eqb b 10 ≡ true). goes-refused (sym (rw t at h))) (λ (t : eqb b 10 ≡ false). goes-refused (sym (rw t at h))) (test (eqb b 10))
 
 -- ---- words, cut
-no-word : (j b : ℕ) (bs : List ℕ) → isWord b ≡ false → wordOf (take j (b ∷ bs)) ≡ []
+pub no-word : (j b : ℕ) (bs : List ℕ) → isWord b ≡ false → wordOf (take j (b ∷ bs)) ≡ []
 no-word zero b bs t = refl
 no-word (suc j) b bs t = rw t refl
 

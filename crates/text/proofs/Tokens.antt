@@ -169,7 +169,7 @@ few-step m p b bs ih (goes n) e false o = let z : length (words n (suc p) bs) �
 few-step m p b bs ih ends e t o = rw e (omega arith)
 few-step m p b bs ih refused e t o = rw e (omega arith)
 
-few : (m : Mode) (p : ℕ) (l : List ℕ) → length (words m p l) ≤ length l
+pub few : (m : Mode) (p : ℕ) (l : List ℕ) → length (words m p l) ≤ length l
 few m p [] = omega arith
 few m p (b ∷ bs) = few-step m p b bs (λ n. few n (suc p) bs) (look m b bs) refl (opens m (onward (look m b bs) (λ n. n) gap gap)) refl
 

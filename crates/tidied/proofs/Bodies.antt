@@ -33,6 +33,7 @@ use Rattle.tidying.proofs.Rows.{Parted}
 use Rattle.tidier.specs.Rows.{kindKeyword, rangeCount, cornersFrom, elementWords, bodyIn, basisArgument, typeWords, formLines, parameterLine, parameterLines, loopLines, bodyLoops, endLine, ownLines}
 use Rattle.tidier.specs.declared.body.Body as written
 use Rattle.tidied.proofs.Loops.{loops-are}
+use Rattle.tidying.proofs.Bodies.{unsettled-free}
 
 -- ---- reading on from an entry
 pub number-in : (w i : ℕ) (l rows : List ℕ) → drop (w * i) l ≡ rows → (k : ℕ) → numberAt w l i k ≡ getD rows k 0
@@ -84,11 +85,6 @@ free-keyword : (f : Free) → kindKeyword (freeNumber f) ≡ freeKeyword f
 free-keyword curve = refl
 free-keyword curve2 = refl
 free-keyword surface = refl
-
-free-at : (f : Free) (b : Body) → unsettled f b .free ≡ b .free
-free-at curve b = refl
-free-at curve2 b = refl
-free-at surface b = refl
 
 range-is : (f : Free) (b : Body) (r : List ℤ) → take (rangeCount (freeNumber f)) (rangeRow b ++ r) ≡ rangeOf f (unfilled (unsettled f b))
 range-is curve b r = refl
@@ -181,4 +177,4 @@ module _ (C B : List ℕ) (G P : List ℤ) (L : List ℕ) (S : List ℤ) (s i j 
           ap (λ (k : ℕ). take (rangeCount (freeNumber (x .free))) (drop (4 * k) G)) d ∙ ap (take (rangeCount (freeNumber (x .free)))) eG ∙ range-is (x .free) x rG in
           ap₂ (λ (u : List (List ℕ)) (v : List (List ℕ)). keywordOf (kindKeyword (freeNumber (x .free))) ∷ (u ++ v)) (ap (map writtenNumber) a) corner-words
           ∙ ap (λ (u : Keyword). keywordOf u ∷ (map writtenNumber (rangeOf (x .free) (atLine x)) ++ map writtenCorner cs)) (free-keyword (x .free))
-          ∙ ap (λ (u : Free). keywordOf (freeKeyword u) ∷ (map writtenNumber (rangeOf u (atLine x)) ++ map writtenCorner cs)) (sym (free-at (x .free) x))
+          ∙ ap (λ (u : Free). keywordOf (freeKeyword u) ∷ (map writtenNumber (rangeOf u (atLine x)) ++ map writtenCorner cs)) (sym (unsettled-free (x .free) x))

@@ -11,7 +11,7 @@ use Rattle.forms.specs.Corner.{Corner}
 use Rattle.model.specs.Model.{Body, Kind, plain, free}
 use Rattle.model.specs.Room.{ofKind, partCount}
 use Rattle.model.specs.Layout.{cornerRow, kindNumber, bodyNumber, bodyRow, rangeRow, bodyOf, bodyRows, parameterRow, loopRows, spanRows}
-use Rattle.state.proofs.Rows.{loopRows-length, spanRows-length}
+use Rattle.model.proofs.Rows.{loopRows-length, spanRows-length}
 use Rattle.tidying.specs.Tidied.{elementLines}
 use Rattle.tidying.specs.Printed.{printed}
 use Rattle.tidying.proofs.SameElements.{PartedKind}

@@ -21,7 +21,7 @@ use Rattle.model.specs.Model.{Names, Body, Element}
 use Rattle.model.specs.Statements as statements
 use Rattle.model.specs.Room.{ofKind, partCount}
 use Rattle.model.specs.Layout.{runOf, listed, cornerRows, kindNumber, bodyNumber, elementRow, elementRows, bodiesOf}
-use Rattle.state.proofs.Rows.{corners-length}
+use Rattle.model.proofs.Rows.{corners-length}
 use Rattle.tidying.specs.Tidied.{groupLines, smoothingLines, materialLines, elementLines, elementsLines}
 use Rattle.tidying.specs.Printed.{printed}
 use Rattle.tidying.proofs.Values.{map-append}

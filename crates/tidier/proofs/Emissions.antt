@@ -5,7 +5,7 @@ use mathlib.Core.List.{List, [], _∷_, _++_}
 use native.Mathlib.Omega.{arith}
 use lib.ListN.{length, length-append}
 use lib.Seq.{sets, length-sets}
-use Rattle.writing.proofs.Stores.{sets-append}
+use Rattle.lists.proofs.Laws.{sets-append}
 use Rattle.tidier.specs.Emitting.{Emitted}
 
 -- nothing, a text that found room, and one that did not

@@ -21,6 +21,7 @@ use Rattle.tidying.specs.Printed.{coordinates, rangeOf, wordsAfter, dire
 use Rattle.tidying.proofs.Values.{keyOf, loopKey, valuesIn, partValues, typeValues, degreeValues, written, words-written}
 use Rattle.tidying.proofs.Words.{Small, stand, stands, values-back, direction-is}
 use Rattle.tidying.proofs.Standing.{uniform, wide, wideIn, Whole, Fine, Ends, Opens, Here}
+use Rattle.model.proofs.Values.{numbers-of, corners-of, line-numbers, line-corners}
 
 -- the statement with the line's words for its names
 abbrev pub firstOr : Word → List Word → Word
@@ -79,26 +80,6 @@ parts-nameless [] = refl
 parts-nameless (p ∷ ps) = parts-nameless ps
 
 -- ---- what the values of a line tell
-pub numbers-of : (z : List ℤ) → numbersOf (map number z) ≡ z
-numbers-of [] = refl
-numbers-of (a ∷ z) = ap (λ (r : List ℤ). a ∷ r) (numbers-of z)
-
-pub corners-of : (cs : List Corner) → cornersOf (map corner cs) ≡ cs
-corners-of [] = refl
-corners-of (c ∷ cs) = ap (λ (r : List Corner). c ∷ r) (corners-of cs)
-
-no-numbers : (cs : List Corner) → numbersOf (map corner cs) ≡ []
-no-numbers [] = refl
-no-numbers (c ∷ cs) = no-numbers cs
-
-pub line-numbers : (z : List ℤ) (cs : List Corner) → numbersOf (map number z ++ map corner cs) ≡ z
-line-numbers [] cs = no-numbers cs
-line-numbers (a ∷ z) cs = ap (λ (r : List ℤ). a ∷ r) (line-numbers z cs)
-
-pub line-corners : (z : List ℤ) (cs : List Corner) → cornersOf (map number z ++ map corner cs) ≡ cs
-line-corners [] cs = corners-of cs
-line-corners (a ∷ z) cs = line-corners z cs
-
 pub names-of : (ws : List Word) → namesOf (map name ws) ≡ ws
 names-of [] = refl
 names-of (w ∷ ws) = ap (λ (r : List Word). w ∷ r) (names-of ws)

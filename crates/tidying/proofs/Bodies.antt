@@ -14,6 +14,12 @@ use Rattle.tidying.specs.Tidied.{unsettled, unfilled, atLine}
 use Rattle.tidying.proofs.Standing.{Fine, Sound, Opens}
 use Rattle.tidying.proofs.Good.{Always, formIn, GoodLoops, LoopsIn, SecondIn, GoodBody, Given, GivenIn, GoodOpen}
 
+-- ---- the kind stays that of the line
+pub unsettled-free : (k : Free) (b : Body) → unsettled k b .free ≡ b .free
+unsettled-free curve b = refl
+unsettled-free curve2 b = refl
+unsettled-free surface b = refl
+
 -- ---- parm and loops
 given : (d : Direction) (z : List ℤ) → Always (parameters d z) → Given d z
 given d [] h = tt

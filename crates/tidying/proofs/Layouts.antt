@@ -11,9 +11,10 @@ use Rattle.tables.specs.Records.{cornerWidth}
 use Rattle.model.specs.Model.{Part, Loop, Body, free, Element}
 use Rattle.model.specs.Room.{summed, ofKind, partCount}
 use Rattle.model.specs.Layout.{listed, cornerRows, kindNumber, bodyNumber, elementRows, flag, rangeRow, bodyRows, parameterRow, beginning, partRow, partRows, loopRow, spanRow, loopRows, spanRows}
+use Rattle.model.proofs.Rows.{loops-length, loopSpans-length}
 use Rattle.tidying.specs.Agree.{unnamed, namesIn}
 use Rattle.tidying.proofs.Named.{ElementsStand}
-use Rattle.tidying.proofs.Rows.{append-inj, corners-length, basis-inj, flag-inj, Parted, loops-inj}
+use Rattle.tidying.proofs.Rows.{append-inj, basis-inj, flag-inj, Parted, loops-inj}
 
 -- ---- the table of elements, its names apart
 abbrev pub fives : ℕ → ℕ → List Element → List ℕ
@@ -38,75 +39,6 @@ names-in t c b [] z h = refl
 names-in t c b (e ∷ es) z h =
     ap₂ (λ (x y : List (List ℕ)). x ∷ y ∷ namesIn t (length es) (elementRows (c + cornerWidth * length (e .corners)) (b + ofKind (λ x. 1) (e .kind)) es ++ z)) (h .0 .group) (h .0 .material)
     ∙ ap (λ (r : List (List (List ℕ))). bytesOf (e .names .group) ∷ bytesOf (listed (e .names .material)) ∷ r) (names-in t (c + cornerWidth * length (e .corners)) (b + ofKind (λ x. 1) (e .kind)) es z (h .1))
-
--- ---- lengths
-append-two : (n : ℕ) (ps : List Part) → length (partRows n ps) ≡ 2 * length ps
-append-two n [] = refl
-append-two n (p ∷ ps) = let i = goes-on ps in omega arith
-  where
-    goes-on : (ps : List Part) → length (flat (partRow 0) ps) ≡ 2 * length ps
-    goes-on [] = refl
-    goes-on (p ∷ ps) = let i = goes-on ps in omega arith
-
-spans-two : (ps : List Part) → length (flat spanRow ps) ≡ 2 * length ps
-spans-two [] = refl
-spans-two (p ∷ ps) = let i = spans-two ps in omega arith
-
-loops-length : (ls : List Loop) → length (flat loopRow ls) ≡ 2 * summed (λ l. length (l .parts)) ls
-loops-length [] = refl
-loops-length (l ∷ ls) =
-    let a = length-append (loopRow l) (flat loopRow ls) in
-    let b = append-two (beginning (l .hole)) (l .parts) in
-    let i = loops-length ls in
-    omega arith
-
-spans-length : (ls : List Loop) → length (flat (λ (l : Loop). flat spanRow (l .parts)) ls) ≡ 2 * summed (λ l. length (l .parts)) ls
-spans-length [] = refl
-spans-length (l ∷ ls) =
-    let a = length-append (flat spanRow (l .parts)) (flat (λ (l : Loop). flat spanRow (l .parts)) ls) in
-    let b = spans-two (l .parts) in
-    let i = spans-length ls in
-    omega arith
-
-pub all-corners : (es : List Element) → length (flat cornerRows es) ≡ 3 * summed (λ e. length (e .corners)) es
-all-corners [] = refl
-all-corners (e ∷ es) =
-    let a = length-append (cornerRows e) (flat cornerRows es) in
-    let b = corners-length (e .corners) in
-    let i = all-corners es in
-    omega arith
-
-pub all-bodies : (p l : ℕ) (bs : List Body) → length (bodyRows p l bs) ≡ 9 * length bs
-all-bodies p l [] = refl
-all-bodies p l (b ∷ bs) = let i = all-bodies (p + (length (b .us) + length (b .vs))) (l + partCount b) bs in omega arith
-
-pub all-ranges : (bs : List Body) → length (flat rangeRow bs) ≡ 4 * length bs
-all-ranges [] = refl
-all-ranges (b ∷ bs) = let i = all-ranges bs in omega arith
-
-pub all-parameters : (bs : List Body) → length (flat parameterRow bs) ≡ summed (λ b. length (b .us) + length (b .vs)) bs
-all-parameters [] = refl
-all-parameters (b ∷ bs) =
-    let a = length-append (parameterRow b) (flat parameterRow bs) in
-    let c = length-append (b .us) (b .vs) in
-    let i = all-parameters bs in
-    omega arith
-
-pub all-loops : (bs : List Body) → length (flat loopRows bs) ≡ 2 * summed partCount bs
-all-loops [] = refl
-all-loops (b ∷ bs) =
-    let a = length-append (loopRows b) (flat loopRows bs) in
-    let c = loops-length (b .loops) in
-    let i = all-loops bs in
-    omega arith
-
-pub all-spans : (bs : List Body) → length (flat spanRows bs) ≡ 2 * summed partCount bs
-all-spans [] = refl
-all-spans (b ∷ bs) =
-    let a = length-append (spanRows b) (flat spanRows bs) in
-    let c = spans-length (b .loops) in
-    let i = all-spans bs in
-    omega arith
 
 -- ---- the streams of rows that two lists of bodies share
 pub record SameBodies (p l : ℕ) (xs ys : List Body) : Type 0 where
@@ -146,8 +78,8 @@ body-inj p l a b xs ys k g h s =
     let g₂ = append-inj (a .us) (b .us) (a .vs) (b .vs) e₅ (g₁ .0) in
     let c₁ = loops-length (a .loops) in
     let c₂ = loops-length (b .loops) in
-    let c₃ = spans-length (a .loops) in
-    let c₄ = spans-length (b .loops) in
+    let c₃ = loopSpans-length (a .loops) in
+    let c₄ = loopSpans-length (b .loops) in
     let h₁ = append-inj (loopRows a) (loopRows b) (flat loopRows xs) (flat loopRows ys) (omega arith) (s .loops) in
     let h₂ = append-inj (spanRows a) (spanRows b) (flat spanRows xs) (flat spanRows ys) (omega arith) (s .spans) in
     let h₃ = loops-inj (a .loops) (b .loops) g h (h₁ .0) (h₂ .0) in

@@ -13,7 +13,7 @@ use Rattle.lists.proofs.Tests.{test, never, and-left, and-right}
 use Rattle.text.specs.Bytes.{isWord, isBlank, lf, lineEnd}
 use Rattle.text.specs.Lines.{Mode, gap, word, comment, join, Look, goes, ends, refused, plain, look, onward}
 use Rattle.text.specs.Words.{Word, wordOf, isGap, isInWord, opens, words}
-use Rattle.text.proofs.Cut.{in-word}
+use Rattle.text.proofs.Cut.{lf-cut, end-cut, tested, stays, no-word, in-word}
 
 -- ---- the words from one word on
 next-drop : (s : List ℕ) (p b : ℕ) (bs : List ℕ) → drop p s ≡ b ∷ bs → drop (suc p) s ≡ bs
@@ -67,21 +67,6 @@ upto m [] = 0
 upto m (b ∷ bs) = onward (look m b bs) (λ n. longer (isInWord n) (upto n bs)) 0 0
 
 -- ---- a byte does the same before what is cut off
-lf-cut : (k : ℕ) (l : List ℕ) → lf l ≡ false → lf (take k l) ≡ false
-lf-cut zero l h = refl
-lf-cut (suc k) [] h = refl
-lf-cut (suc k) (b ∷ bs) h = h
-
-less : (x y u v : Bool) → (u ≡ false → v ≡ false) → (x || (y && u)) ≡ false → (x || (y && v)) ≡ false
-less true y u v i h = h
-less false true u v i h = i h
-less false false u v i h = refl
-
-end-cut : (k : ℕ) (l : List ℕ) → lineEnd l ≡ false → lineEnd (take k l) ≡ false
-end-cut zero l h = refl
-end-cut (suc k) [] h = refl
-end-cut (suc k) (b ∷ bs) h = less (eqb b 10) (eqb b 13) (lf bs) (lf (take k bs)) (lf-cut k bs) h
-
 lf-kept : (k : ℕ) (l : List ℕ) → 0 < k → lf l ≡ true → lf (take k l) ≡ true
 lf-kept zero l p h = absurd (omega arith)
 lf-kept (suc k) [] p h = h
@@ -109,17 +94,6 @@ end-kept (b ∷ bs) p h = go (eqb b 10) refl (longer-none (upto gap bs)) (longer
         let x = lf-kept (upto join bs) bs (e .1) (and-right (eqb b 13) (lf bs) h) in
         rw (e .0) (rw (q, and-left (eqb b 13) (lf bs) h, x) refl)
 
-abbrev pub tested : Bool → Bool → Bool → Bool → Bool → Look
-tested w k e f g = cond w (goes word) (cond k (goes gap) (cond e ends (cond f (cond g (goes join) refused) refused)))
-
-stays : (w k e f g e′ g′ : Bool) (n : Mode) → (e ≡ false → e′ ≡ false) → (n ≡ join → g ≡ true → g′ ≡ true) → tested w k e f g ≡ goes n → tested w k e′ f g′ ≡ goes n
-stays true k e f g e′ g′ n a j h = h
-stays false true e f g e′ g′ n a j h = h
-stays false false true f g e′ g′ n a j h = absurd (let z : _≡_ {A = ℕ} 0 1 = cc in omega arith)
-stays false false false true true e′ g′ n a j h = let y : n ≡ join = cc in rw (a refl, j y refl) h
-stays false false false true false e′ g′ n a j h = absurd (let z : _≡_ {A = ℕ} 0 1 = cc in omega arith)
-stays false false false false g e′ g′ n a j h = absurd (let z : _≡_ {A = ℕ} 0 1 = cc in omega arith)
-
 join-word : join ≡ word → false ≡ true
 join-word h = ap isInWord h
 
@@ -141,10 +115,6 @@ look-goes comment b bs n l h =
 look-goes join b bs n l h = h
 
 -- ---- the words, cut
-no-word : (j b : ℕ) (bs : List ℕ) → isWord b ≡ false → wordOf (take j (b ∷ bs)) ≡ []
-no-word zero b bs t = refl
-no-word (suc j) b bs t = rw t refl
-
 word-cut : (l : List ℕ) → wordOf (take (upto word l) l) ≡ wordOf l
 word-cut [] = refl
 word-cut (b ∷ bs) =

@@ -20,7 +20,8 @@ use Rattle.tidying.specs.Printed.{rangeOf}
 use Rattle.tidying.proofs.Values.{keyOf, loopKey, valuesIn}
 use Rattle.tidying.proofs.Words.{Fitting}
 use Rattle.tidying.proofs.Standing.{seenOf, uniform, wide, wideIn, Whole, Fine, Here}
-use Rattle.tidying.proofs.Back.{numbers-of, corners-of, line-numbers, line-corners, names-of, parts-of}
+use Rattle.model.proofs.Values.{numbers-of, corners-of, line-numbers, line-corners}
+use Rattle.tidying.proofs.Back.{names-of, parts-of}
 use Rattle.tidying.proofs.Shapes.{fitting-is, numbers-fit, corners-fit, names-fit, line-fit, loop-fit}
 use Rattle.tidying.proofs.Coordinates.{vertex-fine}
 

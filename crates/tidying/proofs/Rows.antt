@@ -11,9 +11,11 @@ use native.Mathlib.Omega.{arith}
 use Rattle.lists.specs.Lists.{flat, filled}
 use Rattle.lists.proofs.Tests.{never}
 use Rattle.forms.specs.Corner.{Corner}
-use Rattle.tables.specs.Bodies.{Basis, bezier, bspline, cardinal, taylor, basisNumber}
+use Rattle.tables.specs.Bodies.{Basis, basisNumber, basisOf}
 use Rattle.model.specs.Model.{Shape, point, line, face, Free, curve, curve2, surface, Part, Loop}
 use Rattle.model.specs.Layout.{cornerRow, shapeNumber, freeNumber, flag, beginning, partRow, partRows, loopRow, spanRow, itself}
+use Rattle.tables.proofs.Types.{basis-back}
+use Rattle.model.proofs.Rows.{flag-back}
 
 -- ---- two lists one after the other, the first of one length
 pub append-inj : {A : Type 0} (a b x y : List A) → length a ≡ length b → a ++ x ≡ b ++ y → (a ≡ b) × (x ≡ y)
@@ -52,10 +54,6 @@ wide-inj w (z ∷ zs) (y ∷ ys) g h l e =
     ap₂ (λ (u : List ℤ) (us : List (List ℤ)). u ∷ us) (p .0) (wide-inj w zs ys (g .1) (h .1) (omega arith) (p .1))
 
 -- ---- corners
-pub corners-length : (cs : List Corner) → length (flat cornerRow cs) ≡ 3 * length cs
-corners-length [] = refl
-corners-length (c ∷ cs) = let i = corners-length cs in omega arith
-
 pub corners-inj : (cs ds : List Corner) → length cs ≡ length ds → flat cornerRow cs ≡ flat cornerRow ds → cs ≡ ds
 corners-inj [] [] l e = refl
 corners-inj [] (d ∷ ds) l e = absurd (omega arith)
@@ -108,21 +106,8 @@ shape-free j k e = never (sym (low j) ∙ ap (λ (n : ℕ). lib.Dec.leb 4 n) e �
     high curve2 = refl
     high surface = refl
 
-abbrev ofBasis : ℕ → Basis
-ofBasis n = cond (eqb n 1) bezier (cond (eqb n 2) bspline (cond (eqb n 3) cardinal taylor))
-
-basis-back : (t : Basis) → ofBasis (basisNumber t) ≡ t
-basis-back bezier = refl
-basis-back bspline = refl
-basis-back cardinal = refl
-basis-back taylor = refl
-
 pub basis-inj : (t u : Basis) → basisNumber t ≡ basisNumber u → t ≡ u
-basis-inj t u e = sym (basis-back t) ∙ ap ofBasis e ∙ basis-back u
-
-flag-back : (b : Bool) → eqb (flag b) 1 ≡ b
-flag-back true = refl
-flag-back false = refl
+basis-inj t u e = sym (basis-back t) ∙ ap basisOf e ∙ basis-back u
 
 pub flag-inj : (a b : Bool) → flag a ≡ flag b → a ≡ b
 flag-inj a b e = sym (flag-back a) ∙ ap (λ (n : ℕ). eqb n 1) e ∙ flag-back b
@@ -143,7 +128,7 @@ abbrev pub Parted : List Loop → Type 0
 Parted [] = Unit {0}
 Parted (l ∷ ls) = (0 < length (l .parts)) × Parted ls
 
-abbrev spansOf : List Loop → List ℤ
+abbrev pub spansOf : List Loop → List ℤ
 spansOf ls = flat (λ (l : Loop). flat spanRow (l .parts)) ls
 
 part-is : (p q : Part) → p .from ≡ q .from → p .to ≡ q .to → p .curve ≡ q .curve → p ≡ q

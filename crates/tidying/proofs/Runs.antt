@@ -16,7 +16,8 @@ use Rattle.text.proofs.Cut.{words-cut}
 use Rattle.tables.specs.Asking.{partOf}
 use Rattle.model.specs.Layout.{lastEnd, runOf}
 use Rattle.tidying.specs.Agree.{wordsAt}
-use Rattle.tidying.proofs.Parts.{onward-from, longer, upto, longer-one, tested, words-upto, upto-some, upto-short}
+use Rattle.text.proofs.Cut.{tested}
+use Rattle.tidying.proofs.Parts.{onward-from, longer, upto, longer-one, words-upto, upto-some, upto-short}
 
 -- in a word, a byte goes on in it exactly where it is a word byte
 word-goes : (w k e f g : Bool) (n : Mode) → tested w k e f g ≡ goes n → isInWord n ≡ w

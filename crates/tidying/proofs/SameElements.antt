@@ -25,7 +25,8 @@ use Rattle.tidying.proofs.Values.{loopKey, partValues}
 use Rattle.tidying.proofs.Coordinates.{completed-length}
 use Rattle.tidying.proofs.Good.{GoodVertices, GoodLoops, LoopsIn, GoodKind, plus, GoodElements}
 use Rattle.tidying.proofs.Bare.{bare-words}
-use Rattle.tidying.proofs.Rows.{append-inj, Wide, corners-length, corners-inj, shape-inj, free-inj, shape-free, Parted}
+use Rattle.model.proofs.Rows.{corners-length}
+use Rattle.tidying.proofs.Rows.{append-inj, Wide, corners-inj, shape-inj, free-inj, shape-free, Parted}
 use Rattle.tidying.proofs.Layouts.{fives, wordsIn, SameBodies, body-inj}
 
 -- ---- what reading keeps makes rows of fixed widths, and loops of one part or more

@@ -20,7 +20,8 @@ use Rattle.tidying.proofs.Bare.{summed-bare, length-bare}
 use Rattle.tidying.proofs.SameTidy.{bytes-bare}
 use Rattle.tidying.proofs.Named.{read-stands}
 use Rattle.tidying.proofs.Rows.{used-of, Wide, wide-length, wide-inj}
-use Rattle.tidying.proofs.Layouts.{fives, unnamed-is, wordsIn, names-in, all-corners, all-bodies, all-ranges, all-parameters, all-loops, all-spans, SameBodies}
+use Rattle.model.proofs.Rows.{cornerRows-length, bodyRows-length, rangeRows-length, parameterRows-length, loopRows-length, spanRows-length}
+use Rattle.tidying.proofs.Layouts.{fives, unnamed-is, wordsIn, names-in, SameBodies}
 use Rattle.tidying.proofs.SameElements.{vertices-wide, PartedAll, elements-parted, same-elements}
 
 -- ---- the layout looks at places in the elements' last four numbers alone
@@ -115,13 +116,13 @@ module _ (R : Rooms) (t : List ℕ) (m : Model) (h : readOf R t ≡ read m) wher
         vt = used-of (3 * length (x .vt)) (R .vt) (pos 0) (flat itself (x .vt)) (wide-length 3 (x .vt) (w .1));
         vn = used-of (3 * length (x .vn)) (R .vn) (pos 0) (flat itself (x .vn)) (wide-length 3 (x .vn) (w .2));
         vp = used-of (4 * length (x .vp)) (R .vp) (pos 0) (flat itself (x .vp)) (wide-length 4 (x .vp) (w .3));
-        corners = used-of (3 * summed (λ e. length (e .corners)) es) (R .corners) 0 (flat cornerRows es) (all-corners es);
+        corners = used-of (3 * summed (λ e. length (e .corners)) es) (R .corners) 0 (flat cornerRows es) (cornerRows-length es);
         elements = unnamed-is 0 0 es spare;
-        bodies = used-of (9 * length bs) (R .bodies) 0 (bodyRows 0 0 bs) (all-bodies 0 0 bs);
-        ranges = used-of (4 * length bs) (R .ranges) (pos 0) (flat rangeRow bs) (all-ranges bs);
-        parameters = used-of (summed (λ b. length (b .us) + length (b .vs)) bs) (R .parameters) (pos 0) (flat parameterRow bs) (all-parameters bs);
-        loops = used-of (2 * summed partCount bs) (R .loops) 0 (flat loopRows bs) (all-loops bs);
-        spans = used-of (2 * summed partCount bs) (R .spans) (pos 0) (flat spanRows bs) (all-spans bs);
+        bodies = used-of (9 * length bs) (R .bodies) 0 (bodyRows 0 0 bs) (bodyRows-length 0 0 bs);
+        ranges = used-of (4 * length bs) (R .ranges) (pos 0) (flat rangeRow bs) (rangeRows-length bs);
+        parameters = used-of (summed (λ b. length (b .us) + length (b .vs)) bs) (R .parameters) (pos 0) (flat parameterRow bs) (parameterRows-length bs);
+        loops = used-of (2 * summed partCount bs) (R .loops) 0 (flat loopRows bs) (loopRows-length bs);
+        spans = used-of (2 * summed partCount bs) (R .spans) (pos 0) (flat spanRows bs) (spanRows-length bs);
         names = names-in t 0 0 es spare (read-stands t R m h);
       }
 

@@ -16,6 +16,7 @@ use Rattle.forms.specs.Number.{numberOf}
 use Rattle.model.specs.Parse.{Parsed, fine, fault, then, WordForm, a-number, Value, number, onSaid, Seen, placed, valuesOf, numbersOf}
 use Rattle.state.specs.Numbers.{Walk, ended, full, stuck, onto, onNumber, numbersFrom, numbersWalk}
 use Rattle.vertices.specs.Into.{closing, closed, atLeast, rowSaid}
+use Rattle.model.proofs.Parsed.{fine-fault}
 
 pub nothing : {A C : Type 0} {a : A} → none ≡ some a → C
 nothing h = absurd (let z : _≡_ {A = ℕ} 0 1 = cc in omega arith)
@@ -115,9 +116,6 @@ back-onto z (full ys r) zs q e =
     rw (w, b, n, y) refl
 back-onto z stuck zs q e = nothing e
 
-pub faulty : {A C : Type 0} {n p : ℕ} {a : A} → fault n p ≡ fine a → C
-faulty h = absurd (let z : _≡_ {A = ℕ} 0 1 = cc in omega arith)
-
 module _ (x : Seen) where
   -- a word before the rest of the words
   record Ahead (v : Said ℤ) (i : ℕ) (ws : List Word) (xs : List Value) : Type 0 where
@@ -129,8 +127,8 @@ module _ (x : Seen) where
 
   ahead : (v : Said ℤ) (p i : ℕ) (ws : List Word) (xs : List Value) (y : Parsed (List Value)) → valuesOf x (λ j. a-number) i ws ≡ y
       → then (placed (onSaid number v) p) (λ a. then y (λ bs. fine (a ∷ bs))) ≡ fine xs → Ahead v i ws xs
-  ahead (wrong n) p i ws xs y h e = faulty e
-  ahead (says z) p i ws xs (fault n m) h e = faulty e
+  ahead (wrong n) p i ws xs y h e = fine-fault e
+  ahead (says z) p i ws xs (fault n m) h e = fine-fault e
   ahead (says z) p i ws xs (fine ys) h e = record { head = z; tail = ys; said = refl; rest = h; whole = let f : number z ∷ ys ≡ xs = cc in sym f }
 
   pub values-back : (n i : ℕ) (ws : List Word) (q : ℕ) (xs : List Value) → valuesOf x (λ j. a-number) i ws ≡ fine xs → length ws ≤ n → Back n ws q (numbersOf xs)

@@ -17,8 +17,9 @@ use Rattle.model.specs.Statements.{Statement, vertex}
 use Rattle.model.specs.Parse.{Parsed, fine, fault, then, must, a-vertex, a-number, outside, countedVertex, Value, number, formOf, valuesOf, numbersOf, defaults, recordOf, seenIn, parse}
 use Rattle.model.proofs.Parsed.{fine-is, must-fine, then-fine}
 use Rattle.vertices.specs.Vertex.{least, most, width, recorded, vertexSaid}
-use Rattle.vertices.proofs.Closed.{faulty, closed-some, values-back, row-some, some-row}
+use Rattle.vertices.proofs.Closed.{closed-some, values-back, row-some, some-row}
 use Rattle.vertices.proofs.Taking.{vertex-row, row-short}
+use Rattle.model.proofs.Values.{numbers-of}
 
 -- ---- 5, "v 3 or 4; vt, vp 1 to 3; vn 3"
 counted : (k : VertexKind) (n : ℕ) → least k ≤ n → n ≤ most k → countedVertex k n ≡ true
@@ -35,10 +36,6 @@ count-in geometric n h = between 3 4 n h
 count-in texture n h = between 1 3 n h
 count-in normal n h = let e = eqb-true n 3 h in (omega arith, omega arith)
 count-in parametric n h = between 1 3 n h
-
-numbers-map : (zs : List ℤ) → numbersOf (map number zs) ≡ zs
-numbers-map [] = refl
-numbers-map (z ∷ zs) = ap (λ (ys : List ℤ). z ∷ ys) (numbers-map zs)
 
 -- ---- every record has its table's width
 filled-up : (zs ds : List ℤ) → length zs ≤ length ds → length (zs ++ drop (length zs) ds) ≡ length ds
@@ -77,7 +74,7 @@ taken-parse k x r z q out e =
       next = n .next;
       parsed = λ key.
           rw (out, count, values)
-          (ap (λ (zs : List ℤ). fine (vertex k (recordOf k zs))) (numbers-map (v .numbers)) ∙ ap (λ (y : List ℤ). fine (vertex k y)) (sym (v .whole)));
+          (ap (λ (zs : List ℤ). fine (vertex k (recordOf k zs))) (numbers-of (v .numbers)) ∙ ap (λ (y : List ℤ). fine (vertex k y)) (sym (v .whole)));
     }
 
 -- ---- and back

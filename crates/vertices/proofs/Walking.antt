@@ -27,12 +27,7 @@ use Rattle.forms.specs.declared.number.Number.the-variants.{Value, Malformed, O
 use Rattle.forms.proofs.Saids.{ended-says, ended-wrong}
 use Rattle.state.specs.Numbers.{Walk, ended, full, stuck, onto, onNumber, numbersWalk}
 use Rattle.vertices.specs.Into.{EndedAfter, FullAfter, StoppedAfter}
-
-pub sets-append : {A : Type 0} (l : List A) (i : ℕ) (xs ys : List A) → sets l i (xs ++ ys) ≡ sets (sets l i xs) (i + length xs) ys
-sets-append l i [] ys = ap (λ (k : ℕ). sets l k ys) (sym (add-zero i))
-sets-append l i (x ∷ xs) ys =
-    let e : suc i + length xs ≡ i + suc (length xs) = omega arith in
-    sets-append (set l i x) (suc i) xs ys ∙ ap (λ (k : ℕ). sets (sets (set l i x) (suc i) xs) k ys) e
+use Rattle.lists.proofs.Laws.{sets-append}
 
 -- what stands before the first place stored to
 pub getD-sets-before : {A : Type 0} (l : List A) (i : ℕ) (vs : List A) (j : ℕ) (d : A) → j < i → getD (sets l i vs) j d ≡ getD l j d

@@ -12,11 +12,9 @@ use lib.ListN.{length, set, length-append, length-set}
 use lib.Seq.{sets, length-sets}
 use Rattle.lists.proofs.Tests.{test}
 use Rattle.forms.specs.Written.{short, full, writtenWhole}
-use Rattle.forms.proofs.Numerals.{full-length}
-use Rattle.writing.proofs.Stores.{sets-append, sets-behind}
-
-tenth : (k n : ℕ) → n < 10 ^ suc k → n / 10 < 10 ^ k
-tenth k n h = let e = pow-suc 10 k in omega arith
+use Rattle.forms.proofs.Numerals.{full-length, smaller}
+use Rattle.lists.proofs.Laws.{sets-append}
+use Rattle.writing.proofs.Stores.{sets-behind}
 
 -- room for one digit more than it needs changes nothing
 short-more : (k n : ℕ) → n < 10 ^ suc k → short (suc k) n ≡ short (suc (suc k)) n
@@ -24,7 +22,7 @@ short-more zero n h = let l : n < 10 = omega arith in rw (lt-ltb n 10 l) refl
 short-more (suc k) n h =
     ⊎-elim
     (λ (t : ltb n 10 ≡ true). rw t refl)
-    (λ (t : ltb n 10 ≡ false). rw t (ap (λ (s : List ℕ). s ++ (n % 10 + 48) ∷ []) (short-more k (n / 10) (tenth (suc k) n h))))
+    (λ (t : ltb n 10 ≡ false). rw t (ap (λ (s : List ℕ). s ++ (n % 10 + 48) ∷ []) (short-more k (n / 10) (smaller (suc k) n h))))
     (test (ltb n 10))
 
 short-full : (k n : ℕ) → n < 10 ^ suc k → short (suc k) n ≡ full (length (short (suc k) n)) n
@@ -41,7 +39,7 @@ short-full (suc k) n h =
     (λ (t : ltb n 10 ≡ false).
     let s : List ℕ = short (suc k) (n / 10) in
     let e : length (s ++ (n % 10 + 48) ∷ []) ≡ suc (length s) = length-append s ((n % 10 + 48) ∷ []) ∙ (omega arith) in
-    rw t (ap (λ (r : List ℕ). r ++ (n % 10 + 48) ∷ []) (short-full k (n / 10) (tenth (suc k) n h)) ∙ ap (λ (j : ℕ). full j n) (sym e)))
+    rw t (ap (λ (r : List ℕ). r ++ (n % 10 + 48) ∷ []) (short-full k (n / 10) (smaller (suc k) n h)) ∙ ap (λ (j : ℕ). full j n) (sym e)))
     (test (ltb n 10))
 
 pub whole-full : (n : ℕ) → n < 2 ^ 32 → full (length (writtenWhole n)) n ≡ writtenWhole n

@@ -1,4 +1,4 @@
--- Runs of stores: one after the other is one run, and a store behind a run may come before it.
+-- Runs of stores: a store behind a run may come before it, and two runs that are one.
 use Prim.Native.Nat.{ℕ, zero, suc, _+_, _≤_}
 use mathlib.Core.Path.{_≡_, refl, sym, ap, ap₂, _∙_}
 use mathlib.Core.List.{List, [], _∷_, _++_}
@@ -6,12 +6,7 @@ use native.Mathlib.Nat.{add-zero}
 use native.Mathlib.Omega.{arith}
 use lib.ListN.{length, set, length-append}
 use lib.Seq.{sets, set-comm, length-sets}
-
-pub sets-append : {A : Type 0} (l : List A) (i : ℕ) (xs ys : List A) → sets l i (xs ++ ys) ≡ sets (sets l i xs) (i + length xs) ys
-sets-append l i [] ys = ap (λ (k : ℕ). sets l k ys) (sym (add-zero i))
-sets-append l i (x ∷ xs) ys =
-    let e : suc i + length xs ≡ i + suc (length xs) = omega arith in
-    sets-append (set l i x) (suc i) xs ys ∙ ap (λ (k : ℕ). sets (sets (set l i x) (suc i) xs) k ys) e
+use Rattle.lists.proofs.Laws.{sets-append}
 
 pub sets-behind : {A : Type 0} (l : List A) (i : ℕ) (xs : List A) (j : ℕ) (a : A) → i + length xs ≤ j → sets (set l j a) i xs ≡ set (sets l i xs) j a
 sets-behind l i [] j a h = refl

@@ -6,7 +6,7 @@ use borrow.Author.Tests.{le-leb, lt-leb}
 use Rattle.tables.specs.Tables.{Tables}
 use Rattle.rules.specs.Rules.{obeys, elementObeys}
 use Rattle.rules.specs.Lent.{lent}
-use Rattle.rules.proofs.Tests.{failed, passed}
+use Rattle.basis.proofs.Tests.{failed, passed}
 use Rattle.rules.proofs.OneBody.{corners-lent, body-lent}
 use Rattle.rules.proofs.obeys.Statement.{statement}
 use Rattle.rules.proofs.obeys.Tie as tie

@@ -4,15 +4,14 @@ use native.Mathlib.Omega.{arith}
 use denote.Ref.{now}
 use borrow.Author.Needs.{needs}
 use mir.Facts.{toZ-ofZ}
-use Rattle.bodies.proofs.Tests.{failed, passed, fitted}
+use Rattle.basis.proofs.Tests.{failed, passed, fitted}
 use Rattle.bodies.proofs.Closings as C
 use mathlib.Core.List.{List}
 use mathlib.Core.Bool.{cond}
 use lib.ListN.{length}
 use lib.Dec.{eqb}
 use lib.IntN.{ℤ}
-use Rattle.tables.specs.Bodies.{low, high}
-use Rattle.bodies.specs.Types.{basisOf}
+use Rattle.tables.specs.Bodies.{low, high, basisOf}
 use Rattle.bodies.specs.Numbers.{numbersAt}
 use Rattle.bodies.specs.Closing.{parmOf}
 use Rattle.bodies.proofs.closing.judge.Statement.{statement}

@@ -2,7 +2,7 @@
 use mathlib.Core.Path.{refl}
 use borrow.Author.Tests.{ne-eqb}
 use mir.Facts.{toZ-ofZ}
-use Rattle.bodies.proofs.Tests.{failed, passed}
+use Rattle.basis.proofs.Tests.{failed, passed}
 use Rattle.bodies.proofs.closing.ranged.Statement.{statement}
 use Rattle.bodies.proofs.closing.ranged.Tie as tie
 

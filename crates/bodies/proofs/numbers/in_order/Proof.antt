@@ -3,9 +3,8 @@ use mathlib.Core.Path.{sym, ap, _∙_}
 use denote.Ref.{now}
 use borrow.Author.Needs.{needs}
 use Rattle.bodies.proofs.Steps as S
-use Rattle.tables.specs.Bodies.{ordered}
-use Rattle.bodies.specs.Types.{basisOf}
-use Rattle.bodies.proofs.Tests.{fitted}
+use Rattle.tables.specs.Bodies.{ordered, basisOf}
+use Rattle.basis.proofs.Tests.{fitted}
 use Rattle.bodies.proofs.numbers.in_order.Statement.{statement}
 use Rattle.bodies.proofs.numbers.in_order.Tie as tie
 

@@ -5,13 +5,13 @@ use native.Mathlib.Omega.{arith}
 use lib.ListN.{length}
 use denote.Ref.{now}
 use borrow.Author.Needs.{needs}
-use Rattle.bodies.proofs.Tests.{fitted}
+use Rattle.basis.proofs.Tests.{fitted}
 use Rattle.bodies.proofs.Steps as S
 use mir.Syntax.{w32}
 use mir.Val.{toZ}
 use mir.Facts.{toZ-ofZ}
 use borrow.Author.Tests.{not-true, not-false}
-use Rattle.bodies.specs.Types.{basisOf}
+use Rattle.tables.specs.Bodies.{basisOf}
 use Rattle.bodies.proofs.numbers.ordered_from.Statement.{statement}
 use Rattle.bodies.proofs.numbers.ordered_from.Tie as tie
 

@@ -4,8 +4,8 @@ use native.Mathlib.Omega.{arith}
 use denote.Ref.{now}
 use borrow.Author.Needs.{needs}
 use Rattle.bodies.specs.Numbers.{numbersAt}
-use Rattle.bodies.proofs.Basis.{high-other}
-use Rattle.bodies.proofs.Tests.{fitted}
+use Rattle.basis.proofs.Basis.{high-other}
+use Rattle.basis.proofs.Tests.{fitted}
 use Prim.Native.Nat.{ℕ, _-_}
 use lib.ListN.{length, getD}
 use lib.IntN.{pos}

@@ -3,8 +3,8 @@ use mathlib.Core.Path.{sym, _∙_}
 use denote.Ref.{now}
 use borrow.Author.Needs.{needs}
 use Rattle.bodies.specs.Numbers.{numbersAt}
-use Rattle.bodies.proofs.Basis.{low-other}
-use Rattle.bodies.proofs.Tests.{fitted}
+use Rattle.basis.proofs.Basis.{low-other}
+use Rattle.basis.proofs.Tests.{fitted}
 use Rattle.bodies.proofs.ranges.low.Statement.{statement}
 use Rattle.bodies.proofs.ranges.low.Tie as tie
 

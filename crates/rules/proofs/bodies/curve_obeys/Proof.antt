@@ -2,8 +2,8 @@
 use borrow.Author.Needs.{needs}
 use native.Mathlib.Nat.{add-zero}
 use Rattle.rules.specs.Bodies.{curveObeys}
-use Rattle.rules.proofs.Tests.{failed, passed, fitted}
-use Rattle.rules.proofs.Basis.{curve-enough}
+use Rattle.basis.proofs.Tests.{failed, passed, fitted}
+use Rattle.basis.proofs.Basis.{curve-enough}
 use Rattle.rules.proofs.bodies.curve_obeys.Statement.{statement}
 use Rattle.rules.proofs.bodies.curve_obeys.Tie as tie
 

@@ -2,8 +2,8 @@
 use borrow.Author.Needs.{needs}
 use native.Mathlib.Nat.{add-zero}
 use Rattle.rules.specs.Bodies.{directionsObey}
-use Rattle.rules.proofs.Tests.{failed, passed, fitted}
-use Rattle.rules.proofs.Basis.{surface-enough-u, surface-enough-v}
+use Rattle.basis.proofs.Tests.{failed, passed, fitted}
+use Rattle.basis.proofs.Basis.{surface-enough-u, surface-enough-v}
 use Rattle.rules.proofs.bodies.directions_obey.Statement.{statement}
 use Rattle.rules.proofs.bodies.directions_obey.Tie as tie
 

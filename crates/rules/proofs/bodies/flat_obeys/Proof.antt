@@ -2,7 +2,7 @@
 use borrow.Author.Needs.{needs}
 use borrow.Author.Tests.{eq-eqb, ne-eqb}
 use Rattle.rules.specs.Bodies.{flatObeys}
-use Rattle.rules.proofs.Tests.{failed, passed, fitted}
+use Rattle.basis.proofs.Tests.{failed, passed, fitted}
 use Rattle.rules.proofs.bodies.flat_obeys.Statement.{statement}
 use Rattle.rules.proofs.bodies.flat_obeys.Tie as tie
 

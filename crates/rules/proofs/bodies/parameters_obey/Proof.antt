@@ -2,7 +2,7 @@
 use borrow.Author.Needs.{needs}
 use borrow.Author.Tests.{le-leb, lt-leb}
 use Rattle.rules.specs.Directions.{parametersObey}
-use Rattle.rules.proofs.Tests.{failed, passed}
+use Rattle.basis.proofs.Tests.{failed, passed}
 use Rattle.rules.proofs.bodies.parameters_obey.Statement.{statement}
 use Rattle.rules.proofs.bodies.parameters_obey.Tie as tie
 

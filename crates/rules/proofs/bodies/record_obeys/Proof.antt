@@ -9,7 +9,7 @@ use lib.ListN.{length-take, length-drop}
 use Rattle.tables.specs.Records.{numberAt}
 use Rattle.rules.specs.Directions.{typeObeys}
 use Rattle.rules.specs.Bodies.{recordObeys}
-use Rattle.rules.proofs.Tests.{failed, passed}
+use Rattle.basis.proofs.Tests.{failed, passed}
 use Rattle.rules.proofs.OneBody.{typed, Run, run-facts, run-v}
 use native.Mathlib.Omega.{arith}
 use Rattle.rules.proofs.bodies.record_obeys.Statement.{statement}

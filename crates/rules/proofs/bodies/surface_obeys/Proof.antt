@@ -5,7 +5,7 @@ use mathlib.Core.List.{[]}
 use native.Mathlib.Nat.{add-sub-cancel-left}
 use Rattle.rules.specs.Bodies.{surfaceObeys}
 use Rattle.rules.specs.Lent.{lent}
-use Rattle.rules.proofs.Tests.{failed, passed}
+use Rattle.basis.proofs.Tests.{failed, passed}
 use Rattle.rules.proofs.OneBody.{loops-lent}
 use Rattle.rules.proofs.bodies.surface_obeys.Statement.{statement}
 use Rattle.rules.proofs.bodies.surface_obeys.Tie as tie

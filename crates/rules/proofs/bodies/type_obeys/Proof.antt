@@ -2,7 +2,7 @@
 use borrow.Author.Needs.{needs}
 use borrow.Author.Tests.{le-leb, lt-leb}
 use Rattle.rules.specs.Directions.{typeObeys}
-use Rattle.rules.proofs.Tests.{failed, passed}
+use Rattle.basis.proofs.Tests.{failed, passed}
 use Rattle.rules.proofs.bodies.type_obeys.Statement.{statement}
 use Rattle.rules.proofs.bodies.type_obeys.Tie as tie
 

@@ -1,7 +1,7 @@
 -- The three numbers of a corner, each by its own test.
 use borrow.Author.Needs.{needs}
 use Rattle.rules.specs.Corners.{cornerObeys}
-use Rattle.rules.proofs.Tests.{failed, passed}
+use Rattle.basis.proofs.Tests.{failed, passed}
 use Rattle.rules.proofs.corners.corner_obeys.Statement.{statement}
 use Rattle.rules.proofs.corners.corner_obeys.Tie as tie
 

@@ -8,7 +8,7 @@ use Rattle.tables.specs.Tables.{Tables}
 use Rattle.tables.specs.Records.{cornerAt}
 use Rattle.rules.specs.Numbers.{allBelow}
 use Rattle.rules.specs.Lent.{lent, asCorner}
-use Rattle.rules.proofs.Tests.{failed, passed}
+use Rattle.basis.proofs.Tests.{failed, passed}
 use Rattle.rules.proofs.Below.{below-more}
 use Rattle.rules.proofs.EachCorner.{atCorner, corner-here, each-fails, each-holds}
 use native.Mathlib.Omega.{arith}

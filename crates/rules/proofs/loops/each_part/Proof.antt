@@ -5,7 +5,7 @@ use mathlib.Core.List.{[]}
 use Prim.Native.Nat.{_-_, _≤_}
 use Rattle.rules.specs.Numbers.{allBelow}
 use Rattle.rules.specs.Lent.{lent}
-use Rattle.rules.proofs.Tests.{failed, passed}
+use Rattle.basis.proofs.Tests.{failed, passed}
 use Rattle.rules.proofs.Below.{below-more}
 use Rattle.rules.proofs.EachPart.{atPart, part-fails, part-holds}
 use native.Mathlib.Omega.{arith}

@@ -2,7 +2,7 @@
 use borrow.Author.Needs.{needs}
 use native.Mathlib.Nat.{add-zero}
 use Rattle.rules.specs.Vertices.{controlObeys}
-use Rattle.rules.proofs.Tests.{failed, passed, fitted}
+use Rattle.basis.proofs.Tests.{failed, passed, fitted}
 use Rattle.rules.proofs.OneVertex.{Vertex, parameter-facts}
 use native.Mathlib.Omega.{arith}
 use Rattle.rules.proofs.vertices.control.Statement.{statement}

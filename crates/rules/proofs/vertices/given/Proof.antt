@@ -2,7 +2,7 @@
 use borrow.Author.Needs.{needs}
 use mathlib.Core.Path.{sym, _∙_}
 use mir.Facts.{toZ-ofZ}
-use Rattle.rules.proofs.Tests.{failed, passed}
+use Rattle.basis.proofs.Tests.{failed, passed}
 use Rattle.rules.proofs.OneVertex.{given-none, given-many, given-three, given-fewer, given-two, given-one}
 use Rattle.rules.proofs.vertices.given.Statement.{statement}
 use Rattle.rules.proofs.vertices.given.Tie as tie

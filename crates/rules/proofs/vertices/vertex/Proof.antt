@@ -2,7 +2,7 @@
 use borrow.Author.Needs.{needs}
 use borrow.Author.Tests.{le-leb, lt-leb}
 use Rattle.rules.specs.Vertices.{vertexObeys}
-use Rattle.rules.proofs.Products.{product-fits}
+use Rattle.basis.proofs.Products.{product-fits}
 use Prim.Native.Nat.{_-_}
 use native.Mathlib.Omega.{arith}
 use Rattle.rules.proofs.vertices.vertex.Statement.{statement}

@@ -9,7 +9,7 @@ use mir.Syntax.{w32}
 use mir.Val.{toZ, ofZ}
 use mir.Facts.{toZ-ofZ}
 use Rattle.tables.specs.Records.{valueAt}
-use Rattle.rules.proofs.Order.{lt-no-le, no-lt-le}
+use Rattle.basis.proofs.Order.{lt-no-le, no-lt-le}
 use Rattle.sampler.proofs.records.is_inside.Statement.{statement}
 use Rattle.sampler.proofs.records.is_inside.Tie as tie
 
