@@ -14,7 +14,6 @@ use Rattle.curves.specs.Directions.{at}
 use Rattle.curves.specs.Sampled.{pyramid}
 use Rattle.curves.proofs.Pyramid.{pyramid-row, pyramid-cong}
 use Rattle.sampler.specs.Rows.{Fine, Level, Gathered}
-use Rattle.sampler.specs.declared.rows.Row.{Row}
 
 -- a row of which the first i numbers are of the next
 pub record Partly (p g : ℕ → ℕ) (old new : List ℤ) (i : ℕ) : Type 0 where
@@ -52,17 +51,17 @@ partly-more {p} {g} {old} {new} {i} z y h e s = record {
     pick-small j (yes m) l = rw (getD-set-other new i j z (pos 0) (λ q. omega arith)) (y .small j m)
     pick-small j (no m) l = subst (λ (q : ℕ). Small (at (set new i z) q)) (same-place j m l) (rw here s)
 
--- an array of which the first i numbers are those of f
-pub record Filled (f : ℕ → ℤ) (new : List ℤ) (i : ℕ) : Type 0 where
-  pub long : length new ≡ 21
+-- a row of n places of which the first i numbers are those of f
+pub record Filled (f : ℕ → ℤ) (n : ℕ) (new : List ℤ) (i : ℕ) : Type 0 where
+  pub long : length new ≡ n
   pub each : (j : ℕ) → j < i → at new j ≡ f j
   pub small : (j : ℕ) → j < i → Small (at new j)
 
-pub filled-none : (f : ℕ → ℤ) (new : List ℤ) → length new ≡ 21 → Filled f new 0
-filled-none f new e = record { long = e; each = λ j h. absurd (not-suc-le-zero h); small = λ j h. absurd (not-suc-le-zero h) }
+pub filled-none : (f : ℕ → ℤ) (n : ℕ) (new : List ℤ) → length new ≡ n → Filled f n new 0
+filled-none f n new e = record { long = e; each = λ j h. absurd (not-suc-le-zero h); small = λ j h. absurd (not-suc-le-zero h) }
 
-pub filled-more : {f : ℕ → ℤ} {new : List ℤ} {i : ℕ} (z : ℤ) → Filled f new i → i < 21 → z ≡ f i → Small z → Filled f (set new i z) (i + 1)
-filled-more {f} {new} {i} z p h e s = record { long = length-set new i z ∙ p .long; each = λ j l. pick j (decLe (suc j) i) l .0; small = λ j l. pick j (decLe (suc j) i) l .1 }
+pub filled-more : {f : ℕ → ℤ} {n : ℕ} {new : List ℤ} {i : ℕ} (z : ℤ) → Filled f n new i → i < n → z ≡ f i → Small z → Filled f n (set new i z) (i + 1)
+filled-more {f} {n} {new} {i} z p h e s = record { long = length-set new i z ∙ p .long; each = λ j l. pick j (decLe (suc j) i) l .0; small = λ j l. pick j (decLe (suc j) i) l .1 }
   where
     here : at (set new i z) i ≡ z
     here = getD-set-same new i z (pos 0) (omega (arith, p .long))
@@ -74,28 +73,26 @@ filled-more {f} {new} {i} z p h e s = record { long = length-set new i z ∙ p .
     pick j (yes m) l = rw (getD-set-other new i j z (pos 0) (λ q. omega arith)) (p .each j m, p .small j m)
     pick j (no m) l = subst (λ (q : ℕ). (at (set new i z) q ≡ f q) × Small (at (set new i z) q)) (same-place j m l) (rw here (e, s))
 
-pub filled-gathered : {f : ℕ → ℤ} {new : List ℤ} {i : ℕ} (n : ℕ) → Filled f new i → i ≡ n + 1 → Gathered (record { values = new; count = n + 1 }) f n
-filled-gathered n p e = record { many = refl; each = λ j h. p .each j (omega arith); small = λ j h. p .small j (omega arith) }
+pub filled-gathered : {f : ℕ → ℤ} {m : ℕ} {new : List ℤ} {i : ℕ} (n : ℕ) → Filled f m new i → i ≡ n + 1 → n < m → Gathered new f n
+filled-gathered n p e h = record { many = omega (arith, p .long); each = λ j h. p .each j (omega arith); small = λ j h. p .small j (omega arith) }
 
 -- ---- from row to row
-pub level-fine : {next row : Row} {p g : ℕ → ℕ} → Level next row p g → 1 < row .count → Fine row → Fine next
-level-fine l h f = record { some = omega (arith, l .fewer); most = omega (arith, l .fewer, f .most); small = l .small }
+pub level-fine : {next row : List ℤ} {last : ℕ} {p g : ℕ → ℕ} → Level next row last p g → Fine row (last + 1) → Fine next last
+level-fine l f = record { most = omega (arith, l .long, f .most); small = l .small }
 
-pub level-row : {next row : Row} (p g : ℕ → ℕ → ℕ) → Level next row (p (row .count - 2)) (g (row .count - 2)) → 1 < row .count
-    → pyramid p g (next .count - 1) (at (next .values)) ≡ pyramid p g (row .count - 1) (at (row .values))
-level-row {next} {row} p g l h =
-    let f = l .fewer in
-    let e : next .count - 1 ≡ row .count - 2 = omega arith in
-    let n : row .count - 1 ≡ suc (row .count - 2) = omega arith in
-    rw (e, n) (pyramid-row p g (row .count - 2) (at (row .values)) (at (next .values)) (λ j i. l .each j (omega arith)))
+pub level-row : {next row : List ℤ} (p g : ℕ → ℕ → ℕ) (last : ℕ) → 0 < last → Level next row last (p (last - 1)) (g (last - 1))
+    → pyramid p g (last - 1) (at next) ≡ pyramid p g last (at row)
+level-row {next} {row} p g last h l =
+    let n : last ≡ suc (last - 1) = omega arith in
+    pyramid-row p g (last - 1) (at row) (at next) (λ j i. l .each j (omega arith)) ∙ ap (λ (k : ℕ). pyramid p g k (at row)) (sym n)
 
 pub pyramid-one : (p g : ℕ → ℕ → ℕ) (n : ℕ) (c : ℕ → ℤ) → n ≡ 0 → pyramid p g n c ≡ c 0
 unfolding pyramid
 pyramid-one p g n c e = rw e
 
 -- ---- a row that holds numbers of f
-pub gathered-fine : {row : Row} {f : ℕ → ℤ} {n : ℕ} → Gathered row f n → n ≤ 20 → Fine row
-gathered-fine g h = record { some = omega (arith, g .many); most = omega (arith, g .many); small = λ i l. g .small i (omega (arith, g .many)) }
+pub gathered-fine : {row : List ℤ} {f : ℕ → ℤ} {n : ℕ} → Gathered row f n → Fine row (n + 1)
+gathered-fine g = record { most = g .many; small = λ i l. g .small i (omega arith) }
 
-pub gathered-pyramid : {row : Row} {f : ℕ → ℤ} {n : ℕ} (p g : ℕ → ℕ → ℕ) → Gathered row f n → pyramid p g n (at (row .values)) ≡ pyramid p g n f
-gathered-pyramid {row} {f} {n} p g h = pyramid-cong p g p g n (at (row .values)) f (λ q j u v. refl) (λ q j u v. refl) (h .each)
+pub gathered-pyramid : {row : List ℤ} {f : ℕ → ℤ} {n : ℕ} (p g : ℕ → ℕ → ℕ) → Gathered row f n → pyramid p g n (at row) ≡ pyramid p g n f
+gathered-pyramid {row} {f} {n} p g h = pyramid-cong p g p g n (at row) f (λ q j u v. refl) (λ q j u v. refl) (h .each)

@@ -2,13 +2,13 @@ ghost use mathlib.Core.Path.{_≡_};
 ghost use mathlib.Core.Bool.{cond};
 ghost use Prim.Native.Nat.{_+_, _*_, _-_, _≤_, _<_};
 ghost use lib.Dec.{eqb};
+ghost use lib.ListN.{length};
 ghost use Rattle.whole.specs.Round.{Small};
 ghost use Rattle.curves.specs.Sampled.{curveSampled, surfaceSampled};
 ghost use Rattle.sampler.specs.Places.{direction, On};
 ghost use Rattle.sampler.specs.Rows.{Gathered};
 ghost use Rattle.sampler.specs.Controls.{controlAt, Held, Reached};
 use crate::rows::Along;
-use crate::rows::Row;
 use crate::rows::pyramid;
 
 // Number `axis` of the vertex that control i names, of `count` controls from the corner number `first` on.
@@ -27,8 +27,9 @@ fn control(
     values[4 * (vertex - 1) + axis]
 }
 
-// Controls from to from + n.
+// Controls from to from + n, at the front of the row.
 fn gather(
+    row: &mut [i32],
     values: &[i32],
     corners: &[u32],
     first: usize,
@@ -36,19 +37,14 @@ fn gather(
     axis: usize,
     from: usize,
     n: usize,
-) -> Row
-    requires { ⌜ Held (now values) (now corners) first count × (axis < 4) × (from + n < count) × (n ≤ 20) ⌝ }
-    ensures { λ r. ⌜ Gathered r (λ j. controlAt (now (values .entry)) (now (corners .entry)) first axis (from + j)) n ⌝ }
+)
+    requires { ⌜ Held (now values) (now corners) first count × (axis < 4) × (from + n < count) × (n < length (now row)) ⌝ }
+    ensures { λ r. ⌜ Gathered (now (row .exit)) (λ j. controlAt (now (values .entry)) (now (corners .entry)) first axis (from + j)) n ⌝ }
 {
-    let mut numbers = [0i32; 21];
     let mut j = 0;
     while j <= n {
-        numbers[j] = control(values, corners, first, count, axis, from + j);
+        row[j] = control(values, corners, first, count, axis, from + j);
         j += 1;
-    }
-    Row {
-        values: numbers,
-        count: n + 1,
     }
 }
 
@@ -78,7 +74,9 @@ pub fn coordinate(
     ensures { λ z. ⌜ (z ≡ curveSampled (direction along (now (x .entry))) t (controlAt (now (values .entry)) (now (corners .entry)) first axis)) × Small z ⌝ }
 {
     let from = first_control(along, chosen);
-    let row = gather(
+    let mut row = [0i32; 21];
+    gather(
+        &mut row,
         values,
         corners,
         first,
@@ -87,7 +85,7 @@ pub fn coordinate(
         from,
         along.degree,
     );
-    pyramid(row, x, along, t, chosen)
+    pyramid(&mut row, x, along, t, chosen)
 }
 
 // One coordinate of a surface's point at s and t: u first along each row, then v.
@@ -116,9 +114,5 @@ pub fn across(
         numbers[j] = coordinate(values, corners, row, axis, x, u, s, across_u);
         j += 1;
     }
-    let row = Row {
-        values: numbers,
-        count: v.degree + 1,
-    };
-    pyramid(row, y, v, t, across_v)
+    pyramid(&mut numbers, y, v, t, across_v)
 }

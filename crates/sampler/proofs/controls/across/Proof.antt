@@ -20,18 +20,16 @@ use Rattle.sampler.proofs.controls.across.Tie as tie
 
 abbrev Inv-loop : tie.InvT-loop
 Inv-loop values corners first axis x u s across-u y v t across-v top numbers₀ j₀ numbers j =
-    (j ≤ v .degree + 1) × Filled (λ i. curveSampled (direction u x) (toZ w32 s) (controlAt values corners (first + 3 * ((top + i) * u .controls)) axis)) numbers j
+    (j ≤ v .degree + 1) × Filled (λ i. curveSampled (direction u x) (toZ w32 s) (controlAt values corners (first + 3 * ((top + i) * u .controls)) axis)) 21 numbers j
 
 abbrev μ-loop : tie.MeasureT-loop
 μ-loop values corners first axis x u s across-u y v t across-v top numbers₀ j₀ numbers j = v .degree + 1 - j
 
--- src/controls.rt:95:9
 first-control-requires : tie.Need-first-control-requires Inv-loop μ-loop
 first-control-requires c κs = reached (c .before .pre .3)
 
--- src/controls.rt:98:5
 loop-holds : tie.Need-loop-holds Inv-loop μ-loop
-loop-holds c = (omega arith, filled-none _ _ (search needs))
+loop-holds c = (omega arith, filled-none _ _ _ (search needs))
 
 -- at the row of this turn
 module _ (l : tie.At-loop Inv-loop μ-loop) (turn : l .loop .j ≤ l .before .before .before .args .v .degree) where
@@ -53,75 +51,62 @@ module _ (l : tie.At-loop Inv-loop μ-loop) (turn : l .loop .j ≤ l .before .be
 few : (l : tie.At-loop Inv-loop μ-loop) → l .before .before .before .args .v .degree ≤ 20
 few l = l .before .before .before .pre .3 .sound .few
 
--- src/controls.rt:99:33
 add-row : tie.Need-add-row Inv-loop μ-loop
 add-row c = let l = c .before .before in omega (arith, held l (omega arith) .within, some l (omega arith))
 
--- src/controls.rt:99:32
 mul-row : tie.Need-mul-row Inv-loop μ-loop
 mul-row c = let l = c .before .before .before in omega (arith, held l (omega arith) .within)
 
--- src/controls.rt:99:27
 mul-row-2 : tie.Need-mul-row-2 Inv-loop μ-loop
 mul-row-2 c = let l = c .before .before .before in omega (arith, held l (omega arith) .within)
 
--- src/controls.rt:99:19
 add-row-2 : tie.Need-add-row-2 Inv-loop μ-loop
 add-row-2 c = let l = c .before .before .before in omega (arith, held l (omega arith) .within)
 
--- src/controls.rt:100:22
 coordinate-requires : tie.Need-coordinate-requires Inv-loop μ-loop
 coordinate-requires c κs =
     let l = c .before .before .before in
     let s = l .before .before .before in
     rw (toZ-ofZ (s .fits .s)) (held l (omega arith), s .pre .1, s .pre .2)
 
--- src/controls.rt:100:9
 mul-numbers : tie.Need-mul-numbers Inv-loop μ-loop
 mul-numbers c = omega (arith, few (c .before .before .before .before))
 
--- src/controls.rt:100:9
 array-set-from-numbers : tie.Need-array-set-from-numbers Inv-loop μ-loop
 array-set-from-numbers c = omega (arith, few (c .before .before .before .before))
 
--- src/controls.rt:101:9
 add-j : tie.Need-add-j Inv-loop μ-loop
 add-j c = omega (arith, few (c .before .before .before .before))
 
--- src/controls.rt:98:5
 loop-less : tie.Need-loop-less Inv-loop μ-loop
 loop-less c = omega (arith, few (c .before .before .before .before))
 
--- src/controls.rt:98:5
 loop-again : tie.Need-loop-again Inv-loop μ-loop
 loop-again c =
     let l = c .before .before .before .before in
     let e = c .coordinate .ensures in
     (omega arith, rw (read-back-small (c .coordinate .result) (e .1)) (filled-more (c .coordinate .result) (l .loop .inv .1) (omega (arith, few l)) (e .0) (e .1)))
 
--- src/controls.rt:105:16
-add-t26 : tie.Need-add-t26 Inv-loop μ-loop
-add-t26 c = omega (arith, few (c .before .before .before))
+slice-aggregate-pyramid : tie.Need-slice-aggregate-pyramid Inv-loop μ-loop
+slice-aggregate-pyramid c = sym (c .before .before .before .loop .inv .1 .long)
 
--- src/controls.rt:107:5
 pyramid-requires : tie.Need-pyramid-requires Inv-loop μ-loop
 pyramid-requires c κs =
     let l = c .before .before .before in
     let s = l .before .before .before in
-    let g = filled-gathered (s .args .v .degree) (l .loop .inv .1) (omega arith) in
-    rw (toZ-ofZ (s .fits .t)) (gathered-fine g (few l), s .pre .3, refl)
+    let g = filled-gathered (s .args .v .degree) (l .loop .inv .1) (omega arith) (omega (arith, few l)) in
+    rw (toZ-ofZ (s .fits .t)) (gathered-fine g, s .pre .3)
 
--- src/controls.rt:78:1
 returns : tie.Need-returns Inv-loop μ-loop
 returns c =
-    let l = c .before .before .before .before in
+    let l = c .before .before .before .before .before in
     let s = l .before .before .before in
     let a = s .args in
     let du = direction (a .u) (a .x .now) in
     let dv = direction (a .v) (a .y .now) in
-    let e = c .pyramid .ensures in
-    let g = filled-gathered (a .v .degree) (rw (toZ-ofZ (s .fits .s)) at (l .loop .inv .1)) (omega arith) in
-    rw (read-back-small (c .pyramid .result) (e .1)) (
+    let e = c .before .pyramid .ensures in
+    let g = filled-gathered (a .v .degree) (rw (toZ-ofZ (s .fits .s)) at (l .loop .inv .1)) (omega arith) (omega (arith, few l)) in
+    rw (read-back-small (c .before .pyramid .result) (e .1)) (
       rw (toZ-ofZ (s .fits .t)) at (e .0) ∙ gathered-pyramid (partAt dv (a .t)) (gapAt dv (a .t)) g
           ∙ grid-rows du dv (a .s) (a .t) (a .values .now) (a .corners .now) (a .first) (a .axis) (a .u .controls) (l .before .first-control .result)
           (first-is (s .pre .3) (l .before .first-control .ensures)),
@@ -146,6 +131,6 @@ across-spec =
     add-j
     loop-less
     loop-again
-    add-t26
+    slice-aggregate-pyramid
     pyramid-requires
     returns)

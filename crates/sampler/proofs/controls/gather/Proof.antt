@@ -11,13 +11,13 @@ use Rattle.sampler.proofs.controls.gather.Statement.{statement}
 use Rattle.sampler.proofs.controls.gather.Tie as tie
 
 abbrev Inv-loop : tie.InvT-loop
-Inv-loop values corners first count axis from n numbers₀ j₀ numbers j = (j ≤ n + 1) × Filled (λ i. controlAt values corners first axis (from + i)) numbers j
+Inv-loop row₀ values corners first count axis from n j₀ row j = (j ≤ n + 1) × Filled (λ i. controlAt values corners first axis (from + i)) (length row₀) row j
 
 abbrev μ-loop : tie.MeasureT-loop
-μ-loop values corners first count axis from n numbers₀ j₀ numbers j = n + 1 - j
+μ-loop row₀ values corners first count axis from n j₀ row j = n + 1 - j
 
 loop-holds : tie.Need-loop-holds Inv-loop μ-loop
-loop-holds c = (omega arith, filled-none _ _ (search needs))
+loop-holds c = (omega arith, filled-none _ _ _ refl)
 
 add-control : tie.Need-add-control Inv-loop μ-loop
 add-control c = let h = c .before .before .before .pre .0 .within in omega arith
@@ -25,11 +25,11 @@ add-control c = let h = c .before .before .before .pre .0 .within in omega arith
 control-requires : tie.Need-control-requires Inv-loop μ-loop
 control-requires c κs = let s = c .before .before .before in (s .pre .0, s .pre .1, omega arith)
 
-mul-numbers : tie.Need-mul-numbers Inv-loop μ-loop
-mul-numbers c = omega arith
+mul-t13 : tie.Need-mul-t13 Inv-loop μ-loop
+mul-t13 c = let h = c .before .before .loop .inv .1 .long in omega arith
 
-array-set-from-numbers : tie.Need-array-set-from-numbers Inv-loop μ-loop
-array-set-from-numbers c = omega arith
+slice-set-from-row : tie.Need-slice-set-from-row Inv-loop μ-loop
+slice-set-from-row c = let h = c .before .before .loop .inv .1 .long in omega arith
 
 add-j : tie.Need-add-j Inv-loop μ-loop
 add-j c = omega arith
@@ -43,11 +43,13 @@ loop-again c =
     let e = c .control .ensures in
     (omega arith, rw (read-back-small (c .control .result) (e .1)) (filled-more (c .control .result) (m .inv .1) (omega arith) (e .0) (e .1)))
 
-add-t17 : tie.Need-add-t17 Inv-loop μ-loop
-add-t17 c = omega arith
+same-length : tie.Need-same-length Inv-loop μ-loop
+same-length c = c .before .loop .inv .1 .long
 
 returns : tie.Need-returns Inv-loop μ-loop
-returns c = let m = c .before .loop in filled-gathered (c .before .before .before .args .n) (m .inv .1) (omega arith)
+returns c =
+    let m = c .before .loop in
+    filled-gathered (c .before .before .before .args .n) (m .inv .1) (omega arith) (c .before .before .before .pre .3)
 
 pub gather-spec : {M : Type 1} → statement M
 gather-spec =
@@ -58,10 +60,10 @@ gather-spec =
     loop-holds
     add-control
     control-requires
-    mul-numbers
-    array-set-from-numbers
+    mul-t13
+    slice-set-from-row
     add-j
     loop-less
     loop-again
-    add-t17
+    same-length
     returns)

@@ -19,14 +19,11 @@ use Rattle.sampler.proofs.rows.level.Statement.{statement}
 use Rattle.sampler.proofs.rows.level.Tie as tie
 
 abbrev Inv-loop : tie.InvT-loop
-Inv-loop x along t chosen values₀ last i₀ values i =
-    (i ≤ last) × Partly (partAt (direction along x) (toZ w32 t) (last - 1)) (gapAt (direction along x) (toZ w32 t) (last - 1)) values₀ values i
+Inv-loop row₀ last x along t chosen i₀ row i =
+    (i ≤ last) × Partly (partAt (direction along x) (toZ w32 t) (last - 1)) (gapAt (direction along x) (toZ w32 t) (last - 1)) row₀ row i
 
 abbrev μ-loop : tie.MeasureT-loop
-μ-loop x along t chosen values₀ last i₀ values i = last - i
-
-sub-last : tie.Need-sub-last Inv-loop μ-loop
-sub-last c = omega arith
+μ-loop row₀ last x along t chosen i₀ row i = last - i
 
 loop-holds : tie.Need-loop-holds Inv-loop μ-loop
 loop-holds c = (omega arith, partly-none _ _ _)
@@ -34,46 +31,48 @@ loop-holds c = (omega arith, partly-none _ _ _)
 sub-step : tie.Need-sub-step Inv-loop μ-loop
 sub-step c = omega arith
 
-mul-step : tie.Need-mul-step Inv-loop μ-loop
-mul-step c = omega arith
-
-array-copy-out-step : tie.Need-array-copy-out-step Inv-loop μ-loop
-array-copy-out-step c = omega arith
-
-add-step : tie.Need-add-step Inv-loop μ-loop
-add-step c = omega arith
-
-mul-step-2 : tie.Need-mul-step-2 Inv-loop μ-loop
-mul-step-2 c = omega arith
-
-array-copy-out-step-2 : tie.Need-array-copy-out-step-2 Inv-loop μ-loop
-array-copy-out-step-2 c = omega arith
-
--- the array's length, from the type
-long : (c : tie.Start Inv-loop μ-loop) → length (c .args .row .values) ≡ 21
-long c = search needs
-
 module _ (c : tie.In-loop Inv-loop μ-loop) where
   abbrev s : tie.Start Inv-loop μ-loop
-  s = c .before .before .before .before
+  s = c .before .before
 
-  abbrev old : ℕ → ℤ
-  old = at (s .args .row .values)
+  abbrev old : List ℤ
+  old = s .args .row .now
 
   abbrev i : ℕ
   i = c .before .loop .i
 
-  here-is : at (c .before .loop .values) i ≡ old i
+  long : length (c .before .loop .row) ≡ length old
+  long = c .before .loop .inv .1 .long
+
+  inside : i + 1 < length (c .before .loop .row)
+  inside = omega (arith, long, s .pre .0 .most)
+
+  here-is : at (c .before .loop .row) i ≡ at old i
   here-is = c .before .loop .inv .1 .rest i (omega arith)
 
-  next-is : at (c .before .loop .values) (i + 1) ≡ old (i + 1)
+  next-is : at (c .before .loop .row) (i + 1) ≡ at old (i + 1)
   next-is = c .before .loop .inv .1 .rest (i + 1) (omega arith)
 
-  here : Small (at (c .before .loop .values) i)
+  here : Small (at (c .before .loop .row) i)
   here = rw here-is (s .pre .0 .small i (omega arith))
 
-  next : Small (at (c .before .loop .values) (i + 1))
+  next : Small (at (c .before .loop .row) (i + 1))
   next = rw next-is (s .pre .0 .small (i + 1) (omega arith))
+
+mul-step : tie.Need-mul-step Inv-loop μ-loop
+mul-step c = omega (arith, inside c)
+
+slice-copy-out-step : tie.Need-slice-copy-out-step Inv-loop μ-loop
+slice-copy-out-step c = omega (arith, inside c)
+
+add-step : tie.Need-add-step Inv-loop μ-loop
+add-step c = omega (arith, inside (c .before))
+
+mul-step-2 : tie.Need-mul-step-2 Inv-loop μ-loop
+mul-step-2 c = omega (arith, inside (c .before))
+
+slice-copy-out-step-2 : tie.Need-slice-copy-out-step-2 Inv-loop μ-loop
+slice-copy-out-step-2 c = omega (arith, inside (c .before))
 
 step-requires : tie.Need-step-requires Inv-loop μ-loop
 step-requires c κs =
@@ -81,11 +80,11 @@ step-requires c κs =
     rw (toZ-ofZ (s t .fits .t), read-back-small _ (here t), read-back-small _ (next t))
     (s t .pre .1, omega arith, omega arith, here t, next t)
 
-mul-values : tie.Need-mul-values Inv-loop μ-loop
-mul-values c = omega arith
+mul-t18 : tie.Need-mul-t18 Inv-loop μ-loop
+mul-t18 c = omega (arith, inside (c .before .before .before))
 
-array-set-from-values : tie.Need-array-set-from-values Inv-loop μ-loop
-array-set-from-values c = omega arith
+slice-set-from-row : tie.Need-slice-set-from-row Inv-loop μ-loop
+slice-set-from-row c = omega (arith, inside (c .before .before .before))
 
 add-i : tie.Need-add-i Inv-loop μ-loop
 add-i c = omega arith
@@ -99,17 +98,18 @@ loop-again c =
     let e = c .step .ensures in (
       omega arith,
       rw (toZ-ofZ (s t .fits .t), read-back-small (c .step .result) (e .1))
-          (partly-more (c .step .result) (rw (toZ-ofZ (s t .fits .t)) at (t .before .loop .inv .1)) (omega (arith, long (s t)))
+          (partly-more (c .step .result) (rw (toZ-ofZ (s t .fits .t)) at (t .before .loop .inv .1)) (omega (arith, inside t, long t))
           (rw (toZ-ofZ (s t .fits .t), read-back-small _ (here t), read-back-small _ (next t)) at (e .0)) (e .1)),
     )
 
+same-length : tie.Need-same-length Inv-loop μ-loop
+same-length c = c .before .loop .inv .1 .long
+
 returns : tie.Need-returns Inv-loop μ-loop
 returns c =
-    let s = c .before .before .before .before in
-    let l = c .before .loop in
-    let p = rw (toZ-ofZ (s .fits .t)) at (l .inv .1) in
-    let e : s .args .row .count - 1 - 1 ≡ s .args .row .count - 2 = omega arith in
-    record { fewer = omega arith; each = λ j h. rw e at (p .done j (omega arith)); small = λ j h. p .small j (omega arith) }
+    let s = c .before .before in
+    let p = rw (toZ-ofZ (s .fits .t)) at (c .before .loop .inv .1) in
+    record { long = p .long; each = λ j h. p .done j (omega arith); small = λ j h. p .small j (omega arith) }
 
 pub level-spec : {M : Type 1} → statement M
 level-spec =
@@ -117,18 +117,18 @@ level-spec =
     (tie.spec
     Inv-loop
     μ-loop
-    sub-last
     loop-holds
     sub-step
     mul-step
-    array-copy-out-step
+    slice-copy-out-step
     add-step
     mul-step-2
-    array-copy-out-step-2
+    slice-copy-out-step-2
     step-requires
-    mul-values
-    array-set-from-values
+    mul-t18
+    slice-set-from-row
     add-i
     loop-less
     loop-again
+    same-length
     returns)

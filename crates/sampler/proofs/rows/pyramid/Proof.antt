@@ -18,48 +18,55 @@ use Rattle.sampler.proofs.rows.pyramid.Statement.{statement}
 use Rattle.sampler.proofs.rows.pyramid.Tie as tie
 
 abbrev Inv-loop : tie.InvT-loop
-Inv-loop x along t chosen rest₀ rest =
-    Fine rest × (length (rest .values) ≡ 21) × (rest .count ≤ along .degree + 1)
-    × (pyramid (partAt (direction along x) (toZ w32 t)) (gapAt (direction along x) (toZ w32 t)) (rest .count - 1) (at (rest .values))
-    ≡ pyramid (partAt (direction along x) (toZ w32 t)) (gapAt (direction along x) (toZ w32 t)) (along .degree) (at (rest₀ .values)))
+Inv-loop row₀ x along t chosen last₀ row last =
+    Fine row (last + 1) × (last ≤ along .degree) × (length row ≡ length row₀)
+    × (pyramid (partAt (direction along x) (toZ w32 t)) (gapAt (direction along x) (toZ w32 t)) last (at row)
+    ≡ pyramid (partAt (direction along x) (toZ w32 t)) (gapAt (direction along x) (toZ w32 t)) (along .degree) (at row₀))
 
 abbrev μ-loop : tie.MeasureT-loop
-μ-loop x along t chosen rest₀ rest = rest .count
+μ-loop row₀ x along t chosen last₀ row last = last
 
 loop-holds : tie.Need-loop-holds Inv-loop μ-loop
-loop-holds c =
-    let e : c .args .row .count - 1 ≡ c .args .along .degree = omega arith in
-    rw e (c .pre .0, search needs, omega arith, refl)
+loop-holds c = (c .pre .0, omega arith, refl, refl)
 
 level-requires : tie.Need-level-requires Inv-loop μ-loop
 level-requires c κs =
-    let s = c .before .before in
-    rw (toZ-ofZ (s .fits .t)) (c .before .loop .inv .0, s .pre .1, c .loop-test .taken, c .before .loop .inv .2)
+    let l = c .before .before in
+    let s = l .before in
+    rw (toZ-ofZ (s .fits .t)) (l .loop .inv .0, s .pre .1, c .before .loop-test .taken, l .loop .inv .1)
+
+sub-last : tie.Need-sub-last Inv-loop μ-loop
+sub-last c = omega arith
 
 loop-less : tie.Need-loop-less Inv-loop μ-loop
-loop-less c = omega (arith, c .level .ensures .fewer)
+loop-less c = omega arith
 
 loop-again : tie.Need-loop-again Inv-loop μ-loop
 loop-again c =
-    let m = c .before .before .loop in
-    let h = c .before .loop-test .taken in
-    let e = c .level .ensures in
-    let s = c .before .before .before .args in
+    let l = c .before .before .before .before in
+    let m = l .loop in
+    let h = c .before .before .before .loop-test .taken in
+    let e = c .before .level .ensures in
+    let s = l .before .args in
     let d = direction (s .along) (s .x .now) in
     let t = toZ w32 (ofZ w32 (s .t)) in
-    (level-fine e h (m .inv .0), search needs, omega (arith, e .fewer), level-row (partAt d t) (gapAt d t) e h ∙ m .inv .3)
+    let one : m .last - 1 + 1 ≡ m .last = omega arith in
+    (rw one (level-fine e (m .inv .0)), omega arith, e .long ∙ m .inv .2, level-row (partAt d t) (gapAt d t) (m .last) h e ∙ m .inv .3)
 
-element-copy-out-result : tie.Need-element-copy-out-result Inv-loop μ-loop
-element-copy-out-result c = omega arith
+slice-copy-out-result : tie.Need-slice-copy-out-result Inv-loop μ-loop
+slice-copy-out-result c = omega (arith, c .before .loop .inv .0 .most)
+
+same-length : tie.Need-same-length Inv-loop μ-loop
+same-length c = c .before .before .loop .inv .2
 
 returns : tie.Need-returns Inv-loop μ-loop
 returns c =
     let m = c .before .before .loop in
     let s = c .before .before .before in
     let d = direction (s .args .along) (s .args .x .now) in
-    let k = m .inv .0 .small 0 (m .inv .0 .some) in
-    let one = pyramid-one (partAt d (s .args .t)) (gapAt d (s .args .t)) (m .rest .count - 1) (at (m .rest .values)) (omega arith) in
+    let k = m .inv .0 .small 0 (omega arith) in
+    let one = pyramid-one (partAt d (s .args .t)) (gapAt d (s .args .t)) (m .last) (at (m .row)) (omega arith) in
     rw (read-back-small _ k) (sym one ∙ rw (toZ-ofZ (s .fits .t)) at (m .inv .3), k)
 
 pub pyramid-spec : {M : Type 1} → statement M
-pyramid-spec = tie.close (tie.spec Inv-loop μ-loop loop-holds level-requires loop-less loop-again element-copy-out-result returns)
+pyramid-spec = tie.close (tie.spec Inv-loop μ-loop loop-holds level-requires sub-last loop-less loop-again slice-copy-out-result same-length returns)
