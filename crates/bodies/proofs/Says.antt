@@ -21,7 +21,7 @@ use Rattle.model.specs.Statements.{Statement, parameters, loop}
 use Rattle.model.specs.Parse.{Parsed, fine, fault, then, must, Keyword, parm, trim, hole, isSurface, isV, directionOf, saysV, inBody, allowed, counted, WordForm, a-number, a-curve, formOf, Value, number, whole, direction, onSaid, directionSaid, Seen, placed, valuesOf, numbersOf, wholesOf, partsOf, checked, seenIn, parse}
 use Rattle.bodies.specs.Numbers.{before, leading}
 use Rattle.bodies.specs.Parm.{ParmLine}
-use Rattle.bodies.specs.Loops.{onPart, parts, LoopLine}
+use Rattle.bodies.specs.Loops.{loopWord, onPart, parts, LoopLine}
 use Rattle.model.proofs.Parsed.{fine-fault}
 
 -- ---- a line that passes, and one that passed
@@ -153,10 +153,6 @@ module _ (x : State) (o : Open) (is : x .open-body ≡ some o) (key : ℕ) (r : 
   parm-left t n g h = let p = parm-only t g h in n (p .0) (p .1 .0) (p .1 .1)
 
 -- ---- trim and hole
-abbrev pub loopWord : Bool → Keyword
-loopWord false = trim
-loopWord true = hole
-
 -- the form of word i: every third is a curv2
 abbrev third : ℕ → WordForm
 third i = cond (eqb (i % 3) 2) a-curve a-number

@@ -2,7 +2,7 @@
 use Prim.Native.Nat.{ℕ, _+_, _*_, _≤_, _<_}
 use mathlib.Core.Path.{_≡_}
 use mathlib.Core.List.{List, [], _∷_}
-use mathlib.Core.Bool.{Bool, cond}
+use mathlib.Core.Bool.{Bool, true, false, cond}
 use mathlib.Core.Option.{none, some}
 use mathlib.Core.Logic.{_⊎_}
 use lib.ListN.{length}
@@ -17,12 +17,17 @@ use Rattle.forms.specs.Number.{numberOf}
 use Rattle.forms.specs.Reference.{referenceOf}
 use Rattle.model.specs.Model.{Part}
 use Rattle.model.specs.Layout.{beginning, loopRow, spanRow}
+use Rattle.model.specs.Parse as parse
 use Rattle.bodies.specs.declared.loops.Curve.{Curve}
 use Rattle.bodies.specs.declared.loops.Curve.the-variants as curve
 use Rattle.bodies.specs.declared.loops.PartMet.{PartMet}
 use Rattle.bodies.specs.declared.loops.PartMet.the-variants as part
 use Rattle.bodies.specs.declared.loops.Loop.{Loop as Taking}
 use Rattle.bodies.specs.declared.loops.Loop.the-variants.{Taken, GaveUp}
+
+abbrev pub loopWord : Bool → parse.Keyword
+loopWord false = parse.trim
+loopWord true = parse.hole
 
 -- the parts at the front of a row of words, of so many curv2s: all up to the first three words that are no part
 abbrev pub onPart : Said ℤ → Said ℤ → Said ℕ → List Part → List Part

@@ -8,9 +8,9 @@ use lib.IntN.{pos}
 use Rattle.tables.specs.Asking.{elementOf}
 use Rattle.tables.specs.declared.Used.{Used}
 use Rattle.reader.specs.declared.Reading.{Reading}
-use Rattle.reader.specs.declared.Reading.the-variants as reading
+use Rattle.reader.specs.Reading as reading
 use Rattle.tidy_file.specs.declared.Tidied.{Tidied}
-use Rattle.tidy_file.specs.declared.Tidied.the-variants as tidied
+use Rattle.tidy_file.specs.Tidying as tidying
 use Rattle.sampler.specs.declared.Sampled.{Sampled}
 use Rattle.sampler.specs.declared.Sampled.the-variants as sampled
 use Rattle.sampler.specs.declared.Ran.{Ran}
@@ -21,27 +21,12 @@ use Rattle.boundary.specs.declared.Point.{Point}
 use Rattle.boundary.specs.declared.Run.{Run}
 use Rattle.boundary.specs.declared.Part.{Part}
 
-abbrev pub noneUsed : Used
-noneUsed =
-    record {
-      v = 0;
-      vt = 0;
-      vn = 0;
-      vp = 0;
-      corners = 0;
-      elements = 0;
-      bodies = 0;
-      parameters = 0;
-      loops = 0;
-    }
-
 abbrev pub readAnswer : ℕ → ℕ → Used → ReadAnswer
 readAnswer refusal place used = record { refusal = refusal; place = place; used = used }
 
 -- "A refusal zeroes every lent table and every count."
 abbrev pub readIn : Reading → ReadAnswer
-readIn (reading.Read used) = readAnswer 0 0 used
-readIn (reading.Refused n p) = readAnswer n p noneUsed
+readIn r = readAnswer (reading.numberOf r) (reading.placeOf r) (reading.countsOf r)
 
 abbrev pub tidyAnswer : ℕ → ℕ → ℕ → Used → TidyAnswer
 tidyAnswer refusal place count used =
@@ -49,9 +34,7 @@ tidyAnswer refusal place count used =
 
 -- "Tidying gives the reader's refusals, or 16 at place 0, the tables then filled"
 abbrev pub tidyIn : Tidied → TidyAnswer
-tidyIn (tidied.Written n used) = tidyAnswer 0 0 n used
-tidyIn (tidied.TooLong used) = tidyAnswer 16 0 0 used
-tidyIn (tidied.Refused n p) = tidyAnswer n p 0 noneUsed
+tidyIn r = tidyAnswer (tidying.numberOf r) (tidying.placeOf r) (tidying.lengthOf r) (tidying.countsOf r)
 
 -- "surf and curv give x y z, curv2 u v": so many axes, and zeros for what is not given
 abbrev pub pointIn : Sampled → Point

@@ -32,8 +32,9 @@ use Rattle.state.specs.Image.{imageOf}
 use Rattle.state.specs.Numbers.{numbersWalk}
 use Rattle.model.proofs.Rows.{bodyRows-length, rangeRows-length, bodies-length}
 use Rattle.state.proofs.Stored.{range-stored, half-range-stored, no-range-stored}
-use Rattle.state.proofs.Images.{state, withElement, withRange, body-image}
-use Rattle.state.proofs.Bounds.{Bounded}
+use Rattle.state.specs.Changed.{state, withElement, withRange}
+use Rattle.state.proofs.Images.{body-image}
+use Rattle.state.specs.Bounds.{Bounded}
 use Rattle.state.proofs.Lines.{line-of, line-small}
 use Rattle.state.proofs.Rooms.{fits-parts, parts-fit}
 use Rattle.elements.specs.Elements.{elementNumbers}

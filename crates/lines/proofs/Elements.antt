@@ -29,8 +29,9 @@ use Rattle.state.specs.declared.Names.{Names}
 use Rattle.state.specs.State.{usedIn}
 use Rattle.state.specs.Image.{imageOf}
 use Rattle.model.proofs.Rows.{summed-append, cornerRows-length, elementRows-length}
-use Rattle.state.proofs.Images.{state, withElement, element-image}
-use Rattle.state.proofs.Bounds.{Bounded}
+use Rattle.state.specs.Changed.{state, withElement}
+use Rattle.state.proofs.Images.{element-image}
+use Rattle.state.specs.Bounds.{Bounded}
 use Rattle.state.proofs.Rooms.{fits-parts, parts-fit}
 use Rattle.elements.specs.Elements.{ruleOf, elementNumbers, TakenElement, NoElement}
 use Rattle.elements.specs.Corners.{cornerSaid, cornersWalk}

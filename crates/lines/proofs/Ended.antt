@@ -26,7 +26,7 @@ use Rattle.model.specs.Room.{Rooms}
 use Rattle.state.specs.declared.State.{State}
 use Rattle.state.specs.declared.Open.{Open}
 use Rattle.state.specs.declared.Form.{Form}
-use Rattle.state.proofs.Images.{state, withBody}
+use Rattle.state.specs.Changed.{state, withBody}
 use Rattle.state.proofs.Rooms.{last}
 use Rattle.bodies.specs.Numbers.{before, leading, numbersAt}
 use Rattle.bodies.specs.Closing.{parmOf, bodyIn, Kept, NotKept, closedIs}

@@ -32,8 +32,8 @@ use Rattle.state.specs.declared.Form.{Form}
 use Rattle.state.specs.State.{StateIs, formIn, usedIn}
 use Rattle.state.specs.Image.{imageOf}
 use Rattle.model.proofs.Rows.{summed-append, bodyRows-length, rangeRows-length, parameterRows-length, bodies-length, bodies-summed}
-use Rattle.state.proofs.Bounds.{Bounded}
-use Rattle.state.proofs.Images.{state, withBody}
+use Rattle.state.specs.Bounds.{Bounded}
+use Rattle.state.specs.Changed.{state, withBody}
 use Rattle.state.proofs.Ends.{end-image, settled-us, settled-vs, settled-loops}
 use Rattle.state.proofs.Rooms.{fits-parts, parts-fit}
 use Rattle.bodies.specs.Closing.{bodyIn, refusalOf, Kept, NotKept}

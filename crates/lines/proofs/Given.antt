@@ -14,7 +14,7 @@ use Rattle.model.specs.Room.{Rooms}
 use Rattle.model.specs.Layout.{itself}
 use Rattle.state.specs.declared.State.{State}
 use Rattle.state.specs.Image.{imageOf}
-use Rattle.state.proofs.Images.{AllCounted}
+use Rattle.state.specs.Changed.{AllCounted}
 use Rattle.blame.specs.Blame.{GivenIn}
 use Rattle.elements.proofs.Wide.{Given}
 use Rattle.lines.specs.Holding.{Holds}

@@ -25,7 +25,8 @@ use Rattle.bodies.specs.declared.parm.Parm.the-variants as parms
 use Rattle.bodies.specs.Loops.{LoopTaken, LoopLeft, loopIs}
 use Rattle.bodies.specs.declared.loops.Loop.{Loop}
 use Rattle.bodies.specs.declared.loops.Loop.the-variants as loops
-use Rattle.bodies.proofs.Says.{loopWord, parm-left}
+use Rattle.bodies.specs.Loops.{loopWord}
+use Rattle.bodies.proofs.Says.{parm-left}
 use Rattle.lines.proofs.Steps.{words-within}
 use Rattle.lines.proofs.Given.{given-in}
 use Rattle.lines.proofs.Parameters.{parm-next}
@@ -34,7 +35,7 @@ use lib.Dec.{eqb, leb}
 use Rattle.lists.proofs.Tests.{and-both, never}
 use Rattle.text.specs.Rest.{restAt}
 use Rattle.model.specs.Parse.{fine, Keyword, parm, isSurface, inBody, allowed}
-use Rattle.state.proofs.Images.{state, withLoops}
+use Rattle.state.specs.Changed.{state, withLoops}
 use Rattle.state.proofs.Rooms.{last}
 use Rattle.lines.specs.Stepping.{Began, Left, quietStep, loopStep}
 use Rattle.lines.specs.OpenBody.{keeping, looped, countsHold}

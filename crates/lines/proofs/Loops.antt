@@ -28,12 +28,14 @@ use Rattle.state.specs.declared.State.{State}
 use Rattle.state.specs.State.{StateIs, usedIn}
 use Rattle.state.specs.Image.{imageOf}
 use Rattle.model.proofs.Rows.{summed-append, loopRows-length, spanRows-length, bodies-summed}
-use Rattle.state.proofs.Bounds.{Bounded}
-use Rattle.state.proofs.Images.{state, withLoops, loop-image}
+use Rattle.state.specs.Bounds.{Bounded}
+use Rattle.state.specs.Changed.{state, withLoops}
+use Rattle.state.proofs.Images.{loop-image}
 use Rattle.state.proofs.Rooms.{Within, fits-parts, parts-fit}
 use Rattle.model.proofs.Parsed.{fine-is}
 use Rattle.bodies.specs.Loops.{parts, partsAt, LoopLine, LoopTaken, LoopLeft}
-use Rattle.bodies.proofs.Says.{loopWord, loop-says, loop-only}
+use Rattle.bodies.specs.Loops.{loopWord}
+use Rattle.bodies.proofs.Says.{loop-says, loop-only}
 use Rattle.lines.specs.OpenBody.{looped}
 use Rattle.lines.specs.Holding.{Opened, Holds, NextLine, lineSays}
 use Rattle.lines.proofs.Steps.{line-fine, line-roomless, line-bounded, next-is}

@@ -18,8 +18,9 @@ use Rattle.model.specs.Read.{keywordOf}
 use Rattle.state.specs.declared.State.{State}
 use Rattle.state.specs.State.{StateIs, ParmAt, OpenIs, usedIn}
 use Rattle.state.specs.Image.{imageOf}
-use Rattle.state.proofs.Bounds.{Bounded}
-use Rattle.state.proofs.Images.{state, parameters-image}
+use Rattle.state.specs.Bounds.{Bounded}
+use Rattle.state.specs.Changed.{state}
+use Rattle.state.proofs.Images.{parameters-image}
 use Rattle.bodies.specs.Numbers.{numbersAt}
 use Rattle.bodies.specs.Parm.{along, ParmTaken}
 use Rattle.bodies.proofs.Says.{parm-says}
@@ -65,7 +66,7 @@ module _ (R : Rooms) (s : List ℕ) (p at : ℕ) (m : Model) (n : model.Names) (
           holds = record {
             state = state-after v i zs (k .kept) (h .state);
             image = h .image ∙ sym (parameters-image R m n f (along v) zs o);
-            wide = subst (λ (z : Model). Rattle.state.proofs.Images.Wide (z .vertices)) (sym (wide-after (along v) zs)) (h .wide);
+            wide = subst (λ (z : Model). Rattle.state.specs.Changed.Wide (z .vertices)) (sym (wide-after (along v) zs)) (h .wide);
             room = room;
             bounded = subst (λ (j : ℕ). Bounded j (apply y x)) (sym (k .next)) (line-bounded R s p at x w parm begins keyword y parsed (h .bounded));
             body = subst (λ (g : model.Form). Rattle.lines.specs.Holding.opened g (apply y x .open-body)) (sym (form-after (along v) zs)) (open-after (along v) zs (h .body));

@@ -21,7 +21,7 @@ use Rattle.state.specs.declared.State.{State}
 use Rattle.state.specs.declared.Form.{Form}
 use Rattle.state.specs.declared.Names.{Names}
 use Rattle.state.specs.State.{formIn, namesIn}
-use Rattle.state.proofs.Images.{state}
+use Rattle.state.specs.Changed.{state}
 use Rattle.settings.specs.Steps.{formTaken, namesTaken, typeTaken, degreeTaken, smoothingTaken, materialTaken, groupTaken}
 use Rattle.settings.specs.declared.TakenForm.{TakenForm}
 use Rattle.settings.specs.declared.TakenForm.the-variants as form

@@ -20,8 +20,8 @@ use Rattle.state.specs.declared.Form.{Form}
 use Rattle.state.specs.declared.Names.{Names}
 use Rattle.state.specs.State.{StateIs, formIn, namesIn}
 use Rattle.state.specs.Image.{imageOf}
-use Rattle.state.proofs.Bounds.{Bounded}
-use Rattle.state.proofs.Images.{Wide, state}
+use Rattle.state.specs.Bounds.{Bounded}
+use Rattle.state.specs.Changed.{Wide, state}
 use Rattle.state.proofs.Lines.{line-of}
 use Rattle.settings.specs.Steps.{typeTaken, degreeTaken, smoothingTaken, materialTaken, groupTaken}
 use Rattle.settings.proofs.Parses.{type-parse, degree-parse, smoothing-parse, material-parse, group-parse, form-taken, names-taken}

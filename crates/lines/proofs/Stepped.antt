@@ -14,8 +14,8 @@ use Rattle.model.specs.Model.{VertexKind, geometric, texture, normal, parametri
 use Rattle.model.specs.Parse.{a-vertex, outside}
 use Rattle.model.specs.Room.{Rooms}
 use Rattle.state.specs.declared.State.{State}
-use Rattle.state.proofs.Bounds.{Bounded}
-use Rattle.state.proofs.Images.{rowsOf, tableOf, withRow}
+use Rattle.state.specs.Bounds.{Bounded}
+use Rattle.state.specs.Changed.{rowsOf, tableOf, withRow}
 use Rattle.vertices.specs.Vertex.{width, TakenVertex, NoVertex, vertexIs}
 use Rattle.vertices.specs.declared.Vertex.{Vertex}
 use Rattle.vertices.specs.declared.Vertex.the-variants as vertex

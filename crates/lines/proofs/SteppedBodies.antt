@@ -16,7 +16,7 @@ use Rattle.model.specs.Model.{Free, Model, Open}
 use Rattle.model.specs.Parse.{a-body}
 use Rattle.model.specs.Room.{Rooms}
 use Rattle.state.specs.declared.State.{State}
-use Rattle.state.proofs.Images.{state, withElement, withRange}
+use Rattle.state.specs.Changed.{state, withElement, withRange}
 use Rattle.elements.specs.Bodies.{TakenBody, NoBody, bodyIs}
 use Rattle.vertices.proofs.Closed.{nothing}
 use Rattle.elements.specs.declared.Element.{Element}

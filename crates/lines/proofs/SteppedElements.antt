@@ -15,7 +15,7 @@ use Rattle.model.specs.Model.{Shape, Model, Open}
 use Rattle.model.specs.Parse.{an-element}
 use Rattle.model.specs.Room.{Rooms}
 use Rattle.state.specs.declared.State.{State}
-use Rattle.state.proofs.Images.{state, withElement}
+use Rattle.state.specs.Changed.{state, withElement}
 use Rattle.elements.specs.Elements.{ruleOf, TakenElement, NoElement, elementIs}
 use Rattle.vertices.proofs.Closed.{nothing}
 use Rattle.elements.specs.declared.Element.{Element}

@@ -17,7 +17,8 @@ use Rattle.model.specs.Statements.{Statement, apply}
 use Rattle.model.specs.Parse.{Parsed, fine, fault, then, must, unless, Keyword, parse}
 use Rattle.model.specs.Room.{Rooms, fits}
 use Rattle.model.specs.Read.{keywordOf, statement, step}
-use Rattle.state.proofs.Bounds.{Bounded, bounded-after}
+use Rattle.state.specs.Bounds.{Bounded}
+use Rattle.state.proofs.Bounds.{bounded-after}
 use Rattle.state.proofs.Lines.{Line, line-of, line-small}
 use Rattle.lines.specs.Holding.{lineSays}
 use Rattle.text.proofs.Tokens.{few}

@@ -29,7 +29,8 @@ use Rattle.model.specs.Read.{keywordOf}
 use Rattle.state.specs.declared.State.{State}
 use Rattle.state.specs.State.{StateIs, usedIn}
 use Rattle.state.specs.Image.{imageOf}
-use Rattle.state.proofs.Images.{withRow, rowsOf, tableOf, widthOf, roomOf, Counted, AllCounted, Wide, vertex-image}
+use Rattle.state.specs.Changed.{withRow, rowsOf, tableOf, widthOf, roomOf, Counted, AllCounted, Wide}
+use Rattle.state.proofs.Images.{vertex-image}
 use Rattle.state.proofs.Rooms.{Within, fits-parts, parts-fit}
 use Rattle.vertices.specs.Vertex.{width, vertexSaid, TakenVertex, NoVertex}
 use Rattle.vertices.proofs.Taking.{vertex-row}
@@ -154,7 +155,7 @@ module _ (R : Rooms) (s : List ℕ) (p at : ℕ) (x : model.State) (c : State) (
             image = im;
             wide = still-wide k (x .model .vertices) z (row .numbers) (row .whole) l (h .wide);
             room = f;
-            bounded = subst (λ (i : ℕ). Rattle.state.proofs.Bounds.Bounded i (apply (vertex k z) x)) (pv .next) (line-bounded R s p at x w (a-vertex k) begins keyword (vertex k z) (pv .parsed (w .place)) (h .bounded));
+            bounded = subst (λ (i : ℕ). Rattle.state.specs.Bounds.Bounded i (apply (vertex k z) x)) (pv .next) (line-bounded R s p at x w (a-vertex k) begins keyword (vertex k z) (pv .parsed (w .place)) (h .bounded));
             body = h .body;
           };
         },

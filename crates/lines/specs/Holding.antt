@@ -15,8 +15,8 @@ use Rattle.model.specs.Read.{step}
 use Rattle.state.specs.declared.State.{State}
 use Rattle.state.specs.State.{StateIs}
 use Rattle.state.specs.Image.{imageOf}
-use Rattle.state.proofs.Images.{Wide}
-use Rattle.state.proofs.Bounds.{Bounded}
+use Rattle.state.specs.Changed.{Wide}
+use Rattle.state.specs.Bounds.{Bounded}
 
 -- a body that has no end yet is of the type and degrees in force, and its range is what its line said
 pub record Opened (f : model.Form) (o : model.Open) : Type 0 where

@@ -18,8 +18,8 @@ use Rattle.model.specs.Parse.{fine, fault, Keyword, a-vertex, an-element, a-bod
 use Rattle.model.specs.Room.{Rooms}
 use Rattle.model.specs.Read.{keywordOf}
 use Rattle.state.specs.declared.State.{State}
-use Rattle.state.proofs.Images.{tableOf, withRow, withElement, withRange, withLoops, withBody}
-use Rattle.bodies.proofs.Says.{loopWord}
+use Rattle.state.specs.Changed.{tableOf, withRow, withElement, withRange, withLoops, withBody}
+use Rattle.bodies.specs.Loops.{loopWord}
 use Rattle.blame.specs.Blame.{parseBefore, GivenIn}
 use Rattle.lines.specs.declared.Step.{Step}
 use Rattle.lines.specs.declared.Step.the-variants.{Taken, Refuses, GaveUp}

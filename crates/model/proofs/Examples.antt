@@ -1,4 +1,4 @@
--- closed examples
+-- Closed examples: texts read by the definition.
 use Prim.Native.Nat.{ℕ}
 use Prim.Native.String.{String}
 use mathlib.Core.Path.{_≡_, refl}
@@ -43,3 +43,8 @@ ex2 = refl
 ex3 : tab (readOf small (bytes "cstype bezier\ndeg 1\nv 0 0 0\nv 1.5 0 0\ng top side\ncurv 0 1 -2 -1\nparm u 0 1\nend\n")) .bodies ≡ 1 ∷ 0 ∷ 1 ∷ 0 ∷ 0 ∷ 2 ∷ 0 ∷ 0 ∷ 0 ∷ []
 unfolding tab tablesOf readOf linesOf numberOf decimal numerator denominator nearest whole isReference refer referenceOf cornerOf degreeOf smoothingOf nameOf statementOf keywords argumentOf arguments inOrder curveCount surfaceCount fits parse statement small
 ex3 = refl
+
+-- "-1 the last so far": a vertex below the line does not count
+ex4 : tab (readOf small (bytes "v 0 0 0\np -1\nv 1 0 0\n")) .corners ≡ 1 ∷ 0 ∷ 0 ∷ 0 ∷ 0 ∷ 0 ∷ 0 ∷ 0 ∷ 0 ∷ 0 ∷ 0 ∷ 0 ∷ []
+unfolding tab tablesOf readOf linesOf numberOf decimal numerator denominator nearest whole isReference refer referenceOf cornerOf degreeOf smoothingOf nameOf statementOf keywords argumentOf arguments inOrder curveCount surfaceCount fits parse statement small
+ex4 = refl

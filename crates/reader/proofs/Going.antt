@@ -26,8 +26,8 @@ use Rattle.state.specs.declared.State.{State}
 use Rattle.state.specs.State.{StateIs, usedIn, namesIn, formIn}
 use Rattle.state.specs.Image.{imageOf}
 use Rattle.model.proofs.Rows.{bodies-length, bodies-summed}
-use Rattle.state.proofs.Images.{Wide}
-use Rattle.state.proofs.Bounds.{Bounded}
+use Rattle.state.specs.Changed.{Wide}
+use Rattle.state.specs.Bounds.{Bounded}
 use Rattle.state.proofs.Rooms.{Within, parts-fit}
 use Rattle.reader.specs.Reading.{Result, result, roomsOf, answered, readInto}
 use Rattle.lines.specs.Holding.{Opened, opened, Holds, lineSays, NextLine}
@@ -51,7 +51,7 @@ begins R s =
       body = tt;
     }
   where
-    rows : (k : model.VertexKind) → length (flat Rattle.model.specs.Layout.itself (Rattle.state.proofs.Images.rowsOf k (start .model .vertices))) ≡ Rattle.state.proofs.Images.widthOf k * length (Rattle.state.proofs.Images.rowsOf k (start .model .vertices))
+    rows : (k : model.VertexKind) → length (flat Rattle.model.specs.Layout.itself (Rattle.state.specs.Changed.rowsOf k (start .model .vertices))) ≡ Rattle.state.specs.Changed.widthOf k * length (Rattle.state.specs.Changed.rowsOf k (start .model .vertices))
     rows model.geometric = refl
     rows model.texture = refl
     rows model.normal = refl

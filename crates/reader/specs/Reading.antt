@@ -3,6 +3,7 @@ use Prim.Native.Nat.{ℕ}
 use mathlib.Core.List.{List, []}
 use lib.ListN.{length}
 use Rattle.tables.specs.Tables.{Tables}
+use Rattle.tables.specs.declared.Used.{Used}
 use Rattle.model.specs.Room.{Rooms}
 use Rattle.model.specs.Read.{Answer, read, refused, readOf}
 use Rattle.model.specs.Layout.{tablesOf, usedOf, nothing}
@@ -25,6 +26,19 @@ roomsOf t =
       loops = length (t .loops);
       spans = length (t .spans);
     }
+
+-- "Any answer that is an enum has a definition that gives this paper's number and values": the number of refusal, 0 where the text is read, its place, and the counts, all 0 after a refusal
+abbrev pub numberOf : Reading → ℕ
+numberOf (Read used) = 0
+numberOf (Refused n p) = n
+
+abbrev pub placeOf : Reading → ℕ
+placeOf (Read used) = 0
+placeOf (Refused n p) = p
+
+abbrev pub countsOf : Reading → Used
+countsOf (Read used) = used
+countsOf (Refused n p) = usedOf nothing
 
 -- the answer with the tables' final contents
 pub record Result : Type 0 where

@@ -23,7 +23,7 @@ use Rattle.elements.specs.Elements.{shapeOf}
 use Rattle.elements.specs.declared.Shape.the-variants.{Point, Line, Face}
 use Rattle.elements.specs.Bodies.{freeOf}
 use Rattle.elements.specs.declared.body.Free.the-variants.{Curve, Curve2, Surface}
-use Rattle.bodies.proofs.Says.{loopWord}
+use Rattle.bodies.specs.Loops.{loopWord}
 use Rattle.blame.specs.declared.Refusal.{Refusal}
 use Rattle.blame.specs.declared.Refusal.the-variants as refusal
 use Rattle.lines.specs.declared.setting_lines.Setting.{Setting}

@@ -16,22 +16,8 @@ use Rattle.model.specs.Statements.{Statement, vertex, element, group, smoothing
 use Rattle.model.specs.Parse.{Parsed, fine, fault, outside, inBody}
 use Rattle.model.specs.Room.{Rooms, summed, ofKind, ofOpen, partCount, cornerCount, elementCount, bodyCount, parameterCount, loopPartCount}
 use Rattle.model.proofs.Rows.{summed-append}
+use Rattle.state.specs.Bounds.{waiting, Bounded}
 use Rattle.state.proofs.Ends.{settled-us, settled-vs, settled-loops}
-
--- the parameters of a body that has no end yet
-abbrev pub waiting : Option Open → ℕ
-waiting o = ofOpen (λ o. length (o .body .us) + length (o .body .vs)) o
-
-pub record Bounded (p : ℕ) (x : State) : Type 0 where
-  pub v : length (x .model .vertices .v) ≤ p
-  pub vt : length (x .model .vertices .vt) ≤ p
-  pub vn : length (x .model .vertices .vn) ≤ p
-  pub vp : length (x .model .vertices .vp) ≤ p
-  pub corners : cornerCount x ≤ p
-  pub elements : elementCount x ≤ p
-  pub bodies : bodyCount x ≤ p
-  pub parameters : parameterCount x + waiting (x .open-body) ≤ p
-  pub parts : loopPartCount x ≤ p
 
 -- how many records a statement adds at the most, of any table
 abbrev pub few : Statement → ℕ → Type 0

@@ -17,7 +17,7 @@ use Rattle.model.specs.Layout.{Run, runOf, listed, freeNumber, cornerRow, corne
 use Rattle.state.specs.Image.{imageOf}
 use Rattle.model.proofs.Rows.{elementRows-append}
 use Rattle.state.proofs.Stored.{body-stored, range-stored, no-range-stored, parameters-stored}
-use Rattle.state.proofs.Images.{state, withBody}
+use Rattle.state.specs.Changed.{state, withBody}
 
 -- settling a range changes nothing else
 module _ (b : Body) where

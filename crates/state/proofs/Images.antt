@@ -18,55 +18,10 @@ use Rattle.model.specs.Model.{VertexKind, geometric, texture, normal, parametri
 use Rattle.model.specs.Statements.{Statement, vertex, element, group, smoothing, material, type, degree, body, parameters, loop, end, passed, apply, settled, closed, withLoop, withParameters}
 use Rattle.model.specs.Room.{Rooms, summed, ofKind, partCount, cornerCount, elementCount, bodyCount, parameterCount, loopPartCount}
 use Rattle.model.specs.Layout.{Run, runOf, listed, freeNumber, beginning, itself, cornerRow, cornerRows, elementRow, elementRows, bodyRow, bodyRows, bodyOf, bodiesOf, rangeRow, parameterRow, loopRow, spanRow, loopRows, spanRows}
+use Rattle.state.specs.Changed.{withRow, rowsOf, tableOf, widthOf, roomOf, Counted, AllCounted, Wide, state, withElement, withRange, withLoops, withBody}
 use Rattle.state.specs.Image.{openElement, openBody, elementsIn, bodiesIn, imageOf}
 use Rattle.model.proofs.Rows.{summed-append, elementRows-append, loopRows-length, spanRows-length, partRows-length, spans-length, bodyRows-append, bodies-append, bodies-length}
 use Rattle.state.proofs.Stored.{stored-at, vertex-stored, corners-stored, element-stored, body-stored, range-stored, half-range-stored, no-range-stored, parameters-stored}
-
--- ---- the tables with one of them changed
-abbrev pub withRow : VertexKind → List ℤ → Tables → Tables
-withRow geometric l t = record { v = l; vt = t .vt; vn = t .vn; vp = t .vp; corners = t .corners; elements = t .elements; bodies = t .bodies; ranges = t .ranges; parameters = t .parameters; loops = t .loops; spans = t .spans }
-withRow texture l t = record { v = t .v; vt = l; vn = t .vn; vp = t .vp; corners = t .corners; elements = t .elements; bodies = t .bodies; ranges = t .ranges; parameters = t .parameters; loops = t .loops; spans = t .spans }
-withRow normal l t = record { v = t .v; vt = t .vt; vn = l; vp = t .vp; corners = t .corners; elements = t .elements; bodies = t .bodies; ranges = t .ranges; parameters = t .parameters; loops = t .loops; spans = t .spans }
-withRow parametric l t = record { v = t .v; vt = t .vt; vn = t .vn; vp = l; corners = t .corners; elements = t .elements; bodies = t .bodies; ranges = t .ranges; parameters = t .parameters; loops = t .loops; spans = t .spans }
-
-abbrev pub rowsOf : VertexKind → Vertices → List (List ℤ)
-rowsOf geometric x = x .v
-rowsOf texture x = x .vt
-rowsOf normal x = x .vn
-rowsOf parametric x = x .vp
-
-abbrev pub tableOf : VertexKind → Tables → List ℤ
-tableOf geometric t = t .v
-tableOf texture t = t .vt
-tableOf normal t = t .vn
-tableOf parametric t = t .vp
-
-abbrev pub widthOf : VertexKind → ℕ
-widthOf geometric = 4
-widthOf texture = 3
-widthOf normal = 3
-widthOf parametric = 4
-
-abbrev pub roomOf : VertexKind → Rooms → ℕ
-roomOf geometric R = R .v
-roomOf texture R = R .vt
-roomOf normal R = R .vn
-roomOf parametric R = R .vp
-
--- "vp the count given and u v w": four numbers, the first of them a count
-pub record Counted (z : List ℤ) : Type 0 where
-  pub wide : length z ≡ 4
-  pub count : ℕ
-  pub first : getD z 0 (pos 0) ≡ pos count
-
-abbrev pub AllCounted : List (List ℤ) → Type 0
-AllCounted [] = Unit {0}
-AllCounted (z ∷ zs) = Counted z × AllCounted zs
-
--- each vertex has as many numbers as its table says, and each vp begins with its count
-pub record Wide (x : Vertices) : Type 0 where
-  pub rows : (k : VertexKind) → length (flat itself (rowsOf k x)) ≡ widthOf k * length (rowsOf k x)
-  pub counts : AllCounted (x .vp)
 
 module _ (R : Rooms) (x : State) where
   pub vertex-image : (k : VertexKind) (z : List ℤ) → Wide (x .model .vertices) → length z ≡ widthOf k
@@ -100,21 +55,6 @@ module _ (R : Rooms) (x : State) where
   degree-image m n = refl
 
 -- ---- elements and bodies: a state taken apart by its body that has no end yet
-abbrev pub state : Model → Names → Form → Option Open → State
-state m n f o = record { model = m; names = n; form = f; open-body = o }
-
-abbrev pub withElement : List ℕ → List ℕ → Tables → Tables
-withElement c e t = record { v = t .v; vt = t .vt; vn = t .vn; vp = t .vp; corners = c; elements = e; bodies = t .bodies; ranges = t .ranges; parameters = t .parameters; loops = t .loops; spans = t .spans }
-
-abbrev pub withRange : List ℤ → Tables → Tables
-withRange r t = record { v = t .v; vt = t .vt; vn = t .vn; vp = t .vp; corners = t .corners; elements = t .elements; bodies = t .bodies; ranges = r; parameters = t .parameters; loops = t .loops; spans = t .spans }
-
-abbrev pub withLoops : List ℕ → List ℤ → Tables → Tables
-withLoops l s t = record { v = t .v; vt = t .vt; vn = t .vn; vp = t .vp; corners = t .corners; elements = t .elements; bodies = t .bodies; ranges = t .ranges; parameters = t .parameters; loops = l; spans = s }
-
-abbrev pub withBody : List ℕ → List ℤ → List ℤ → Tables → Tables
-withBody b r p t = record { v = t .v; vt = t .vt; vn = t .vn; vp = t .vp; corners = t .corners; elements = t .elements; bodies = b; ranges = r; parameters = p; loops = t .loops; spans = t .spans }
-
 module _ (R : Rooms) (m : Model) (n : Names) (f : Form) where
   -- p, l, f
   pub element-image : (k : Shape) (cs : List Corner) →

@@ -25,6 +25,17 @@ placeOf (Written n u) = 0
 placeOf (TooLong u) = 0
 placeOf (Refused n p) = p
 
+-- the length of the text written, and the counts: "the tables then filled" where only the buffer was short
+abbrev pub lengthOf : Tidied → ℕ
+lengthOf (Written n u) = n
+lengthOf (TooLong u) = 0
+lengthOf (Refused n p) = 0
+
+abbrev pub countsOf : Tidied → Used
+countsOf (Written n u) = u
+countsOf (TooLong u) = u
+countsOf (Refused n p) = usedOf nothing
+
 -- the answer with the final contents of the tables and of the lent buffer
 pub record TidyResult : Type 0 where
   pub answer : Tidied

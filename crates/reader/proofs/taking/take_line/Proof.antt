@@ -2,7 +2,7 @@
 use mathlib.Core.Path.{refl}
 use denote.Ref.{now}
 use Rattle.tables.specs.Tables.{tables}
-use Rattle.state.proofs.Images.{withElement, withRange, withLoops, withBody}
+use Rattle.state.specs.Changed.{withElement, withRange, withLoops, withBody}
 use Rattle.reader.specs.Taking.{withVertices}
 use Rattle.lines.specs.declared.Step.the-variants.{GaveUp}
 use Rattle.reader.proofs.Sorted.{family-step}
