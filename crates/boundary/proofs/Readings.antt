@@ -6,7 +6,8 @@ use Rattle.tables.specs.declared.Used.{Used}
 use Rattle.reader.specs.Reading.{Result, result}
 use Rattle.reader.specs.declared.Reading.{Reading}
 use Rattle.reader.specs.declared.Reading.the-variants as reading
-use Rattle.boundary.specs.Answers.{noneUsed, readAnswer, readIn}
+use Rattle.model.specs.Layout.{noneUsed}
+use Rattle.boundary.specs.Answers.{readAnswer, readIn}
 use Rattle.boundary.specs.declared.ReadAnswer.{ReadAnswer}
 
 module _ {a : Reading} where

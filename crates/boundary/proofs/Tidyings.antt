@@ -7,7 +7,8 @@ use Rattle.tables.specs.declared.Used.{Used}
 use Rattle.tidy_file.specs.Tidying.{TidyResult, tidyResult}
 use Rattle.tidy_file.specs.declared.Tidied.{Tidied}
 use Rattle.tidy_file.specs.declared.Tidied.the-variants as tidied
-use Rattle.boundary.specs.Answers.{noneUsed, tidyAnswer, tidyIn}
+use Rattle.model.specs.Layout.{noneUsed}
+use Rattle.boundary.specs.Answers.{tidyAnswer, tidyIn}
 use Rattle.boundary.specs.declared.TidyAnswer.{TidyAnswer}
 
 module _ {a : Tidied} where

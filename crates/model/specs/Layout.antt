@@ -144,6 +144,10 @@ tablesOf R m =
       spans = filled (R .spans) (pos 0) (flat spanRows (bodiesOf (m .elements)));
     }
 
+-- "every count" after a refusal
+abbrev pub noneUsed : Used
+noneUsed = record { v = 0; vt = 0; vn = 0; vp = 0; corners = 0; elements = 0; bodies = 0; parameters = 0; loops = 0 }
+
 -- how many are used: records, but for the corners, which count numbers
 unfoldable pub usedOf : Model → Used
 usedOf m =

@@ -6,7 +6,7 @@ use Rattle.tables.specs.Tables.{Tables}
 use Rattle.tables.specs.declared.Used.{Used}
 use Rattle.model.specs.Room.{Rooms}
 use Rattle.model.specs.Read.{Answer, read, refused, readOf}
-use Rattle.model.specs.Layout.{tablesOf, usedOf, nothing}
+use Rattle.model.specs.Layout.{tablesOf, usedOf, noneUsed, nothing}
 use Rattle.reader.specs.declared.Reading.{Reading}
 use Rattle.reader.specs.declared.Reading.the-variants.{Read, Refused}
 
@@ -38,7 +38,7 @@ placeOf (Refused n p) = p
 
 abbrev pub countsOf : Reading → Used
 countsOf (Read used) = used
-countsOf (Refused n p) = usedOf nothing
+countsOf (Refused n p) = noneUsed
 
 -- the answer with the tables' final contents
 pub record Result : Type 0 where

@@ -8,7 +8,7 @@ use Rattle.tables.specs.Tables.{Tables}
 use Rattle.tables.specs.declared.Used.{Used}
 use Rattle.model.specs.Room.{Rooms}
 use Rattle.model.specs.Read.{Answer, read, refused, readOf}
-use Rattle.model.specs.Layout.{tablesOf, usedOf, nothing}
+use Rattle.model.specs.Layout.{tablesOf, usedOf, noneUsed, nothing}
 use Rattle.tidying.specs.Printed.{tidyText}
 use Rattle.reader.specs.Reading.{roomsOf}
 use Rattle.tidy_file.specs.declared.Tidied.{Tidied}
@@ -34,7 +34,7 @@ lengthOf (Refused n p) = 0
 abbrev pub countsOf : Tidied → Used
 countsOf (Written n u) = u
 countsOf (TooLong u) = u
-countsOf (Refused n p) = usedOf nothing
+countsOf (Refused n p) = noneUsed
 
 -- the answer with the final contents of the tables and of the lent buffer
 pub record TidyResult : Type 0 where
