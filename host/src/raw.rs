@@ -81,23 +81,26 @@ extern "C" {
         element: u32,
         k: u32,
     ) -> Corner;
-    pub fn kuhlabires_group_of(
-        text: *const u8,
-        text_length: usize,
-        used: Used,
-        elements: *const u32,
-        elements_length: usize,
-        element: u32,
-    ) -> Part;
-    pub fn kuhlabires_material_of(
-        text: *const u8,
-        text_length: usize,
-        used: Used,
-        elements: *const u32,
-        elements_length: usize,
-        element: u32,
-    ) -> Part;
 }
+
+macro_rules! names {
+    ($($name:ident),*) => {
+        extern "C" {
+            $(
+                pub fn $name(
+                    text: *const u8,
+                    text_length: usize,
+                    used: Used,
+                    elements: *const u32,
+                    elements_length: usize,
+                    element: u32,
+                ) -> Part;
+            )*
+        }
+    };
+}
+
+names!(kuhlabires_group_of, kuhlabires_material_of);
 
 /// Calls a function of the boundary with the tables lent as `as_ptr` or `as_mut_ptr` says.
 macro_rules! with_tables {

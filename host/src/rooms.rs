@@ -19,23 +19,7 @@ pub struct Rooms {
 /// The longest text that is read, and the longest tidy text, in bytes.
 pub const MOST_BYTES: usize = 16_777_216;
 
-// The keywords that take room. Corners are words of the lines of p, l, f, curv, curv2, surf, parameters of parm, loop parts of trim and hole.
-const KEYWORDS: [(&[u8], Takes); 13] = [
-    (b"v", Takes::V),
-    (b"vt", Takes::Vt),
-    (b"vn", Takes::Vn),
-    (b"vp", Takes::Vp),
-    (b"p", Takes::Element),
-    (b"l", Takes::Element),
-    (b"f", Takes::Element),
-    (b"curv", Takes::Body),
-    (b"curv2", Takes::Body),
-    (b"surf", Takes::Body),
-    (b"parm", Takes::Parameters),
-    (b"trim", Takes::Loop),
-    (b"hole", Takes::Loop),
-];
-
+// What a line takes room for. Corners are words of the lines of p, l, f, curv, curv2, surf, parameters of parm, loop parts of trim and hole.
 #[derive(Clone, Copy)]
 enum Takes {
     V,
@@ -48,6 +32,26 @@ enum Takes {
     Loop,
 }
 
+impl Takes {
+    fn by_keyword(word: &[u8]) -> Option<Takes> {
+        Some(match word {
+            b"v" => Takes::V,
+            b"vt" => Takes::Vt,
+            b"vn" => Takes::Vn,
+            b"vp" => Takes::Vp,
+            b"p" | b"l" | b"f" => Takes::Element,
+            b"curv" | b"curv2" | b"surf" => Takes::Body,
+            b"parm" => Takes::Parameters,
+            b"trim" | b"hole" => Takes::Loop,
+            _ => return None,
+        })
+    }
+
+    fn takes_words(self) -> bool {
+        !matches!(self, Takes::V | Takes::Vt | Takes::Vn | Takes::Vp)
+    }
+}
+
 impl Rooms {
     /// Room for whatever the text holds, by one walk over its bytes.
     ///
@@ -58,24 +62,28 @@ impl Rooms {
         if MOST_BYTES < text.len() {
             return rooms;
         }
-        let mut met = [false; KEYWORDS.len()];
-        for line in text.split(|&b| b == b'\n') {
-            let line = line.strip_suffix(b"\r").unwrap_or(line);
-            let words = words(line);
-            let keyword = words.first.and_then(|first| KEYWORDS.iter().position(|(spelling, _)| *spelling == first));
-            for (index, (_, takes)) in KEYWORDS.iter().enumerate() {
-                if met[index] {
-                    rooms.add_words(*takes, words.count);
+        let mut met: Vec<Takes> = Vec::new();
+        let mut rest = text;
+        while !rest.is_empty() {
+            let end = line_end(rest);
+            let line = rest[..end].strip_suffix(b"\r").unwrap_or(&rest[..end]);
+            rest = &rest[rest.len().min(end + 1)..];
+            let keyword = Takes::by_keyword(first_word(line));
+            if !met.is_empty() || keyword.is_some_and(Takes::takes_words) {
+                let count = count_words(line);
+                for takes in &met {
+                    rooms.add_words(*takes, count);
+                }
+                if let Some(takes) = keyword {
+                    rooms.add_words(takes, count - 1);
                 }
             }
-            if let Some(index) = keyword {
-                let takes = KEYWORDS[index].1;
+            if let Some(takes) = keyword {
                 rooms.add_line(takes);
-                rooms.add_words(takes, words.count - 1);
-                met[index] = true;
+                met.push(takes);
             }
             if !line.ends_with(b"\\") {
-                met = [false; KEYWORDS.len()];
+                met.clear();
             }
         }
         rooms
@@ -116,26 +124,46 @@ impl Rooms {
     }
 }
 
-struct Words<'a> {
-    first: Option<&'a [u8]>,
-    count: usize,
+// Where the physical line at the front ends: its LF or the end of the text, eight bytes at a time.
+fn line_end(text: &[u8]) -> usize {
+    const ONES: u64 = u64::from_le_bytes([1; 8]);
+    let mut chunks = text.chunks_exact(8);
+    let mut at = 0;
+    for chunk in &mut chunks {
+        let other = u64::from_le_bytes(chunk.try_into().unwrap()) ^ (ONES * b'\n' as u64);
+        let found = other.wrapping_sub(ONES) & !other & (ONES << 7);
+        if found != 0 {
+            return at + found.trailing_zeros() as usize / 8;
+        }
+        at += 8;
+    }
+    at + chunks.remainder().iter().position(|&b| b == b'\n').unwrap_or(chunks.remainder().len())
 }
 
-// The first word of a physical line, and how many it has up to a comment.
-fn words(line: &[u8]) -> Words<'_> {
-    let mut first = None;
+// A backslash within a line parts its words; the line is refused then.
+fn is_gap(b: u8) -> bool {
+    matches!(b, b' ' | b'\t' | b'\\')
+}
+
+fn first_word(line: &[u8]) -> &[u8] {
+    let start = line.iter().position(|&b| !is_gap(b)).unwrap_or(line.len());
+    let word = &line[start..];
+    &word[..word.iter().position(|&b| is_gap(b)).unwrap_or(word.len())]
+}
+
+// How many words a physical line has up to a comment.
+fn count_words(line: &[u8]) -> usize {
     let mut count = 0;
-    for word in line.split(|b| matches!(b, b' ' | b'\t' | b'\\')) {
-        if word.is_empty() {
-            continue;
-        }
-        if word[0] == b'#' {
+    let mut in_gap = true;
+    for &b in line {
+        if in_gap && b == b'#' {
             break;
         }
-        first = first.or(Some(word));
-        count += 1;
+        let gap = is_gap(b);
+        count += (in_gap && !gap) as usize;
+        in_gap = gap;
     }
-    Words { first, count }
+    count
 }
 
 #[cfg(test)]
