@@ -21,7 +21,7 @@ use Rattle.model.specs.Layout.{itself}
 use Rattle.tidying.specs.Printed.{coordinates}
 use Rattle.tidying.proofs.Words.{Fitting}
 use Rattle.tidying.proofs.Standing.{seenOf}
-use Rattle.tidying.proofs.Back.{numbers-of}
+use Rattle.model.proofs.Values.{numbers-of}
 use Rattle.tidying.proofs.Shapes.{numbers-fit}
 use Rattle.tidying.proofs.Coordinates.{completed-numbers}
 use Rattle.tidying.proofs.Good.{Always, GoodVertices}
