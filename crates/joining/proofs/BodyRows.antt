@@ -12,7 +12,7 @@ use Rattle.lists.proofs.Tests.{and-both}
 use Rattle.tables.specs.Tables.{Tables}
 use Rattle.tables.specs.Bodies.{basisNumber}
 use Rattle.tables.specs.Records.{bodyAt, numberAt, valueAt, parametersU, parametersV}
-use Rattle.tables.specs.Records as records
+use Rattle.tables.specs.declared.Body as records
 use Rattle.tables.specs.declared.Used.{Used}
 use Rattle.model.specs.Model.{Body, Kind, free, Element, Model}
 use Rattle.model.specs.Room.{summed, partCount}
@@ -37,19 +37,19 @@ body-among es i a b q =
 abbrev pub laidBody : ℕ → ℕ → Body → records.Body
 laidBody p l b =
     record {
-      type = basisNumber (b .basis);
+      basis = basisNumber (b .basis);
       rational = flag (b .rational);
-      degree-u = b .degree-u;
-      degree-v = b .degree-v;
-      first-parameter = p;
-      count-u = length (b .us);
-      count-v = length (b .vs);
-      first-loop = firstPart l (partCount b);
+      «degree_u» = b .degree-u;
+      «degree_v» = b .degree-v;
+      «first_parameter» = p;
+      «count_u» = length (b .us);
+      «count_v» = length (b .vs);
+      «first_loop» = firstPart l (partCount b);
       loops = partCount b;
-      start-u = b .start-u;
-      end-u = b .end-u;
-      start-v = b .start-v;
-      end-v = b .end-v;
+      «start_u» = b .start-u;
+      «end_u» = b .end-u;
+      «start_v» = b .start-v;
+      «end_v» = b .end-v;
     }
 
 abbrev pub parametersIn : List Body → ℕ

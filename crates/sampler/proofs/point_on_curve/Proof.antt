@@ -11,7 +11,8 @@ use mir.Syntax.{w32}
 use mir.Val.{toZ, ofZ}
 use mir.Facts.{toZ-ofZ}
 use Rattle.tables.specs.Tables.{Tables, tables}
-use Rattle.tables.specs.Records.{Body, numberAt, valueAt}
+use Rattle.tables.specs.Records.{numberAt, valueAt}
+use Rattle.tables.specs.declared.Body.{Body}
 use Rattle.tables.specs.declared.Element.{Element}
 use Rattle.sampler.specs.Places.{Sized}
 use Rattle.sampler.specs.Answers.{elementOf, bodyOf, refusalOf, inside}
@@ -64,7 +65,7 @@ module _ (c : tie.After-number-at) where
   ranges-at : (j : ℕ) → valueAt 4 (s k .args .ranges .now) (c .number-at .result - 1) j ≡ valueAt 4 (s k .args .ranges .now) (el k .body - 1) j
   ranges-at j = ap (λ (q : ℕ). valueAt 4 (s k .args .ranges .now) (q - 1) j) body-is
 
-inside-is : (c : tie.After-is-inside) → let k = c .before .before in c .is-inside .result ≡ inside (bo k .start-u) (bo k .end-u) (s k .args .t)
+inside-is : (c : tie.After-is-inside) → let k = c .before .before in c .is-inside .result ≡ inside (bo k .«start_u») (bo k .«end_u») (s k .args .t)
 inside-is c = c .is-inside .ensures ∙ rw (toZ-ofZ (s (c .before .before) .fits .t), ranges-at (c .before) 0, ranges-at (c .before) 1)
 
 -- where its parameters stand
@@ -72,10 +73,10 @@ module _ (c : tie.After-number-at3) where
   abbrev n : tie.After-number-at
   n = c .before .before .before .before .before
 
-  from-is : c .before .number-at2 .result ≡ bo (k n) .first-parameter
+  from-is : c .before .number-at2 .result ≡ bo (k n) .«first_parameter»
   from-is = c .before .number-at2 .ensures ∙ bodies-at n 4
 
-  count-is : c .number-at3 .result ≡ bo (k n) .count-u
+  count-is : c .number-at3 .result ≡ bo (k n) .«count_u»
   count-is = c .number-at3 .ensures ∙ bodies-at n 5
 
 -- all that was read
@@ -95,7 +96,7 @@ module _ (c : tie.After-number-at5) where
     along-is = w .before .before .along-at .ensures ∙ rw (bodies-at (n w) 0, bodies-at (n w) 2, bodies-at (n w) 5);
   }
 
-  within : inside (bo d .start-u) (bo d .end-u) (s d .args .t) ≡ true
+  within : inside (bo d .«start_u») (bo d .«end_u») (s d .args .t) ≡ true
   within = sym (inside-is (w .before .before .before .before)) ∙ not-false _ (w .before .before .before .if2 .left)
 
 refusal-requires : tie.Need-refusal-requires

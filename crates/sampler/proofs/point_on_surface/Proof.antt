@@ -11,7 +11,8 @@ use mir.Syntax.{w32}
 use mir.Val.{toZ, ofZ}
 use mir.Facts.{toZ-ofZ}
 use Rattle.tables.specs.Tables.{Tables, tables}
-use Rattle.tables.specs.Records.{Body, numberAt, valueAt}
+use Rattle.tables.specs.Records.{numberAt, valueAt}
+use Rattle.tables.specs.declared.Body.{Body}
 use Rattle.tables.specs.declared.Element.{Element}
 use Rattle.sampler.specs.Places.{Sized}
 use Rattle.sampler.specs.Answers.{elementOf, bodyOf, refusalOf, inside}
@@ -67,10 +68,10 @@ module _ (c : tie.After-number-at) where
   ranges-at : (j : ℕ) → valueAt 4 (s k .args .ranges .now) (c .number-at .result - 1) j ≡ valueAt 4 (s k .args .ranges .now) (el k .body - 1) j
   ranges-at j = ap (λ (q : ℕ). valueAt 4 (s k .args .ranges .now) (q - 1) j) body-is
 
-inside-u : (c : tie.After-is-inside) → let k = c .before .before in c .is-inside .result ≡ inside (bo k .start-u) (bo k .end-u) (s k .args .s)
+inside-u : (c : tie.After-is-inside) → let k = c .before .before in c .is-inside .result ≡ inside (bo k .«start_u») (bo k .«end_u») (s k .args .s)
 inside-u c = c .is-inside .ensures ∙ rw (toZ-ofZ (s (c .before .before) .fits .s), ranges-at (c .before) 0, ranges-at (c .before) 1)
 
-inside-v : (c : tie.After-is-inside2) → let k = c .before .before .before .before in c .is-inside2 .result ≡ inside (bo k .start-v) (bo k .end-v) (s k .args .t)
+inside-v : (c : tie.After-is-inside2) → let k = c .before .before .before .before in c .is-inside2 .result ≡ inside (bo k .«start_v») (bo k .«end_v») (s k .args .t)
 inside-v c =
     let n = c .before .before .before in
     c .is-inside2 .ensures ∙ rw (toZ-ofZ (s (n .before) .fits .t), ranges-at n 2, ranges-at n 3)
@@ -80,10 +81,10 @@ module _ (c : tie.Else3) where
   abbrev n : tie.After-number-at
   n = c .before .before .before .before
 
-  in-u : inside (bo (k n) .start-u) (bo (k n) .end-u) (s (k n) .args .s) ≡ true
+  in-u : inside (bo (k n) .«start_u») (bo (k n) .«end_u») (s (k n) .args .s) ≡ true
   in-u = sym (inside-u (c .before .before .before)) ∙ not-false _ (c .before .before .if2 .left)
 
-  in-v : inside (bo (k n) .start-v) (bo (k n) .end-v) (s (k n) .args .t) ≡ true
+  in-v : inside (bo (k n) .«start_v») (bo (k n) .«end_v») (s (k n) .args .t) ≡ true
   in-v = sym (inside-v (c .before)) ∙ not-false _ (c .if3 .left)
 
 -- all that was read
@@ -97,13 +98,13 @@ module _ (c : tie.After-number-at4) where
   abbrev d : tie.Else1
   d = k m
 
-  from-is : c .before .before .number-at2 .result ≡ bo d .first-parameter
+  from-is : c .before .before .number-at2 .result ≡ bo d .«first_parameter»
   from-is = c .before .before .number-at2 .ensures ∙ bodies-at m 4
 
-  count-u-is : c .before .number-at3 .result ≡ bo d .count-u
+  count-u-is : c .before .number-at3 .result ≡ bo d .«count_u»
   count-u-is = c .before .number-at3 .ensures ∙ bodies-at m 5
 
-  count-v-is : c .number-at4 .result ≡ bo d .count-v
+  count-v-is : c .number-at4 .result ≡ bo d .«count_v»
   count-v-is = c .number-at4 .ensures ∙ bodies-at m 6
 
 laid : (c : tie.After-number-at5) → let w = c .before .before .before in

@@ -151,7 +151,7 @@ module _ (c : tie.After-is-carried) where
   abbrev start6 : tie.Start
   start6 = b at5
 
-  carried-is : c .is-carried .result ≡ carried (bodyOf (lent-tables start6) (start6 .args .element) .rational) (bodyOf (lent-tables start6) (start6 .args .element) .type)
+  carried-is : c .is-carried .result ≡ carried (bodyOf (lent-tables start6) (start6 .args .element) .rational) (bodyOf (lent-tables start6) (start6 .args .element) .basis)
   carried-is =
       let n = c .before .before .before .number-at2 .ensures in
       c .is-carried .ensures

@@ -14,7 +14,8 @@ use mir.Syntax.{w32}
 use mir.Val.{toZ, ofZ}
 use mir.Facts.{toZ-ofZ}
 use Rattle.tables.specs.Tables.{Tables, tables}
-use Rattle.tables.specs.Records.{Body, numberAt, valueAt}
+use Rattle.tables.specs.Records.{numberAt, valueAt}
+use Rattle.tables.specs.declared.Body.{Body}
 use Rattle.tables.specs.declared.Element.{Element}
 use Rattle.sampler.specs.Points.{axesOf, runNumbers}
 use Rattle.sampler.specs.Places.{Sized}
@@ -96,10 +97,10 @@ module _ (c : tie.After-number-at5) where
   abbrev j : tie.Else1
   j = k3 m3
 
-  from-is : c .before .number-at4 .result ≡ bo j .first-parameter
+  from-is : c .before .number-at4 .result ≡ bo j .«first_parameter»
   from-is = c .before .number-at4 .ensures ∙ bodies-at m3 4
 
-  count-is : c .number-at5 .result ≡ bo j .count-u
+  count-is : c .number-at5 .result ≡ bo j .«count_u»
   count-is = c .number-at5 .ensures ∙ bodies-at m3 5
 
   read : Read (t j) (el j) (bo j) (ax .before .number-at .result) (m3 .before .number-at2 .result) (c .before .number-at4 .result) (c .number-at5 .result) (c .before .before .along-at .result)
@@ -111,10 +112,10 @@ module _ (c : tie.After-number-at5) where
     along-is = c .before .before .along-at .ensures ∙ rw (bodies-at m3 0, bodies-at m3 2, bodies-at m3 5);
   }
 
-  start-is : toZ w32 (ofZ w32 (c .before .before .before .before .value-at .result)) ≡ bo j .start-u
+  start-is : toZ w32 (ofZ w32 (c .before .before .before .before .value-at .result)) ≡ bo j .«start_u»
   start-is = toZ-ofZ (record { sfits = c .before .before .before .before .value-at .ok }) ∙ c .before .before .before .before .value-at .ensures ∙ ranges-at m3 0
 
-  end-is : toZ w32 (ofZ w32 (c .before .before .before .value-at2 .result)) ≡ bo j .end-u
+  end-is : toZ w32 (ofZ w32 (c .before .before .before .value-at2 .result)) ≡ bo j .«end_u»
   end-is = toZ-ofZ (record { sfits = c .before .before .before .value-at2 .ok }) ∙ c .before .before .before .value-at2 .ensures ∙ ranges-at m3 1
 
   room : s j .args .at + axesOf (el j) * (s j .args .steps + 1) ≤ length (s j .args .points .now)
