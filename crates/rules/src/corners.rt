@@ -95,7 +95,7 @@ fn each_corner(
     corners: &[u32],
     kind: u32,
     first: u32,
-    count: u32,
+    count: usize,
 ) -> bool
     ensures { λ r. ⌜ r ≡ eachCorner used (tables (now (v .entry)) (now (vt .entry)) (now (vn .entry)) (now (vp .entry)) (now (corners .entry)) [] [] [] [] [] []) kind first count ⌝ }
 {
@@ -142,5 +142,5 @@ pub fn corners_obey(
     if count < least_corners(kind) {
         return false;
     }
-    each_corner(used, v, vt, vn, vp, corners, kind, first, count)
+    each_corner(used, v, vt, vn, vp, corners, kind, first, count as usize)
 }

@@ -102,7 +102,7 @@ module _ {t : Tables} {e : Element} {b : Body} {kind first from count : ℕ} {a 
   run-is = part-is (t .parameters) from count ∙ rw (r .from-is, r .count-is)
 
   pub curve-asked : (p q : ℤ) → q ≡ p → Curved t e b → inside (b .«start_u») (b .«end_u») p ≡ true
-      → Held (cond (eqb kind 5) (t .vp) (t .v)) (t .corners) first (a .controls) × Sound a (take (from + count - from) (drop from (t .parameters))) q
+      → Held (cond (eqb kind 5) (t .vp) (t .v)) (t .corners) first 0 (a .controls) × Sound a (take (from + count - from) (drop from (t .parameters))) q
   curve-asked p q k c h = rw (run-is, k, r .kind-is, r .first-is, r .along-is) (c .held, sound-inside (c .along .ranged) p h)
 
   pub point-read : (p q : ℤ) → q ≡ p

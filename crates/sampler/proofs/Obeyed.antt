@@ -40,23 +40,23 @@ unfolding small
 is-small z h = leb-true _ 2000000000 h
 
 held-by : (values : List ℤ) (corners : List ℕ) (used first count : ℕ) → first + 3 * count ≤ length corners
-    → ((i : ℕ) → i < count → Vertex 4 values used (getD corners (first + 3 * i) 0)) → Held values corners first count
+    → ((i : ℕ) → i < count → Vertex 4 values used (getD corners (first + 3 * i) 0)) → Held values corners first 0 count
 unfolding controlAt
 held-by values corners used first count w f = record {
   within = w;
-  named = λ i l. f i l .some;
-  there = λ i l. f i l .lent;
-  small = λ i k l m. is-small _ (f i l .small k m);
+  named = λ i z l. f i l .some;
+  there = λ i z l. f i l .lent;
+  small = λ i k z l m. is-small _ (f i l .small k m);
 }
 
 module _ (used : Used) (t : Tables) (kind first count : ℕ) (c : Corners used t kind first count) where
-  pub held-plane : kind ≡ 5 → Held (t .vp) (t .corners) first count
+  pub held-plane : kind ≡ 5 → Held (t .vp) (t .corners) first 0 count
   held-plane e = held-by (t .vp) (t .corners) (used .vp) first count (c .lent-run) (λ i l. corner-control used t kind first count c i l e)
 
-  pub held-space : (kind ≡ 5 → ⊥) → Held (t .v) (t .corners) first count
+  pub held-space : (kind ≡ 5 → ⊥) → Held (t .v) (t .corners) first 0 count
   held-space f = held-by (t .v) (t .corners) (used .v) first count (c .lent-run) (λ i l. corner-vertex used t kind first count c i l f)
 
-  pub held-either : Held (cond (eqb kind 5) (t .vp) (t .v)) (t .corners) first count
+  pub held-either : Held (cond (eqb kind 5) (t .vp) (t .v)) (t .corners) first 0 count
   held-either = ⊎-elim (λ e. rw e (held-plane (eqb-true kind 5 e))) (λ e. rw e (held-space (λ k. never (sym e ∙ eq-eqb kind 5 k)))) (test (eqb kind 5))
 
 knots-of : (type n p : ℕ) → enough (basisOf type) n p ≡ true → eqb type 2 ≡ true → n + 1 ≤ p
@@ -145,13 +145,13 @@ pub record Lent (t : Tables) (e : Element) : Type 0 where
 -- a curve that is granted
 pub record Curved (t : Tables) (e : Element) (b : Body) : Type 0 where
   pub lent : Lent t e
-  pub held : Held (cond (eqb (e .kind) 5) (t .vp) (t .v)) (t .corners) (e .first) (alongOf (b .basis) (b .«degree_u») (b .«count_u») .controls)
+  pub held : Held (cond (eqb (e .kind) 5) (t .vp) (t .v)) (t .corners) (e .first) 0 (alongOf (b .basis) (b .«degree_u») (b .«count_u») .controls)
   pub along : Directed (t .parameters) (b .«first_parameter») (b .basis) (b .«degree_u») (b .«count_u») (b .«start_u») (b .«end_u»)
 
 -- a surface that is granted
 pub record Surfaced (t : Tables) (e : Element) (b : Body) : Type 0 where
   pub lent : Lent t e
-  pub held : Held (t .v) (t .corners) (e .first) (alongOf (b .basis) (b .«degree_u») (b .«count_u») .controls * alongOf (b .basis) (b .«degree_v») (b .«count_v») .controls)
+  pub held : Held (t .v) (t .corners) (e .first) 0 (alongOf (b .basis) (b .«degree_u») (b .«count_u») .controls * alongOf (b .basis) (b .«degree_v») (b .«count_v») .controls)
   pub along-u : Directed (t .parameters) (b .«first_parameter») (b .basis) (b .«degree_u») (b .«count_u») (b .«start_u») (b .«end_u»)
   pub along-v : Directed (t .parameters) (b .«first_parameter» + b .«count_u») (b .basis) (b .«degree_v») (b .«count_v») (b .«start_v») (b .«end_v»)
 
@@ -180,7 +180,7 @@ curved used t number g =
     ∙ same-controls (b .basis) (b .«degree_u») (b .«count_u») (g .type) in
     record {
       lent = lent-of r;
-      held = subst (λ (q : ℕ). Held (cond (eqb (e .kind) 5) (t .vp) (t .v)) (t .corners) (e .first) q) same (held-either used t (e .kind) (e .first) (e .count) (o .corners));
+      held = subst (λ (q : ℕ). Held (cond (eqb (e .kind) 5) (t .vp) (t .v)) (t .corners) (e .first) 0 q) same (held-either used t (e .kind) (e .first) (e .count) (o .corners));
       along = directed (t .parameters) (b .«first_parameter») (b .«count_u») (omega (arith, r .run .lent-ones)) (b .basis) (b .«degree_u») (b .«start_u») (b .«end_u») (g .type)
           (r .typed .degree-u .most) (r .run .along-u) (λ j l. r .run .small-ones j (omega arith)) enough-there (c .in-order);
     }
@@ -207,7 +207,7 @@ surfaced used t number g =
     ∙ ap₂ (λ (k l : ℕ). k * l) (same-controls (b .basis) (b .«degree_u») (b .«count_u») (g .type)) (same-controls (b .basis) (b .«degree_v») (b .«count_v») (g .type)) in
     record {
       lent = lent-of r;
-      held = subst (λ (q : ℕ). Held (t .v) (t .corners) (e .first) q) same (held-space used t (e .kind) (e .first) (e .count) (o .corners) (λ k. omega (arith, six)));
+      held = subst (λ (q : ℕ). Held (t .v) (t .corners) (e .first) 0 q) same (held-space used t (e .kind) (e .first) (e .count) (o .corners) (λ k. omega (arith, six)));
       along-u = directed (t .parameters) (b .«first_parameter») (b .«count_u») (omega (arith, r .run .lent-ones)) (b .basis) (b .«degree_u») (b .«start_u») (b .«end_u») (g .type)
           (r .typed .degree-u .most) (r .run .along-u) (λ j l. r .run .small-ones j (omega arith)) enough-u (c .along-u);
       along-v = directed (t .parameters) (b .«first_parameter» + b .«count_u») (b .«count_v») (omega (arith, r .run .lent-ones)) (b .basis) (b .«degree_v») (b .«start_v») (b .«end_v») (g .type)

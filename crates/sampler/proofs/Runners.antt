@@ -113,7 +113,7 @@ module _ (used : Used) (t : Tables) (number steps at : ℕ) (points : List ℤ) 
 
 module _ {t : Tables} {e : Element} {b : Body} {kind first from count : ℕ} {a : Along} (r : Read t e b kind first from count a) where
   pub run-asked : (s f : ℤ) → s ≡ b .«start_u» → f ≡ b .«end_u» → Curved t e b
-      → Held (cond (eqb kind 5) (t .vp) (t .v)) (t .corners) first (a .controls) × Ranged a (take (from + count - from) (drop from (t .parameters))) s f
+      → Held (cond (eqb kind 5) (t .vp) (t .v)) (t .corners) first 0 (a .controls) × Ranged a (take (from + count - from) (drop from (t .parameters))) s f
   run-asked s f k l c = rw (run-is r, k, l, r .kind-is, r .first-is, r .along-is) (c .held, c .along .ranged)
 
   pub run-read : (s f : ℤ) (steps : ℕ) → s ≡ b .«start_u» → f ≡ b .«end_u»

@@ -83,7 +83,7 @@ module _ {t : Tables} {e : Element} {b : Body} {first from m n : ℕ} {u v : Alo
   v-run = part-is (t .parameters) (from + m) n ∙ rw (r .from-is, r .count-u-is, r .count-v-is)
 
   pub surface-asked : (p p′ q q′ : ℤ) → p′ ≡ p → q′ ≡ q → Surfaced t e b → inside (b .«start_u») (b .«end_u») p ≡ true → inside (b .«start_v») (b .«end_v») q ≡ true
-      → Held (t .v) (t .corners) first (u .controls * v .controls) × Sound u (take (from + m - from) (drop from (t .parameters))) p′
+      → Held (t .v) (t .corners) first 0 (u .controls * v .controls) × Sound u (take (from + m - from) (drop from (t .parameters))) p′
       × Sound v (take (from + m + n - (from + m)) (drop (from + m) (t .parameters))) q′
   surface-asked p p′ q q′ k l c g h =
       rw (v-run, u-run, k, l, r .first-is, r .along-u-is, r .along-v-is) (c .held, sound-inside (c .along-u .ranged) p g, sound-inside (c .along-v .ranged) q h)

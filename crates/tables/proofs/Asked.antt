@@ -7,7 +7,7 @@ use native.Mathlib.Nat.{lt-of-le-of-lt, mul-le-mul-left, mul-lt-mul-of-pos-right
 use native.Mathlib.Omega.{arith}
 use borrow.Author.Tests.{lt-ltb, le-ltb, le-leb, lt-leb, leb-true}
 use lib.Dec.{leb}
-use lib.ListN.{length, getD, take, drop}
+use lib.ListN.{length, getD, take, drop, List·getD-eq-default}
 use lib.IntN.{ℤ}
 use lib.Pow.{pow-pos, pow-add}
 use Rattle.lists.proofs.Tests.{and-left, and-right}
@@ -78,8 +78,13 @@ module _ (used : Used) (bodies : List ℕ) (ranges : List ℤ) (number : ℕ) wh
   unfolding bodyOf
   body-none h t = rw (sym h ∙ t) refl
 
-pub corner-read : (corners : List ℕ) {at place a b d : ℕ} → at ≡ place → a ≡ getD corners at 0 → b ≡ getD corners (at + 1) 0 → d ≡ getD corners (at + 2) 0 → record { v = a; vt = b; vn = d } ≡ cornerIn corners place
-corner-read corners h i j k = rw (i, j, k, h) refl
+-- no corner begins past as many entries
+pub corner-past : (corners : List ℕ) (first k : ℕ) → length corners ≤ k → noCorner ≡ cornerIn corners (first + 3 * k)
+corner-past corners first k h =
+    let v : getD corners (first + 3 * k) 0 ≡ 0 = List·getD-eq-default corners 0 (omega arith) in
+    let vt : getD corners (first + 3 * k + 1) 0 ≡ 0 = List·getD-eq-default corners 0 (omega arith) in
+    let vn : getD corners (first + 3 * k + 2) 0 ≡ 0 = List·getD-eq-default corners 0 (omega arith) in
+    rw (v, vt, vn) refl
 
 module _ (used : Used) (corners : List ℕ) (e : Element) (k : ℕ) where
   pub corner-lacked : e .count ≤ k → noCorner ≡ cornerWith used corners e k

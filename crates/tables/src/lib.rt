@@ -210,10 +210,13 @@ pub fn corners_end(first: u32, count: u32) -> usize
 }
 
 // Corner `k`, counted from 0, of those that begin at the number `first`; a number past the table's end is 0.
-pub fn corner_at(corners: &[u32], first: u32, k: u32) -> Corner
+pub fn corner_at(corners: &[u32], first: u32, k: usize) -> Corner
     ensures { λ r. ⌜ r ≡ cornerIn (now (corners .entry)) (cornersEnd first k) ⌝ }
 {
-    let at = corners_end(first, k);
+    if corners.len() <= k {
+        return Corner { v: 0, vt: 0, vn: 0 };
+    }
+    let at = first as usize + 3 * k;
     Corner {
         v: number_in(corners, at),
         vt: number_in(corners, at + 1),
@@ -236,7 +239,7 @@ pub fn corner_with(used: Used, corners: &[u32], element: Element, k: u32) -> Cor
     if corners.len() < at + 3 {
         return none;
     }
-    corner_at(corners, element.first, k)
+    corner_at(corners, element.first, k as usize)
 }
 
 // Corner `k`, counted from 0, of the element of that number, counted from 1; three zeros for no such corner.
