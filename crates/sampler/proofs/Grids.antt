@@ -8,14 +8,17 @@ use native.Mathlib.Omega.{arith}
 use lib.Dec.{eqb}
 use lib.ListN.{length, getD}
 use lib.IntN.{ℤ, pos}
+use mir.Syntax.{w32}
+use mir.Val.{toZ, ofZ}
 use Rattle.whole.specs.Round.{Small}
+use Rattle.whole.proofs.Bits.{read-back-small}
 use Rattle.curves.specs.Directions.{Direction, at, chosen, Rules}
 use Rattle.curves.specs.Sampled.{pyramid, partAt, gapAt, firstControl, curveSampled, surfaceSampled}
 use Rattle.curves.proofs.Samplers.{controls-there}
 use Rattle.curves.proofs.Pyramid.{sampled-cong}
 use Rattle.sampler.specs.Places.{direction, Sound, On}
 use Rattle.sampler.specs.Rows.{Gathered}
-use Rattle.sampler.specs.Controls.{controlAt, Held, Reached}
+use Rattle.sampler.specs.Controls.{vertexOf, controlAt, Held, Reached}
 use Rattle.sampler.specs.declared.rows.Along.{Along}
 use Rattle.sampler.proofs.Places.{deep, spline-first, bezier-first}
 
@@ -55,8 +58,16 @@ held-part start stop h a b = record {
 }
 
 -- the row j of a surface's controls, u varying fastest
-pub held-row : {values : List ℤ} {corners : List ℕ} {first h l : ℕ} (j : ℕ) → Held values corners first 0 (h * l) → j < l → Held values corners first (j * h) (j * h + h)
-held-row {values} {corners} {first} {h} {l} j d b = held-part (j * h) (j * h + h) d (omega arith) (omega (arith, mul-le-mul-right h b, mul-comm h l))
+pub held-row : {values : List ℤ} {corners : List ℕ} {first : ℕ} (h l j : ℕ) → Held values corners first 0 (h * l) → j < l → Held values corners first (j * h) (j * h + h)
+held-row h l j d b = held-part (j * h) (j * h + h) d (omega arith) (omega (arith, mul-le-mul-right h b, mul-comm h l))
+
+-- number `axis` of the vertex r that control i names, read by its bits
+pub control-read : (values : List ℤ) (corners : List ℕ) (first axis i r : ℕ) → r ≡ vertexOf corners first i → Small (controlAt values corners first axis i)
+    → let z = toZ w32 (ofZ w32 (getD values (4 * (r - 1) + axis) (pos 0))) in (z ≡ controlAt values corners first axis i) × Small z
+unfolding controlAt
+control-read values corners first axis i r e s =
+    let z : Small (getD values (4 * (r - 1) + axis) (pos 0)) = rw e s in
+    rw (read-back-small (getD values (4 * (r - 1) + axis) (pos 0)) z) (ap (λ (q : ℕ). getD values (4 * (q - 1) + axis) (pos 0)) e, z)
 
 -- a curve's controls are those from the first on
 pub from-first : (d : Direction) (t : ℤ) (values : List ℤ) (corners : List ℕ) (first axis : ℕ)
