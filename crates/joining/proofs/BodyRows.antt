@@ -12,6 +12,7 @@ use Rattle.lists.proofs.Tests.{and-both}
 use Rattle.tables.specs.Tables.{Tables}
 use Rattle.tables.specs.Bodies.{basisNumber}
 use Rattle.tables.specs.Records.{bodyAt, numberAt, valueAt, parametersU, parametersV}
+use Rattle.tables.specs.Asking.{held, bodyHeld}
 use Rattle.tables.specs.declared.Body as records
 use Rattle.tables.specs.declared.Used.{Used}
 use Rattle.model.specs.Model.{Body, Kind, free, Element, Model}
@@ -141,7 +142,7 @@ module _ (u : Used) (t : Tables) (m : Model) (L : Laid u t m) (j : ℕ) (a : Amo
 
 module _ (u : Used) (t : Tables) (j p l : ℕ) (b : Body) (r : BodyRow u t j p l b) where
   pub body-obeys : (n kind count : ℕ) → recordObeys u t n kind count (laidBody p l b) ≡ true → bodyObeys u t n kind count (suc j) ≡ true
-  unfolding bodyObeys
+  unfolding bodyObeys bodyHeld held
   body-obeys n kind count h =
       let e : suc j - 1 ≡ j = omega arith in
       and-both
