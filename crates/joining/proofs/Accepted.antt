@@ -13,7 +13,7 @@ use Rattle.forms.specs.Corner.{Corner}
 use Rattle.whole.specs.Fractions.{Frac, Close}
 use Rattle.tables.specs.Tables.{Tables}
 use Rattle.tables.specs.Bodies.{bezier, bspline, basisNumber}
-use Rattle.tables.specs.Records as records
+use Rattle.tables.specs.declared.Body as records
 use Rattle.curves.specs.Directions.{Direction}
 use Rattle.curves.specs.Exact.{curveExact, surfaceExact}
 use Rattle.model.specs.Model.{Vertices, Free, curve, curve2, surface, Body, Model}
@@ -48,9 +48,9 @@ module _ (R : Rooms) (s : List ℕ) (m : Model) (h : readOf R s ≡ read m) (num
   body-is : bodyOf t number ≡ laidBody (0 + parametersIn (bodiesOf (o .before))) (0 + summed partCount (bodiesOf (o .before))) b
   body-is = its-body R s m h number b o
 
-  types : (b .basis ≡ bezier) ⊎ (b .basis ≡ bspline) → (bodyOf t number .type ≡ 1) ⊎ (bodyOf t number .type ≡ 2)
-  types (inl e) = inl (ap (λ (y : records.Body). y .type) body-is ∙ ap basisNumber e)
-  types (inr e) = inr (ap (λ (y : records.Body). y .type) body-is ∙ ap basisNumber e)
+  types : (b .basis ≡ bezier) ⊎ (b .basis ≡ bspline) → (bodyOf t number .basis ≡ 1) ⊎ (bodyOf t number .basis ≡ 2)
+  types (inl e) = inl (ap (λ (y : records.Body). y .basis) body-is ∙ ap basisNumber e)
+  types (inr e) = inr (ap (λ (y : records.Body). y .basis) body-is ∙ ap basisNumber e)
 
   plain : bodyOf t number .rational ≡ 0
   plain = ap (λ (y : records.Body). y .rational) body-is ∙ ap flag (c .plain)
@@ -58,11 +58,11 @@ module _ (R : Rooms) (s : List ℕ) (m : Model) (h : readOf R s ≡ read m) (num
   used : number ≤ usedOf m .elements
   used = let e = used-elements m in let f = in-file R s m h number b o in omega arith
 
-  its-start : (p : ℤ) → b .start-u ≤ℤ p → bodyOf t number .start-u ≤ℤ p
-  its-start p = subst (λ (z : ℤ). z ≤ℤ p) (sym (ap (λ (q : records.Body). q .start-u) body-is))
+  its-start : (p : ℤ) → b .start-u ≤ℤ p → bodyOf t number .«start_u» ≤ℤ p
+  its-start p = subst (λ (z : ℤ). z ≤ℤ p) (sym (ap (λ (q : records.Body). q .«start_u») body-is))
 
-  its-end : (p : ℤ) → p ≤ℤ b .end-u → p ≤ℤ bodyOf t number .end-u
-  its-end p = subst (λ (z : ℤ). p ≤ℤ z) (sym (ap (λ (q : records.Body). q .end-u) body-is))
+  its-end : (p : ℤ) → p ≤ℤ b .end-u → p ≤ℤ bodyOf t number .«end_u»
+  its-end p = subst (λ (z : ℤ). p ≤ℤ z) (sym (ap (λ (q : records.Body). q .«end_u») body-is))
 
   -- ---- curves
   module _ (k : (b .free ≡ curve) ⊎ (b .free ≡ curve2)) where
@@ -103,8 +103,8 @@ module _ (R : Rooms) (s : List ℕ) (m : Model) (h : readOf R s ≡ read m) (num
 
     close : (p : ℤ) (axis : ℕ) (z : ℤ) → axis < axesIn (b .free) → OnCurve t number p axis z → Close z (curveExact (alongU b) p (controlIn x (b .free) cs axis)) (b .degree-u)
     close p axis z a q =
-        subst (λ (n : ℕ). Close z (curveExact (alongU b) p (controlIn x (b .free) cs axis)) n) (ap (λ (y : records.Body). y .degree-u) body-is)
-        (subst (λ (f : Frac). Close z f (bodyOf t number .degree-u)) (exact p axis a) q)
+        subst (λ (n : ℕ). Close z (curveExact (alongU b) p (controlIn x (b .free) cs axis)) n) (ap (λ (y : records.Body). y .«degree_u») body-is)
+        (subst (λ (f : Frac). Close z f (bodyOf t number .«degree_u»)) (exact p axis a) q)
 
     curve-point : (p : ℤ) → b .start-u ≤ℤ p → p ≤ℤ b .end-u → PointOnCurve R m number b cs p
     curve-point p f g =
@@ -130,10 +130,10 @@ module _ (R : Rooms) (s : List ℕ) (m : Model) (h : readOf R s ≡ read m) (num
         point a j axis d e =
             let q = a .near j axis d (let w = axes-are in omega arith) in
             let q' =
-            subst (λ (n : ℕ). OnCurve t number (parameterAt (bodyOf t number .start-u) (bodyOf t number .end-u) steps j) axis (getD (pointsAfter (usedOf m) t number steps at points) (at + (n * j + axis)) (pos 0)))
+            subst (λ (n : ℕ). OnCurve t number (parameterAt (bodyOf t number .«start_u») (bodyOf t number .«end_u») steps j) axis (getD (pointsAfter (usedOf m) t number steps at points) (at + (n * j + axis)) (pos 0)))
             axes-are q in
             close (parameterAt (b .start-u) (b .end-u) steps j) axis (getD (pointsAfter (usedOf m) t number steps at points) (at + (axesIn (b .free) * j + axis)) (pos 0)) e
-            (subst (λ (y : records.Body). OnCurve t number (parameterAt (y .start-u) (y .end-u) steps j) axis (getD (pointsAfter (usedOf m) t number steps at points) (at + (axesIn (b .free) * j + axis)) (pos 0)))
+            (subst (λ (y : records.Body). OnCurve t number (parameterAt (y .«start_u») (y .«end_u») steps j) axis (getD (pointsAfter (usedOf m) t number steps at points) (at + (axesIn (b .free) * j + axis)) (pos 0)))
             body-is q')
 
   -- ---- surfaces
@@ -165,8 +165,8 @@ module _ (R : Rooms) (s : List ℕ) (m : Model) (h : readOf R s ≡ read m) (num
     surface-point : (p q : ℤ) → b .start-u ≤ℤ p → p ≤ℤ b .end-u → b .start-v ≤ℤ q → q ≤ℤ b .end-v → PointOnSurface R m number b cs p q
     surface-point p q f g d e =
         let a =
-        points-on-surfaces (usedOf m) t number p q its-surface (its-start p f) (its-end p g) (subst (λ (z : ℤ). z ≤ℤ q) (sym (ap (λ (y : records.Body). y .start-v) body-is)) d)
-        (subst (λ (z : ℤ). q ≤ℤ z) (sym (ap (λ (y : records.Body). y .end-v) body-is)) e) in
+        points-on-surfaces (usedOf m) t number p q its-surface (its-start p f) (its-end p g) (subst (λ (z : ℤ). z ≤ℤ q) (sym (ap (λ (y : records.Body). y .«start_v») body-is)) d)
+        (subst (λ (z : ℤ). q ≤ℤ z) (sym (ap (λ (y : records.Body). y .«end_v») body-is)) e) in
         record {
           given = a .given;
           axes = a .axes;
@@ -175,8 +175,8 @@ module _ (R : Rooms) (s : List ℕ) (m : Model) (h : readOf R s ≡ read m) (num
       where
         near : (axis : ℕ) (z : ℤ) → axis < 3 → OnSurface t number p q axis z → Close z (surfaceExact (alongU b) (alongV b) p q (gridIn x b cs axis)) (b .degree-u + b .degree-v)
         near axis z l w =
-            subst (λ (y : records.Body). Close z (surfaceExact (alongU b) (alongV b) p q (gridIn x b cs axis)) (y .degree-u + y .degree-v)) body-is
-            (subst (λ (y : Frac). Close z y (bodyOf t number .degree-u + bodyOf t number .degree-v)) (grid p q axis l) w)
+            subst (λ (y : records.Body). Close z (surfaceExact (alongU b) (alongV b) p q (gridIn x b cs axis)) (y .«degree_u» + y .«degree_v»)) body-is
+            (subst (λ (y : Frac). Close z y (bodyOf t number .«degree_u» + bodyOf t number .«degree_v»)) (grid p q axis l) w)
 
 pub accepted-curves : AcceptedCurves
 accepted-curves R s m h number b o c k p f g = curve-point R s m h number b o c k p f g

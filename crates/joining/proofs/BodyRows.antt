@@ -12,7 +12,8 @@ use Rattle.lists.proofs.Tests.{and-both}
 use Rattle.tables.specs.Tables.{Tables}
 use Rattle.tables.specs.Bodies.{basisNumber}
 use Rattle.tables.specs.Records.{bodyAt, numberAt, valueAt, parametersU, parametersV}
-use Rattle.tables.specs.Records as records
+use Rattle.tables.specs.Asking.{held, bodyHeld}
+use Rattle.tables.specs.declared.Body as records
 use Rattle.tables.specs.declared.Used.{Used}
 use Rattle.model.specs.Model.{Body, Kind, free, Element, Model}
 use Rattle.model.specs.Room.{summed, partCount}
@@ -37,19 +38,19 @@ body-among es i a b q =
 abbrev pub laidBody : ℕ → ℕ → Body → records.Body
 laidBody p l b =
     record {
-      type = basisNumber (b .basis);
+      basis = basisNumber (b .basis);
       rational = flag (b .rational);
-      degree-u = b .degree-u;
-      degree-v = b .degree-v;
-      first-parameter = p;
-      count-u = length (b .us);
-      count-v = length (b .vs);
-      first-loop = firstPart l (partCount b);
+      «degree_u» = b .degree-u;
+      «degree_v» = b .degree-v;
+      «first_parameter» = p;
+      «count_u» = length (b .us);
+      «count_v» = length (b .vs);
+      «first_loop» = firstPart l (partCount b);
       loops = partCount b;
-      start-u = b .start-u;
-      end-u = b .end-u;
-      start-v = b .start-v;
-      end-v = b .end-v;
+      «start_u» = b .start-u;
+      «end_u» = b .end-u;
+      «start_v» = b .start-v;
+      «end_v» = b .end-v;
     }
 
 abbrev pub parametersIn : List Body → ℕ
@@ -141,7 +142,7 @@ module _ (u : Used) (t : Tables) (m : Model) (L : Laid u t m) (j : ℕ) (a : Amo
 
 module _ (u : Used) (t : Tables) (j p l : ℕ) (b : Body) (r : BodyRow u t j p l b) where
   pub body-obeys : (n kind count : ℕ) → recordObeys u t n kind count (laidBody p l b) ≡ true → bodyObeys u t n kind count (suc j) ≡ true
-  unfolding bodyObeys
+  unfolding bodyObeys bodyHeld held
   body-obeys n kind count h =
       let e : suc j - 1 ≡ j = omega arith in
       and-both

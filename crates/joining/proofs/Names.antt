@@ -8,7 +8,8 @@ use lib.ListN.{length}
 use lib.Dec.{leb, eqb}
 use lib.IntN.{ℤ}
 use Rattle.tables.specs.Tables.{Tables}
-use Rattle.tables.specs.Records.{Body, numberAt, elementAt, bodyAt}
+use Rattle.tables.specs.Records.{numberAt, elementAt, bodyAt}
+use Rattle.tables.specs.declared.Body.{Body}
 use Rattle.tables.specs.declared.Element.{Element}
 use Rattle.tables.specs.declared.Used.{Used}
 use Rattle.rules.specs.Corners.{cornerObeys, eachCorner, cornersObey}
@@ -85,7 +86,7 @@ module _ (u : Used) (t : Tables) (k l : List ℕ) (same : (i j : ℕ) → j < 5 
         let inner : (o : Bool) (b : Body) (kind len : ℕ) → ℕ =
         λ o b kind len.
         cond (leb 1 number && leb number (u .elements))
-        (cond (leb (9 * number) len) (cond (wanted surface kind) (cond o (cond (carried (b .rational) (b .type)) 0 18) 15) 17) 15) 17 in
+        (cond (leb (9 * number) len) (cond (wanted surface kind) (cond o (cond (carried (b .rational) (b .basis)) 0 18) 15) 17) 15) 17 in
         ap₂ (λ (o : Bool) (b : Body). inner o b (elementOf T number .kind) (length k))
         (ap (λ (n : ℕ). obeys u T n i) (curves-same i) ∙ obeys-same (curvesAmong l i) i) body-same
         ∙ ap₂ (λ (kind len : ℕ). inner (obeys u W (curvesAmong l i) i) (bodyOf W number) kind len) (same i 0 (omega arith)) long
@@ -115,7 +116,7 @@ module _ (u : Used) (t : Tables) (k l : List ℕ) (same : (i j : ℕ) → j < 5 
     unfolding pointOnCurve
     answer-curve p =
         let answer : ℕ → Body → Sampled → Sampled =
-        λ r b c. cond (eqb r 0) (cond (inside (b .start-u) (b .end-u) p) c (sampled.Refused 19)) (sampled.Refused r) in
+        λ r b c. cond (eqb r 0) (cond (inside (b .«start_u») (b .«end_u») p) c (sampled.Refused 19)) (sampled.Refused r) in
         ap₂ (λ (r : ℕ) (b : Body). answer r b (curvePoint T (elementOf T number) (bodyOf T number) p)) (refusal-same false) body-same
         ∙ ap (answer (refusalOf false u W number) (bodyOf W number)) (curve-same p)
 
@@ -123,7 +124,7 @@ module _ (u : Used) (t : Tables) (k l : List ℕ) (same : (i j : ℕ) → j < 5 
     unfolding pointOnSurface
     answer-surface p q =
         let answer : ℕ → Body → Sampled → Sampled =
-        λ r b c. cond (eqb r 0) (cond (inside (b .start-u) (b .end-u) p && inside (b .start-v) (b .end-v) q) c (sampled.Refused 19)) (sampled.Refused r) in
+        λ r b c. cond (eqb r 0) (cond (inside (b .«start_u») (b .«end_u») p && inside (b .«start_v») (b .«end_v») q) c (sampled.Refused 19)) (sampled.Refused r) in
         ap₂ (λ (r : ℕ) (b : Body). answer r b (surfacePoint T (elementOf T number) (bodyOf T number) p q)) (refusal-same true) body-same
         ∙ ap (answer (refusalOf true u W number) (bodyOf W number)) (surface-same p q)
 

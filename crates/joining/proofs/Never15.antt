@@ -50,6 +50,6 @@ sampling-never-15 R s m h asked number e =
     let in-use : (leb 1 number && leb number (u .elements)) ≡ true → (1 ≤ number) × (number ≤ length (m .elements)) =
     λ a. (leb-true 1 number (and-left (leb 1 number) _ a), (let k = leb-true number (u .elements) (and-right (leb 1 number) _ a) in let q = used-elements m in omega arith)) in
     passes (leb 1 number && leb number (u .elements)) (leb (9 * number) (length (t .elements))) (wanted asked (elementOf t number .kind))
-    (obeys u t (curvesBefore t (number - 1)) (number - 1)) (carried (bodyOf t number .rational) (bodyOf t number .type))
+    (obeys u t (curvesBefore t (number - 1)) (number - 1)) (carried (bodyOf t number .rational) (bodyOf t number .basis))
     (λ a. le-leb (9 * number) (length (t .elements)) (lent R s m h number (in-use a .0) (in-use a .1)))
     (λ a. obeyed R s m h number (in-use a .0) (in-use a .1)) e

@@ -1,34 +1,22 @@
 -- An element's corners, as their loop finds them: by the first corner that breaks a rule, or by their number.
 use Prim.Native.Nat.{ℕ, _<_, _≤_}
-use native.Mathlib.Omega.{arith}
 use mathlib.Core.Path.{_≡_}
 use mathlib.Core.List.{[]}
-use mathlib.Core.Bool.{Bool, true, false, cond, _||_}
-use lib.Dec.{eqb}
-use Rattle.tables.specs.Tables.{Tables}
+use mathlib.Core.Bool.{Bool, true, false}
+use Rattle.tables.specs.Tables.{Tables, tables}
 use Rattle.tables.specs.Records.{cornerAt}
 use Rattle.tables.specs.declared.Corner.{Corner}
 use Rattle.tables.specs.declared.Used.{Used}
 use Rattle.rules.specs.Numbers.{allBelow}
-use Rattle.rules.specs.Corners.{leastCorners, cornerObeys, eachCorner}
-use Rattle.rules.specs.Lent.{lent}
+use Rattle.rules.specs.Corners.{cornerObeys, eachCorner}
 use Rattle.rules.proofs.Below.{below-fails, below-ends}
-
-one-or-more : (p q : Bool) → 1 ≤ cond p 1 (cond q 3 2)
-one-or-more true q = omega arith
-one-or-more false true = omega arith
-one-or-more false false = omega arith
-
-pub least-one : (kind : ℕ) → 1 ≤ leastCorners kind
-unfolding leastCorners
-least-one kind = one-or-more (eqb kind 1 || eqb kind 6) (eqb kind 3)
 
 module _ (used : Used) (t : Tables) (kind first : ℕ) where
   abbrev pub atCorner : ℕ → Bool
   atCorner k = cornerObeys used t kind (cornerAt t first 0) (cornerAt t first k)
 
   -- a corner looks at the vertices alone
-  pub corner-here : (r : Bool) (a b : Corner) (k : ℕ) → r ≡ cornerObeys used (lent (t .v) (t .vt) (t .vn) (t .vp) [] [] [] [] [] [] []) kind a b
+  pub corner-here : (r : Bool) (a b : Corner) (k : ℕ) → r ≡ cornerObeys used (tables (t .v) (t .vt) (t .vn) (t .vp) [] [] [] [] [] [] []) kind a b
       → a ≡ cornerAt t first 0 → b ≡ cornerAt t first k → r ≡ atCorner k
   unfolding cornerObeys
   corner-here r a b k h e f = rw (e, f) at h

@@ -7,7 +7,9 @@ use lib.Dec.{leb, eqb}
 use lib.ListN.{length}
 use Rattle.lists.proofs.Tests.{and-left, and-right}
 use Rattle.tables.specs.Tables.{Tables}
-use Rattle.tables.specs.Records.{Body, bodyAt, elementAt, parametersU, parametersV}
+use Rattle.tables.specs.Records.{bodyAt, elementAt, parametersU, parametersV}
+use Rattle.tables.specs.declared.Body.{Body}
+use Rattle.tables.specs.Asking.{held, bodyHeld}
 use Rattle.tables.specs.declared.Used.{Used}
 use Rattle.rules.specs.Corners.{cornersObey}
 use Rattle.rules.specs.Directions.{typeObeys, parametersObey}
@@ -23,22 +25,22 @@ pub record Recorded (used : Used) (t : Tables) (kind k : ℕ) : Type 0 where
   pub used-one : k ≤ used .bodies
   pub lent-body : 9 * k ≤ length (t .bodies)
   pub lent-range : 4 * k ≤ length (t .ranges)
-  pub typed : let b = bodyAt t (k - 1) in Typed (eqb kind 6) (b .type) (b .rational) (b .degree-u) (b .degree-v)
-  pub run : let b = bodyAt t (k - 1) in Run (eqb kind 6) (t .parameters) (used .parameters) (b .first-parameter) (b .count-u) (b .count-v)
+  pub typed : let b = bodyAt t (k - 1) in Typed (eqb kind 6) (b .basis) (b .rational) (b .«degree_u») (b .«degree_v»)
+  pub run : let b = bodyAt t (k - 1) in Run (eqb kind 6) (t .parameters) (used .parameters) (b .«first_parameter») (b .«count_u») (b .«count_v»)
 
 module _ (used : Used) (t : Tables) (curves kind count k : ℕ) (h : bodyObeys used t curves kind count k ≡ true) where
   abbrev body : Body
   body = bodyAt t (k - 1)
 
   record-holds : recordObeys used t curves kind count body ≡ true
-  unfolding bodyObeys
+  unfolding bodyObeys bodyHeld held
   record-holds = and-right (leb 1 k && leb k (used .bodies) && leb (9 * k) (length (t .bodies)) && leb (4 * k) (length (t .ranges))) _ h
 
   abbrev type-test : Bool
-  type-test = typeObeys (eqb kind 6) (body .type) (body .rational) (body .degree-u) (body .degree-v)
+  type-test = typeObeys (eqb kind 6) (body .basis) (body .rational) (body .«degree_u») (body .«degree_v»)
 
   abbrev run-test : Bool
-  run-test = parametersObey (eqb kind 6) (t .parameters) (used .parameters) (body .first-parameter) (body .count-u) (body .count-v)
+  run-test = parametersObey (eqb kind 6) (t .parameters) (used .parameters) (body .«first_parameter») (body .«count_u») (body .«count_v»)
 
   first-two : (type-test && run-test) ≡ true
   unfolding recordObeys
@@ -49,7 +51,7 @@ module _ (used : Used) (t : Tables) (curves kind count k : ℕ) (h : bodyObeys u
   shape-holds = and-right (type-test && run-test) _ record-holds
 
   pub recorded : Recorded used t kind k
-  unfolding bodyObeys
+  unfolding bodyObeys bodyHeld held
   recorded =
       let a = leb 1 k in
       let b = leb k (used .bodies) in
@@ -77,7 +79,7 @@ module _ (used : Used) (t : Tables) (curves kind count k : ℕ) (h : bodyObeys u
   unfolding surfaceObeys
   surface-of e = surface-facts (parametersU t body) (parametersV t body) body count (and-left (directionsObey (parametersU t body) (parametersV t body) body count) _ (surface-holds e))
 
-  pub loops-of : kind ≡ 6 → loopsObey (used .loops) t curves (body .first-loop) (body .loops) ≡ true
+  pub loops-of : kind ≡ 6 → loopsObey (used .loops) t curves (body .«first_loop») (body .loops) ≡ true
   unfolding surfaceObeys
   loops-of e = and-right (directionsObey (parametersU t body) (parametersV t body) body count) _ (surface-holds e)
 

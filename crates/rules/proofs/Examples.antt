@@ -6,8 +6,9 @@ use mathlib.Core.Bool.{Bool, true, false, cond, not}
 use lib.ListN.{set}
 use lib.IntN.{ℤ, pos, negsuc}
 use Rattle.lists.specs.Lists.{all}
-use Rattle.tables.specs.Tables.{Tables}
+use Rattle.tables.specs.Tables.{Tables, tables}
 use Rattle.tables.specs.Bodies.{inOrder, curveCount, surfaceCount}
+use Rattle.tables.specs.Asking.{held, bodyHeld}
 use Rattle.tables.specs.declared.Used.{Used}
 use Rattle.rules.specs.Numbers.{small, smallRun}
 use Rattle.rules.specs.Vertices.{vertexObeys, givenObeys, parameterVertexObeys, controlObeys}
@@ -17,7 +18,6 @@ use Rattle.basis.specs.Widest.{widest}
 use Rattle.rules.specs.Loops.{beginsObeys, partObeys, eachPart, loopsObey}
 use Rattle.rules.specs.Bodies.{flatObeys, curveObeys, directionsObey, surfaceObeys, recordObeys, bodyObeys}
 use Rattle.rules.specs.Rules.{obeys, elementObeys, curvesBefore}
-use Rattle.rules.specs.Lent.{lent}
 
 abbrev m : ℤ
 m = pos 1000000
@@ -70,48 +70,48 @@ abbrev used : Used
 used = counts 4 33
 
 abbrev good : Tables
-good = lent v vt vn vp corners elements bodies ranges parameters loops spans
+good = tables v vt vn vp corners elements bodies ranges parameters loops spans
 
 -- one entry of a table changed
 
 abbrev with-v : ℕ → ℤ → Tables
-with-v n x = lent (set v n x) vt vn vp corners elements bodies ranges parameters loops spans
+with-v n x = tables (set v n x) vt vn vp corners elements bodies ranges parameters loops spans
 
 abbrev with-vp : ℕ → ℤ → Tables
-with-vp n x = lent v vt vn (set vp n x) corners elements bodies ranges parameters loops spans
+with-vp n x = tables v vt vn (set vp n x) corners elements bodies ranges parameters loops spans
 
 abbrev with-range : ℕ → ℤ → Tables
-with-range n x = lent v vt vn vp corners elements bodies (set ranges n x) parameters loops spans
+with-range n x = tables v vt vn vp corners elements bodies (set ranges n x) parameters loops spans
 
 abbrev with-parameter : ℕ → ℤ → Tables
-with-parameter n x = lent v vt vn vp corners elements bodies ranges (set parameters n x) loops spans
+with-parameter n x = tables v vt vn vp corners elements bodies ranges (set parameters n x) loops spans
 
 abbrev with-span : ℕ → ℤ → Tables
-with-span n x = lent v vt vn vp corners elements bodies ranges parameters loops (set spans n x)
+with-span n x = tables v vt vn vp corners elements bodies ranges parameters loops (set spans n x)
 
 abbrev with-corner : ℕ → ℕ → Tables
-with-corner n x = lent v vt vn vp (set corners n x) elements bodies ranges parameters loops spans
+with-corner n x = tables v vt vn vp (set corners n x) elements bodies ranges parameters loops spans
 
 abbrev with-element : ℕ → ℕ → Tables
-with-element n x = lent v vt vn vp corners (set elements n x) bodies ranges parameters loops spans
+with-element n x = tables v vt vn vp corners (set elements n x) bodies ranges parameters loops spans
 
 abbrev with-body : ℕ → ℕ → Tables
-with-body n x = lent v vt vn vp corners elements (set bodies n x) ranges parameters loops spans
+with-body n x = tables v vt vn vp corners elements (set bodies n x) ranges parameters loops spans
 
 abbrev with-loop : ℕ → ℕ → Tables
-with-loop n x = lent v vt vn vp corners elements bodies ranges parameters (set loops n x) spans
+with-loop n x = tables v vt vn vp corners elements bodies ranges parameters (set loops n x) spans
 
 record Row : Type 0 where
   counts : Used
-  tables : Tables
+  its-tables : Tables
   index : ℕ
   says : Bool
 
 abbrev row : Used → Tables → ℕ → Bool → Row
-row u t i b = record { counts = u; tables = t; index = i; says = b }
+row u t i b = record { counts = u; its-tables = t; index = i; says = b }
 
 abbrev right : Row → Bool
-right r = let b = obeys (r .counts) (r .tables) (curvesBefore (r .tables) (r .index)) (r .index) in cond (r .says) b (not b)
+right r = let b = obeys (r .counts) (r .its-tables) (curvesBefore (r .its-tables) (r .index)) (r .index) in cond (r .says) b (not b)
 
 abbrev rows : List Row
 rows =
@@ -171,5 +171,5 @@ rows =
     ∷ []
 
 claim : all right rows ≡ true
-unfolding obeys elementObeys cornersObey eachCorner cornerObeys pointObeys attributeObeys withTexture withNormal leastCorners vertexObeys controlObeys parameterVertexObeys givenObeys smallRun small bodyObeys recordObeys typeObeys degreeObeys parametersObey curveObeys directionsObey surfaceObeys flatObeys widest loopsObey eachPart partObeys beginsObeys inOrder curveCount surfaceCount
+unfolding obeys elementObeys cornersObey eachCorner cornerObeys pointObeys attributeObeys withTexture withNormal leastCorners vertexObeys controlObeys parameterVertexObeys givenObeys smallRun small bodyObeys bodyHeld held recordObeys typeObeys degreeObeys parametersObey curveObeys directionsObey surfaceObeys flatObeys widest loopsObey eachPart partObeys beginsObeys inOrder curveCount surfaceCount
 claim = refl

@@ -10,7 +10,8 @@ use lib.IntN.{ℤ, pos}
 use lib.Signed.{leZ}
 use Rattle.lists.proofs.Tests.{and-left, and-right}
 use Rattle.tables.specs.Tables.{Tables}
-use Rattle.tables.specs.Records.{Body, cornerAt, valueAt}
+use Rattle.tables.specs.Records.{cornerAt, valueAt}
+use Rattle.tables.specs.declared.Body.{Body}
 use Rattle.tables.specs.Bodies.{inOrder, curveCount, surfaceCount, basisOf}
 use Rattle.tables.specs.declared.Used.{Used}
 use Rattle.rules.specs.Vertices.{parameterVertexObeys, controlObeys}
@@ -107,29 +108,29 @@ typed-facts surface type rational m n h =
     }
 
 pub record Curve (curv2 : Bool) (x : List ℤ) (b : Body) (count : ℕ) : Type 0 where
-  pub counted : curveCount (basisOf (b .type)) (b .degree-u) (b .count-u) count ≡ true
-  pub in-order : inOrder (basisOf (b .type)) (b .degree-u) x (b .start-u) (b .end-u) ≡ true
-  pub range : widest curv2 (basisOf (b .type)) (b .degree-u) x (b .start-u) (b .end-u) ≡ true
+  pub counted : curveCount (basisOf (b .basis)) (b .«degree_u») (b .«count_u») count ≡ true
+  pub in-order : inOrder (basisOf (b .basis)) (b .«degree_u») x (b .«start_u») (b .«end_u») ≡ true
+  pub range : widest curv2 (basisOf (b .basis)) (b .«degree_u») x (b .«start_u») (b .«end_u») ≡ true
 
 pub curve-facts : (curv2 : Bool) (x : List ℤ) (b : Body) (count : ℕ) → curveObeys curv2 x b count ≡ true → Curve curv2 x b count
 unfolding curveObeys
 curve-facts curv2 x b count h =
-    let k = curveCount (basisOf (b .type)) (b .degree-u) (b .count-u) count in
-    let o = inOrder (basisOf (b .type)) (b .degree-u) x (b .start-u) (b .end-u) in
-    let w = widest curv2 (basisOf (b .type)) (b .degree-u) x (b .start-u) (b .end-u) in
+    let k = curveCount (basisOf (b .basis)) (b .«degree_u») (b .«count_u») count in
+    let o = inOrder (basisOf (b .basis)) (b .«degree_u») x (b .«start_u») (b .«end_u») in
+    let w = widest curv2 (basisOf (b .basis)) (b .«degree_u») x (b .«start_u») (b .«end_u») in
     let three = and-left (k && o && w) _ h in
     let two = and-left (k && o) w three in
     record { counted = and-left k o two; in-order = and-right k o two; range = and-right (k && o) w three }
 
 pub record Surface (x y : List ℤ) (b : Body) (count : ℕ) : Type 0 where
-  pub counted : surfaceCount (basisOf (b .type)) (b .degree-u) (b .count-u) (b .degree-v) (b .count-v) count ≡ true
-  pub along-u : inOrder (basisOf (b .type)) (b .degree-u) x (b .start-u) (b .end-u) ≡ true
-  pub along-v : inOrder (basisOf (b .type)) (b .degree-v) y (b .start-v) (b .end-v) ≡ true
+  pub counted : surfaceCount (basisOf (b .basis)) (b .«degree_u») (b .«count_u») (b .«degree_v») (b .«count_v») count ≡ true
+  pub along-u : inOrder (basisOf (b .basis)) (b .«degree_u») x (b .«start_u») (b .«end_u») ≡ true
+  pub along-v : inOrder (basisOf (b .basis)) (b .«degree_v») y (b .«start_v») (b .«end_v») ≡ true
 
 pub surface-facts : (x y : List ℤ) (b : Body) (count : ℕ) → directionsObey x y b count ≡ true → Surface x y b count
 unfolding directionsObey
 surface-facts x y b count h =
-    let k = surfaceCount (basisOf (b .type)) (b .degree-u) (b .count-u) (b .degree-v) (b .count-v) count in
-    let u = inOrder (basisOf (b .type)) (b .degree-u) x (b .start-u) (b .end-u) in
+    let k = surfaceCount (basisOf (b .basis)) (b .«degree_u») (b .«count_u») (b .«degree_v») (b .«count_v») count in
+    let u = inOrder (basisOf (b .basis)) (b .«degree_u») x (b .«start_u») (b .«end_u») in
     let two = and-left (k && u) _ h in
     record { counted = and-left k u two; along-u = and-right k u two; along-v = and-right (k && u) _ h }

@@ -11,39 +11,38 @@ use lib.Dec.{leb, eqb}
 use lib.ListN.{length, getD, List·getD-eq-default}
 use lib.IntN.{ℤ, pos}
 use Rattle.lists.proofs.Tests.{and-left, and-right}
-use Rattle.tables.specs.Tables.{Tables}
+use Rattle.tables.specs.Tables.{Tables, tables}
 use Rattle.tables.specs.Records.{numberAt}
 use Rattle.tables.specs.declared.Used.{Used}
+use Rattle.tables.specs.declared.Body.{Body}
 use Rattle.rules.specs.Numbers.{small, smallRun}
 use Rattle.rules.specs.Corners.{cornerObeys, eachCorner, cornersObey}
-use Rattle.rules.specs.Directions.{typeObeys, parametersObey}
+use Rattle.rules.specs.Directions.{parametersObey}
 use Rattle.rules.specs.Loops.{eachPart, loopsObey}
 use Rattle.rules.specs.Bodies.{surfaceObeys, recordObeys, bodyObeys}
 use Rattle.rules.specs.Rules.{curvesAmong}
-use Rattle.rules.specs.Lent.{lent}
 use Rattle.rules.proofs.Runs.{run-lent, run-small}
 
 -- ---- each part looks at its own tables alone
 pub corners-lent : (used : Used) (t : Tables) (kind first count : ℕ)
-    → cornersObey used (lent (t .v) (t .vt) (t .vn) (t .vp) (t .corners) [] [] [] [] [] []) kind first count ≡ cornersObey used t kind first count
+    → cornersObey used (tables (t .v) (t .vt) (t .vn) (t .vp) (t .corners) [] [] [] [] [] []) kind first count ≡ cornersObey used t kind first count
 unfolding cornersObey eachCorner cornerObeys
 corners-lent used t kind first count = refl
 
 pub loops-lent : (used : ℕ) (t : Tables) (curves first count : ℕ)
-    → loopsObey used (lent [] [] [] [] [] [] [] [] [] (t .loops) (t .spans)) curves first count ≡ loopsObey used t curves first count
+    → loopsObey used (tables [] [] [] [] [] [] [] [] [] (t .loops) (t .spans)) curves first count ≡ loopsObey used t curves first count
 unfolding loopsObey eachPart
 loops-lent used t curves first count = refl
 
+pub record-lent : (used : Used) (t : Tables) (curves kind count : ℕ) (b : Body)
+    → recordObeys used (tables [] [] [] [] [] [] [] [] (t .parameters) (t .loops) (t .spans)) curves kind count b ≡ recordObeys used t curves kind count b
+unfolding recordObeys surfaceObeys loopsObey eachPart
+record-lent used t curves kind count b = refl
+
 pub body-lent : (used : Used) (t : Tables) (curves kind count k : ℕ)
-    → bodyObeys used (lent [] [] [] [] [] [] (t .bodies) (t .ranges) (t .parameters) (t .loops) (t .spans)) curves kind count k ≡ bodyObeys used t curves kind count k
+    → bodyObeys used (tables [] [] [] [] [] [] (t .bodies) (t .ranges) (t .parameters) (t .loops) (t .spans)) curves kind count k ≡ bodyObeys used t curves kind count k
 unfolding bodyObeys recordObeys surfaceObeys loopsObey eachPart
 body-lent used t curves kind count k = refl
-
--- ---- the type as the body's record has it
-pub typed : {r : Bool} (surface : Bool) (l : List ℕ) (i : ℕ)
-    → r ≡ typeObeys surface (getD l (9 * i) 0) (getD l (9 * i + 1) 0) (getD l (9 * i + 2) 0) (getD l (9 * i + 3) 0)
-    → r ≡ typeObeys surface (numberAt 9 l i 0) (numberAt 9 l i 1) (numberAt 9 l i 2) (numberAt 9 l i 3)
-typed surface l i h = rw add-zero h
 
 -- ---- a body's parameters
 pub record Run (surface : Bool) (l : List ℤ) (used first p q : ℕ) : Type 0 where
@@ -73,16 +72,16 @@ pub run-v : {surface : Bool} {l : List ℤ} {used first p q : ℕ} → Run surfa
 run-v {q = q} r e = leb-true 2 q (rw e at (r .along-v))
 
 -- ---- the curv2 elements before an index
-pub curves-more : (l : List ℕ) (i b r : ℕ) → b ≡ curvesAmong l i → r ≡ cond (eqb (getD l (9 * i) 0) 5) 1 0 → b + r ≡ curvesAmong l (i + 1)
-curves-more l i b r e f = rw (add-one, add-zero, e, f)
+pub curves-more : (l : List ℕ) (i b r k : ℕ) → b ≡ curvesAmong l i → k ≡ numberAt 9 l i 0 → r ≡ cond (eqb k 5) 1 0 → b + r ≡ curvesAmong l (i + 1)
+curves-more l i b r k e g f = rw (add-one, e, f, g)
 
-past : (l : List ℕ) (i d : ℕ) → length l ≤ 9 * i → curvesAmong l (i + d) ≡ curvesAmong l i
+past : (l : List ℕ) (i d : ℕ) → length l ≤ i → curvesAmong l (i + d) ≡ curvesAmong l i
 past l i zero h = rw add-zero
 past l i (suc d) h =
     let none : getD l (9 * (i + d) + 0) 0 ≡ 0 = List·getD-eq-default l 0 (omega arith) in
     rw (add-suc, none, add-zero) (past l i d h)
 
-pub curves-past : (l : List ℕ) (i n : ℕ) → length l ≤ 9 * i → i ≤ n → curvesAmong l i ≡ curvesAmong l n
+pub curves-past : (l : List ℕ) (i n : ℕ) → length l ≤ i → i ≤ n → curvesAmong l i ≡ curvesAmong l n
 curves-past l i n h k =
     let e : i + (n - i) ≡ n = omega arith in
     sym (rw e at (past l i (n - i) h))

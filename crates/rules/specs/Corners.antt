@@ -1,12 +1,12 @@
 -- 01, "Records": an element's corners, their patterns and what they name.
-use Prim.Native.Nat.{ℕ, _+_, _*_}
+use Prim.Native.Nat.{ℕ}
 use mathlib.Core.List.{List}
 use mathlib.Core.Bool.{Bool, cond, not, _&&_, _||_}
 use lib.ListN.{length}
 use lib.Dec.{leb, eqb}
 use lib.IntN.{ℤ}
 use Rattle.tables.specs.Tables.{Tables}
-use Rattle.tables.specs.Records.{cornerAt, cornerWidth, vWidth, vtWidth, pointKind, lineKind, faceKind, curve2Kind, surfaceKind}
+use Rattle.tables.specs.Records.{cornerAt, cornersEnd, vWidth, vtWidth, pointKind, lineKind, faceKind, curve2Kind, surfaceKind}
 use Rattle.tables.specs.declared.Corner.{Corner}
 use Rattle.tables.specs.declared.Used.{Used}
 use Rattle.rules.specs.Numbers.{allBelow}
@@ -45,7 +45,7 @@ eachCorner used t kind first count = allBelow count (λ k. cornerObeys used t ki
 -- `count` corners from the number `first` on
 unfoldable pub cornersObey : Used → Tables → ℕ → ℕ → ℕ → Bool
 cornersObey used t kind first count =
-    leb (first + cornerWidth * count) (used .corners)
-    && leb (first + cornerWidth * count) (length (t .corners))
+    leb (cornersEnd first count) (used .corners)
+    && leb (cornersEnd first count) (length (t .corners))
     && leb (leastCorners kind) count
     && eachCorner used t kind first count

@@ -5,4 +5,3 @@ pub mod Directions
 pub mod Loops
 pub mod Bodies
 pub mod Rules
-pub mod Lent

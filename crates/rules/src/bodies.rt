@@ -1,12 +1,10 @@
 ghost use mathlib.Core.Path.{_≡_};
 ghost use mathlib.Core.List.{[]};
-ghost use mathlib.Core.Bool.{true};
-ghost use Prim.Native.Nat.{_+_, _*_, _≤_};
+ghost use Prim.Native.Nat.{_+_, _≤_};
 ghost use lib.ListN.{length};
-ghost use Rattle.tables.specs.Records.{bodyAt, numberAt};
 ghost use Rattle.rules.specs.Directions.{degreeObeys, typeObeys, parametersObey};
-ghost use Rattle.rules.specs.Bodies.{flatObeys, curveObeys, directionsObey, surfaceObeys, recordObeys, bodyObeys, Lies};
-ghost use Rattle.rules.specs.Lent.{lent};
+ghost use Rattle.rules.specs.Bodies.{flatObeys, curveObeys, directionsObey, surfaceObeys, recordObeys, bodyObeys};
+ghost use Rattle.tables.specs.Tables.{tables};
 use crate::loops::loops_obey;
 use crate::numbers::same;
 use crate::numbers::small_run;
@@ -14,6 +12,7 @@ use basis::curve_count;
 use basis::in_order;
 use basis::surface_count;
 use basis::widest;
+use tables::Body;
 use tables::Used;
 
 fn degree_obeys(basis: u32, n: u32) -> bool
@@ -72,152 +71,114 @@ fn parameters_obey(surface: bool, values: &[i32], used: u32, first: u32, p: u32,
 }
 
 // A curve has no v range and no loops.
-fn flat_obeys(bodies: &[u32], ranges: &[i32], i: usize) -> bool
-    requires { ⌜ Lies (lent [] [] [] [] [] [] (now bodies) (now ranges) [] [] []) i ⌝ }
-    ensures { λ r. ⌜ r ≡ flatObeys (bodyAt (lent [] [] [] [] [] [] (now (bodies .entry)) (now (ranges .entry)) [] [] []) i) ⌝ }
+fn flat_obeys(body: Body) -> bool
+    ensures { λ r. ⌜ r ≡ flatObeys body ⌝ }
 {
-    let from = 4 * i;
-    if !same(ranges[from + 2], 0) {
+    if !same(body.start_v, 0) {
         return false;
     }
-    if !same(ranges[from + 3], 0) {
+    if !same(body.end_v, 0) {
         return false;
     }
-    let at = 9 * i;
-    if bodies[at + 7] != 0 {
+    if body.first_loop != 0 {
         return false;
     }
-    bodies[at + 8] == 0
+    body.loops == 0
 }
 
-fn curve_obeys(curv2: bool, bodies: &[u32], ranges: &[i32], x: &[i32], i: usize, count: u32) -> bool
-    requires { ⌜ Lies (lent [] [] [] [] [] [] (now bodies) (now ranges) [] [] []) i × (length (now x) ≡ numberAt 9 (now bodies) i 5) × (2 ≤ length (now x)) ⌝ }
-    ensures { λ r. ⌜ r ≡ curveObeys curv2 (now (x .entry)) (bodyAt (lent [] [] [] [] [] [] (now (bodies .entry)) (now (ranges .entry)) [] [] []) i) count ⌝ }
+fn curve_obeys(curv2: bool, x: &[i32], body: Body, count: u32) -> bool
+    requires { ⌜ (length (now x) ≡ body .«count_u») × (2 ≤ length (now x)) ⌝ }
+    ensures { λ r. ⌜ r ≡ curveObeys curv2 (now (x .entry)) body count ⌝ }
 {
-    let at = 9 * i;
-    let basis = bodies[at];
-    let n = bodies[at + 2];
-    if !curve_count(basis, n, bodies[at + 5], count) {
+    let n = body.degree_u;
+    if !curve_count(body.basis, n, body.count_u, count) {
         return false;
     }
-    let from = 4 * i;
-    let start = ranges[from];
-    let end = ranges[from + 1];
-    if !in_order(basis, n, x, start, end) {
+    if !in_order(body.basis, n, x, body.start_u, body.end_u) {
         return false;
     }
-    if !widest(curv2, basis, n, x, start, end) {
+    if !widest(curv2, body.basis, n, x, body.start_u, body.end_u) {
         return false;
     }
-    flat_obeys(bodies, ranges, i)
+    flat_obeys(body)
 }
 
-fn directions_obey(
-    bodies: &[u32],
-    ranges: &[i32],
-    x: &[i32],
-    y: &[i32],
-    i: usize,
-    count: u32,
-) -> bool
-    requires { ⌜ Lies (lent [] [] [] [] [] [] (now bodies) (now ranges) [] [] []) i × (length (now x) ≡ numberAt 9 (now bodies) i 5) × (2 ≤ length (now x)) × (length (now y) ≡ numberAt 9 (now bodies) i 6) × (2 ≤ length (now y)) ⌝ }
-    ensures { λ r. ⌜ r ≡ directionsObey (now (x .entry)) (now (y .entry)) (bodyAt (lent [] [] [] [] [] [] (now (bodies .entry)) (now (ranges .entry)) [] [] []) i) count ⌝ }
+fn directions_obey(x: &[i32], y: &[i32], body: Body, count: u32) -> bool
+    requires { ⌜ (length (now x) ≡ body .«count_u») × (2 ≤ length (now x)) × (length (now y) ≡ body .«count_v») × (2 ≤ length (now y)) ⌝ }
+    ensures { λ r. ⌜ r ≡ directionsObey (now (x .entry)) (now (y .entry)) body count ⌝ }
 {
-    let at = 9 * i;
-    let basis = bodies[at];
-    let m = bodies[at + 2];
-    let n = bodies[at + 3];
-    if !surface_count(basis, m, bodies[at + 5], n, bodies[at + 6], count) {
+    let m = body.degree_u;
+    let n = body.degree_v;
+    if !surface_count(body.basis, m, body.count_u, n, body.count_v, count) {
         return false;
     }
-    let from = 4 * i;
-    if !in_order(basis, m, x, ranges[from], ranges[from + 1]) {
+    if !in_order(body.basis, m, x, body.start_u, body.end_u) {
         return false;
     }
-    in_order(basis, n, y, ranges[from + 2], ranges[from + 3])
+    in_order(body.basis, n, y, body.start_v, body.end_v)
 }
 
 fn surface_obeys(
     used: u32,
-    bodies: &[u32],
-    ranges: &[i32],
     parameters: &[i32],
     loops: &[u32],
     spans: &[i32],
     curves: u32,
     count: u32,
-    i: usize,
+    body: Body,
 ) -> bool
-    requires { ⌜ Lies (lent [] [] [] [] [] [] (now bodies) (now ranges) [] [] []) i × (numberAt 9 (now bodies) i 4 + (numberAt 9 (now bodies) i 5 + numberAt 9 (now bodies) i 6) ≤ length (now parameters)) × (2 ≤ numberAt 9 (now bodies) i 5) × (2 ≤ numberAt 9 (now bodies) i 6) ⌝ }
-    ensures { λ r. ⌜ r ≡ surfaceObeys used (lent [] [] [] [] [] [] (now (bodies .entry)) (now (ranges .entry)) (now (parameters .entry)) (now (loops .entry)) (now (spans .entry))) curves count (bodyAt (lent [] [] [] [] [] [] (now (bodies .entry)) (now (ranges .entry)) [] [] []) i) ⌝ }
+    requires { ⌜ (body .«first_parameter» + (body .«count_u» + body .«count_v») ≤ length (now parameters)) × (2 ≤ body .«count_u») × (2 ≤ body .«count_v») ⌝ }
+    ensures { λ r. ⌜ r ≡ surfaceObeys used (tables [] [] [] [] [] [] [] [] (now (parameters .entry)) (now (loops .entry)) (now (spans .entry))) curves count body ⌝ }
 {
-    let at = 9 * i;
-    let start = bodies[at + 4] as usize;
-    let middle = start + bodies[at + 5] as usize;
-    let end = middle + bodies[at + 6] as usize;
+    let start = body.first_parameter as usize;
+    let middle = start + body.count_u as usize;
+    let end = middle + body.count_v as usize;
     let x = &parameters[start..middle];
     let y = &parameters[middle..end];
-    if !directions_obey(bodies, ranges, x, y, i, count) {
+    if !directions_obey(x, y, body, count) {
         return false;
     }
-    loops_obey(used, loops, spans, curves, bodies[at + 7], bodies[at + 8])
+    loops_obey(used, loops, spans, curves, body.first_loop, body.loops)
 }
 
 fn record_obeys(
     used: Used,
-    bodies: &[u32],
-    ranges: &[i32],
     parameters: &[i32],
     loops: &[u32],
     spans: &[i32],
     curves: u32,
     kind: u32,
     count: u32,
-    i: usize,
+    body: Body,
 ) -> bool
-    requires { ⌜ Lies (lent [] [] [] [] [] [] (now bodies) (now ranges) [] [] []) i ⌝ }
-    ensures { λ r. ⌜ r ≡ recordObeys used (lent [] [] [] [] [] [] (now (bodies .entry)) (now (ranges .entry)) (now (parameters .entry)) (now (loops .entry)) (now (spans .entry))) curves kind count (bodyAt (lent [] [] [] [] [] [] (now (bodies .entry)) (now (ranges .entry)) [] [] []) i) ⌝ }
+    ensures { λ r. ⌜ r ≡ recordObeys used (tables [] [] [] [] [] [] [] [] (now (parameters .entry)) (now (loops .entry)) (now (spans .entry))) curves kind count body ⌝ }
 {
-    let at = 9 * i;
     let surface = kind == 6;
     if !type_obeys(
         surface,
-        bodies[at],
-        bodies[at + 1],
-        bodies[at + 2],
-        bodies[at + 3],
+        body.basis,
+        body.rational,
+        body.degree_u,
+        body.degree_v,
     ) {
         return false;
     }
-    let first = bodies[at + 4];
-    let p = bodies[at + 5];
     if !parameters_obey(
         surface,
         parameters,
         used.parameters,
-        first,
-        p,
-        bodies[at + 6],
+        body.first_parameter,
+        body.count_u,
+        body.count_v,
     ) {
         return false;
     }
     if surface {
-        return surface_obeys(
-            used.loops,
-            bodies,
-            ranges,
-            parameters,
-            loops,
-            spans,
-            curves,
-            count,
-            i,
-        );
+        return surface_obeys(used.loops, parameters, loops, spans, curves, count, body);
     }
-    let start = first as usize;
-    let end = start + p as usize;
-    let x = &parameters[start..end];
-    curve_obeys(kind == 5, bodies, ranges, x, i, count)
+    let start = body.first_parameter as usize;
+    let end = start + body.count_u as usize;
+    curve_obeys(kind == 5, &parameters[start..end], body, count)
 }
 
 pub fn body_obeys(
@@ -232,31 +193,11 @@ pub fn body_obeys(
     count: u32,
     number: u32,
 ) -> bool
-    ensures { λ r. ⌜ r ≡ bodyObeys used (lent [] [] [] [] [] [] (now (bodies .entry)) (now (ranges .entry)) (now (parameters .entry)) (now (loops .entry)) (now (spans .entry))) curves kind count number ⌝ }
+    ensures { λ r. ⌜ r ≡ bodyObeys used (tables [] [] [] [] [] [] (now (bodies .entry)) (now (ranges .entry)) (now (parameters .entry)) (now (loops .entry)) (now (spans .entry))) curves kind count number ⌝ }
 {
-    if number < 1 {
+    if !tables::has_body(used, bodies, ranges, number) {
         return false;
     }
-    if used.bodies < number {
-        return false;
-    }
-    let k = number as usize;
-    if bodies.len() < 9 * k {
-        return false;
-    }
-    if ranges.len() < 4 * k {
-        return false;
-    }
-    record_obeys(
-        used,
-        bodies,
-        ranges,
-        parameters,
-        loops,
-        spans,
-        curves,
-        kind,
-        count,
-        k - 1,
-    )
+    let body = tables::body_in(bodies, ranges, number - 1);
+    record_obeys(used, parameters, loops, spans, curves, kind, count, body)
 }

@@ -1,32 +1,11 @@
 ghost use mathlib.Core.Path.{_≡_};
 ghost use mathlib.Core.List.{[]};
-ghost use Prim.Native.Nat.{_+_, _*_, _≤_};
-ghost use lib.ListN.{length};
-ghost use Rattle.tables.specs.Records.{cornerAt};
 ghost use Rattle.rules.specs.Corners.{leastCorners, withTexture, withNormal, attributeObeys, pointObeys, cornerObeys, eachCorner, cornersObey};
-ghost use Rattle.rules.specs.Lent.{lent, asCorner};
+ghost use Rattle.tables.specs.Tables.{tables};
 use crate::vertices::control;
 use crate::vertices::vertex;
+use tables::Corner;
 use tables::Used;
-
-pub struct Corner {
-    pub v: u32,
-    pub vt: u32,
-    pub vn: u32,
-}
-
-// Corner k of those that begin at the number `first`: the one place that knows how corners lie.
-fn corner_at(corners: &[u32], first: usize, k: usize) -> Corner
-    requires { ⌜ first + 3 * k + 3 ≤ length (now corners) ⌝ }
-    ensures { λ r. ⌜ asCorner r ≡ cornerAt (lent [] [] [] [] (now (corners .entry)) [] [] [] [] [] []) first k ⌝ }
-{
-    let at = first + 3 * k;
-    Corner {
-        v: corners[at],
-        vt: corners[at + 1],
-        vn: corners[at + 2],
-    }
-}
 
 fn least_corners(kind: u32) -> u32
     ensures { λ r. ⌜ r ≡ leastCorners kind ⌝ }
@@ -96,7 +75,7 @@ fn corner_obeys(
     first: Corner,
     own: Corner,
 ) -> bool
-    ensures { λ r. ⌜ r ≡ cornerObeys used (lent (now (v .entry)) (now (vt .entry)) (now (vn .entry)) (now (vp .entry)) [] [] [] [] [] [] []) kind (asCorner first) (asCorner own) ⌝ }
+    ensures { λ r. ⌜ r ≡ cornerObeys used (tables (now (v .entry)) (now (vt .entry)) (now (vn .entry)) (now (vp .entry)) [] [] [] [] [] [] []) kind first own ⌝ }
 {
     if !point(used, v, vp, kind, own.v) {
         return false;
@@ -115,13 +94,12 @@ fn each_corner(
     vp: &[i32],
     corners: &[u32],
     kind: u32,
-    first: usize,
+    first: u32,
     count: usize,
 ) -> bool
-    requires { ⌜ (1 ≤ count) × (first + 3 * count ≤ length (now corners)) ⌝ }
-    ensures { λ r. ⌜ r ≡ eachCorner used (lent (now (v .entry)) (now (vt .entry)) (now (vn .entry)) (now (vp .entry)) (now (corners .entry)) [] [] [] [] [] []) kind first count ⌝ }
+    ensures { λ r. ⌜ r ≡ eachCorner used (tables (now (v .entry)) (now (vt .entry)) (now (vn .entry)) (now (vp .entry)) (now (corners .entry)) [] [] [] [] [] []) kind first count ⌝ }
 {
-    let lead = corner_at(corners, first, 0);
+    let lead = tables::corner_at(corners, first, 0);
     let mut k = 0;
     while k < count {
         if !corner_obeys(
@@ -132,7 +110,7 @@ fn each_corner(
             vp,
             kind,
             lead,
-            corner_at(corners, first, k),
+            tables::corner_at(corners, first, k),
         ) {
             return false;
         }
@@ -152,9 +130,9 @@ pub fn corners_obey(
     first: u32,
     count: u32,
 ) -> bool
-    ensures { λ r. ⌜ r ≡ cornersObey used (lent (now (v .entry)) (now (vt .entry)) (now (vn .entry)) (now (vp .entry)) (now (corners .entry)) [] [] [] [] [] []) kind first count ⌝ }
+    ensures { λ r. ⌜ r ≡ cornersObey used (tables (now (v .entry)) (now (vt .entry)) (now (vn .entry)) (now (vp .entry)) (now (corners .entry)) [] [] [] [] [] []) kind first count ⌝ }
 {
-    let end = first as usize + 3 * count as usize;
+    let end = tables::corners_end(first, count);
     if (used.corners as usize) < end {
         return false;
     }
@@ -164,15 +142,5 @@ pub fn corners_obey(
     if count < least_corners(kind) {
         return false;
     }
-    each_corner(
-        used,
-        v,
-        vt,
-        vn,
-        vp,
-        corners,
-        kind,
-        first as usize,
-        count as usize,
-    )
+    each_corner(used, v, vt, vn, vp, corners, kind, first, count as usize)
 }

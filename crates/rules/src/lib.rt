@@ -4,7 +4,7 @@ ghost use mathlib.Core.Bool.{cond};
 ghost use Prim.Native.Nat.{_≤_};
 ghost use lib.Dec.{eqb};
 ghost use Rattle.rules.specs.Rules.{obeys, curvesAmong};
-ghost use Rattle.rules.specs.Lent.{lent};
+ghost use Rattle.tables.specs.Tables.{tables};
 use crate::bodies::body_obeys;
 use crate::corners::corners_obey;
 use tables::Used;
@@ -32,29 +32,26 @@ pub fn obeys(
     index: u32,
     curves: u32,
 ) -> bool
-    ensures { λ r. ⌜ r ≡ obeys used (lent (now (v .entry)) (now (vt .entry)) (now (vn .entry)) (now (vp .entry)) (now (corners .entry)) (now (elements .entry)) (now (bodies .entry)) (now (ranges .entry)) (now (parameters .entry)) (now (loops .entry)) (now (spans .entry))) curves index ⌝ }
+    ensures { λ r. ⌜ r ≡ obeys used (tables (now (v .entry)) (now (vt .entry)) (now (vn .entry)) (now (vp .entry)) (now (corners .entry)) (now (elements .entry)) (now (bodies .entry)) (now (ranges .entry)) (now (parameters .entry)) (now (loops .entry)) (now (spans .entry))) curves index ⌝ }
 {
-    let at = 9 * index as usize;
-    if elements.len() < at + 9 {
+    if !tables::element_fits(elements, index) {
         return false;
     }
-    let kind = elements[at];
-    if kind < 1 {
+    let e = tables::element_in(elements, index);
+    if e.kind < 1 {
         return false;
     }
-    if 6 < kind {
+    if 6 < e.kind {
         return false;
     }
-    if 65535 < elements[at + 4] {
+    if 65535 < e.smoothing {
         return false;
     }
-    let count = elements[at + 2];
-    if !corners_obey(used, v, vt, vn, vp, corners, kind, elements[at + 1], count) {
+    if !corners_obey(used, v, vt, vn, vp, corners, e.kind, e.first, e.count) {
         return false;
     }
-    let body = elements[at + 3];
-    if kind <= 3 {
-        return body == 0;
+    if e.kind <= 3 {
+        return e.body == 0;
     }
     body_obeys(
         used,
@@ -64,9 +61,9 @@ pub fn obeys(
         loops,
         spans,
         curves,
-        kind,
-        count,
-        body,
+        e.kind,
+        e.count,
+        e.body,
     )
 }
 
@@ -79,18 +76,17 @@ fn curve_or_none(kind: u32) -> u32
     0
 }
 
-// How many curv2 elements stand at indices below `index`.
+// How many curv2 elements stand at indices below `index`; there are no more elements than entries.
 pub fn curves_before(elements: &[u32], index: u32) -> u32
     ensures { λ r. ⌜ r ≡ curvesAmong (now (elements .entry)) index ⌝ }
 {
     let mut before = 0;
     let mut i = 0;
     while i < index {
-        let at = 9 * i as usize;
-        if elements.len() <= at {
+        if elements.len() <= i as usize {
             return before;
         }
-        before += curve_or_none(elements[at]);
+        before += curve_or_none(tables::kind_in(elements, i));
         i += 1;
     }
     before

@@ -4,7 +4,7 @@ ghost use Prim.Native.Nat.{_+_, _*_, _≤_};
 ghost use lib.ListN.{length};
 ghost use Rattle.tables.specs.Records.{partAt};
 ghost use Rattle.rules.specs.Loops.{beginsObeys, partObeys, eachPart, loopsObey};
-ghost use Rattle.rules.specs.Lent.{lent};
+ghost use Rattle.tables.specs.Tables.{tables};
 use crate::numbers::small;
 
 fn begins_obeys(k: usize, begins: u32) -> bool
@@ -22,7 +22,7 @@ fn begins_obeys(k: usize, begins: u32) -> bool
 // The loop part at index i, which is part k of its body.
 fn part_obeys(loops: &[u32], spans: &[i32], curves: u32, k: usize, i: usize) -> bool
     requires { ⌜ (2 * i + 2 ≤ length (now loops)) × (2 * i + 2 ≤ length (now spans)) ⌝ }
-    ensures { λ r. ⌜ r ≡ partObeys curves k (partAt (lent [] [] [] [] [] [] [] [] [] (now (loops .entry)) (now (spans .entry))) i) ⌝ }
+    ensures { λ r. ⌜ r ≡ partObeys curves k (partAt (tables [] [] [] [] [] [] [] [] [] (now (loops .entry)) (now (spans .entry))) i) ⌝ }
 {
     let at = 2 * i;
     if !begins_obeys(k, loops[at]) {
@@ -43,7 +43,7 @@ fn part_obeys(loops: &[u32], spans: &[i32], curves: u32, k: usize, i: usize) -> 
 
 fn each_part(loops: &[u32], spans: &[i32], curves: u32, first: usize, count: usize) -> bool
     requires { ⌜ (2 * (first + count) ≤ length (now loops)) × (2 * (first + count) ≤ length (now spans)) ⌝ }
-    ensures { λ r. ⌜ r ≡ eachPart (lent [] [] [] [] [] [] [] [] [] (now (loops .entry)) (now (spans .entry))) curves first count ⌝ }
+    ensures { λ r. ⌜ r ≡ eachPart (tables [] [] [] [] [] [] [] [] [] (now (loops .entry)) (now (spans .entry))) curves first count ⌝ }
 {
     let mut k = 0;
     while k < count {
@@ -63,7 +63,7 @@ pub fn loops_obey(
     first: u32,
     count: u32,
 ) -> bool
-    ensures { λ r. ⌜ r ≡ loopsObey used (lent [] [] [] [] [] [] [] [] [] (now (loops .entry)) (now (spans .entry))) curves first count ⌝ }
+    ensures { λ r. ⌜ r ≡ loopsObey used (tables [] [] [] [] [] [] [] [] [] (now (loops .entry)) (now (spans .entry))) curves first count ⌝ }
 {
     if count == 0 {
         return first == 0;

@@ -16,7 +16,7 @@ use Rattle.lists.proofs.Tests.{test}
 use Rattle.whole.proofs.Order.{le-yes}
 use Rattle.whole.specs.Fractions.{Close}
 use Rattle.tables.specs.Tables.{Tables}
-use Rattle.tables.specs.Records.{Body}
+use Rattle.tables.specs.declared.Body.{Body}
 use Rattle.tables.specs.declared.Used.{Used}
 use Rattle.tables.specs.declared.Element.{Element}
 use Rattle.rules.specs.Rules.{obeys, curvesBefore}
@@ -43,24 +43,24 @@ plain-carried rational type e (inr h) = rw (e, h)
 
 -- nothing up to 18 is given for an element of the kind wanted that obeys and is carried
 pub all-passed : (surface : Bool) (used : Used) (t : Tables) (number : ℕ) → 1 ≤ number → number ≤ used .elements → wanted surface (elementOf t number .kind) ≡ true
-    → obeys used t (curvesBefore t (number - 1)) (number - 1) ≡ true → bodyOf t number .rational ≡ 0 → (bodyOf t number .type ≡ 1) ⊎ (bodyOf t number .type ≡ 2)
+    → obeys used t (curvesBefore t (number - 1)) (number - 1) ≡ true → bodyOf t number .rational ≡ 0 → (bodyOf t number .basis ≡ 1) ⊎ (bodyOf t number .basis ≡ 2)
     → refusalOf surface used t number ≡ 0
 all-passed surface used t number some in-use kind obeyed plain type =
     let o = obeys-facts used t (curvesBefore t (number - 1)) (number - 1) obeyed in
     let l : 9 * number ≤ length (t .elements) = omega (arith, o .lent-one, some) in
-    sym (none-given surface used t number some in-use l kind obeyed (plain-carried (bodyOf t number .rational) (bodyOf t number .type) plain type))
+    sym (none-given surface used t number some in-use l kind obeyed (plain-carried (bodyOf t number .rational) (bodyOf t number .basis) plain type))
 
 module _ {used : Used} {t : Tables} {number : ℕ} (c : Curve used t number) where
   curve-given : refusalOf false used t number ≡ 0
   curve-given = all-passed false used t number (c .some) (c .in-use) (curve-wanted (elementOf t number .kind) (c .kind)) (c .obeyed) (c .plain) (c .type)
 
   -- the rounded rule is near the exact value, at every parameter of the range
-  curve-close : (p : ℤ) → bodyOf t number .start-u ≤ℤ p → p ≤ℤ bodyOf t number .end-u → (axis : ℕ) → OnCurve t number p axis (curveAt t (elementOf t number) (bodyOf t number) p axis)
+  curve-close : (p : ℤ) → bodyOf t number .«start_u» ≤ℤ p → p ≤ℤ bodyOf t number .«end_u» → (axis : ℕ) → OnCurve t number p axis (curveAt t (elementOf t number) (bodyOf t number) p axis)
   unfolding curveAt
   curve-close p a b axis =
       curve-near (directionU t (bodyOf t number)) p (curved used t number (granted false used t number curve-given) .along .ranged .sound p a b .rules) (controlOf t (elementOf t number) axis)
 
-  ordered : bodyOf t number .start-u ≤ℤ bodyOf t number .end-u
+  ordered : bodyOf t number .«start_u» ≤ℤ bodyOf t number .«end_u»
   ordered = curved used t number (granted false used t number curve-given) .along .ranged .ordered
 
 -- ---- lists by their places
@@ -91,10 +91,10 @@ unfolding curvePoint
 coordinates-are t e b p true h = simp h (refl, refl)
 coordinates-are t e b p false h = simp h (refl, refl)
 
-answer-is : {used : Used} {t : Tables} {number : ℕ} → Curve used t number → (p : ℤ) → bodyOf t number .start-u ≤ℤ p → p ≤ℤ bodyOf t number .end-u
+answer-is : {used : Used} {t : Tables} {number : ℕ} → Curve used t number → (p : ℤ) → bodyOf t number .«start_u» ≤ℤ p → p ≤ℤ bodyOf t number .«end_u»
     → pointOnCurve used t number p ≡ curvePoint t (elementOf t number) (bodyOf t number) p
 unfolding pointOnCurve
-answer-is {used} {t} {number} c p a b = rw (curve-given c, le-yes (bodyOf t number .start-u) p a, le-yes p (bodyOf t number .end-u) b)
+answer-is {used} {t} {number} c p a b = rw (curve-given c, le-yes (bodyOf t number .«start_u») p a, le-yes p (bodyOf t number .«end_u») b)
 
 pub points-on-curves : PointsOnCurves
 points-on-curves used t number p c a b =
@@ -127,21 +127,21 @@ module _ {used : Used} {t : Tables} {number : ℕ} (c : Curve used t number) (st
   after = rw filled
 
   abbrev f : ℕ → List ℤ
-  f j = listed (axesOf e) (curveAt t e m (parameterAt (m .start-u) (m .end-u) steps j))
+  f j = listed (axesOf e) (curveAt t e m (parameterAt (m .«start_u») (m .«end_u») steps j))
 
   long : (j : ℕ) → length (f j) ≡ axesOf e
-  long j = listed-length (axesOf e) (curveAt t e m (parameterAt (m .start-u) (m .end-u) steps j))
+  long j = listed-length (axesOf e) (curveAt t e m (parameterAt (m .«start_u») (m .«end_u») steps j))
 
-  number-is : (j axis : ℕ) → j ≤ steps → axis < axesOf e → getD (runNumbers t e m steps) (axesOf e * j + axis) (pos 0) ≡ curveAt t e m (parameterAt (m .start-u) (m .end-u) steps j) axis
+  number-is : (j axis : ℕ) → j ≤ steps → axis < axesOf e → getD (runNumbers t e m steps) (axesOf e * j + axis) (pos 0) ≡ curveAt t e m (parameterAt (m .«start_u») (m .«end_u») steps j) axis
   unfolding runNumbers
-  number-is j axis h k = joined-at (axesOf e) f long (steps + 1) j axis (omega arith) k ∙ listed-at (axesOf e) axis (curveAt t e m (parameterAt (m .start-u) (m .end-u) steps j)) k
+  number-is j axis h k = joined-at (axesOf e) f long (steps + 1) j axis (omega arith) k ∙ listed-at (axesOf e) axis (curveAt t e m (parameterAt (m .«start_u») (m .«end_u») steps j)) k
 
   numbers-long : length (runNumbers t e m steps) ≡ axesOf e * (steps + 1)
   unfolding runNumbers
   numbers-long = joined-length (axesOf e) (steps + 1) f long
 
   there : (j axis : ℕ) → j ≤ steps → axis < axesOf e
-      → getD (pointsAfter used t number steps at points) (at + (axesOf e * j + axis)) (pos 0) ≡ curveAt t e m (parameterAt (m .start-u) (m .end-u) steps j) axis
+      → getD (pointsAfter used t number steps at points) (at + (axesOf e * j + axis)) (pos 0) ≡ curveAt t e m (parameterAt (m .«start_u») (m .«end_u») steps j) axis
   there j axis h k =
       let rest = drop (axesOf e * (steps + 1)) (drop at points) in
       let i = axesOf e * j + axis in
@@ -158,7 +158,7 @@ runs-on-curves used t number steps at points c some most room =
     let m = bodyOf t number in
     record {
       given = ap runRefusalIn (filled c steps at points some most room);
-      near = λ j axis h k. subst (OnCurve t number (parameterAt (m .start-u) (m .end-u) steps j) axis) (sym (there c steps at points some most room j axis h k))
-          (curve-close c (parameterAt (m .start-u) (m .end-u) steps j) (parameter-from (m .start-u) (m .end-u) (ordered c) steps j)
-          (parameter-upto (m .start-u) (m .end-u) (ordered c) steps j h) axis);
+      near = λ j axis h k. subst (OnCurve t number (parameterAt (m .«start_u») (m .«end_u») steps j) axis) (sym (there c steps at points some most room j axis h k))
+          (curve-close c (parameterAt (m .«start_u») (m .«end_u») steps j) (parameter-from (m .«start_u») (m .«end_u») (ordered c) steps j)
+          (parameter-upto (m .«start_u») (m .«end_u») (ordered c) steps j h) axis);
     }

@@ -12,7 +12,8 @@ use lib.Signed.{leZ}
 use Rattle.lists.proofs.Tests.{and-left, and-right}
 use Rattle.whole.proofs.Order.{yes-le}
 use Rattle.tables.specs.Tables.{Tables}
-use Rattle.tables.specs.Records.{Body, parametersU}
+use Rattle.tables.specs.Records.{parametersU}
+use Rattle.tables.specs.declared.Body.{Body}
 use Rattle.tables.specs.declared.Used.{Used}
 use Rattle.tables.specs.declared.Element.{Element}
 use Rattle.curves.specs.Sampled.{firstControl}
@@ -30,7 +31,7 @@ use Rattle.sampler.proofs.Obeyed.{Curved}
 -- a coordinate of the lent parts is one of the tables
 module _ (t : Tables) (e : Element) (b : Body) (p : ℤ) (axis : ℕ) where
   abbrev along : Along
-  along = alongOf (b .type) (b .degree-u) (b .count-u)
+  along = alongOf (b .basis) (b .«degree_u») (b .«count_u»)
 
   plane-control : eqb (e .kind) 5 ≡ true → (i : ℕ) → controlAt (t .vp) (t .corners) (e .first) (1 + axis) i ≡ controlOf t e axis i
   unfolding controlAt controlOf
@@ -56,7 +57,7 @@ pub space-eq : {a b c d e f : ℤ} → a ≡ d → b ≡ e → c ≡ f → sampl
 space-eq p q r = cc
 
 point-is : (t : Tables) (e : Element) (b : Body) (p : ℤ) (q : Bool) → eqb (e .kind) 5 ≡ q
-    → pointBy (e .kind) (t .v) (t .vp) (t .corners) (e .first) (alongOf (b .type) (b .degree-u) (b .count-u)) (parametersU t b) p ≡ curvePoint t e b p
+    → pointBy (e .kind) (t .v) (t .vp) (t .corners) (e .first) (alongOf (b .basis) (b .«degree_u») (b .«count_u»)) (parametersU t b) p ≡ curvePoint t e b p
 unfolding pointBy curvePoint
 point-is t e b p true h = rw h (ap₂ sampled.Plane (plane-coordinate t e b p 0 h) (plane-coordinate t e b p 1 h))
 point-is t e b p false h = rw h (space-eq (space-coordinate t e b p 0 h) (space-coordinate t e b p 1 h) (space-coordinate t e b p 2 h))
@@ -67,13 +68,13 @@ module _ (used : Used) (t : Tables) (number : ℕ) (p : ℤ) where
   refused-curve {r} e h = rw (sym e, ne-eqb r 0 h)
 
   module _ (granted : refusalOf false used t number ≡ 0) where
-    pub curve-outside : inside (bodyOf t number .start-u) (bodyOf t number .end-u) p ≡ false → sampled.Refused 19 ≡ pointOnCurve used t number p
+    pub curve-outside : inside (bodyOf t number .«start_u») (bodyOf t number .«end_u») p ≡ false → sampled.Refused 19 ≡ pointOnCurve used t number p
     unfolding pointOnCurve
     curve-outside h = rw (granted, h)
 
-    pub curve-there : inside (bodyOf t number .start-u) (bodyOf t number .end-u) p ≡ true
+    pub curve-there : inside (bodyOf t number .«start_u») (bodyOf t number .«end_u») p ≡ true
         → pointBy (elementOf t number .kind) (t .v) (t .vp) (t .corners) (elementOf t number .first)
-        (alongOf (bodyOf t number .type) (bodyOf t number .degree-u) (bodyOf t number .count-u)) (parametersU t (bodyOf t number)) p
+        (alongOf (bodyOf t number .basis) (bodyOf t number .«degree_u») (bodyOf t number .«count_u»)) (parametersU t (bodyOf t number)) p
         ≡ pointOnCurve used t number p
     unfolding pointOnCurve
     curve-there h = rw (granted, h) (point-is t (elementOf t number) (bodyOf t number) p (eqb (elementOf t number .kind) 5) refl)
@@ -92,19 +93,19 @@ part-is l from count =
 pub record Read (t : Tables) (e : Element) (b : Body) (kind first from count : ℕ) (a : Along) : Type 0 where
   pub kind-is : kind ≡ e .kind
   pub first-is : first ≡ e .first
-  pub from-is : from ≡ b .first-parameter
-  pub count-is : count ≡ b .count-u
-  pub along-is : a ≡ alongOf (b .type) (b .degree-u) (b .count-u)
+  pub from-is : from ≡ b .«first_parameter»
+  pub count-is : count ≡ b .«count_u»
+  pub along-is : a ≡ alongOf (b .basis) (b .«degree_u») (b .«count_u»)
 
 module _ {t : Tables} {e : Element} {b : Body} {kind first from count : ℕ} {a : Along} (r : Read t e b kind first from count a) where
   pub run-is : take (from + count - from) (drop from (t .parameters)) ≡ parametersU t b
   run-is = part-is (t .parameters) from count ∙ rw (r .from-is, r .count-is)
 
-  pub curve-asked : (p q : ℤ) → q ≡ p → Curved t e b → inside (b .start-u) (b .end-u) p ≡ true
-      → Held (cond (eqb kind 5) (t .vp) (t .v)) (t .corners) first (a .controls) × Sound a (take (from + count - from) (drop from (t .parameters))) q
+  pub curve-asked : (p q : ℤ) → q ≡ p → Curved t e b → inside (b .«start_u») (b .«end_u») p ≡ true
+      → Held (cond (eqb kind 5) (t .vp) (t .v)) (t .corners) first 0 (a .controls) × Sound a (take (from + count - from) (drop from (t .parameters))) q
   curve-asked p q k c h = rw (run-is, k, r .kind-is, r .first-is, r .along-is) (c .held, sound-inside (c .along .ranged) p h)
 
   pub point-read : (p q : ℤ) → q ≡ p
       → pointBy kind (t .v) (t .vp) (t .corners) first a (take (from + count - from) (drop from (t .parameters))) q
-      ≡ pointBy (e .kind) (t .v) (t .vp) (t .corners) (e .first) (alongOf (b .type) (b .degree-u) (b .count-u)) (parametersU t b) p
+      ≡ pointBy (e .kind) (t .v) (t .vp) (t .corners) (e .first) (alongOf (b .basis) (b .«degree_u») (b .«count_u»)) (parametersU t b) p
   point-read p q k = rw (run-is, k, r .kind-is, r .first-is, r .along-is)

@@ -13,7 +13,8 @@ use lib.IntN.{ℤ, pos}
 use Rattle.lists.proofs.Tests.{and-left, and-right, test, never}
 use Rattle.whole.specs.Round.{Small}
 use Rattle.tables.specs.Tables.{Tables}
-use Rattle.tables.specs.Records.{Body, bodyAt, elementAt, cornerAt, parametersU, parametersV}
+use Rattle.tables.specs.Records.{bodyAt, elementAt, cornerAt, parametersU, parametersV}
+use Rattle.tables.specs.declared.Body.{Body}
 use Rattle.tables.specs.Bodies.{enough, controls, inOrder, curveCount, surfaceCount, basisOf}
 use Rattle.tables.specs.declared.Used.{Used}
 use Rattle.tables.specs.declared.Element.{Element}
@@ -38,23 +39,23 @@ unfolding small
 is-small z h = leb-true _ 2000000000 h
 
 held-by : (values : List ℤ) (corners : List ℕ) (used first count : ℕ) → first + 3 * count ≤ length corners
-    → ((i : ℕ) → i < count → Vertex 4 values used (getD corners (first + 3 * i) 0)) → Held values corners first count
+    → ((i : ℕ) → i < count → Vertex 4 values used (getD corners (first + 3 * i) 0)) → Held values corners first 0 count
 unfolding controlAt
 held-by values corners used first count w f = record {
   within = w;
-  named = λ i l. f i l .some;
-  there = λ i l. f i l .lent;
-  small = λ i k l m. is-small _ (f i l .small k m);
+  named = λ i z l. f i l .some;
+  there = λ i z l. f i l .lent;
+  small = λ i k z l m. is-small _ (f i l .small k m);
 }
 
 module _ (used : Used) (t : Tables) (kind first count : ℕ) (c : Corners used t kind first count) where
-  pub held-plane : kind ≡ 5 → Held (t .vp) (t .corners) first count
+  pub held-plane : kind ≡ 5 → Held (t .vp) (t .corners) first 0 count
   held-plane e = held-by (t .vp) (t .corners) (used .vp) first count (c .lent-run) (λ i l. corner-control used t kind first count c i l e)
 
-  pub held-space : (kind ≡ 5 → ⊥) → Held (t .v) (t .corners) first count
+  pub held-space : (kind ≡ 5 → ⊥) → Held (t .v) (t .corners) first 0 count
   held-space f = held-by (t .v) (t .corners) (used .v) first count (c .lent-run) (λ i l. corner-vertex used t kind first count c i l f)
 
-  pub held-either : Held (cond (eqb kind 5) (t .vp) (t .v)) (t .corners) first count
+  pub held-either : Held (cond (eqb kind 5) (t .vp) (t .v)) (t .corners) first 0 count
   held-either = ⊎-elim (λ e. rw e (held-plane (eqb-true kind 5 e))) (λ e. rw e (held-space (λ k. never (sym e ∙ eq-eqb kind 5 k)))) (test (eqb kind 5))
 
 knots-of : (type n p : ℕ) → enough (basisOf type) n p ≡ true → eqb type 2 ≡ true → n + 1 ≤ p
@@ -102,7 +103,7 @@ pub record Granted (surface : Bool) (used : Used) (t : Tables) (number : ℕ) : 
   pub lent : 9 * number ≤ length (t .elements)
   pub kind : wanted surface (elementOf t number .kind) ≡ true
   pub obeyed : obeys used t (curvesBefore t (number - 1)) (number - 1) ≡ true
-  pub type : (bodyOf t number .type ≡ 1) ⊎ (bodyOf t number .type ≡ 2)
+  pub type : (bodyOf t number .basis ≡ 1) ⊎ (bodyOf t number .basis ≡ 2)
 
 five : (a b c d e : Bool) → _≡_ {A = ℕ} (cond a (cond b (cond c (cond d (cond e 0 18) 15) 17) 15) 17) 0 → (a ≡ true) × (b ≡ true) × (c ≡ true) × (d ≡ true) × (e ≡ true)
 five true true true true true h = (refl, refl, refl, refl, refl)
@@ -117,13 +118,13 @@ unfolding refusalOf
 granted surface used t number h =
     let b = bodyOf t number in
     let f = five (leb 1 number && leb number (used .elements)) (leb (9 * number) (length (t .elements))) (wanted surface (elementOf t number .kind))
-    (obeys used t (curvesBefore t (number - 1)) (number - 1)) (carried (b .rational) (b .type)) h in
+    (obeys used t (curvesBefore t (number - 1)) (number - 1)) (carried (b .rational) (b .basis)) h in
     record {
       some = leb-true 1 number (and-left (leb 1 number) (leb number (used .elements)) (f .0));
       lent = leb-true (9 * number) (length (t .elements)) (f .1);
       kind = f .2;
       obeyed = f .3;
-      type = types (b .rational) (b .type) (f .4);
+      type = types (b .rational) (b .basis) (f .4);
     }
 
 pub curve-kinds : (kind : ℕ) → wanted false kind ≡ true → (4 ≤ kind) × (kind ≡ 6 → ⊥)
@@ -138,20 +139,20 @@ pub record Lent (t : Tables) (e : Element) : Type 0 where
   pub some : 1 ≤ e .body
   pub body : 9 * (e .body - 1) + 9 ≤ length (t .bodies)
   pub range : 4 * (e .body - 1) + 4 ≤ length (t .ranges)
-  pub run : bodyAt t (e .body - 1) .first-parameter + (bodyAt t (e .body - 1) .count-u + bodyAt t (e .body - 1) .count-v) ≤ length (t .parameters)
+  pub run : bodyAt t (e .body - 1) .«first_parameter» + (bodyAt t (e .body - 1) .«count_u» + bodyAt t (e .body - 1) .«count_v») ≤ length (t .parameters)
 
 -- a curve that is granted
 pub record Curved (t : Tables) (e : Element) (b : Body) : Type 0 where
   pub lent : Lent t e
-  pub held : Held (cond (eqb (e .kind) 5) (t .vp) (t .v)) (t .corners) (e .first) (alongOf (b .type) (b .degree-u) (b .count-u) .controls)
-  pub along : Directed (t .parameters) (b .first-parameter) (b .type) (b .degree-u) (b .count-u) (b .start-u) (b .end-u)
+  pub held : Held (cond (eqb (e .kind) 5) (t .vp) (t .v)) (t .corners) (e .first) 0 (alongOf (b .basis) (b .«degree_u») (b .«count_u») .controls)
+  pub along : Directed (t .parameters) (b .«first_parameter») (b .basis) (b .«degree_u») (b .«count_u») (b .«start_u») (b .«end_u»)
 
 -- a surface that is granted
 pub record Surfaced (t : Tables) (e : Element) (b : Body) : Type 0 where
   pub lent : Lent t e
-  pub held : Held (t .v) (t .corners) (e .first) (alongOf (b .type) (b .degree-u) (b .count-u) .controls * alongOf (b .type) (b .degree-v) (b .count-v) .controls)
-  pub along-u : Directed (t .parameters) (b .first-parameter) (b .type) (b .degree-u) (b .count-u) (b .start-u) (b .end-u)
-  pub along-v : Directed (t .parameters) (b .first-parameter + b .count-u) (b .type) (b .degree-v) (b .count-v) (b .start-v) (b .end-v)
+  pub held : Held (t .v) (t .corners) (e .first) 0 (alongOf (b .basis) (b .«degree_u») (b .«count_u») .controls * alongOf (b .basis) (b .«degree_v») (b .«count_v») .controls)
+  pub along-u : Directed (t .parameters) (b .«first_parameter») (b .basis) (b .«degree_u») (b .«count_u») (b .«start_u») (b .«end_u»)
+  pub along-v : Directed (t .parameters) (b .«first_parameter» + b .«count_u») (b .basis) (b .«degree_v») (b .«count_v») (b .«start_v») (b .«end_v»)
 
 pub lent-of : {used : Used} {t : Tables} {e : Element} → Recorded used t (e .kind) (e .body) → Lent t e
 lent-of {used} {t} {e} r = record {
@@ -173,13 +174,13 @@ curved used t number g =
     let h = body-of o (k .0) in
     let r = recorded used t n (e .kind) (e .count) (e .body) h in
     let c = curve-of used t n (e .kind) (e .count) (e .body) h (k .1) in
-    let enough-there = curve-enough (basisOf (b .type)) (b .degree-u) (b .count-u) (e .count) (c .counted) in
-    let same = eqb-true (e .count) (controls (basisOf (b .type)) (b .degree-u) (b .count-u)) (and-right (enough (basisOf (b .type)) (b .degree-u) (b .count-u)) _ (c .counted))
-    ∙ same-controls (b .type) (b .degree-u) (b .count-u) (g .type) in
+    let enough-there = curve-enough (basisOf (b .basis)) (b .«degree_u») (b .«count_u») (e .count) (c .counted) in
+    let same = eqb-true (e .count) (controls (basisOf (b .basis)) (b .«degree_u») (b .«count_u»)) (and-right (enough (basisOf (b .basis)) (b .«degree_u») (b .«count_u»)) _ (c .counted))
+    ∙ same-controls (b .basis) (b .«degree_u») (b .«count_u») (g .type) in
     record {
       lent = lent-of r;
-      held = subst (λ (q : ℕ). Held (cond (eqb (e .kind) 5) (t .vp) (t .v)) (t .corners) (e .first) q) same (held-either used t (e .kind) (e .first) (e .count) (o .corners));
-      along = directed (t .parameters) (b .first-parameter) (b .count-u) (omega (arith, r .run .lent-ones)) (b .type) (b .degree-u) (b .start-u) (b .end-u) (g .type)
+      held = subst (λ (q : ℕ). Held (cond (eqb (e .kind) 5) (t .vp) (t .v)) (t .corners) (e .first) 0 q) same (held-either used t (e .kind) (e .first) (e .count) (o .corners));
+      along = directed (t .parameters) (b .«first_parameter») (b .«count_u») (omega (arith, r .run .lent-ones)) (b .basis) (b .«degree_u») (b .«start_u») (b .«end_u») (g .type)
           (r .typed .degree-u .most) (r .run .along-u) (λ j l. r .run .small-ones j (omega arith)) enough-there (c .in-order);
     }
 
@@ -197,19 +198,19 @@ surfaced used t number g =
     let r = recorded used t n (e .kind) (e .count) (e .body) h in
     let c = surface-of used t n (e .kind) (e .count) (e .body) h six in
     let yes = eq-eqb (e .kind) 6 six in
-    let degree = degree-facts (b .type) (b .degree-v) (rw yes at (r .typed .degree-v)) in
-    let enough-u = surface-enough-u (basisOf (b .type)) (b .degree-u) (b .count-u) (b .degree-v) (b .count-v) (e .count) (c .counted) in
-    let enough-v = surface-enough-v (basisOf (b .type)) (b .degree-u) (b .count-u) (b .degree-v) (b .count-v) (e .count) (c .counted) in
-    let same = eqb-true (e .count) (controls (basisOf (b .type)) (b .degree-u) (b .count-u) * controls (basisOf (b .type)) (b .degree-v) (b .count-v))
-    (and-right (enough (basisOf (b .type)) (b .degree-u) (b .count-u) && enough (basisOf (b .type)) (b .degree-v) (b .count-v)) _ (c .counted))
-    ∙ ap₂ (λ (k l : ℕ). k * l) (same-controls (b .type) (b .degree-u) (b .count-u) (g .type)) (same-controls (b .type) (b .degree-v) (b .count-v) (g .type)) in
+    let degree = degree-facts (b .basis) (b .«degree_v») (rw yes at (r .typed .degree-v)) in
+    let enough-u = surface-enough-u (basisOf (b .basis)) (b .«degree_u») (b .«count_u») (b .«degree_v») (b .«count_v») (e .count) (c .counted) in
+    let enough-v = surface-enough-v (basisOf (b .basis)) (b .«degree_u») (b .«count_u») (b .«degree_v») (b .«count_v») (e .count) (c .counted) in
+    let same = eqb-true (e .count) (controls (basisOf (b .basis)) (b .«degree_u») (b .«count_u») * controls (basisOf (b .basis)) (b .«degree_v») (b .«count_v»))
+    (and-right (enough (basisOf (b .basis)) (b .«degree_u») (b .«count_u») && enough (basisOf (b .basis)) (b .«degree_v») (b .«count_v»)) _ (c .counted))
+    ∙ ap₂ (λ (k l : ℕ). k * l) (same-controls (b .basis) (b .«degree_u») (b .«count_u») (g .type)) (same-controls (b .basis) (b .«degree_v») (b .«count_v») (g .type)) in
     record {
       lent = lent-of r;
-      held = subst (λ (q : ℕ). Held (t .v) (t .corners) (e .first) q) same (held-space used t (e .kind) (e .first) (e .count) (o .corners) (λ k. omega (arith, six)));
-      along-u = directed (t .parameters) (b .first-parameter) (b .count-u) (omega (arith, r .run .lent-ones)) (b .type) (b .degree-u) (b .start-u) (b .end-u) (g .type)
+      held = subst (λ (q : ℕ). Held (t .v) (t .corners) (e .first) 0 q) same (held-space used t (e .kind) (e .first) (e .count) (o .corners) (λ k. omega (arith, six)));
+      along-u = directed (t .parameters) (b .«first_parameter») (b .«count_u») (omega (arith, r .run .lent-ones)) (b .basis) (b .«degree_u») (b .«start_u») (b .«end_u») (g .type)
           (r .typed .degree-u .most) (r .run .along-u) (λ j l. r .run .small-ones j (omega arith)) enough-u (c .along-u);
-      along-v = directed (t .parameters) (b .first-parameter + b .count-u) (b .count-v) (omega (arith, r .run .lent-ones)) (b .type) (b .degree-v) (b .start-v) (b .end-v) (g .type)
-          (degree .most) (leb-true 2 (b .count-v) (rw yes at (r .run .along-v)))
-          (λ j l. let k : b .first-parameter + (b .count-u + j) ≡ b .first-parameter + b .count-u + j = omega arith in
-          subst (λ (q : ℕ). small (getD (t .parameters) q (pos 0)) ≡ true) k (r .run .small-ones (b .count-u + j) (omega arith))) enough-v (c .along-v);
+      along-v = directed (t .parameters) (b .«first_parameter» + b .«count_u») (b .«count_v») (omega (arith, r .run .lent-ones)) (b .basis) (b .«degree_v») (b .«start_v») (b .«end_v») (g .type)
+          (degree .most) (leb-true 2 (b .«count_v») (rw yes at (r .run .along-v)))
+          (λ j l. let k : b .«first_parameter» + (b .«count_u» + j) ≡ b .«first_parameter» + b .«count_u» + j = omega arith in
+          subst (λ (q : ℕ). small (getD (t .parameters) q (pos 0)) ≡ true) k (r .run .small-ones (b .«count_u» + j) (omega arith))) enough-v (c .along-v);
     }

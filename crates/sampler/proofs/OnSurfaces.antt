@@ -9,7 +9,7 @@ use lib.IntN.{ℤ, pos}
 use lib.Signed.{_≤ℤ_}
 use Rattle.whole.proofs.Order.{le-yes}
 use Rattle.tables.specs.Tables.{Tables}
-use Rattle.tables.specs.Records.{Body}
+use Rattle.tables.specs.declared.Body.{Body}
 use Rattle.tables.specs.declared.Used.{Used}
 use Rattle.tables.specs.declared.Element.{Element}
 use Rattle.curves.proofs.SurfaceNear.{surface-near}
@@ -34,7 +34,7 @@ module _ {used : Used} {t : Tables} {number : ℕ} (c : Surface used t number) w
   facts : Surfaced t e b
   facts = surfaced used t number (granted true used t number surface-given)
 
-  module _ (p q : ℤ) (p-from : b .start-u ≤ℤ p) (p-upto : p ≤ℤ b .end-u) (q-from : b .start-v ≤ℤ q) (q-upto : q ≤ℤ b .end-v) where
+  module _ (p q : ℤ) (p-from : b .«start_u» ≤ℤ p) (p-upto : p ≤ℤ b .«end_u») (q-from : b .«start_v» ≤ℤ q) (q-upto : q ≤ℤ b .«end_v») where
     -- the rounded rule is near the exact value, at every two parameters of the ranges
     surface-close : (axis : ℕ) → OnSurface t number p q axis (surfaceAt t e b p q axis)
     unfolding surfaceAt
@@ -43,7 +43,7 @@ module _ {used : Used} {t : Tables} {number : ℕ} (c : Surface used t number) w
 
     answer-is : pointOnSurface used t number p q ≡ surfacePoint t e b p q
     unfolding pointOnSurface
-    answer-is = rw (surface-given, le-yes (b .start-u) p p-from, le-yes p (b .end-u) p-upto, le-yes (b .start-v) q q-from, le-yes q (b .end-v) q-upto)
+    answer-is = rw (surface-given, le-yes (b .«start_u») p p-from, le-yes p (b .«end_u») p-upto, le-yes (b .«start_v») q q-from, le-yes q (b .«end_v») q-upto)
 
 coordinates-are : (t : Tables) (e : Element) (b : Body) (p q : ℤ) → coordinatesIn (surfacePoint t e b p q) ≡ listed 3 (surfaceAt t e b p q)
 unfolding surfacePoint

@@ -55,10 +55,10 @@ module _ (surface : Bool) (used : Used) (t : Tables) (number : ℕ) where
                 let n = curvesBefore t i in
                 lent-of (recorded used t n (e .kind) (e .count) (e .body) (body-of (obeys-facts used t n i obeyed) (kinds surface (e .kind) kind)))
 
-            pub not-carried : carried (bodyOf t number .rational) (bodyOf t number .type) ≡ false → 18 ≡ refusalOf surface used t number
+            pub not-carried : carried (bodyOf t number .rational) (bodyOf t number .basis) ≡ false → 18 ≡ refusalOf surface used t number
             unfolding refusalOf
             not-carried h = rw (le-leb 1 number some, le-leb number (used .elements) in-use, le-leb (9 * number) (length (t .elements)) lent, kind, obeyed, h)
 
-            pub none-given : carried (bodyOf t number .rational) (bodyOf t number .type) ≡ true → 0 ≡ refusalOf surface used t number
+            pub none-given : carried (bodyOf t number .rational) (bodyOf t number .basis) ≡ true → 0 ≡ refusalOf surface used t number
             unfolding refusalOf
             none-given h = rw (le-leb 1 number some, le-leb number (used .elements) in-use, le-leb (9 * number) (length (t .elements)) lent, kind, obeyed, h)

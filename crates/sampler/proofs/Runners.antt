@@ -12,7 +12,8 @@ use lib.ListN.{length, take, drop, length-drop}
 use lib.Seq.{take-all, drop-length}
 use Rattle.lists.proofs.Tests.{and-first, and-second}
 use Rattle.tables.specs.Tables.{Tables}
-use Rattle.tables.specs.Records.{Body, parametersU}
+use Rattle.tables.specs.Records.{parametersU}
+use Rattle.tables.specs.declared.Body.{Body}
 use Rattle.tables.specs.declared.Used.{Used}
 use Rattle.tables.specs.declared.Element.{Element}
 use Rattle.curves.specs.Sampled.{curveSampled}
@@ -36,12 +37,12 @@ listed-cong : (n : ℕ) (f g : ℕ → ℤ) → ((i : ℕ) → f i ≡ g i) → 
 listed-cong n f g h = joined-cong n (λ i. f i ∷ []) (λ i. g i ∷ []) (λ i. ap (λ (z : ℤ). z ∷ []) (h i))
 
 run-numbers : (t : Tables) (e : Element) (b : Body) (steps : ℕ) (q : Bool) → eqb (e .kind) 5 ≡ q
-    → runBy (e .kind) (t .v) (t .vp) (t .corners) (e .first) (alongOf (b .type) (b .degree-u) (b .count-u)) (parametersU t b) (b .start-u) (b .end-u) steps ≡ runNumbers t e b steps
+    → runBy (e .kind) (t .v) (t .vp) (t .corners) (e .first) (alongOf (b .basis) (b .«degree_u») (b .«count_u»)) (parametersU t b) (b .«start_u») (b .«end_u») steps ≡ runNumbers t e b steps
 unfolding runBy runNumbers pointsUpto pointAt
 run-numbers t e b steps true h =
-    rw h (joined-cong (steps + 1) _ _ (λ j. listed-cong 2 _ _ (λ k. plane-coordinate t e b (parameterAt (b .start-u) (b .end-u) steps j) k h)))
+    rw h (joined-cong (steps + 1) _ _ (λ j. listed-cong 2 _ _ (λ k. plane-coordinate t e b (parameterAt (b .«start_u») (b .«end_u») steps j) k h)))
 run-numbers t e b steps false h =
-    rw h (joined-cong (steps + 1) _ _ (λ j. listed-cong 3 _ _ (λ k. space-coordinate t e b (parameterAt (b .start-u) (b .end-u) steps j) k h)))
+    rw h (joined-cong (steps + 1) _ _ (λ j. listed-cong 3 _ _ (λ k. space-coordinate t e b (parameterAt (b .«start_u») (b .«end_u») steps j) k h)))
 
 after-refused : (used : Used) (t : Tables) (number steps at : ℕ) (points : List ℤ) (r : ℕ) → (r ≡ 0 → ⊥)
     → ran.Refused r ≡ runOnCurve used t number steps at (length points) → points ≡ pointsAfter used t number steps at points
@@ -111,10 +112,10 @@ module _ (used : Used) (t : Tables) (number steps at : ℕ) (points : List ℤ) 
             none = ap (λ (k : ℕ). drop k (drop at points)) (sym rest) ∙ drop-length (drop at points)
 
 module _ {t : Tables} {e : Element} {b : Body} {kind first from count : ℕ} {a : Along} (r : Read t e b kind first from count a) where
-  pub run-asked : (s f : ℤ) → s ≡ b .start-u → f ≡ b .end-u → Curved t e b
-      → Held (cond (eqb kind 5) (t .vp) (t .v)) (t .corners) first (a .controls) × Ranged a (take (from + count - from) (drop from (t .parameters))) s f
+  pub run-asked : (s f : ℤ) → s ≡ b .«start_u» → f ≡ b .«end_u» → Curved t e b
+      → Held (cond (eqb kind 5) (t .vp) (t .v)) (t .corners) first 0 (a .controls) × Ranged a (take (from + count - from) (drop from (t .parameters))) s f
   run-asked s f k l c = rw (run-is r, k, l, r .kind-is, r .first-is, r .along-is) (c .held, c .along .ranged)
 
-  pub run-read : (s f : ℤ) (steps : ℕ) → s ≡ b .start-u → f ≡ b .end-u
+  pub run-read : (s f : ℤ) (steps : ℕ) → s ≡ b .«start_u» → f ≡ b .«end_u»
       → runBy kind (t .v) (t .vp) (t .corners) first a (take (from + count - from) (drop from (t .parameters))) s f steps ≡ runNumbers t e b steps
   run-read s f steps k l = rw (run-is r, k, l, r .kind-is, r .first-is, r .along-is) (run-numbers t e b steps (eqb (e .kind) 5) refl)

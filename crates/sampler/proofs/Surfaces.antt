@@ -8,7 +8,8 @@ use lib.Dec.{eqb}
 use lib.IntN.{ℤ}
 use lib.ListN.{take, drop}
 use Rattle.tables.specs.Tables.{Tables}
-use Rattle.tables.specs.Records.{Body, parametersU, parametersV}
+use Rattle.tables.specs.Records.{parametersU, parametersV}
+use Rattle.tables.specs.declared.Body.{Body}
 use Rattle.tables.specs.declared.Used.{Used}
 use Rattle.tables.specs.declared.Element.{Element}
 use Rattle.curves.proofs.Pyramid.{surface-cong}
@@ -24,10 +25,10 @@ use Rattle.sampler.proofs.Entries.{space-control, space-eq, sound-insid
 
 module _ (t : Tables) (e : Element) (b : Body) (p q : ℤ) (other : eqb (e .kind) 5 ≡ false) where
   abbrev along-u : Along
-  along-u = alongOf (b .type) (b .degree-u) (b .count-u)
+  along-u = alongOf (b .basis) (b .«degree_u») (b .«count_u»)
 
   abbrev along-v : Along
-  along-v = alongOf (b .type) (b .degree-v) (b .count-v)
+  along-v = alongOf (b .basis) (b .«degree_v») (b .«count_v»)
 
   across-is : (axis : ℕ) → acrossBy (t .v) (t .corners) (e .first) along-u along-v (parametersU t b) (parametersV t b) p q axis ≡ surfaceAt t e b p q axis
   unfolding surfaceAt
@@ -49,18 +50,18 @@ module _ (used : Used) (t : Tables) (number : ℕ) (p q : ℤ) where
   refused-surface {r} e h = rw (sym e, ne-eqb r 0 h)
 
   module _ (given : refusalOf true used t number ≡ 0) where
-    pub outside-u : inside (bodyOf t number .start-u) (bodyOf t number .end-u) p ≡ false → sampled.Refused 19 ≡ pointOnSurface used t number p q
+    pub outside-u : inside (bodyOf t number .«start_u») (bodyOf t number .«end_u») p ≡ false → sampled.Refused 19 ≡ pointOnSurface used t number p q
     unfolding pointOnSurface
     outside-u h = rw (given, h)
 
-    module _ (in-u : inside (bodyOf t number .start-u) (bodyOf t number .end-u) p ≡ true) where
-      pub outside-v : inside (bodyOf t number .start-v) (bodyOf t number .end-v) q ≡ false → sampled.Refused 19 ≡ pointOnSurface used t number p q
+    module _ (in-u : inside (bodyOf t number .«start_u») (bodyOf t number .«end_u») p ≡ true) where
+      pub outside-v : inside (bodyOf t number .«start_v») (bodyOf t number .«end_v») q ≡ false → sampled.Refused 19 ≡ pointOnSurface used t number p q
       unfolding pointOnSurface
       outside-v h = rw (given, in-u, h)
 
-      pub surface-there : inside (bodyOf t number .start-v) (bodyOf t number .end-v) q ≡ true
-          → surfaceBy (t .v) (t .corners) (elementOf t number .first) (alongOf (bodyOf t number .type) (bodyOf t number .degree-u) (bodyOf t number .count-u))
-          (alongOf (bodyOf t number .type) (bodyOf t number .degree-v) (bodyOf t number .count-v)) (parametersU t (bodyOf t number)) (parametersV t (bodyOf t number)) p q
+      pub surface-there : inside (bodyOf t number .«start_v») (bodyOf t number .«end_v») q ≡ true
+          → surfaceBy (t .v) (t .corners) (elementOf t number .first) (alongOf (bodyOf t number .basis) (bodyOf t number .«degree_u») (bodyOf t number .«count_u»))
+          (alongOf (bodyOf t number .basis) (bodyOf t number .«degree_v») (bodyOf t number .«count_v»)) (parametersU t (bodyOf t number)) (parametersV t (bodyOf t number)) p q
           ≡ pointOnSurface used t number p q
       unfolding pointOnSurface
       surface-there h = rw (given, in-u, h) (surface-is t (elementOf t number) (bodyOf t number) p q (no-curve2 (elementOf t number .kind) (granted true used t number given .kind)))
@@ -68,11 +69,11 @@ module _ (used : Used) (t : Tables) (number : ℕ) (p q : ℤ) where
 -- what was read of the element and its body
 pub record Laid (t : Tables) (e : Element) (b : Body) (first from m n : ℕ) (u v : Along) : Type 0 where
   pub first-is : first ≡ e .first
-  pub from-is : from ≡ b .first-parameter
-  pub count-u-is : m ≡ b .count-u
-  pub count-v-is : n ≡ b .count-v
-  pub along-u-is : u ≡ alongOf (b .type) (b .degree-u) (b .count-u)
-  pub along-v-is : v ≡ alongOf (b .type) (b .degree-v) (b .count-v)
+  pub from-is : from ≡ b .«first_parameter»
+  pub count-u-is : m ≡ b .«count_u»
+  pub count-v-is : n ≡ b .«count_v»
+  pub along-u-is : u ≡ alongOf (b .basis) (b .«degree_u») (b .«count_u»)
+  pub along-v-is : v ≡ alongOf (b .basis) (b .«degree_v») (b .«count_v»)
 
 module _ {t : Tables} {e : Element} {b : Body} {first from m n : ℕ} {u v : Along} (r : Laid t e b first from m n u v) where
   u-run : take (from + m - from) (drop from (t .parameters)) ≡ parametersU t b
@@ -81,13 +82,13 @@ module _ {t : Tables} {e : Element} {b : Body} {first from m n : ℕ} {u v : Alo
   v-run : take (from + m + n - (from + m)) (drop (from + m) (t .parameters)) ≡ parametersV t b
   v-run = part-is (t .parameters) (from + m) n ∙ rw (r .from-is, r .count-u-is, r .count-v-is)
 
-  pub surface-asked : (p p′ q q′ : ℤ) → p′ ≡ p → q′ ≡ q → Surfaced t e b → inside (b .start-u) (b .end-u) p ≡ true → inside (b .start-v) (b .end-v) q ≡ true
-      → Held (t .v) (t .corners) first (u .controls * v .controls) × Sound u (take (from + m - from) (drop from (t .parameters))) p′
+  pub surface-asked : (p p′ q q′ : ℤ) → p′ ≡ p → q′ ≡ q → Surfaced t e b → inside (b .«start_u») (b .«end_u») p ≡ true → inside (b .«start_v») (b .«end_v») q ≡ true
+      → Held (t .v) (t .corners) first 0 (u .controls * v .controls) × Sound u (take (from + m - from) (drop from (t .parameters))) p′
       × Sound v (take (from + m + n - (from + m)) (drop (from + m) (t .parameters))) q′
   surface-asked p p′ q q′ k l c g h =
       rw (v-run, u-run, k, l, r .first-is, r .along-u-is, r .along-v-is) (c .held, sound-inside (c .along-u .ranged) p g, sound-inside (c .along-v .ranged) q h)
 
   pub surface-read : (p p′ q q′ : ℤ) → p′ ≡ p → q′ ≡ q
       → surfaceBy (t .v) (t .corners) first u v (take (from + m - from) (drop from (t .parameters))) (take (from + m + n - (from + m)) (drop (from + m) (t .parameters))) p′ q′
-      ≡ surfaceBy (t .v) (t .corners) (e .first) (alongOf (b .type) (b .degree-u) (b .count-u)) (alongOf (b .type) (b .degree-v) (b .count-v)) (parametersU t b) (parametersV t b) p q
+      ≡ surfaceBy (t .v) (t .corners) (e .first) (alongOf (b .basis) (b .«degree_u») (b .«count_u»)) (alongOf (b .basis) (b .«degree_v») (b .«count_v»)) (parametersU t b) (parametersV t b) p q
   surface-read p p′ q q′ k l = rw (v-run, u-run, k, l, r .first-is, r .along-u-is, r .along-v-is)

@@ -7,7 +7,8 @@ use lib.ListN.{length, take, drop}
 use lib.IntN.{ℤ}
 use lib.Signed.{leZ}
 use Rattle.tables.specs.Tables.{Tables}
-use Rattle.tables.specs.Records.{Body, bodyAt, elementAt, elementWidth, curveKind, curve2Kind, surfaceKind}
+use Rattle.tables.specs.Records.{bodyAt, elementAt, elementWidth, curveKind, curve2Kind, surfaceKind}
+use Rattle.tables.specs.declared.Body.{Body}
 use Rattle.tables.specs.declared.Used.{Used}
 use Rattle.tables.specs.declared.Element.{Element}
 use Rattle.rules.specs.Rules.{obeys, curvesBefore}
@@ -59,7 +60,7 @@ refusalOf surface used t number =
     (cond (leb (elementWidth * number) (length (t .elements)))
     (cond (wanted surface (elementOf t number .kind))
     (cond (obeys used t (curvesBefore t (number - 1)) (number - 1))
-    (cond (carried (bodyOf t number .rational) (bodyOf t number .type)) 0 18)
+    (cond (carried (bodyOf t number .rational) (bodyOf t number .basis)) 0 18)
     15)
     17)
     15)
@@ -79,7 +80,7 @@ curvePoint t e b p =
 unfoldable pub pointOnCurve : Used → Tables → (number : ℕ) (p : ℤ) → Sampled
 pointOnCurve used t number p =
     cond (eqb (refusalOf false used t number) 0)
-    (cond (inside (bodyOf t number .start-u) (bodyOf t number .end-u) p)
+    (cond (inside (bodyOf t number .«start_u») (bodyOf t number .«end_u») p)
     (curvePoint t (elementOf t number) (bodyOf t number) p)
     (sampled.Refused 19))
     (sampled.Refused (refusalOf false used t number))
@@ -91,8 +92,8 @@ unfoldable pub pointOnSurface : Used → Tables → (number : ℕ) (p q : ℤ) �
 pointOnSurface used t number p q =
     cond (eqb (refusalOf true used t number) 0)
     (cond
-    (inside (bodyOf t number .start-u) (bodyOf t number .end-u) p
-    && inside (bodyOf t number .start-v) (bodyOf t number .end-v) q)
+    (inside (bodyOf t number .«start_u») (bodyOf t number .«end_u») p
+    && inside (bodyOf t number .«start_v») (bodyOf t number .«end_v») q)
     (surfacePoint t (elementOf t number) (bodyOf t number) p q)
     (sampled.Refused 19))
     (sampled.Refused (refusalOf true used t number))

@@ -25,11 +25,11 @@ pub record Curve (used : Used) (t : Tables) (number : ℕ) : Type 0 where
   pub kind : (elementOf t number .kind ≡ curveKind) ⊎ (elementOf t number .kind ≡ curve2Kind)
   pub obeyed : obeys used t (curvesBefore t (number - 1)) (number - 1) ≡ true
   pub plain : bodyOf t number .rational ≡ 0
-  pub type : (bodyOf t number .type ≡ 1) ⊎ (bodyOf t number .type ≡ 2)
+  pub type : (bodyOf t number .basis ≡ 1) ⊎ (bodyOf t number .basis ≡ 2)
 
 -- z is at most n/2 from the exact value at p on that axis
 abbrev pub OnCurve : Tables → (number : ℕ) (p : ℤ) (axis : ℕ) → ℤ → Type 0
-OnCurve t number p axis z = Close z (curveExact (directionU t (bodyOf t number)) p (controlOf t (elementOf t number) axis)) (bodyOf t number .degree-u)
+OnCurve t number p axis z = Close z (curveExact (directionU t (bodyOf t number)) p (controlOf t (elementOf t number) axis)) (bodyOf t number .«degree_u»)
 
 pub record CurveAnswer (used : Used) (t : Tables) (number : ℕ) (p : ℤ) : Type 0 where
   pub given : refusalIn (pointOnCurve used t number p) ≡ 0
@@ -39,13 +39,13 @@ pub record CurveAnswer (used : Used) (t : Tables) (number : ℕ) (p : ℤ) : Typ
 -- "Take as parameter any whole number of millionths inside its stated range": "start to end, both included"
 abbrev pub PointsOnCurves : Type 0
 PointsOnCurves =
-    (used : Used) (t : Tables) (number : ℕ) (p : ℤ) → Curve used t number → bodyOf t number .start-u ≤ℤ p → p ≤ℤ bodyOf t number .end-u
+    (used : Used) (t : Tables) (number : ℕ) (p : ℤ) → Curve used t number → bodyOf t number .«start_u» ≤ℤ p → p ≤ℤ bodyOf t number .«end_u»
     → CurveAnswer used t number p
 
 pub record RunAnswer (used : Used) (t : Tables) (number steps at : ℕ) (points : List ℤ) : Type 0 where
   pub given : runRefusalIn (runOnCurve used t number steps at (length points)) ≡ 0
   pub near : (j axis : ℕ) → j ≤ steps → axis < axesOf (elementOf t number)
-      → OnCurve t number (parameterAt (bodyOf t number .start-u) (bodyOf t number .end-u) steps j) axis
+      → OnCurve t number (parameterAt (bodyOf t number .«start_u») (bodyOf t number .«end_u») steps j) axis
       (getD (pointsAfter used t number steps at points) (at + (axesOf (elementOf t number) * j + axis)) (pos 0))
 
 -- "In a run of 1 to 65,536 steps the demand holds at every j = 0..N, each point held against the exact value at its own parameter."
@@ -61,14 +61,14 @@ pub record Surface (used : Used) (t : Tables) (number : ℕ) : Type 0 where
   pub kind : elementOf t number .kind ≡ surfaceKind
   pub obeyed : obeys used t (curvesBefore t (number - 1)) (number - 1) ≡ true
   pub plain : bodyOf t number .rational ≡ 0
-  pub type : (bodyOf t number .type ≡ 1) ⊎ (bodyOf t number .type ≡ 2)
+  pub type : (bodyOf t number .basis ≡ 1) ⊎ (bodyOf t number .basis ≡ 2)
 
 -- z is at most (m+n)/2 from the exact value at p along u and q along v on that axis
 abbrev pub OnSurface : Tables → (number : ℕ) (p q : ℤ) (axis : ℕ) → ℤ → Type 0
 OnSurface t number p q axis z =
     Close z
     (surfaceExact (directionU t (bodyOf t number)) (directionV t (bodyOf t number)) p q (gridOf t (elementOf t number) (bodyOf t number) axis))
-    (bodyOf t number .degree-u + bodyOf t number .degree-v)
+    (bodyOf t number .«degree_u» + bodyOf t number .«degree_v»)
 
 pub record SurfaceAnswer (used : Used) (t : Tables) (number : ℕ) (p q : ℤ) : Type 0 where
   pub given : refusalIn (pointOnSurface used t number p q) ≡ 0
@@ -79,5 +79,5 @@ pub record SurfaceAnswer (used : Used) (t : Tables) (number : ℕ) (p q : ℤ) :
 abbrev pub PointsOnSurfaces : Type 0
 PointsOnSurfaces =
     (used : Used) (t : Tables) (number : ℕ) (p q : ℤ) → Surface used t number
-    → bodyOf t number .start-u ≤ℤ p → p ≤ℤ bodyOf t number .end-u → bodyOf t number .start-v ≤ℤ q → q ≤ℤ bodyOf t number .end-v
+    → bodyOf t number .«start_u» ≤ℤ p → p ≤ℤ bodyOf t number .«end_u» → bodyOf t number .«start_v» ≤ℤ q → q ≤ℤ bodyOf t number .«end_v»
     → SurfaceAnswer used t number p q

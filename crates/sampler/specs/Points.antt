@@ -6,7 +6,8 @@ use lib.Dec.{leb, eqb}
 use lib.ListN.{length}
 use lib.IntN.{ℤ}
 use Rattle.tables.specs.Tables.{Tables}
-use Rattle.tables.specs.Records.{Body, cornerAt, valueAt, vWidth, vpWidth, parametersU, parametersV, curve2Kind}
+use Rattle.tables.specs.Records.{cornerAt, valueAt, vWidth, vpWidth, parametersU, parametersV, curve2Kind}
+use Rattle.tables.specs.declared.Body.{Body}
 use Rattle.tables.specs.Bodies.{bezier, bspline, controls}
 use Rattle.tables.specs.declared.Element.{Element}
 use Rattle.curves.specs.Directions.{Direction}
@@ -20,10 +21,10 @@ abbrev pub alongOf : (type n p : ℕ) → Along
 alongOf type n p = record { basis = type; degree = n; controls = controls (cond (eqb type 2) bspline bezier) n p }
 
 abbrev pub directionU : Tables → Body → Direction
-directionU t b = direction (alongOf (b .type) (b .degree-u) (b .count-u)) (parametersU t b)
+directionU t b = direction (alongOf (b .basis) (b .«degree_u») (b .«count_u»)) (parametersU t b)
 
 abbrev pub directionV : Tables → Body → Direction
-directionV t b = direction (alongOf (b .type) (b .degree-v) (b .count-v)) (parametersV t b)
+directionV t b = direction (alongOf (b .basis) (b .«degree_v») (b .«count_v»)) (parametersV t b)
 
 -- "the control's number on that axis": "surf and curv give x y z, curv2 u v"; a vp record holds u and v after the count given
 unfoldable pub controlOf : Tables → Element → (axis i : ℕ) → ℤ
@@ -49,4 +50,4 @@ surfaceAt t e b p q axis = surfaceSampled (directionU t b) (directionV t b) p q 
 
 -- the numbers of a run's points, one point after the other
 unfoldable pub runNumbers : Tables → Element → Body → (steps : ℕ) → List ℤ
-runNumbers t e b steps = joined (steps + 1) (λ j. listed (axesOf e) (curveAt t e b (parameterAt (b .start-u) (b .end-u) steps j)))
+runNumbers t e b steps = joined (steps + 1) (λ j. listed (axesOf e) (curveAt t e b (parameterAt (b .«start_u») (b .«end_u») steps j)))

@@ -11,39 +11,32 @@ ghost use Rattle.sampler.specs.Controls.{controlAt, Held, Reached};
 use crate::rows::Along;
 use crate::rows::pyramid;
 
-// Number `axis` of the vertex that control i names, of `count` controls from the corner number `first` on.
-fn control(
-    values: &[i32],
-    corners: &[u32],
-    first: usize,
-    count: usize,
-    axis: usize,
-    i: usize,
-) -> i32
-    requires { ⌜ Held (now values) (now corners) first count × (axis < 4) × (i < count) ⌝ }
+// Number `axis` of the vertex that control i names, of the controls from the corner number `first` on.
+fn control(values: &[i32], corners: &[u32], first: u32, axis: usize, i: usize) -> i32
+    requires { ⌜ Held (now values) (now corners) first i (i + 1) × (axis < 4) ⌝ }
     ensures { λ z. ⌜ (z ≡ controlAt (now (values .entry)) (now (corners .entry)) first axis i) × Small z ⌝ }
 {
-    let vertex = corners[first + 3 * i] as usize;
+    let vertex = tables::corner_at(corners, first, i).v as usize;
     values[4 * (vertex - 1) + axis]
 }
 
-// Controls from to from + n, at the front of the row.
+// Controls from to from + n of those from control `base` on, at the front of the row.
 fn gather(
     row: &mut [i32],
     values: &[i32],
     corners: &[u32],
-    first: usize,
-    count: usize,
+    first: u32,
+    base: usize,
     axis: usize,
     from: usize,
     n: usize,
 )
-    requires { ⌜ Held (now values) (now corners) first count × (axis < 4) × (from + n < count) × (n < length (now row)) ⌝ }
-    ensures { λ r. ⌜ Gathered (now (row .exit)) (λ j. controlAt (now (values .entry)) (now (corners .entry)) first axis (from + j)) n ⌝ }
+    requires { ⌜ Held (now values) (now corners) first (base + from) (base + (from + n) + 1) × (axis < 4) × (n < length (now row)) ⌝ }
+    ensures { λ r. ⌜ Gathered (now (row .exit)) (λ j. controlAt (now (values .entry)) (now (corners .entry)) first axis (base + (from + j))) n ⌝ }
 {
     let mut j = 0;
     while j <= n {
-        row[j] = control(values, corners, first, count, axis, from + j);
+        row[j] = control(values, corners, first, axis, base + (from + j));
         j += 1;
     }
 }
@@ -59,19 +52,20 @@ fn first_control(along: Along, chosen: usize) -> usize
     chosen * along.degree
 }
 
-// One coordinate of a curve's point at t.
+// One coordinate of a curve's point at t, whose controls are those from control `base` on.
 pub fn coordinate(
     values: &[i32],
     corners: &[u32],
-    first: usize,
+    first: u32,
+    base: usize,
     axis: usize,
     x: &[i32],
     along: Along,
     t: i32,
     chosen: usize,
 ) -> i32
-    requires { ⌜ Held (now values) (now corners) first (along .controls) × (axis < 4) × On along (now x) t chosen ⌝ }
-    ensures { λ z. ⌜ (z ≡ curveSampled (direction along (now (x .entry))) t (controlAt (now (values .entry)) (now (corners .entry)) first axis)) × Small z ⌝ }
+    requires { ⌜ Held (now values) (now corners) first base (base + along .controls) × (axis < 4) × On along (now x) t chosen ⌝ }
+    ensures { λ z. ⌜ (z ≡ curveSampled (direction along (now (x .entry))) t (λ i. controlAt (now (values .entry)) (now (corners .entry)) first axis (base + i))) × Small z ⌝ }
 {
     let from = first_control(along, chosen);
     let mut row = [0i32; 21];
@@ -80,7 +74,7 @@ pub fn coordinate(
         values,
         corners,
         first,
-        along.controls,
+        base,
         axis,
         from,
         along.degree,
@@ -92,7 +86,7 @@ pub fn coordinate(
 pub fn across(
     values: &[i32],
     corners: &[u32],
-    first: usize,
+    first: u32,
     axis: usize,
     x: &[i32],
     u: Along,
@@ -103,15 +97,15 @@ pub fn across(
     t: i32,
     across_v: usize,
 ) -> i32
-    requires { ⌜ Held (now values) (now corners) first (u .controls * v .controls) × (axis < 4) × On u (now x) s «across_u» × On v (now y) t «across_v» ⌝ }
+    requires { ⌜ Held (now values) (now corners) first 0 (u .controls * v .controls) × (axis < 4) × On u (now x) s «across_u» × On v (now y) t «across_v» ⌝ }
     ensures { λ z. ⌜ (z ≡ surfaceSampled (direction u (now (x .entry))) (direction v (now (y .entry))) s t (λ i j. controlAt (now (values .entry)) (now (corners .entry)) first axis (j * u .controls + i))) × Small z ⌝ }
 {
     let top = first_control(v, across_v);
     let mut numbers = [0i32; 21];
     let mut j = 0;
     while j <= v.degree {
-        let row = first + 3 * ((top + j) * u.controls);
-        numbers[j] = coordinate(values, corners, row, axis, x, u, s, across_u);
+        let row = (top + j) * u.controls;
+        numbers[j] = coordinate(values, corners, first, row, axis, x, u, s, across_u);
         j += 1;
     }
     pyramid(&mut numbers, y, v, t, across_v)

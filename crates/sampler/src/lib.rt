@@ -5,13 +5,11 @@ ghost use Rattle.sampler.specs.Answers.{refusalOf, pointOnCurve, pointOn
 ghost use lib.ListN.{length};
 use crate::points::curve_point;
 use crate::points::surface_point;
-use crate::records::along_at;
+use crate::records::along_of;
 use crate::records::axes_of;
 use crate::records::is_carried;
 use crate::records::is_inside;
 use crate::records::is_wanted;
-use crate::records::number_at;
-use crate::records::value_at;
 use crate::runs::write_run;
 use rules::curves_before;
 use rules::obeys;
@@ -61,12 +59,12 @@ fn refusal(
     if used.elements < element {
         return 17;
     }
-    if elements.len() < 9 * element as usize {
+    let index = element - 1;
+    if !tables::element_fits(elements, index) {
         return 15;
     }
-    let index = element - 1;
-    let i = index as usize;
-    if !is_wanted(surface, number_at(elements, 9, i, 0)) {
+    let e = tables::element_in(elements, index);
+    if !is_wanted(surface, e.kind) {
         return 17;
     }
     let curves = curves_before(elements, index);
@@ -88,8 +86,8 @@ fn refusal(
     ) {
         return 15;
     }
-    let body = number_at(elements, 9, i, 3) as usize - 1;
-    if !is_carried(number_at(bodies, 9, body, 1), number_at(bodies, 9, body, 0)) {
+    let body = tables::body_in(bodies, ranges, e.body - 1);
+    if !is_carried(body.rational, body.basis) {
         return 18;
     }
     0
@@ -133,26 +131,16 @@ pub fn point_on_curve(
     if refused != 0 {
         return Sampled::Refused { number: refused };
     }
-    let i = element as usize - 1;
-    let body = number_at(elements, 9, i, 3) as usize - 1;
-    if !is_inside(ranges, body, 0, t) {
+    let e = tables::element_in(elements, element - 1);
+    let body = tables::body_in(bodies, ranges, e.body - 1);
+    if !is_inside(body.start_u, body.end_u, t) {
         return Sampled::Refused { number: 19 };
     }
-    let along = along_at(bodies, body, 0);
-    let from = number_at(bodies, 9, body, 4) as usize;
-    let to = from + number_at(bodies, 9, body, 5) as usize;
+    let along = along_of(body.basis, body.degree_u, body.count_u);
+    let from = body.first_parameter as usize;
+    let to = from + body.count_u as usize;
     let x = &parameters[from..to];
-    let first = number_at(elements, 9, i, 1) as usize;
-    curve_point(
-        number_at(elements, 9, i, 0),
-        v,
-        vp,
-        corners,
-        first,
-        x,
-        along,
-        t,
-    )
+    curve_point(e.kind, v, vp, corners, e.first, x, along, t)
 }
 
 // The point at s along u and t along v of the surf of that number.
@@ -194,23 +182,22 @@ pub fn point_on_surface(
     if refused != 0 {
         return Sampled::Refused { number: refused };
     }
-    let i = element as usize - 1;
-    let body = number_at(elements, 9, i, 3) as usize - 1;
-    if !is_inside(ranges, body, 0, s) {
+    let e = tables::element_in(elements, element - 1);
+    let body = tables::body_in(bodies, ranges, e.body - 1);
+    if !is_inside(body.start_u, body.end_u, s) {
         return Sampled::Refused { number: 19 };
     }
-    if !is_inside(ranges, body, 1, t) {
+    if !is_inside(body.start_v, body.end_v, t) {
         return Sampled::Refused { number: 19 };
     }
-    let along_u = along_at(bodies, body, 0);
-    let along_v = along_at(bodies, body, 1);
-    let from = number_at(bodies, 9, body, 4) as usize;
-    let middle = from + number_at(bodies, 9, body, 5) as usize;
-    let to = middle + number_at(bodies, 9, body, 6) as usize;
+    let along_u = along_of(body.basis, body.degree_u, body.count_u);
+    let along_v = along_of(body.basis, body.degree_v, body.count_v);
+    let from = body.first_parameter as usize;
+    let middle = from + body.count_u as usize;
+    let to = middle + body.count_v as usize;
     let x = &parameters[from..middle];
     let y = &parameters[middle..to];
-    let first = number_at(elements, 9, i, 1) as usize;
-    surface_point(v, corners, first, x, along_u, s, y, along_v, t)
+    surface_point(v, corners, e.first, x, along_u, s, y, along_v, t)
 }
 
 // A run of `steps` steps on a curv or curv2: its points fill the table from entry `at` on, counted in numbers.
@@ -259,34 +246,30 @@ pub fn run_on_curve(
     if 65536 < steps {
         return Ran::Refused { number: 19 };
     }
-    let i = element as usize - 1;
-    let kind = number_at(elements, 9, i, 0);
-    let numbers = axes_of(kind) * (steps as usize + 1);
+    let e = tables::element_in(elements, element - 1);
+    let numbers = axes_of(e.kind) * (steps as usize + 1);
     if points.len() < numbers {
         return Ran::Refused { number: 16 };
     }
     if points.len() - numbers < at {
         return Ran::Refused { number: 16 };
     }
-    let first = number_at(elements, 9, i, 1) as usize;
-    let body = number_at(elements, 9, i, 3) as usize - 1;
-    let start = value_at(ranges, 4, body, 0);
-    let end = value_at(ranges, 4, body, 1);
-    let along = along_at(bodies, body, 0);
-    let from = number_at(bodies, 9, body, 4) as usize;
-    let to = from + number_at(bodies, 9, body, 5) as usize;
+    let body = tables::body_in(bodies, ranges, e.body - 1);
+    let along = along_of(body.basis, body.degree_u, body.count_u);
+    let from = body.first_parameter as usize;
+    let to = from + body.count_u as usize;
     let x = &parameters[from..to];
     write_run(
         &mut points[at..],
-        kind,
+        e.kind,
         v,
         vp,
         corners,
-        first,
+        e.first,
         x,
         along,
-        start,
-        end,
+        body.start_u,
+        body.end_u,
         steps,
     );
     Ran::Filled { numbers }

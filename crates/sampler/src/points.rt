@@ -17,25 +17,25 @@ pub fn curve_point(
     v: &[i32],
     vp: &[i32],
     corners: &[u32],
-    first: usize,
+    first: u32,
     x: &[i32],
     along: Along,
     t: i32,
 ) -> Sampled
-    requires { ⌜ Held (cond (eqb kind 5) (now vp) (now v)) (now corners) first (along .controls) × Sound along (now x) t ⌝ }
+    requires { ⌜ Held (cond (eqb kind 5) (now vp) (now v)) (now corners) first 0 (along .controls) × Sound along (now x) t ⌝ }
     ensures { λ r. ⌜ r ≡ pointBy kind (now (v .entry)) (now (vp .entry)) (now (corners .entry)) first along (now (x .entry)) t ⌝ }
 {
     let chosen = find(x, along, t);
     if kind == 5 {
         return Sampled::Plane {
-            u: coordinate(vp, corners, first, 1, x, along, t, chosen),
-            v: coordinate(vp, corners, first, 2, x, along, t, chosen),
+            u: coordinate(vp, corners, first, 0, 1, x, along, t, chosen),
+            v: coordinate(vp, corners, first, 0, 2, x, along, t, chosen),
         };
     }
     Sampled::Space {
-        x: coordinate(v, corners, first, 0, x, along, t, chosen),
-        y: coordinate(v, corners, first, 1, x, along, t, chosen),
-        z: coordinate(v, corners, first, 2, x, along, t, chosen),
+        x: coordinate(v, corners, first, 0, 0, x, along, t, chosen),
+        y: coordinate(v, corners, first, 0, 1, x, along, t, chosen),
+        z: coordinate(v, corners, first, 0, 2, x, along, t, chosen),
     }
 }
 
@@ -43,7 +43,7 @@ pub fn curve_point(
 pub fn surface_point(
     values: &[i32],
     corners: &[u32],
-    first: usize,
+    first: u32,
     x: &[i32],
     u: Along,
     s: i32,
@@ -51,7 +51,7 @@ pub fn surface_point(
     v: Along,
     t: i32,
 ) -> Sampled
-    requires { ⌜ Held (now values) (now corners) first (u .controls * v .controls) × Sound u (now x) s × Sound v (now y) t ⌝ }
+    requires { ⌜ Held (now values) (now corners) first 0 (u .controls * v .controls) × Sound u (now x) s × Sound v (now y) t ⌝ }
     ensures { λ r. ⌜ r ≡ surfaceBy (now (values .entry)) (now (corners .entry)) first u v (now (x .entry)) (now (y .entry)) s t ⌝ }
 {
     let in_u = find(x, u, s);

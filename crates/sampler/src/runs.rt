@@ -30,7 +30,7 @@ fn write_point(
     points: &mut [i32],
     values: &[i32],
     corners: &[u32],
-    first: usize,
+    first: u32,
     axis: usize,
     axes: usize,
     x: &[i32],
@@ -38,12 +38,12 @@ fn write_point(
     t: i32,
     chosen: usize,
 )
-    requires { ⌜ Held (now values) (now corners) first (along .controls) × (axis + axes ≤ 4) × On along (now x) t chosen × (axes ≤ length (now points)) ⌝ }
+    requires { ⌜ Held (now values) (now corners) first 0 (along .controls) × (axis + axes ≤ 4) × On along (now x) t chosen × (axes ≤ length (now points)) ⌝ }
     ensures { λ r. ⌜ now (points .exit) ≡ pointAt (now (values .entry)) (now (corners .entry)) first axis axes along (now (x .entry)) t ++ drop axes (now (points .entry)) ⌝ }
 {
     let mut k = 0;
     while k < axes {
-        points[k] = coordinate(values, corners, first, axis + k, x, along, t, chosen);
+        points[k] = coordinate(values, corners, first, 0, axis + k, x, along, t, chosen);
         k += 1;
     }
 }
@@ -53,7 +53,7 @@ pub fn write_points(
     points: &mut [i32],
     values: &[i32],
     corners: &[u32],
-    first: usize,
+    first: u32,
     axis: usize,
     axes: usize,
     x: &[i32],
@@ -62,7 +62,7 @@ pub fn write_points(
     end: i32,
     steps: u32,
 )
-    requires { ⌜ Held (now values) (now corners) first (along .controls) × (axis + axes ≤ 4) × Ranged along (now x) start end × (0 < steps) × (steps ≤ 65536) × (axes * (steps + 1) ≤ length (now points)) ⌝ }
+    requires { ⌜ Held (now values) (now corners) first 0 (along .controls) × (axis + axes ≤ 4) × Ranged along (now x) start end × (0 < steps) × (steps ≤ 65536) × (axes * (steps + 1) ≤ length (now points)) ⌝ }
     ensures { λ r. ⌜ now (points .exit) ≡ pointsUpto (now (values .entry)) (now (corners .entry)) first axis axes along (now (x .entry)) start end steps (steps + 1) ++ drop (axes * (steps + 1)) (now (points .entry)) ⌝ }
 {
     let mut chosen = find(x, along, start);
@@ -94,14 +94,14 @@ pub fn write_run(
     v: &[i32],
     vp: &[i32],
     corners: &[u32],
-    first: usize,
+    first: u32,
     x: &[i32],
     along: Along,
     start: i32,
     end: i32,
     steps: u32,
 )
-    requires { ⌜ Held (cond (eqb kind 5) (now vp) (now v)) (now corners) first (along .controls) × Ranged along (now x) start end × (0 < steps) × (steps ≤ 65536) × (axesBy kind * (steps + 1) ≤ length (now points)) ⌝ }
+    requires { ⌜ Held (cond (eqb kind 5) (now vp) (now v)) (now corners) first 0 (along .controls) × Ranged along (now x) start end × (0 < steps) × (steps ≤ 65536) × (axesBy kind * (steps + 1) ≤ length (now points)) ⌝ }
     ensures { λ r. ⌜ now (points .exit) ≡ runBy kind (now (v .entry)) (now (vp .entry)) (now (corners .entry)) first along (now (x .entry)) start end steps ++ drop (axesBy kind * (steps + 1)) (now (points .entry)) ⌝ }
 {
     if kind == 5 {

@@ -7,13 +7,15 @@ use native.Mathlib.Nat.{lt-of-le-of-lt, mul-le-mul-left, mul-lt-mul-of-pos-right
 use native.Mathlib.Omega.{arith}
 use borrow.Author.Tests.{lt-ltb, le-ltb, le-leb, lt-leb, leb-true}
 use lib.Dec.{leb}
-use lib.ListN.{length, take, drop}
+use lib.ListN.{length, getD, take, drop, List·getD-eq-default}
+use lib.IntN.{ℤ}
 use lib.Pow.{pow-pos, pow-add}
 use Rattle.lists.proofs.Tests.{and-left, and-right}
-use Rattle.tables.specs.Records.{elementIn, cornerIn}
-use Rattle.tables.specs.Asking.{held, elementOf, noElement, cornerWith, cornerOf, noCorner, partOf, groupOf, materialOf}
+use Rattle.tables.specs.Records.{elementIn, bodyIn, cornerIn}
+use Rattle.tables.specs.Asking.{held, elementOf, noElement, bodyHeld, bodyOf, noBody, cornerWith, cornerOf, noCorner, partOf, groupOf, materialOf}
 use Rattle.tables.specs.declared.Used.{Used}
 use Rattle.tables.specs.declared.Element.{Element}
+use Rattle.tables.specs.declared.Body.{Body}
 use Rattle.tables.specs.declared.Corner.{Corner}
 
 -- the whole product of two 32-bit numbers
@@ -46,15 +48,6 @@ module _ (number used w lent : ℕ) where
   unfolding held
   held-lent h = leb-true (w * number) lent (and-right (leb 1 number && leb number used) (leb (w * number) lent) h)
 
-  -- the record with that number is the one at that index
-  pub held-whole : held number used w lent ≡ true → w * (number - 1) + w ≤ lent
-  held-whole h =
-      let l : w * number ≤ lent = held-lent h in
-      let f : 1 ≤ number = held-first h in
-      let e : number ≡ (number - 1) + 1 = omega arith in
-      let m : w * number ≡ w * ((number - 1) + 1) = ap (λ (n : ℕ). w * n) e in
-      omega arith
-
 module _ (used : Used) (elements : List ℕ) (number : ℕ) where
   pub element-held : {e : Element} {b : Bool} → b ≡ held number (used .elements) 9 (length elements) → b ≡ true → e ≡ elementIn elements (number - 1) → e ≡ elementOf used elements number
   unfolding elementOf
@@ -63,6 +56,35 @@ module _ (used : Used) (elements : List ℕ) (number : ℕ) where
   pub element-none : {b : Bool} → b ≡ held number (used .elements) 9 (length elements) → b ≡ false → noElement ≡ elementOf used elements number
   unfolding elementOf
   element-none h t = rw (sym h ∙ t) refl
+
+module _ (used : Used) (bodies : List ℕ) (ranges : List ℤ) (number : ℕ) where
+  pub body-unheld : {b : Bool} → b ≡ held number (used .bodies) 9 (length bodies) → b ≡ false → false ≡ bodyHeld used bodies ranges number
+  unfolding bodyHeld
+  body-unheld h t = rw (sym h ∙ t) refl
+
+  pub body-ranged : {b : Bool} → b ≡ held number (used .bodies) 9 (length bodies) → b ≡ true → leb (4 * number) (length ranges) ≡ bodyHeld used bodies ranges number
+  unfolding bodyHeld
+  body-ranged h t = rw (sym h ∙ t) refl
+
+  pub body-first : bodyHeld used bodies ranges number ≡ true → 1 ≤ number
+  unfolding bodyHeld
+  body-first h = held-first number (used .bodies) 9 (length bodies) (and-left (held number (used .bodies) 9 (length bodies)) (leb (4 * number) (length ranges)) h)
+
+  pub body-held : {e : Body} {b : Bool} → b ≡ bodyHeld used bodies ranges number → b ≡ true → e ≡ bodyIn bodies ranges (number - 1) → e ≡ bodyOf used bodies ranges number
+  unfolding bodyOf
+  body-held h t p = p ∙ rw (sym h ∙ t) refl
+
+  pub body-none : {b : Bool} → b ≡ bodyHeld used bodies ranges number → b ≡ false → noBody ≡ bodyOf used bodies ranges number
+  unfolding bodyOf
+  body-none h t = rw (sym h ∙ t) refl
+
+-- no corner begins past as many entries
+pub corner-past : (corners : List ℕ) (first k : ℕ) → length corners ≤ k → noCorner ≡ cornerIn corners (first + 3 * k)
+corner-past corners first k h =
+    let v : getD corners (first + 3 * k) 0 ≡ 0 = List·getD-eq-default corners 0 (omega arith) in
+    let vt : getD corners (first + 3 * k + 1) 0 ≡ 0 = List·getD-eq-default corners 0 (omega arith) in
+    let vn : getD corners (first + 3 * k + 2) 0 ≡ 0 = List·getD-eq-default corners 0 (omega arith) in
+    rw (v, vt, vn) refl
 
 module _ (used : Used) (corners : List ℕ) (e : Element) (k : ℕ) where
   pub corner-lacked : e .count ≤ k → noCorner ≡ cornerWith used corners e k

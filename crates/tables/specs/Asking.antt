@@ -1,12 +1,14 @@
--- 01, "Records": "Asking for an element's group or material gives back that part of the caller's own text"; and asking for an element and for a corner of one. An element's number counts from 1, a corner's from 0.
+-- 01, "Records": "Asking for an element's group or material gives back that part of the caller's own text"; and asking for an element, for a corner of one and for a body. An element's and a body's number count from 1, a corner's from 0.
 use Prim.Native.Nat.{ℕ, _+_, _*_, _-_}
 use mathlib.Core.List.{List, []}
 use mathlib.Core.Bool.{Bool, cond, _&&_}
 use lib.ListN.{length, take, drop}
 use lib.Dec.{ltb, leb}
-use Rattle.tables.specs.Records.{elementWidth, cornerWidth, elementIn, cornerIn}
+use lib.IntN.{ℤ, pos}
+use Rattle.tables.specs.Records.{elementWidth, bodyWidth, rangeWidth, cornerWidth, elementIn, bodyIn, cornersEnd, cornerIn}
 use Rattle.tables.specs.declared.Used.{Used}
 use Rattle.tables.specs.declared.Element.{Element}
+use Rattle.tables.specs.declared.Body.{Body}
 use Rattle.tables.specs.declared.Corner.{Corner}
 
 -- the record of that number, of w numbers, is among the used ones and stands whole within a lent length
@@ -32,13 +34,39 @@ unfoldable pub elementOf : Used → List ℕ → ℕ → Element
 elementOf used elements number =
     cond (held number (used .elements) elementWidth (length elements)) (elementIn elements (number - 1)) noElement
 
+-- the body of that number is held, and its range too
+unfoldable pub bodyHeld : Used → List ℕ → List ℤ → ℕ → Bool
+bodyHeld used bodies ranges number = held number (used .bodies) bodyWidth (length bodies) && leb (rangeWidth * number) (length ranges)
+
+abbrev pub noBody : Body
+noBody =
+    record {
+      basis = 0;
+      rational = 0;
+      «degree_u» = 0;
+      «degree_v» = 0;
+      «first_parameter» = 0;
+      «count_u» = 0;
+      «count_v» = 0;
+      «first_loop» = 0;
+      loops = 0;
+      «start_u» = pos 0;
+      «end_u» = pos 0;
+      «start_v» = pos 0;
+      «end_v» = pos 0;
+    }
+
+-- the body of that number, all zeros for no such body
+unfoldable pub bodyOf : Used → List ℕ → List ℤ → ℕ → Body
+bodyOf used bodies ranges number = cond (bodyHeld used bodies ranges number) (bodyIn bodies ranges (number - 1)) noBody
+
 abbrev pub noCorner : Corner
 noCorner = record { v = 0; vt = 0; vn = 0 }
 
 -- corner k of an element, three zeros for one that it lacks or that passes the used or the lent entries; the used corners are counted in numbers
 unfoldable pub cornerWith : Used → List ℕ → Element → ℕ → Corner
 cornerWith used corners e k =
-    let at = e .first + cornerWidth * k in
+    let at = cornersEnd (e .first) k in
     cond
     (ltb k (e .count) && leb (at + cornerWidth) (used .corners) && leb (at + cornerWidth) (length corners))
     (cornerIn corners at)

@@ -5,6 +5,7 @@ use lib.ListN.{getD, take, drop}
 use lib.IntN.{ℤ, pos}
 use Rattle.tables.specs.Tables.{Tables}
 use Rattle.tables.specs.declared.Element.{Element}
+use Rattle.tables.specs.declared.Body.{Body}
 use Rattle.tables.specs.declared.Corner.{Corner}
 
 -- how many numbers a record has in each table
@@ -67,50 +68,42 @@ elementAt t i = elementIn (t .elements) i
 abbrev pub cornerIn : List ℕ → ℕ → Corner
 cornerIn corners at = record { v = getD corners at 0; vt = getD corners (at + 1) 0; vn = getD corners (at + 2) 0 }
 
+-- where `count` corners that begin at the number `first` end
+abbrev pub cornersEnd : ℕ → ℕ → ℕ
+cornersEnd first count = first + cornerWidth * count
+
 -- corner k of an element whose corners begin at the number `first`
 abbrev pub cornerAt : Tables → ℕ → ℕ → Corner
-cornerAt t first k = cornerIn (t .corners) (first + cornerWidth * k)
+cornerAt t first k = cornerIn (t .corners) (cornersEnd first k)
 
 -- "A body holds type, rational or not, degrees, ranges, parameters (u, then v), loops; a curve's v entries are 0."
-pub record Body : Type 0 where
-  pub type : ℕ
-  pub rational : ℕ
-  pub degree-u : ℕ
-  pub degree-v : ℕ
-  pub first-parameter : ℕ
-  pub count-u : ℕ
-  pub count-v : ℕ
-  pub first-loop : ℕ
-  pub loops : ℕ
-  pub start-u : ℤ
-  pub end-u : ℤ
-  pub start-v : ℤ
-  pub end-v : ℤ
+abbrev pub bodyIn : List ℕ → List ℤ → ℕ → Body
+bodyIn bodies ranges i =
+    record {
+      basis = numberAt bodyWidth bodies i 0;
+      rational = numberAt bodyWidth bodies i 1;
+      «degree_u» = numberAt bodyWidth bodies i 2;
+      «degree_v» = numberAt bodyWidth bodies i 3;
+      «first_parameter» = numberAt bodyWidth bodies i 4;
+      «count_u» = numberAt bodyWidth bodies i 5;
+      «count_v» = numberAt bodyWidth bodies i 6;
+      «first_loop» = numberAt bodyWidth bodies i 7;
+      loops = numberAt bodyWidth bodies i 8;
+      «start_u» = valueAt rangeWidth ranges i 0;
+      «end_u» = valueAt rangeWidth ranges i 1;
+      «start_v» = valueAt rangeWidth ranges i 2;
+      «end_v» = valueAt rangeWidth ranges i 3;
+    }
 
 abbrev pub bodyAt : Tables → ℕ → Body
-bodyAt t i =
-    record {
-      type = numberAt bodyWidth (t .bodies) i 0;
-      rational = numberAt bodyWidth (t .bodies) i 1;
-      degree-u = numberAt bodyWidth (t .bodies) i 2;
-      degree-v = numberAt bodyWidth (t .bodies) i 3;
-      first-parameter = numberAt bodyWidth (t .bodies) i 4;
-      count-u = numberAt bodyWidth (t .bodies) i 5;
-      count-v = numberAt bodyWidth (t .bodies) i 6;
-      first-loop = numberAt bodyWidth (t .bodies) i 7;
-      loops = numberAt bodyWidth (t .bodies) i 8;
-      start-u = valueAt rangeWidth (t .ranges) i 0;
-      end-u = valueAt rangeWidth (t .ranges) i 1;
-      start-v = valueAt rangeWidth (t .ranges) i 2;
-      end-v = valueAt rangeWidth (t .ranges) i 3;
-    }
+bodyAt t i = bodyIn (t .bodies) (t .ranges) i
 
 -- the parameters of a body along u, and along v
 abbrev pub parametersU : Tables → Body → List ℤ
-parametersU t b = take (b .count-u) (drop (b .first-parameter) (t .parameters))
+parametersU t b = take (b .«count_u») (drop (b .«first_parameter») (t .parameters))
 
 abbrev pub parametersV : Tables → Body → List ℤ
-parametersV t b = take (b .count-v) (drop (b .first-parameter + b .count-u) (t .parameters))
+parametersV t b = take (b .«count_v») (drop (b .«first_parameter» + b .«count_u») (t .parameters))
 
 -- a part of a trimming loop: what begins with it (1 a trim, 2 a hole, 0 nothing), its curv2's number, its two numbers
 pub record Part : Type 0 where

@@ -2,9 +2,10 @@
 ghost use mathlib.Core.Path.{_≡_};
 ghost use Prim.Native.Nat.{_+_, _*_, _≤_};
 ghost use lib.IntN.{pos};
+ghost use lib.Dec.{leb};
 ghost use lib.ListN.{length, getD};
-ghost use Rattle.tables.specs.Records.{elementIn};
-ghost use Rattle.tables.specs.Asking.{held, elementOf, cornerWith, cornerOf, partOf, groupOf, materialOf};
+ghost use Rattle.tables.specs.Records.{elementWidth, numberAt, elementIn, bodyIn, cornersEnd, cornerIn};
+ghost use Rattle.tables.specs.Asking.{held, elementOf, bodyHeld, bodyOf, cornerWith, cornerOf, partOf, groupOf, materialOf};
 
 pub mod storing;
 
@@ -33,6 +34,23 @@ pub struct Element {
     pub group_length: u32,
     pub material_place: u32,
     pub material_length: u32,
+}
+
+// The numbers of a body's record and of its range, in their order.
+pub struct Body {
+    pub basis: u32,
+    pub rational: u32,
+    pub degree_u: u32,
+    pub degree_v: u32,
+    pub first_parameter: u32,
+    pub count_u: u32,
+    pub count_v: u32,
+    pub first_loop: u32,
+    pub loops: u32,
+    pub start_u: i32,
+    pub end_u: i32,
+    pub start_v: i32,
+    pub end_v: i32,
 }
 
 // A corner's references, each counted from 1; 0 for none.
@@ -75,21 +93,35 @@ pub fn is_held(number: u32, used: u32, width: u32, lent: usize) -> bool
     (width as usize) * (number as usize) <= lent
 }
 
-fn element_at(elements: &[u32], index: usize) -> Element
-    requires { ⌜ 9 * index + 9 ≤ length (now elements) ⌝ }
+// Whether the element at that index, counted from 0, stands whole within the lent entries.
+pub fn element_fits(elements: &[u32], index: u32) -> bool
+    ensures { λ r. ⌜ r ≡ leb (elementWidth * index + elementWidth) (length (now (elements .entry))) ⌝ }
+{
+    9 * index as usize + 9 <= elements.len()
+}
+
+// The kind of the element at that index, counted from 0; 0 past the table's end.
+pub fn kind_in(elements: &[u32], index: u32) -> u32
+    ensures { λ r. ⌜ r ≡ numberAt elementWidth (now (elements .entry)) index 0 ⌝ }
+{
+    number_in(elements, 9 * index as usize)
+}
+
+// The element at that index, counted from 0; a number past the table's end is 0.
+pub fn element_in(elements: &[u32], index: u32) -> Element
     ensures { λ r. ⌜ r ≡ elementIn (now (elements .entry)) index ⌝ }
 {
-    let at = 9 * index;
+    let at = 9 * index as usize;
     Element {
-        kind: elements[at],
-        first: elements[at + 1],
-        count: elements[at + 2],
-        body: elements[at + 3],
-        smoothing: elements[at + 4],
-        group_place: elements[at + 5],
-        group_length: elements[at + 6],
-        material_place: elements[at + 7],
-        material_length: elements[at + 8],
+        kind: number_in(elements, at),
+        first: number_in(elements, at + 1),
+        count: number_in(elements, at + 2),
+        body: number_in(elements, at + 3),
+        smoothing: number_in(elements, at + 4),
+        group_place: number_in(elements, at + 5),
+        group_length: number_in(elements, at + 6),
+        material_place: number_in(elements, at + 7),
+        material_length: number_in(elements, at + 8),
     }
 }
 
@@ -98,7 +130,7 @@ pub fn element_of(used: Used, elements: &[u32], element: u32) -> Element
     ensures { λ r. ⌜ r ≡ elementOf used (now (elements .entry)) element ⌝ }
 {
     if is_held(element, used.elements, 9, elements.len()) {
-        return element_at(elements, element as usize - 1);
+        return element_in(elements, element - 1);
     }
     Element {
         kind: 0,
@@ -113,7 +145,86 @@ pub fn element_of(used: Used, elements: &[u32], element: u32) -> Element
     }
 }
 
-// Corner `k` of an element, counted from 0. The layout of corners is known here alone.
+// The body at that index, counted from 0, with its range; a number past a table's end is 0.
+pub fn body_in(bodies: &[u32], ranges: &[i32], index: u32) -> Body
+    ensures { λ r. ⌜ r ≡ bodyIn (now (bodies .entry)) (now (ranges .entry)) index ⌝ }
+{
+    let at = 9 * index as usize;
+    let from = 4 * index as usize;
+    Body {
+        basis: number_in(bodies, at),
+        rational: number_in(bodies, at + 1),
+        degree_u: number_in(bodies, at + 2),
+        degree_v: number_in(bodies, at + 3),
+        first_parameter: number_in(bodies, at + 4),
+        count_u: number_in(bodies, at + 5),
+        count_v: number_in(bodies, at + 6),
+        first_loop: number_in(bodies, at + 7),
+        loops: number_in(bodies, at + 8),
+        start_u: value_in(ranges, from),
+        end_u: value_in(ranges, from + 1),
+        start_v: value_in(ranges, from + 2),
+        end_v: value_in(ranges, from + 3),
+    }
+}
+
+// Whether the body of that number, counted from 1, is used and stands whole within the lent entries, its range too.
+pub fn has_body(used: Used, bodies: &[u32], ranges: &[i32], body: u32) -> bool
+    ensures { λ r. ⌜ r ≡ bodyHeld used (now (bodies .entry)) (now (ranges .entry)) body ⌝ }
+{
+    if is_held(body, used.bodies, 9, bodies.len()) {
+        return 4 * body as usize <= ranges.len();
+    }
+    false
+}
+
+// The body of that number, counted from 1; all zeros for no such body.
+pub fn body_of(used: Used, bodies: &[u32], ranges: &[i32], body: u32) -> Body
+    ensures { λ r. ⌜ r ≡ bodyOf used (now (bodies .entry)) (now (ranges .entry)) body ⌝ }
+{
+    if has_body(used, bodies, ranges, body) {
+        return body_in(bodies, ranges, body - 1);
+    }
+    Body {
+        basis: 0,
+        rational: 0,
+        degree_u: 0,
+        degree_v: 0,
+        first_parameter: 0,
+        count_u: 0,
+        count_v: 0,
+        first_loop: 0,
+        loops: 0,
+        start_u: 0,
+        end_u: 0,
+        start_v: 0,
+        end_v: 0,
+    }
+}
+
+// Where `count` corners that begin at the number `first` end, and the next one would begin.
+pub fn corners_end(first: u32, count: u32) -> usize
+    ensures { λ r. ⌜ r ≡ cornersEnd first count ⌝ }
+{
+    first as usize + 3 * count as usize
+}
+
+// Corner `k`, counted from 0, of those that begin at the number `first`; a number past the table's end is 0.
+pub fn corner_at(corners: &[u32], first: u32, k: usize) -> Corner
+    ensures { λ r. ⌜ r ≡ cornerIn (now (corners .entry)) (cornersEnd first k) ⌝ }
+{
+    if corners.len() <= k {
+        return Corner { v: 0, vt: 0, vn: 0 };
+    }
+    let at = first as usize + 3 * k;
+    Corner {
+        v: number_in(corners, at),
+        vt: number_in(corners, at + 1),
+        vn: number_in(corners, at + 2),
+    }
+}
+
+// Corner `k` of an element, counted from 0.
 pub fn corner_with(used: Used, corners: &[u32], element: Element, k: u32) -> Corner
     ensures { λ r. ⌜ r ≡ cornerWith used (now (corners .entry)) element k ⌝ }
 {
@@ -121,18 +232,14 @@ pub fn corner_with(used: Used, corners: &[u32], element: Element, k: u32) -> Cor
     if element.count <= k {
         return none;
     }
-    let at = (element.first as usize) + 3 * (k as usize);
+    let at = corners_end(element.first, k);
     if (used.corners as usize) < at + 3 {
         return none;
     }
     if corners.len() < at + 3 {
         return none;
     }
-    Corner {
-        v: corners[at],
-        vt: corners[at + 1],
-        vn: corners[at + 2],
-    }
+    corner_at(corners, element.first, k as usize)
 }
 
 // Corner `k`, counted from 0, of the element of that number, counted from 1; three zeros for no such corner.

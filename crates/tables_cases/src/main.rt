@@ -1,5 +1,6 @@
 // Asking and storing on tables made by hand, with numbers that no reading gives.
 use libc::STDOUT_FILENO;
+use tables::Body;
 use tables::Corner;
 use tables::Used;
 use tables::storing;
@@ -20,7 +21,31 @@ fn put_corner(c: Corner) {
     put(b"\n");
 }
 
-// Twelve numbers of corners and four elements are used.
+fn put_value(z: i32) {
+    if z < 0 {
+        put(b"-");
+    }
+    put_number(writing::magnitude(z));
+}
+
+fn put_body(b: Body) {
+    put_number(b.basis);
+    put_number(b.rational);
+    put_number(b.degree_u);
+    put_number(b.degree_v);
+    put_number(b.first_parameter);
+    put_number(b.count_u);
+    put_number(b.count_v);
+    put_number(b.first_loop);
+    put_number(b.loops);
+    put_value(b.start_u);
+    put_value(b.end_u);
+    put_value(b.start_v);
+    put_value(b.end_v);
+    put(b"\n");
+}
+
+// Twelve numbers of corners, four elements and three bodies are used.
 fn used() -> Used {
     Used {
         v: 4,
@@ -29,7 +54,7 @@ fn used() -> Used {
         vp: 0,
         corners: 12,
         elements: 4,
-        bodies: 0,
+        bodies: 3,
         parameters: 0,
         loops: 0,
     }
@@ -78,6 +103,22 @@ fn names(text: &[u8], elements: &[u32]) {
     ask_names(text, elements, 0);
     ask_names(text, elements, 4);
     ask_names(text, elements, 4294967295);
+}
+
+fn ask_body(bodies: &[u32], ranges: &[i32], body: u32) {
+    put(b"body ");
+    put_number(body);
+    put(b"is ");
+    put_body(tables::body_of(used(), bodies, ranges, body));
+}
+
+fn bodies(bodies: &[u32], ranges: &[i32]) {
+    ask_body(bodies, ranges, 1);
+    ask_body(bodies, ranges, 2);
+    ask_body(bodies, ranges, 0);
+    ask_body(bodies, ranges, 3);
+    ask_body(bodies, ranges, 4);
+    ask_body(bodies, ranges, 4294967295);
 }
 
 fn ask_stored(t: &mut [u32], at: usize) {
@@ -144,8 +185,40 @@ fn main() {
         0, // cut off
     ];
     let places: [u32; 15] = [1, 2, 3, 4, 0, 6, 7, 8, 0, 10, 0, 0, 13, 14, 15];
+    // The third body is used and lent, but not its range.
+    let records: [u32; 27] = [
+        2,
+        1,
+        3,
+        0,
+        4,
+        8,
+        0,
+        0,
+        0, // a rational curve
+        1,
+        0,
+        2,
+        4294967295,
+        0,
+        3,
+        2,
+        5,
+        1, // a surface
+        1,
+        0,
+        1,
+        0,
+        0,
+        2,
+        0,
+        0,
+        0,
+    ];
+    let ends: [i32; 11] = [7, 2147483647, 0, 0, -5, 5, 0, 9, 1, 2, 0];
     corners(&elements, &places);
     wild_corners(&elements, &places);
     names(text, &elements);
+    bodies(&records, &ends);
     stores();
 }

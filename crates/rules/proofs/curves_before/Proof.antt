@@ -17,20 +17,17 @@ abbrev μ-loop : tie.MeasureT-loop
 loop-holds : tie.Need-loop-holds Inv-loop μ-loop
 loop-holds c = (omega arith, omega arith, refl)
 
-cast-at : tie.Need-cast-at Inv-loop μ-loop
-cast-at c = omega arith
-
-mul-at : tie.Need-mul-at Inv-loop μ-loop
-mul-at c = omega arith
+cast-if1 : tie.Need-cast-if1 Inv-loop μ-loop
+cast-if1 c = omega arith
 
 returns : tie.Need-returns Inv-loop μ-loop
-returns c = let turn = c .before .before in let s = turn .before .before .args in turn .loop .inv .2 ∙ curves-past (s .elements .now) (turn .loop .i) (s .index) (c .if1 .taken) (omega arith)
+returns c =
+    let turn = c .before .before in
+    let s = turn .before .before .args in
+    turn .loop .inv .2 ∙ curves-past (s .elements .now) (turn .loop .i) (s .index) (c .if1 .taken) (omega arith)
 
-mul-curve-or-none : tie.Need-mul-curve-or-none Inv-loop μ-loop
-mul-curve-or-none c = omega arith
-
-shared-slice-read-curve-or-none : tie.Need-shared-slice-read-curve-or-none Inv-loop μ-loop
-shared-slice-read-curve-or-none c = omega arith
+kind-in-requires : tie.Need-kind-in-requires Inv-loop μ-loop
+kind-in-requires c κs = search needs
 
 curve-or-none-requires : tie.Need-curve-or-none-requires Inv-loop μ-loop
 curve-or-none-requires c κs = search needs
@@ -48,7 +45,7 @@ loop-again : tie.Need-loop-again Inv-loop μ-loop
 loop-again c =
     let turn = c .before .before .before .before in
     let s = turn .before .before .args in
-    (omega arith, omega arith, curves-more (s .elements .now) (turn .loop .i) (turn .loop .before) (c .curve-or-none .result) (turn .loop .inv .2) (c .curve-or-none .ensures .0))
+    (omega arith, omega arith, curves-more (s .elements .now) (turn .loop .i) (turn .loop .before) (c .curve-or-none .result) _ (turn .loop .inv .2) (c .before .kind-in .ensures) (c .curve-or-none .ensures .0))
 
 returns-2 : tie.Need-returns-2 Inv-loop μ-loop
 returns-2 c = let turn = c .before in let s = turn .before .before .args in let e : s .index ≡ turn .loop .i = omega arith in rw e (turn .loop .inv .2)
@@ -60,11 +57,9 @@ curves-before-spec =
     Inv-loop
     μ-loop
     loop-holds
-    cast-at
-    mul-at
+    cast-if1
     returns
-    mul-curve-or-none
-    shared-slice-read-curve-or-none
+    kind-in-requires
     curve-or-none-requires
     add-before
     add-i

@@ -1,19 +1,20 @@
--- Once nothing is refused, every record that is read is lent, and the point is the definition's.
+-- Once nothing is refused the element and its body are the definition's, and so is the point.
 use borrow.Author.Needs.{needs}
-use mathlib.Core.Path.{_≡_, refl, sym, ap, _∙_, subst}
+use mathlib.Core.Path.{_≡_, sym, ap, _∙_, subst}
 use mathlib.Core.Bool.{true, false}
 use Prim.Native.Nat.{ℕ, _+_, _*_, _-_, _≤_, _<_}
 use native.Mathlib.Omega.{arith}
 use borrow.Author.Tests.{not-true, not-false}
-use lib.IntN.{ℤ}
-use lib.ListN.{length}
 use mir.Syntax.{w32}
 use mir.Val.{toZ, ofZ}
 use mir.Facts.{toZ-ofZ}
 use Rattle.tables.specs.Tables.{Tables, tables}
-use Rattle.tables.specs.Records.{Body, numberAt, valueAt}
+use Rattle.tables.specs.Records.{bodyAt}
+use Rattle.tables.specs.declared.Body.{Body}
 use Rattle.tables.specs.declared.Element.{Element}
+use Rattle.basis.proofs.Tests.{fitted}
 use Rattle.sampler.specs.Places.{Sized}
+use Rattle.sampler.specs.Points.{alongOf}
 use Rattle.sampler.specs.Answers.{elementOf, bodyOf, refusalOf, inside}
 use Rattle.sampler.proofs.Obeyed.{Granted, granted, Curved, curved}
 use Rattle.sampler.proofs.Entries.{refused-curve, curve-outside, curve-there, Read, curve-asked, point-read}
@@ -47,56 +48,40 @@ module _ (c : tie.Else1) where
   curve : Curved t el bo
   curve = curved (s .args .used) t (s .args .element) grant
 
--- the body's number, and its records
-module _ (c : tie.After-number-at) where
+-- the element and its body
+module _ (c : tie.After-body-in) where
   abbrev k : tie.Else1
-  k = c .before
+  k = c .before .before .before
 
-  body-is : c .number-at .result ≡ el k .body
-  body-is = c .number-at .ensures
+  element-is : c .before .before .element-in .result ≡ el k
+  element-is = c .before .before .element-in .ensures
 
-  body-lent : 9 * (c .number-at .result - 1) + 9 ≤ length (s k .args .bodies .now)
-  body-lent = omega (arith, body-is, curve k .lent .body)
+  body-is : c .body-in .result ≡ bo k
+  body-is = c .body-in .ensures ∙ ap (λ (x : Element). bodyAt (t k) (x .body - 1)) element-is
 
-  bodies-at : (j : ℕ) → numberAt 9 (s k .args .bodies .now) (c .number-at .result - 1) j ≡ numberAt 9 (s k .args .bodies .now) (el k .body - 1) j
-  bodies-at j = ap (λ (q : ℕ). numberAt 9 (s k .args .bodies .now) (q - 1) j) body-is
-
-  ranges-at : (j : ℕ) → valueAt 4 (s k .args .ranges .now) (c .number-at .result - 1) j ≡ valueAt 4 (s k .args .ranges .now) (el k .body - 1) j
-  ranges-at j = ap (λ (q : ℕ). valueAt 4 (s k .args .ranges .now) (q - 1) j) body-is
-
-inside-is : (c : tie.After-is-inside) → let k = c .before .before in c .is-inside .result ≡ inside (bo k .start-u) (bo k .end-u) (s k .args .t)
-inside-is c = c .is-inside .ensures ∙ rw (toZ-ofZ (s (c .before .before) .fits .t), ranges-at (c .before) 0, ranges-at (c .before) 1)
-
--- where its parameters stand
-module _ (c : tie.After-number-at3) where
-  abbrev n : tie.After-number-at
-  n = c .before .before .before .before .before
-
-  from-is : c .before .number-at2 .result ≡ bo (k n) .first-parameter
-  from-is = c .before .number-at2 .ensures ∙ bodies-at n 4
-
-  count-is : c .number-at3 .result ≡ bo (k n) .count-u
-  count-is = c .number-at3 .ensures ∙ bodies-at n 5
+inside-is : (c : tie.After-is-inside) → let k = k (c .before .before .before) in c .is-inside .result ≡ inside (bo k .«start_u») (bo k .«end_u») (s k .args .t)
+inside-is c =
+    let k = k (c .before .before .before) in
+    rw (fitted {z = c .before .before .before .body-in .result .«start_u»} (c .before .before .struct-told .given .1 .1 .1 .1 .1 .1 .1 .1 .1 .0 .1), fitted {z = c .before .before .before .body-in .result .«end_u»} (c .before .struct-told2 .given .1 .1 .1 .1 .1 .1 .1 .1 .1 .1 .0 .1), toZ-ofZ (s k .fits .t)) at (c .is-inside .ensures)
+    ∙ ap (λ (x : Body). inside (x .«start_u») (x .«end_u») (s k .args .t)) (body-is (c .before .before .before))
 
 -- all that was read
-module _ (c : tie.After-number-at5) where
-  abbrev w : tie.After-number-at3
-  w = c .before .before .before
+module _ (c : tie.After-along-of) where
+  abbrev m : tie.After-body-in
+  m = c .before .before .before .before .before
 
-  abbrev d : tie.Else1
-  d = k (n w)
-
-  read : Read (t d) (el d) (bo d) (c .number-at5 .result) (c .before .number-at4 .result) (w .before .number-at2 .result) (w .number-at3 .result) (w .before .before .along-at .result)
+  read : Read (t (k m)) (el (k m)) (bo (k m)) (m .before .before .element-in .result .kind) (m .before .before .element-in .result .first)
+      (m .body-in .result .«first_parameter») (m .body-in .result .«count_u») (c .along-of .result)
   read = record {
-    kind-is = c .number-at5 .ensures;
-    first-is = c .before .number-at4 .ensures;
-    from-is = from-is w;
-    count-is = count-is w;
-    along-is = w .before .before .along-at .ensures ∙ rw (bodies-at (n w) 0, bodies-at (n w) 2, bodies-at (n w) 5);
+    kind-is = ap (λ (x : Element). x .kind) (element-is m);
+    first-is = ap (λ (x : Element). x .first) (element-is m);
+    from-is = ap (λ (x : Body). x .«first_parameter») (body-is m);
+    count-is = ap (λ (x : Body). x .«count_u») (body-is m);
+    along-is = c .along-of .ensures ∙ ap (λ (x : Body). alongOf (x .basis) (x .«degree_u») (x .«count_u»)) (body-is m);
   }
 
-  within : inside (bo d .start-u) (bo d .end-u) (s d .args .t) ≡ true
-  within = sym (inside-is (w .before .before .before .before)) ∙ not-false _ (w .before .before .before .if2 .left)
+  within : inside (bo (k m) .«start_u») (bo (k m) .«end_u») (s (k m) .args .t) ≡ true
+  within = sym (inside-is (c .before .before)) ∙ not-false _ (c .before .if2 .left)
 
 refusal-requires : tie.Need-refusal-requires
 refusal-requires c κs = search needs
@@ -104,42 +89,34 @@ refusal-requires c κs = search needs
 returns : tie.Need-returns
 returns c = let s = c .before .before .before .before .before .before in refused-curve (s .args .used) (lent-tables s) (s .args .element) (s .args .t) (c .before .refusal .ensures) (c .if1 .taken)
 
-sub-i : tie.Need-sub-i
-sub-i c = omega (arith, grant c .some)
+sub-element-in : tie.Need-sub-element-in
+sub-element-in c = omega (arith, grant c .some)
 
-number-at-requires : tie.Need-number-at-requires
-number-at-requires c κs = (omega arith, omega (arith, grant c .some, grant c .lent))
+element-in-requires : tie.Need-element-in-requires
+element-in-requires c κs = search needs
 
-cast-body : tie.Need-cast-body
-cast-body c = search needs
+sub-body-in : tie.Need-sub-body-in
+sub-body-in c = omega (arith, ap (λ (x : Element). x .body) (c .before .element-in .ensures), curve (c .before .before) .lent .some)
 
-sub-body : tie.Need-sub-body
-sub-body c = omega (arith, body-is c, curve (c .before) .lent .some)
+body-in-requires : tie.Need-body-in-requires
+body-in-requires c κs = search needs
 
 is-inside-requires : tie.Need-is-inside-requires
-is-inside-requires c κs = (omega arith, omega (arith, body-is c, curve (c .before) .lent .range))
+is-inside-requires c κs = search needs
 
 returns-2 : tie.Need-returns-2
 returns-2 c =
-    let j = c .before .before .before in
+    let j = k (c .before .before .before .before) in
     let a = s j .args in
     curve-outside (a .used) (t j) (a .element) (a .t) (given j) (sym (inside-is (c .before)) ∙ not-true _ (c .if2 .taken))
 
-along-at-requires : tie.Need-along-at-requires
-along-at-requires c κs =
-    let m = c .before .before in
-    let l = s (k m) .args .bodies .now in
-    let z = curve (k m) .along .sized in
-    (omega arith, body-lent m, subst (λ (q : ℕ). Sized (numberAt 9 l (q - 1) 0) (numberAt 9 l (q - 1) 2) (numberAt 9 l (q - 1) 5)) (sym (body-is m)) z)
-
-number-at-requires-2 : tie.Need-number-at-requires-2
-number-at-requires-2 c κs = (omega arith, body-lent (c .before .before .before))
+along-of-requires : tie.Need-along-of-requires
+along-of-requires c κs =
+    let m = c .before .before .before .before in
+    subst (λ (x : Body). Sized (x .basis) (x .«degree_u») (x .«count_u»)) (sym (body-is m)) (curve (k m) .along .sized)
 
 cast-from : tie.Need-cast-from
 cast-from c = search needs
-
-number-at-requires-3 : tie.Need-number-at-requires-3
-number-at-requires-3 c κs = (omega arith, body-lent (c .before .before .before .before))
 
 cast-to : tie.Need-cast-to
 cast-to c = search needs
@@ -157,28 +134,21 @@ part-x-start : tie.Need-part-x-start
 part-x-start c = search needs
 
 part-x-end : tie.Need-part-x-end
-part-x-end c = omega (arith, curve (k (n c)) .lent .run, from-is c, count-is c)
-
-number-at-requires-4 : tie.Need-number-at-requires-4
-number-at-requires-4 c κs = let g = grant (k (n (c .before))) in (omega arith, omega (arith, g .some, g .lent))
-
-cast-first : tie.Need-cast-first
-cast-first c = search needs
-
-number-at-requires-5 : tie.Need-number-at-requires-5
-number-at-requires-5 c κs = let g = grant (k (n (c .before .before))) in (omega arith, omega (arith, g .some, g .lent))
+part-x-end c = let r = read (c .before .before) in omega (arith, curve (k (m (c .before .before))) .lent .run, r .from-is, r .count-is)
 
 curve-point-requires : tie.Need-curve-point-requires
 curve-point-requires c κs =
-    let p = s (d c) .args .t in
-    curve-asked (read c) p (toZ w32 (ofZ w32 p)) (toZ-ofZ (s (d c) .fits .t)) (curve (d c)) (within c)
+    let a = c .before .before .before in
+    let s = s (k (m a)) in
+    curve-asked (read a) (s .args .t) (toZ w32 (ofZ w32 (s .args .t))) (toZ-ofZ (s .fits .t)) (curve (k (m a))) (within a)
 
 returns-3 : tie.Need-returns-3
 returns-3 c =
-    let m = c .before in
-    let a = s (d m) .args in
-    c .curve-point .ensures ∙ point-read (read m) (a .t) (toZ w32 (ofZ w32 (a .t))) (toZ-ofZ (s (d m) .fits .t))
-    ∙ curve-there (a .used) (t (d m)) (a .element) (a .t) (given (d m)) (within m)
+    let w = c .before .before .before .before in
+    let j = k (m w) in
+    let a = s j .args in
+    c .curve-point .ensures ∙ point-read (read w) (a .t) (toZ w32 (ofZ w32 (a .t))) (toZ-ofZ (s j .fits .t))
+    ∙ curve-there (a .used) (t j) (a .element) (a .t) (given j) (within w)
 
 pub point-on-curve-spec : {M : Type 1} → statement M
 point-on-curve-spec =
@@ -186,24 +156,19 @@ point-on-curve-spec =
     (tie.spec
     refusal-requires
     returns
-    sub-i
-    number-at-requires
-    cast-body
-    sub-body
+    sub-element-in
+    element-in-requires
+    sub-body-in
+    body-in-requires
     is-inside-requires
     returns-2
-    along-at-requires
-    number-at-requires-2
+    along-of-requires
     cast-from
-    number-at-requires-3
     cast-to
     add-to
     mul-x
     sub-x
     part-x-start
     part-x-end
-    number-at-requires-4
-    cast-first
-    number-at-requires-5
     curve-point-requires
     returns-3)

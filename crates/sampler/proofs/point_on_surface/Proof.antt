@@ -1,19 +1,20 @@
--- Once nothing is refused, every record that is read is lent, and the point is the definition's.
+-- Once nothing is refused the element and its body are the definition's, and so is the point.
 use borrow.Author.Needs.{needs}
-use mathlib.Core.Path.{_≡_, refl, sym, ap, _∙_, subst}
-use mathlib.Core.Bool.{true, false}
+use mathlib.Core.Path.{_≡_, sym, ap, _∙_, subst}
+use mathlib.Core.Bool.{true}
 use Prim.Native.Nat.{ℕ, _+_, _*_, _-_, _≤_, _<_}
 use native.Mathlib.Omega.{arith}
 use borrow.Author.Tests.{not-true, not-false}
-use lib.IntN.{ℤ}
-use lib.ListN.{length}
 use mir.Syntax.{w32}
 use mir.Val.{toZ, ofZ}
 use mir.Facts.{toZ-ofZ}
 use Rattle.tables.specs.Tables.{Tables, tables}
-use Rattle.tables.specs.Records.{Body, numberAt, valueAt}
+use Rattle.tables.specs.Records.{bodyAt}
+use Rattle.tables.specs.declared.Body.{Body}
 use Rattle.tables.specs.declared.Element.{Element}
+use Rattle.basis.proofs.Tests.{fitted}
 use Rattle.sampler.specs.Places.{Sized}
+use Rattle.sampler.specs.Points.{alongOf}
 use Rattle.sampler.specs.Answers.{elementOf, bodyOf, refusalOf, inside}
 use Rattle.sampler.proofs.Obeyed.{Granted, granted, Surfaced, surfaced}
 use Rattle.sampler.proofs.Surfaces.{refused-surface, outside-u, outside-v, surface-there, Laid, surface-asked, surface-read}
@@ -47,78 +48,59 @@ module _ (c : tie.Else1) where
   surface : Surfaced t el bo
   surface = surfaced (s .args .used) t (s .args .element) grant
 
--- the body's number, and its records
-module _ (c : tie.After-number-at) where
+-- the element and its body
+module _ (c : tie.After-body-in) where
   abbrev k : tie.Else1
-  k = c .before
+  k = c .before .before .before
 
-  body-is : c .number-at .result ≡ el k .body
-  body-is = c .number-at .ensures
+  element-is : c .before .before .element-in .result ≡ el k
+  element-is = c .before .before .element-in .ensures
 
-  body-lent : 9 * (c .number-at .result - 1) + 9 ≤ length (s k .args .bodies .now)
-  body-lent = omega (arith, body-is, surface k .lent .body)
+  body-is : c .body-in .result ≡ bo k
+  body-is = c .body-in .ensures ∙ ap (λ (x : Element). bodyAt (t k) (x .body - 1)) element-is
 
-  range-lent : 4 * (c .number-at .result - 1) + 4 ≤ length (s k .args .ranges .now)
-  range-lent = omega (arith, body-is, surface k .lent .range)
+inside-u : (c : tie.After-is-inside) → let k = k (c .before .before .before) in c .is-inside .result ≡ inside (bo k .«start_u») (bo k .«end_u») (s k .args .s)
+inside-u c =
+    let k = k (c .before .before .before) in
+    rw (fitted {z = c .before .before .before .body-in .result .«start_u»} (c .before .before .struct-told .given .1 .1 .1 .1 .1 .1 .1 .1 .1 .0 .1), fitted {z = c .before .before .before .body-in .result .«end_u»} (c .before .struct-told2 .given .1 .1 .1 .1 .1 .1 .1 .1 .1 .1 .0 .1), toZ-ofZ (s k .fits .s)) at (c .is-inside .ensures)
+    ∙ ap (λ (x : Body). inside (x .«start_u») (x .«end_u») (s k .args .s)) (body-is (c .before .before .before))
 
-  bodies-at : (j : ℕ) → numberAt 9 (s k .args .bodies .now) (c .number-at .result - 1) j ≡ numberAt 9 (s k .args .bodies .now) (el k .body - 1) j
-  bodies-at j = ap (λ (q : ℕ). numberAt 9 (s k .args .bodies .now) (q - 1) j) body-is
-
-  ranges-at : (j : ℕ) → valueAt 4 (s k .args .ranges .now) (c .number-at .result - 1) j ≡ valueAt 4 (s k .args .ranges .now) (el k .body - 1) j
-  ranges-at j = ap (λ (q : ℕ). valueAt 4 (s k .args .ranges .now) (q - 1) j) body-is
-
-inside-u : (c : tie.After-is-inside) → let k = c .before .before in c .is-inside .result ≡ inside (bo k .start-u) (bo k .end-u) (s k .args .s)
-inside-u c = c .is-inside .ensures ∙ rw (toZ-ofZ (s (c .before .before) .fits .s), ranges-at (c .before) 0, ranges-at (c .before) 1)
-
-inside-v : (c : tie.After-is-inside2) → let k = c .before .before .before .before in c .is-inside2 .result ≡ inside (bo k .start-v) (bo k .end-v) (s k .args .t)
+inside-v : (c : tie.After-is-inside2) → let k = k (c .before .before .before .before .before .before .before) in c .is-inside2 .result ≡ inside (bo k .«start_v») (bo k .«end_v») (s k .args .t)
 inside-v c =
-    let n = c .before .before .before in
-    c .is-inside2 .ensures ∙ rw (toZ-ofZ (s (n .before) .fits .t), ranges-at n 2, ranges-at n 3)
+    let m = c .before .before .before .before .before .before .before in
+    let k = k m in
+    rw (fitted {z = m .body-in .result .«start_v»} (c .before .before .struct-told3 .given .1 .1 .1 .1 .1 .1 .1 .1 .1 .1 .1 .0 .1), fitted {z = m .body-in .result .«end_v»} (c .before .struct-told4 .given .1 .1 .1 .1 .1 .1 .1 .1 .1 .1 .1 .1 .0 .1), toZ-ofZ (s k .fits .t)) at (c .is-inside2 .ensures)
+    ∙ ap (λ (x : Body). inside (x .«start_v») (x .«end_v») (s k .args .t)) (body-is m)
 
 -- both parameters are inside
 module _ (c : tie.Else3) where
-  abbrev n : tie.After-number-at
-  n = c .before .before .before .before
+  abbrev m : tie.After-body-in
+  m = c .before .before .before .before .before .before .before .before
 
-  in-u : inside (bo (k n) .start-u) (bo (k n) .end-u) (s (k n) .args .s) ≡ true
-  in-u = sym (inside-u (c .before .before .before)) ∙ not-false _ (c .before .before .if2 .left)
+  in-u : inside (bo (k m) .«start_u») (bo (k m) .«end_u») (s (k m) .args .s) ≡ true
+  in-u = sym (inside-u (c .before .before .before .before .before)) ∙ not-false _ (c .before .before .before .before .if2 .left)
 
-  in-v : inside (bo (k n) .start-v) (bo (k n) .end-v) (s (k n) .args .t) ≡ true
+  in-v : inside (bo (k m) .«start_v») (bo (k m) .«end_v») (s (k m) .args .t) ≡ true
   in-v = sym (inside-v (c .before)) ∙ not-false _ (c .if3 .left)
 
 -- all that was read
-module _ (c : tie.After-number-at4) where
+module _ (c : tie.After-along-of2) where
   abbrev both : tie.Else3
-  both = c .before .before .before .before .before
+  both = c .before .before
 
-  abbrev m : tie.After-number-at
-  m = n both
+  abbrev read : tie.After-body-in
+  read = m both
 
-  abbrev d : tie.Else1
-  d = k m
-
-  from-is : c .before .before .number-at2 .result ≡ bo d .first-parameter
-  from-is = c .before .before .number-at2 .ensures ∙ bodies-at m 4
-
-  count-u-is : c .before .number-at3 .result ≡ bo d .count-u
-  count-u-is = c .before .number-at3 .ensures ∙ bodies-at m 5
-
-  count-v-is : c .number-at4 .result ≡ bo d .count-v
-  count-v-is = c .number-at4 .ensures ∙ bodies-at m 6
-
-laid : (c : tie.After-number-at5) → let w = c .before .before .before in
-    Laid (t (d w)) (el (d w)) (bo (d w)) (c .number-at5 .result) (w .before .before .number-at2 .result) (w .before .number-at3 .result) (w .number-at4 .result)
-    (w .before .before .before .before .along-at .result) (w .before .before .before .along-at2 .result)
-laid c =
-    let w = c .before .before .before in
-    record {
-      first-is = c .number-at5 .ensures;
-      from-is = from-is w;
-      count-u-is = count-u-is w;
-      count-v-is = count-v-is w;
-      along-u-is = w .before .before .before .before .along-at .ensures ∙ rw (bodies-at (m w) 0, bodies-at (m w) 2, bodies-at (m w) 5);
-      along-v-is = w .before .before .before .along-at2 .ensures ∙ rw (bodies-at (m w) 0, bodies-at (m w) 3, bodies-at (m w) 6);
-    }
+  laid : Laid (t (k read)) (el (k read)) (bo (k read)) (read .before .before .element-in .result .first) (read .body-in .result .«first_parameter»)
+      (read .body-in .result .«count_u») (read .body-in .result .«count_v») (c .before .along-of .result) (c .along-of2 .result)
+  laid = record {
+    first-is = ap (λ (x : Element). x .first) (element-is read);
+    from-is = ap (λ (x : Body). x .«first_parameter») (body-is read);
+    count-u-is = ap (λ (x : Body). x .«count_u») (body-is read);
+    count-v-is = ap (λ (x : Body). x .«count_v») (body-is read);
+    along-u-is = c .before .along-of .ensures ∙ ap (λ (x : Body). alongOf (x .basis) (x .«degree_u») (x .«count_u»)) (body-is read);
+    along-v-is = c .along-of2 .ensures ∙ ap (λ (x : Body). alongOf (x .basis) (x .«degree_v») (x .«count_v»)) (body-is read);
+  }
 
 refusal-requires : tie.Need-refusal-requires
 refusal-requires c κs = search needs
@@ -128,67 +110,53 @@ returns c =
     let s = c .before .before .before .before .before .before in
     refused-surface (s .args .used) (lent-tables s) (s .args .element) (s .args .s) (s .args .t) (c .before .refusal .ensures) (c .if1 .taken)
 
-sub-i : tie.Need-sub-i
-sub-i c = omega (arith, grant c .some)
+sub-element-in : tie.Need-sub-element-in
+sub-element-in c = omega (arith, grant c .some)
 
-number-at-requires : tie.Need-number-at-requires
-number-at-requires c κs = (omega arith, omega (arith, grant c .some, grant c .lent))
+element-in-requires : tie.Need-element-in-requires
+element-in-requires c κs = search needs
 
-cast-body : tie.Need-cast-body
-cast-body c = search needs
+sub-body-in : tie.Need-sub-body-in
+sub-body-in c = omega (arith, ap (λ (x : Element). x .body) (c .before .element-in .ensures), surface (c .before .before) .lent .some)
 
-sub-body : tie.Need-sub-body
-sub-body c = omega (arith, body-is c, surface (c .before) .lent .some)
+body-in-requires : tie.Need-body-in-requires
+body-in-requires c κs = search needs
 
 is-inside-requires : tie.Need-is-inside-requires
-is-inside-requires c κs = (omega arith, range-lent c)
+is-inside-requires c κs = search needs
 
 returns-2 : tie.Need-returns-2
 returns-2 c =
-    let j = c .before .before .before in
+    let j = k (c .before .before .before .before) in
     let a = s j .args in
     outside-u (a .used) (t j) (a .element) (a .s) (a .t) (given j) (sym (inside-u (c .before)) ∙ not-true _ (c .if2 .taken))
 
 is-inside-requires-2 : tie.Need-is-inside-requires-2
-is-inside-requires-2 c κs = (omega arith, range-lent (c .before .before))
+is-inside-requires-2 c κs = search needs
 
 returns-3 : tie.Need-returns-3
 returns-3 c =
-    let w = c .before .before in
-    let j = w .before .before .before in
+    let j = k (c .before .before .before .before .before .before .before .before) in
     let a = s j .args in
-    outside-v (a .used) (t j) (a .element) (a .s) (a .t) (given j) (sym (inside-u (w .before)) ∙ not-false _ (w .if2 .left)) (sym (inside-v (c .before)) ∙ not-true _ (c .if3 .taken))
+    outside-v (a .used) (t j) (a .element) (a .s) (a .t) (given j) (sym (inside-u (c .before .before .before .before .before)) ∙ not-false _ (c .before .before .before .before .if2 .left)) (sym (inside-v (c .before)) ∙ not-true _ (c .if3 .taken))
 
-along-at-requires : tie.Need-along-at-requires
-along-at-requires c κs =
-    let l = s (k (n c)) .args .bodies .now in
-    let z = surface (k (n c)) .along-u .sized in
-    (omega arith, body-lent (n c), subst (λ (q : ℕ). Sized (numberAt 9 l (q - 1) 0) (numberAt 9 l (q - 1) 2) (numberAt 9 l (q - 1) 5)) (sym (body-is (n c))) z)
+along-of-requires : tie.Need-along-of-requires
+along-of-requires c κs =
+    subst (λ (x : Body). Sized (x .basis) (x .«degree_u») (x .«count_u»)) (sym (body-is (m c))) (surface (k (m c)) .along-u .sized)
 
-along-at-requires-2 : tie.Need-along-at-requires-2
-along-at-requires-2 c κs =
-    let w = n (c .before) in
-    let l = s (k w) .args .bodies .now in
-    let z = surface (k w) .along-v .sized in
-    (omega arith, body-lent w, subst (λ (q : ℕ). Sized (numberAt 9 l (q - 1) 0) (numberAt 9 l (q - 1) 3) (numberAt 9 l (q - 1) 6)) (sym (body-is w)) z)
-
-number-at-requires-2 : tie.Need-number-at-requires-2
-number-at-requires-2 c κs = (omega arith, body-lent (n (c .before .before)))
+along-of-requires-2 : tie.Need-along-of-requires-2
+along-of-requires-2 c κs =
+    let r = m (c .before) in
+    subst (λ (x : Body). Sized (x .basis) (x .«degree_v») (x .«count_v»)) (sym (body-is r)) (surface (k r) .along-v .sized)
 
 cast-from : tie.Need-cast-from
 cast-from c = search needs
-
-number-at-requires-3 : tie.Need-number-at-requires-3
-number-at-requires-3 c κs = (omega arith, body-lent (n (c .before .before .before)))
 
 cast-middle : tie.Need-cast-middle
 cast-middle c = search needs
 
 add-middle : tie.Need-add-middle
 add-middle c = search needs
-
-number-at-requires-4 : tie.Need-number-at-requires-4
-number-at-requires-4 c κs = (omega arith, body-lent (n (c .before .before .before .before)))
 
 cast-to : tie.Need-cast-to
 cast-to c = search needs
@@ -206,7 +174,7 @@ part-x-start : tie.Need-part-x-start
 part-x-start c = search needs
 
 part-x-end : tie.Need-part-x-end
-part-x-end c = omega (arith, surface (d c) .lent .run, from-is c, count-u-is c)
+part-x-end c = let w = c .before .before .before in let r = laid w in omega (arith, surface (k (read w)) .lent .run, r .from-is, r .count-u-is)
 
 mul-y : tie.Need-mul-y
 mul-y c = search needs
@@ -218,29 +186,23 @@ part-y-start : tie.Need-part-y-start
 part-y-start c = search needs
 
 part-y-end : tie.Need-part-y-end
-part-y-end c = let w = c .before in omega (arith, surface (d w) .lent .run, from-is w, count-u-is w, count-v-is w)
-
-number-at-requires-5 : tie.Need-number-at-requires-5
-number-at-requires-5 c κs = let g = grant (d (c .before .before)) in (omega arith, omega (arith, g .some, g .lent))
-
-cast-first : tie.Need-cast-first
-cast-first c = search needs
+part-y-end c = let w = c .before .before .before .before in let r = laid w in omega (arith, surface (k (read w)) .lent .run, r .from-is, r .count-u-is, r .count-v-is)
 
 surface-point-requires : tie.Need-surface-point-requires
 surface-point-requires c κs =
-    let w = c .before .before .before in
-    let j = s (d w) in
-    surface-asked (laid c) (j .args .s) (toZ w32 (ofZ w32 (j .args .s))) (j .args .t) (toZ w32 (ofZ w32 (j .args .t))) (toZ-ofZ (j .fits .s)) (toZ-ofZ (j .fits .t))
-    (surface (d w)) (in-u (both w)) (in-v (both w))
+    let w = c .before .before .before .before .before in
+    let j = s (k (read w)) in
+    surface-asked (laid w) (j .args .s) (toZ w32 (ofZ w32 (j .args .s))) (j .args .t) (toZ w32 (ofZ w32 (j .args .t))) (toZ-ofZ (j .fits .s)) (toZ-ofZ (j .fits .t))
+    (surface (k (read w))) (in-u (both w)) (in-v (both w))
 
 returns-4 : tie.Need-returns-4
 returns-4 c =
-    let w = c .before .before .before .before in
-    let j = s (d w) in
-    let a = j .args in
+    let w = c .before .before .before .before .before .before in
+    let d = k (read w) in
+    let a = s d .args in
     c .surface-point .ensures
-    ∙ surface-read (laid (c .before)) (a .s) (toZ w32 (ofZ w32 (a .s))) (a .t) (toZ w32 (ofZ w32 (a .t))) (toZ-ofZ (j .fits .s)) (toZ-ofZ (j .fits .t))
-    ∙ surface-there (a .used) (t (d w)) (a .element) (a .s) (a .t) (given (d w)) (in-u (both w)) (in-v (both w))
+    ∙ surface-read (laid w) (a .s) (toZ w32 (ofZ w32 (a .s))) (a .t) (toZ w32 (ofZ w32 (a .t))) (toZ-ofZ (s d .fits .s)) (toZ-ofZ (s d .fits .t))
+    ∙ surface-there (a .used) (t d) (a .element) (a .s) (a .t) (given d) (in-u (both w)) (in-v (both w))
 
 pub point-on-surface-spec : {M : Type 1} → statement M
 point-on-surface-spec =
@@ -248,22 +210,19 @@ point-on-surface-spec =
     (tie.spec
     refusal-requires
     returns
-    sub-i
-    number-at-requires
-    cast-body
-    sub-body
+    sub-element-in
+    element-in-requires
+    sub-body-in
+    body-in-requires
     is-inside-requires
     returns-2
     is-inside-requires-2
     returns-3
-    along-at-requires
-    along-at-requires-2
-    number-at-requires-2
+    along-of-requires
+    along-of-requires-2
     cast-from
-    number-at-requires-3
     cast-middle
     add-middle
-    number-at-requires-4
     cast-to
     add-to
     mul-x
@@ -274,7 +233,5 @@ point-on-surface-spec =
     sub-y
     part-y-start
     part-y-end
-    number-at-requires-5
-    cast-first
     surface-point-requires
     returns-4)

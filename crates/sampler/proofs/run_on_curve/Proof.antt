@@ -1,23 +1,24 @@
--- Once nothing is refused, every record that is read is lent, and the part from `at` on is what the run fills.
+-- Once nothing is refused the element and its body are the definition's, and the part from `at` on is what the run fills.
 use borrow.Author.Needs.{needs}
-use mathlib.Core.Path.{_≡_, refl, sym, ap, _∙_, subst}
-use mathlib.Core.Bool.{true, false}
-use mathlib.Core.List.{List, _++_}
+use mathlib.Core.Path.{_≡_, sym, ap, _∙_, subst}
+use mathlib.Core.Bool.{false}
 use Prim.Native.Nat.{ℕ, _+_, _*_, _-_, _≤_, _<_}
-use native.Mathlib.Nat.{mul-le-mul-right}
 use native.Mathlib.Omega.{arith}
+use native.Mathlib.Nat.{mul-le-mul-right}
 use borrow.Rule.Slice.PartMut.{putMid}
-use lib.Dec.{eqb}
-use lib.IntN.{ℤ}
+use mathlib.Core.List.{List, _++_}
 use lib.ListN.{length, take, drop, length-take, length-drop}
+use lib.IntN.{ℤ}
 use mir.Syntax.{w32}
 use mir.Val.{toZ, ofZ}
 use mir.Facts.{toZ-ofZ}
 use Rattle.tables.specs.Tables.{Tables, tables}
-use Rattle.tables.specs.Records.{Body, numberAt, valueAt}
+use Rattle.tables.specs.Records.{bodyAt}
+use Rattle.tables.specs.declared.Body.{Body}
 use Rattle.tables.specs.declared.Element.{Element}
-use Rattle.sampler.specs.Points.{axesOf, runNumbers}
+use Rattle.basis.proofs.Tests.{fitted}
 use Rattle.sampler.specs.Places.{Sized}
+use Rattle.sampler.specs.Points.{alongOf, axesOf, runNumbers}
 use Rattle.sampler.specs.Answers.{elementOf, bodyOf, refusalOf}
 use Rattle.sampler.specs.Inner.{axesBy}
 use Rattle.sampler.specs.declared.Ran.the-variants as ran
@@ -59,8 +60,11 @@ module _ (c : tie.After-axes-of) where
   abbrev k : tie.Else1
   k = c .before .before .before .before
 
+  element-is : c .before .element-in .result ≡ el k
+  element-is = c .before .element-in .ensures
+
   axes-is : c .axes-of .result ≡ axesOf (el k)
-  axes-is = c .axes-of .ensures .0 ∙ ap axesBy (c .before .number-at .ensures)
+  axes-is = c .axes-of .ensures .0 ∙ ap (λ (x : Element). axesBy (x .kind)) element-is
 
   numbers-are : c .axes-of .result * (s k .args .steps + 1) ≡ axesOf (el k) * (s k .args .steps + 1)
   numbers-are = ap (λ (q : ℕ). q * (s k .args .steps + 1)) axes-is
@@ -71,54 +75,46 @@ module _ (c : tie.After-axes-of) where
   most : s k .args .steps ≤ 65536
   most = omega (arith, c .before .before .if3 .left)
 
--- the body and its numbers
-module _ (c : tie.After-number-at3) where
-  abbrev k3 : tie.Else1
-  k3 = c .before .before .before .before .before .before .before .before
+-- the body
+module _ (c : tie.After-body-in) where
+  abbrev ax : tie.After-axes-of
+  ax = c .before .before .before .before
 
-  body-is : c .number-at3 .result ≡ el k3 .body
-  body-is = c .number-at3 .ensures
+  body-is : c .body-in .result ≡ bo (k ax)
+  body-is = c .body-in .ensures ∙ ap (λ (x : Element). bodyAt (t (k ax)) (x .body - 1)) (element-is ax)
 
-  bodies-at : (j : ℕ) → numberAt 9 (s k3 .args .bodies .now) (c .number-at3 .result - 1) j ≡ numberAt 9 (s k3 .args .bodies .now) (el k3 .body - 1) j
-  bodies-at j = ap (λ (q : ℕ). numberAt 9 (s k3 .args .bodies .now) (q - 1) j) body-is
-
-  ranges-at : (j : ℕ) → valueAt 4 (s k3 .args .ranges .now) (c .number-at3 .result - 1) j ≡ valueAt 4 (s k3 .args .ranges .now) (el k3 .body - 1) j
-  ranges-at j = ap (λ (q : ℕ). valueAt 4 (s k3 .args .ranges .now) (q - 1) j) body-is
+  room : let j = k ax in s j .args .at + axesOf (el j) * (s j .args .steps + 1) ≤ length (s j .args .points .now)
+  room = omega (arith, numbers-are ax, c .before .before .if5 .left, c .before .before .before .if4 .left)
 
 -- all that was read
-module _ (c : tie.After-number-at5) where
-  abbrev m3 : tie.After-number-at3
-  m3 = c .before .before .before .before .before
+read : (c : tie.After-along-of) → let e = ax (c .before) .before .element-in .result in let b = c .before .body-in .result in let j = k (ax (c .before)) in
+    Read (t j) (el j) (bo j) (e .kind) (e .first) (b .«first_parameter») (b .«count_u») (c .along-of .result)
+read c =
+    let w = ax (c .before) in
+    record {
+      kind-is = ap (λ (x : Element). x .kind) (element-is w);
+      first-is = ap (λ (x : Element). x .first) (element-is w);
+      from-is = ap (λ (x : Body). x .«first_parameter») (body-is (c .before));
+      count-is = ap (λ (x : Body). x .«count_u») (body-is (c .before));
+      along-is = c .along-of .ensures ∙ ap (λ (x : Body). alongOf (x .basis) (x .«degree_u») (x .«count_u»)) (body-is (c .before));
+    }
 
-  abbrev ax : tie.After-axes-of
-  ax = c .before .before .before .before .before .before .before .before .before
+-- the range as it is passed
+module _ (c : tie.After-struct-told2) where
+  abbrev w : tie.After-along-of
+  w = c .before .before .before .before .before .before
+
+  abbrev m : tie.After-body-in
+  m = w .before
 
   abbrev j : tie.Else1
-  j = k3 m3
+  j = k (ax m)
 
-  from-is : c .before .number-at4 .result ≡ bo j .first-parameter
-  from-is = c .before .number-at4 .ensures ∙ bodies-at m3 4
+  start-is : toZ w32 (ofZ w32 (m .body-in .result .«start_u»)) ≡ bo j .«start_u»
+  start-is = fitted (c .before .struct-told .given .1 .1 .1 .1 .1 .1 .1 .1 .1 .0 .1) ∙ ap (λ (x : Body). x .«start_u») (body-is m)
 
-  count-is : c .number-at5 .result ≡ bo j .count-u
-  count-is = c .number-at5 .ensures ∙ bodies-at m3 5
-
-  read : Read (t j) (el j) (bo j) (ax .before .number-at .result) (m3 .before .number-at2 .result) (c .before .number-at4 .result) (c .number-at5 .result) (c .before .before .along-at .result)
-  read = record {
-    kind-is = ax .before .number-at .ensures;
-    first-is = m3 .before .number-at2 .ensures;
-    from-is = from-is;
-    count-is = count-is;
-    along-is = c .before .before .along-at .ensures ∙ rw (bodies-at m3 0, bodies-at m3 2, bodies-at m3 5);
-  }
-
-  start-is : toZ w32 (ofZ w32 (c .before .before .before .before .value-at .result)) ≡ bo j .start-u
-  start-is = toZ-ofZ (record { sfits = c .before .before .before .before .value-at .ok }) ∙ c .before .before .before .before .value-at .ensures ∙ ranges-at m3 0
-
-  end-is : toZ w32 (ofZ w32 (c .before .before .before .value-at2 .result)) ≡ bo j .end-u
-  end-is = toZ-ofZ (record { sfits = c .before .before .before .value-at2 .ok }) ∙ c .before .before .before .value-at2 .ensures ∙ ranges-at m3 1
-
-  room : s j .args .at + axesOf (el j) * (s j .args .steps + 1) ≤ length (s j .args .points .now)
-  room = omega (arith, numbers-are ax, c .before .before .before .before .before .before .before .if5 .left, c .before .before .before .before .before .before .before .before .if4 .left)
+  end-is : toZ w32 (ofZ w32 (m .body-in .result .«end_u»)) ≡ bo j .«end_u»
+  end-is = fitted (c .struct-told2 .given .1 .1 .1 .1 .1 .1 .1 .1 .1 .1 .0 .1) ∙ ap (λ (x : Body). x .«end_u») (body-is m)
 
 refusal-requires : tie.Need-refusal-requires
 refusal-requires c κs = search needs
@@ -132,11 +128,11 @@ returns-2 c = let k = c .before in let s = s k in let a = s .args in run-none (a
 returns-3 : tie.Need-returns-3
 returns-3 c = let k = c .before .before in let s = s k in let a = s .args in run-many (a .used) (lent-tables s) (a .element) (a .steps) (a .at) (a .points .now) (given k) (c .if3 .taken)
 
-sub-i : tie.Need-sub-i
-sub-i c = omega (arith, grant (c .before .before) .some)
+sub-element-in : tie.Need-sub-element-in
+sub-element-in c = omega (arith, grant (c .before .before) .some)
 
-number-at-requires : tie.Need-number-at-requires
-number-at-requires c κs = let g = grant (c .before .before) in (omega arith, omega (arith, g .some, g .lent))
+element-in-requires : tie.Need-element-in-requires
+element-in-requires c κs = search needs
 
 axes-of-requires : tie.Need-axes-of-requires
 axes-of-requires c κs = search needs
@@ -164,39 +160,15 @@ returns-5 c =
     let a = s .args in
     run-room (a .used) (lent-tables s) (a .element) (a .steps) (a .at) (a .points .now) (given (k m)) (some m) (most m) (omega (arith, numbers-are m, c .before .if4 .left, c .if5 .taken))
 
-number-at-requires-2 : tie.Need-number-at-requires-2
-number-at-requires-2 c κs = let g = grant (c .before .before .before .before .before .before) in (omega arith, omega (arith, g .some, g .lent))
+sub-body-in : tie.Need-sub-body-in
+sub-body-in c = let x = c .before .before .before in omega (arith, ap (λ (x : Element). x .body) (element-is x), curve (k x) .lent .some)
 
-cast-first : tie.Need-cast-first
-cast-first c = search needs
+body-in-requires : tie.Need-body-in-requires
+body-in-requires c κs = search needs
 
-number-at-requires-3 : tie.Need-number-at-requires-3
-number-at-requires-3 c κs = let g = grant (c .before .before .before .before .before .before .before) in (omega arith, omega (arith, g .some, g .lent))
-
-cast-body : tie.Need-cast-body
-cast-body c = search needs
-
-sub-body : tie.Need-sub-body
-sub-body c = omega (arith, body-is c, curve (k3 c) .lent .some)
-
-value-at-requires : tie.Need-value-at-requires
-value-at-requires c κs = (omega arith, omega (arith, body-is c, curve (k3 c) .lent .range))
-
-value-at-requires-2 : tie.Need-value-at-requires-2
-value-at-requires-2 c κs = (omega arith, omega (arith, body-is (c .before), curve (k3 (c .before)) .lent .range))
-
-along-at-requires : tie.Need-along-at-requires
-along-at-requires c κs =
-    let m = c .before .before in
-    let l = s (k3 m) .args .bodies .now in
-    let z = curve (k3 m) .along .sized in
-    (omega arith, omega (arith, body-is m, curve (k3 m) .lent .body), subst (λ (q : ℕ). Sized (numberAt 9 l (q - 1) 0) (numberAt 9 l (q - 1) 2) (numberAt 9 l (q - 1) 5)) (sym (body-is m)) z)
-
-number-at-requires-4 : tie.Need-number-at-requires-4
-number-at-requires-4 c κs = let m = c .before .before .before in (omega arith, omega (arith, body-is m, curve (k3 m) .lent .body))
-
-number-at-requires-5 : tie.Need-number-at-requires-5
-number-at-requires-5 c κs = let m = c .before .before .before .before in (omega arith, omega (arith, body-is m, curve (k3 m) .lent .body))
+along-of-requires : tie.Need-along-of-requires
+along-of-requires c κs =
+    subst (λ (x : Body). Sized (x .basis) (x .«degree_u») (x .«count_u»)) (sym (body-is c)) (curve (k (ax c)) .along .sized)
 
 cast-from : tie.Need-cast-from
 cast-from c = search needs
@@ -217,10 +189,10 @@ part-x-start : tie.Need-part-x-start
 part-x-start c = search needs
 
 part-x-end : tie.Need-part-x-end
-part-x-end c = omega (arith, curve (j c) .lent .run, from-is c, count-is c)
+part-x-end c = let w = c .before .before in let r = read w in omega (arith, curve (k (ax (w .before))) .lent .run, r .from-is, r .count-is)
 
 mul-write-run : tie.Need-mul-write-run
-mul-write-run c = omega (arith, c .before .before .before .before .before .before .before .before .if5 .left, s (j (c .before)) .good)
+mul-write-run c = omega (arith, c .before .before .before .before .before .before .if5 .left, c .before .before .before .before .before .before .before .if4 .left, s (k (ax (c .before .before .before .before))) .good)
 
 sub-write-run : tie.Need-sub-write-run
 sub-write-run c = search needs
@@ -233,28 +205,28 @@ part-write-run-end c = search needs
 
 write-run-requires : tie.Need-write-run-requires
 write-run-requires c κs =
-    let m = c .before .before in
-    let a = s (j m) .args in
-    let r = run-asked (read m) (toZ w32 (ofZ w32 (m .before .before .before .before .value-at .result))) (toZ w32 (ofZ w32 (m .before .before .before .value-at2 .result))) (start-is m) (end-is m) (curve (j m)) in
-    let n : axesBy (ax m .before .number-at .result) * (a .steps + 1) ≡ ax m .axes-of .result * (a .steps + 1) = ap (λ (q : ℕ). q * (a .steps + 1)) (sym (ax m .axes-of .ensures .0)) in
-    (r .0, r .1, some (ax m), most (ax m), simp (length-take, length-drop) (omega (arith, n, m .before .before .before .before .before .before .before .if5 .left, m .before .before .before .before .before .before .before .before .if4 .left)))
+    let a = s (j c) .args in
+    let y = ax (m c) in
+    let r = run-asked (read (w c)) (toZ w32 (ofZ w32 (m c .body-in .result .«start_u»))) (toZ w32 (ofZ w32 (m c .body-in .result .«end_u»))) (start-is c) (end-is c) (curve (j c)) in
+    let n : axesBy (y .before .element-in .result .kind) * (a .steps + 1) ≡ y .axes-of .result * (a .steps + 1) = ap (λ (q : ℕ). q * (a .steps + 1)) (sym (y .axes-of .ensures .0)) in
+    (r .0, r .1, some y, most y, simp (length-take, length-drop) (omega (arith, n, c .before .before .before .before .before .before .before .before .before .if5 .left, c .before .before .before .before .before .before .before .before .before .before .if4 .left)))
 
 same-length : tie.Need-same-length
 same-length c = search needs
 
 returns-6 : tie.Need-returns-6
 returns-6 c =
-    let m = c .before .before .before .before in
-    let d = j m in
+    let h = c .before .before in
+    let d = j h in
     let a = s d .args in
-    let w = c .before in
     let y = take (length (a .points .now) - a .at) (drop (a .at) (a .points .now)) in
-    let kind = ax m .before .number-at .result in
-    let e = w .write-run .ensures
-    ∙ ap (λ (q : List ℤ). q ++ drop (axesBy kind * (a .steps + 1)) y) (run-read (read m) (toZ w32 (ofZ w32 (m .before .before .before .before .value-at .result))) (toZ w32 (ofZ w32 (m .before .before .before .value-at2 .result))) (a .steps) (start-is m) (end-is m))
-    ∙ ap (λ (q : ℕ). runNumbers (t d) (el d) (bo d) (a .steps) ++ drop (axesBy q * (a .steps + 1)) y) (read m .kind-is) in
-    let r = run-filled (a .used) (t d) (a .element) (a .steps) (a .at) (a .points .now) (given d) (some (ax m)) (most (ax m)) (room m) e in
-    subst (λ (q : ℕ). Same (a .used) (t d) (a .element) (a .steps) (a .at) (a .points .now) (ran.Filled (q * (a .steps + 1))) (putMid (a .at) (length (a .points .now) - a .at) (a .points .now) (w .write-run .last .0))) (sym (axes-is (ax m))) r
+    let x = ax (m h) in
+    let kind = x .before .element-in .result .kind in
+    let e = c .before .write-run .ensures
+    ∙ ap (λ (q : List ℤ). q ++ drop (axesBy kind * (a .steps + 1)) y) (run-read (read (w h)) (toZ w32 (ofZ w32 (m h .body-in .result .«start_u»))) (toZ w32 (ofZ w32 (m h .body-in .result .«end_u»))) (a .steps) (start-is h) (end-is h))
+    ∙ ap (λ (q : ℕ). runNumbers (t d) (el d) (bo d) (a .steps) ++ drop (axesBy q * (a .steps + 1)) y) (read (w h) .kind-is) in
+    let r = run-filled (a .used) (t d) (a .element) (a .steps) (a .at) (a .points .now) (given d) (some x) (most x) (room (m h)) e in
+    subst (λ (q : ℕ). Same (a .used) (t d) (a .element) (a .steps) (a .at) (a .points .now) (ran.Filled (q * (a .steps + 1))) (putMid (a .at) (length (a .points .now) - a .at) (a .points .now) (c .before .write-run .last .0))) (sym (axes-is x)) r
 
 pub run-on-curve-spec : {M : Type 1} → statement M
 run-on-curve-spec =
@@ -264,25 +236,18 @@ run-on-curve-spec =
     returns
     returns-2
     returns-3
-    sub-i
-    number-at-requires
+    sub-element-in
+    element-in-requires
     axes-of-requires
     add-numbers
     mul-numbers
     returns-4
     sub-if5
     returns-5
-    number-at-requires-2
-    cast-first
-    number-at-requires-3
-    cast-body
-    sub-body
-    value-at-requires
-    value-at-requires-2
-    along-at-requires
-    number-at-requires-4
+    sub-body-in
+    body-in-requires
+    along-of-requires
     cast-from
-    number-at-requires-5
     cast-to
     add-to
     mul-x

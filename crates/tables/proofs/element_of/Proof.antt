@@ -1,8 +1,8 @@
--- What `is_held` answers opens the definition's two cases, and says that the record stands within the slice.
+-- What `is_held` answers opens the definition's two cases.
 use mathlib.Core.Path.{sym, _∙_}
 use lib.ListN.{length}
 use denote.Ref.{now}
-use Rattle.tables.proofs.Asked.{held-first, held-whole, element-held, element-none}
+use Rattle.tables.proofs.Asked.{held-first, element-held, element-none}
 use borrow.Author.Needs.{needs}
 use Rattle.tables.proofs.element_of.Statement.{statement}
 use Rattle.tables.proofs.element_of.Tie as tie
@@ -10,20 +10,18 @@ use Rattle.tables.proofs.element_of.Tie as tie
 is-held-requires : tie.Need-is-held-requires
 is-held-requires c κs = search needs
 
-sub-element-at : tie.Need-sub-element-at
-sub-element-at c =
+sub-element-in : tie.Need-sub-element-in
+sub-element-in c =
     let a = c .before .before .before .args in
     held-first (a .element) (a .used .elements) 9 (length (now (a .elements))) (sym (c .before .is-held .ensures) ∙ c .if1 .taken)
 
-element-at-requires : tie.Need-element-at-requires
-element-at-requires c κs =
-    let a = c .before .before .before .args in
-    held-whole (a .element) (a .used .elements) 9 (length (now (a .elements))) (sym (c .before .is-held .ensures) ∙ c .if1 .taken)
+element-in-requires : tie.Need-element-in-requires
+element-in-requires c κs = search needs
 
 returns : tie.Need-returns
 returns c =
     let a = c .before .before .before .before .args in
-    element-held (a .used) (now (a .elements)) (a .element) (c .before .before .is-held .ensures) (c .before .if1 .taken) (c .element-at .ensures)
+    element-held (a .used) (now (a .elements)) (a .element) (c .before .before .is-held .ensures) (c .before .if1 .taken) (c .element-in .ensures)
 
 returns-2 : tie.Need-returns-2
 returns-2 c =
@@ -32,4 +30,4 @@ returns-2 c =
 
 pub element-of-spec : {M : Type 1} → statement M
 element-of-spec =
-    tie.close (tie.spec is-held-requires sub-element-at element-at-requires returns returns-2)
+    tie.close (tie.spec is-held-requires sub-element-in element-in-requires returns returns-2)

@@ -1,55 +1,53 @@
--- The body's number and its entries, then its record.
+-- Whether the body is held, then its record.
+use mathlib.Core.Path.{_∙_, ap}
+use denote.Ref.{now}
+use mathlib.Core.List.{[]}
+use Rattle.tables.specs.Tables.{tables}
+use Rattle.tables.specs.declared.Body.{Body}
+use Rattle.tables.proofs.Asked.{body-first}
+use Rattle.rules.specs.Bodies.{recordObeys, bodyObeys}
+use Rattle.basis.proofs.Tests.{failed, passed}
+use Rattle.rules.proofs.OneBody.{record-lent}
 use borrow.Author.Needs.{needs}
-use borrow.Author.Tests.{le-leb, lt-leb}
-use Rattle.rules.specs.Bodies.{bodyObeys}
 use Rattle.rules.proofs.bodies.body_obeys.Statement.{statement}
 use Rattle.rules.proofs.bodies.body_obeys.Tie as tie
 
+has-body-requires : tie.Need-has-body-requires
+has-body-requires c κs = search needs
+
 returns : tie.Need-returns
 unfolding bodyObeys
-returns c = rw (lt-leb _ _ (c .if1 .taken))
+returns c =
+    let e = failed (c .before .has-body .ensures) (c .if1 .taken) in
+    rw e
 
-returns-2 : tie.Need-returns-2
-unfolding bodyObeys
-returns-2 c = rw (le-leb _ _ (c .before .before .if1 .left), lt-leb _ _ (c .if2 .taken))
+sub-body-in : tie.Need-sub-body-in
+sub-body-in c =
+    let s = c .before .before .before .before .args in
+    body-first (s .used) (now (s .bodies)) (now (s .ranges)) (s .number) (passed (c .before .has-body .ensures) (c .if1 .left))
 
-mul-if3 : tie.Need-mul-if3
-mul-if3 c = search needs
-
-returns-3 : tie.Need-returns-3
-unfolding bodyObeys
-returns-3 c = rw (le-leb _ _ (c .before .before .before .if1 .left), le-leb _ _ (c .before .if2 .left), lt-leb _ _ (c .if3 .taken))
-
-mul-if4 : tie.Need-mul-if4
-mul-if4 c = search needs
-
-returns-4 : tie.Need-returns-4
-unfolding bodyObeys
-returns-4 c = rw (le-leb _ _ (c .before .before .before .before .if1 .left), le-leb _ _ (c .before .before .if2 .left), le-leb _ _ (c .before .if3 .left), lt-leb _ _ (c .if4 .taken))
-
-sub-record-obeys : tie.Need-sub-record-obeys
-sub-record-obeys c = search needs
+body-in-requires : tie.Need-body-in-requires
+body-in-requires c κs = search needs
 
 record-obeys-requires : tie.Need-record-obeys-requires
 record-obeys-requires c κs = search needs
 
-returns-5 : tie.Need-returns-5
+returns-2 : tie.Need-returns-2
 unfolding bodyObeys
-returns-5 c =
-    let test = c .before in
-    rw (le-leb _ _ (test .before .before .before .before .if1 .left), le-leb _ _ (test .before .before .if2 .left), le-leb _ _ (test .before .if3 .left), le-leb _ _ (test .if4 .left))
-    (c .record-obeys .ensures)
+returns-2 c =
+    let s = c .before .before .before .before .before .before .args in
+    let t = tables [] [] [] [] [] [] (s .bodies .now) (s .ranges .now) (s .parameters .now) (s .loops .now) (s .spans .now) in
+    let e = passed (c .before .before .before .has-body .ensures) (c .before .before .if1 .left) in
+    rw e
+    (c .record-obeys .ensures ∙ record-lent (s .used) t (s .curves) (s .kind) (s .count) _ ∙ ap (λ (b : Body). recordObeys (s .used) t (s .curves) (s .kind) (s .count) b) (c .before .body-in .ensures))
 
 pub body-obeys-spec : {M : Type 1} → statement M
 body-obeys-spec =
     tie.close
     (tie.spec
+    has-body-requires
     returns
-    returns-2
-    mul-if3
-    returns-3
-    mul-if4
-    returns-4
-    sub-record-obeys
+    sub-body-in
+    body-in-requires
     record-obeys-requires
-    returns-5)
+    returns-2)

@@ -4,10 +4,9 @@ use mathlib.Core.Path.{_≡_, refl, sym}
 use mathlib.Core.Bool.{true}
 use mathlib.Core.List.{[]}
 use Prim.Native.Nat.{_-_, _≤_}
-use Rattle.tables.specs.Tables.{Tables}
+use Rattle.tables.specs.Tables.{Tables, tables}
 use Rattle.tables.specs.Records.{cornerAt}
 use Rattle.rules.specs.Numbers.{allBelow}
-use Rattle.rules.specs.Lent.{lent, asCorner}
 use Rattle.basis.proofs.Tests.{failed, passed}
 use Rattle.rules.proofs.Below.{below-more}
 use Rattle.rules.proofs.EachCorner.{atCorner, corner-here, each-fails, each-holds}
@@ -17,19 +16,19 @@ use Rattle.rules.proofs.corners.each_corner.Tie as tie
 
 abbrev Inv-loop : tie.InvT-loop
 Inv-loop used v vt vn vp corners kind first count lead k₀ k =
-    (k ≤ count) × (asCorner lead ≡ cornerAt (lent v vt vn vp corners [] [] [] [] [] []) first 0) × (allBelow k (atCorner used (lent v vt vn vp corners [] [] [] [] [] []) kind first) ≡ true)
+    (k ≤ count) × (lead ≡ cornerAt (tables v vt vn vp corners [] [] [] [] [] []) first 0) × (allBelow k (atCorner used (tables v vt vn vp corners [] [] [] [] [] []) kind first) ≡ true)
 
 abbrev μ-loop : tie.MeasureT-loop
 μ-loop used v vt vn vp corners kind first count lead k₀ k = count - k
 
 corner-at-requires : tie.Need-corner-at-requires Inv-loop μ-loop
-corner-at-requires c κs = omega arith
+corner-at-requires c κs = search needs
 
 loop-holds : tie.Need-loop-holds Inv-loop μ-loop
 loop-holds c = (omega arith, c .corner-at .ensures, refl)
 
 corner-at-requires-2 : tie.Need-corner-at-requires-2 Inv-loop μ-loop
-corner-at-requires-2 c κs = omega arith
+corner-at-requires-2 c κs = search needs
 
 corner-obeys-requires : tie.Need-corner-obeys-requires Inv-loop μ-loop
 corner-obeys-requires c κs = search needs
@@ -40,7 +39,7 @@ module _ (call : tie.After-corner-obeys Inv-loop μ-loop) where
   turn = call .before .before .before
 
   abbrev t : Tables
-  t = let s = turn .before .before .before .args in lent (s .v .now) (s .vt .now) (s .vn .now) (s .vp .now) (s .corners .now) [] [] [] [] [] []
+  t = let s = turn .before .before .before .args in tables (s .v .now) (s .vt .now) (s .vn .now) (s .vp .now) (s .corners .now) [] [] [] [] [] []
 
   here : let s = turn .before .before .before .args in call .corner-obeys .result ≡ atCorner (s .used) t (s .kind) (s .first) (turn .loop .k)
   here =
@@ -73,7 +72,7 @@ returns-2 c =
     let x = c .before in
     let s = x .before .before .before .args in
     sym
-    (each-holds (s .used) (lent (s .v .now) (s .vt .now) (s .vn .now) (s .vp .now) (s .corners .now) [] [] [] [] [] []) (s .kind) (s .first) (s .count) (x .loop .k)
+    (each-holds (s .used) (tables (s .v .now) (s .vt .now) (s .vn .now) (s .vp .now) (s .corners .now) [] [] [] [] [] []) (s .kind) (s .first) (s .count) (x .loop .k)
     (x .loop .inv .2) (omega arith) (omega arith))
 
 pub each-corner-spec : {M : Type 1} → statement M

@@ -3,8 +3,8 @@ use mathlib.Core.Path.{_≡_, refl, sym}
 use mathlib.Core.Bool.{true}
 use mathlib.Core.List.{[]}
 use Prim.Native.Nat.{_-_, _≤_}
+use Rattle.tables.specs.Tables.{tables}
 use Rattle.rules.specs.Numbers.{allBelow}
-use Rattle.rules.specs.Lent.{lent}
 use Rattle.basis.proofs.Tests.{failed, passed}
 use Rattle.rules.proofs.Below.{below-more}
 use Rattle.rules.proofs.EachPart.{atPart, part-fails, part-holds}
@@ -13,7 +13,7 @@ use Rattle.rules.proofs.loops.each_part.Statement.{statement}
 use Rattle.rules.proofs.loops.each_part.Tie as tie
 
 abbrev Inv-loop : tie.InvT-loop
-Inv-loop loops spans curves first count k₀ k = (k ≤ count) × (allBelow k (atPart (lent [] [] [] [] [] [] [] [] [] loops spans) curves first) ≡ true)
+Inv-loop loops spans curves first count k₀ k = (k ≤ count) × (allBelow k (atPart (tables [] [] [] [] [] [] [] [] [] loops spans) curves first) ≡ true)
 
 abbrev μ-loop : tie.MeasureT-loop
 μ-loop loops spans curves first count k₀ k = count - k
@@ -32,7 +32,7 @@ returns c =
     let call = c .before in
     let turn = call .before .before in
     let s = turn .before .before .args in
-    sym (part-fails (lent [] [] [] [] [] [] [] [] [] (s .loops .now) (s .spans .now)) (s .curves) (s .first) (s .count) (turn .loop .k) (omega arith) (failed (call .part-obeys .ensures) (c .if1 .taken)))
+    sym (part-fails (tables [] [] [] [] [] [] [] [] [] (s .loops .now) (s .spans .now)) (s .curves) (s .first) (s .count) (turn .loop .k) (omega arith) (failed (call .part-obeys .ensures) (c .if1 .taken)))
 
 add-k : tie.Need-add-k Inv-loop μ-loop
 add-k c = omega arith
@@ -45,13 +45,13 @@ loop-again c =
     let call = c .before in
     let turn = call .before .before in
     let s = turn .before .before .args in
-    (omega arith, below-more (atPart (lent [] [] [] [] [] [] [] [] [] (s .loops .now) (s .spans .now)) (s .curves) (s .first)) (turn .loop .k) (turn .loop .inv .1) (passed (call .part-obeys .ensures) (c .if1 .left)))
+    (omega arith, below-more (atPart (tables [] [] [] [] [] [] [] [] [] (s .loops .now) (s .spans .now)) (s .curves) (s .first)) (turn .loop .k) (turn .loop .inv .1) (passed (call .part-obeys .ensures) (c .if1 .left)))
 
 returns-2 : tie.Need-returns-2 Inv-loop μ-loop
 returns-2 c =
     let turn = c .before in
     let s = turn .before .before .args in
-    sym (part-holds (lent [] [] [] [] [] [] [] [] [] (s .loops .now) (s .spans .now)) (s .curves) (s .first) (s .count) (turn .loop .k) (turn .loop .inv .1) (omega arith) (omega arith))
+    sym (part-holds (tables [] [] [] [] [] [] [] [] [] (s .loops .now) (s .spans .now)) (s .curves) (s .first) (s .count) (turn .loop .k) (turn .loop .inv .1) (omega arith) (omega arith))
 
 pub each-part-spec : {M : Type 1} → statement M
 each-part-spec =

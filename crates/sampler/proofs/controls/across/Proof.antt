@@ -20,7 +20,7 @@ use Rattle.sampler.proofs.controls.across.Tie as tie
 
 abbrev Inv-loop : tie.InvT-loop
 Inv-loop values corners first axis x u s across-u y v t across-v top numbers₀ j₀ numbers j =
-    (j ≤ v .degree + 1) × Filled (λ i. curveSampled (direction u x) (toZ w32 s) (controlAt values corners (first + 3 * ((top + i) * u .controls)) axis)) 21 numbers j
+    (j ≤ v .degree + 1) × Filled (λ i. curveSampled (direction u x) (toZ w32 s) (λ k. controlAt values corners first axis ((top + i) * u .controls + k))) 21 numbers j
 
 abbrev μ-loop : tie.MeasureT-loop
 μ-loop values corners first axis x u s across-u y v t across-v top numbers₀ j₀ numbers j = v .degree + 1 - j
@@ -42,8 +42,8 @@ module _ (l : tie.At-loop Inv-loop μ-loop) (turn : l .loop .j ≤ l .before .be
   here : row < b .args .v .controls
   here = omega (arith, first-is (b .pre .3) (l .before .first-control .ensures), last-there (b .pre .3))
 
-  held : Held (b .args .values .now) (b .args .corners .now) (b .args .first + 3 * (row * b .args .u .controls)) (b .args .u .controls)
-  held = held-row row (b .pre .0) here
+  held : Held (b .args .values .now) (b .args .corners .now) (b .args .first) (row * b .args .u .controls) (row * b .args .u .controls + b .args .u .controls)
+  held = held-row (b .args .u .controls) (b .args .v .controls) row (b .pre .0) here
 
   some : row ≤ row * b .args .u .controls
   some = some-row row (b .args .u .controls) (omega (arith, last-there (b .pre .2)))
@@ -56,12 +56,6 @@ add-row c = let l = c .before .before in omega (arith, held l (omega arith) .wit
 
 mul-row : tie.Need-mul-row Inv-loop μ-loop
 mul-row c = let l = c .before .before .before in omega (arith, held l (omega arith) .within)
-
-mul-row-2 : tie.Need-mul-row-2 Inv-loop μ-loop
-mul-row-2 c = let l = c .before .before .before in omega (arith, held l (omega arith) .within)
-
-add-row-2 : tie.Need-add-row-2 Inv-loop μ-loop
-add-row-2 c = let l = c .before .before .before in omega (arith, held l (omega arith) .within)
 
 coordinate-requires : tie.Need-coordinate-requires Inv-loop μ-loop
 coordinate-requires c κs =
@@ -123,8 +117,6 @@ across-spec =
     loop-holds
     add-row
     mul-row
-    mul-row-2
-    add-row-2
     coordinate-requires
     mul-numbers
     array-set-from-numbers

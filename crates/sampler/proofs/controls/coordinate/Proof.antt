@@ -10,7 +10,7 @@ use Rattle.curves.specs.Sampled.{pyramid, partAt, gapAt}
 use Rattle.sampler.specs.Places.{direction}
 use Rattle.sampler.specs.Controls.{controlAt}
 use Rattle.sampler.proofs.Rowed.{gathered-fine, gathered-pyramid}
-use Rattle.sampler.proofs.Grids.{first-is, reached, last-there, sampled-is}
+use Rattle.sampler.proofs.Grids.{first-is, reached, last-there, sampled-is, held-part}
 use Rattle.sampler.proofs.controls.coordinate.Statement.{statement}
 use Rattle.sampler.proofs.controls.coordinate.Tie as tie
 
@@ -23,7 +23,12 @@ slice-aggregate-gather c = search needs
 gather-requires : tie.Need-gather-requires
 gather-requires c κs =
     let s = c .before .before .before in
-    (s .pre .0, s .pre .1, omega (arith, first-is (s .pre .2) (c .before .first-control .ensures), last-there (s .pre .2)), omega (arith, s .pre .2 .sound .few))
+    let a = s .args in
+    let from = c .before .first-control .result in (
+      held-part (a .base + from) (a .base + (from + a .along .degree) + 1) (s .pre .0) (omega arith) (omega (arith, first-is (s .pre .2) (c .before .first-control .ensures), last-there (s .pre .2))),
+      s .pre .1,
+      omega (arith, s .pre .2 .sound .few),
+    )
 
 slice-aggregate-pyramid : tie.Need-slice-aggregate-pyramid
 slice-aggregate-pyramid c = search needs
@@ -42,7 +47,7 @@ returns c =
     let d = direction (a .along) (a .x .now) in
     let p = partAt d (a .t) in
     let q = gapAt d (a .t) in
-    let f : ℕ → ℤ = controlAt (a .values .now) (a .corners .now) (a .first) (a .axis) in
+    let f : ℕ → ℤ = λ i. controlAt (a .values .now) (a .corners .now) (a .first) (a .axis) (a .base + i) in
     let e = c .before .pyramid .ensures in
     rw (read-back-small (c .before .pyramid .result) (e .1)) (
       rw (toZ-ofZ (s .fits .t)) at (e .0) ∙ gathered-pyramid p q (g .gather .ensures)

@@ -7,14 +7,15 @@ use lib.ListN.{length}
 use Rattle.whole.proofs.Bits.{read-back-small}
 use Rattle.sampler.specs.Controls.{controlAt}
 use Rattle.sampler.proofs.Rowed.{Filled, filled-none, filled-more, filled-gathered}
+use Rattle.sampler.proofs.Grids.{held-part}
 use Rattle.sampler.proofs.controls.gather.Statement.{statement}
 use Rattle.sampler.proofs.controls.gather.Tie as tie
 
 abbrev Inv-loop : tie.InvT-loop
-Inv-loop row₀ values corners first count axis from n j₀ row j = (j ≤ n + 1) × Filled (λ i. controlAt values corners first axis (from + i)) (length row₀) row j
+Inv-loop row₀ values corners first base axis from n j₀ row j = (j ≤ n + 1) × Filled (λ i. controlAt values corners first axis (base + (from + i))) (length row₀) row j
 
 abbrev μ-loop : tie.MeasureT-loop
-μ-loop row₀ values corners first count axis from n j₀ row j = n + 1 - j
+μ-loop row₀ values corners first base axis from n j₀ row j = n + 1 - j
 
 loop-holds : tie.Need-loop-holds Inv-loop μ-loop
 loop-holds c = (omega arith, filled-none _ _ _ refl)
@@ -22,11 +23,17 @@ loop-holds c = (omega arith, filled-none _ _ _ refl)
 add-control : tie.Need-add-control Inv-loop μ-loop
 add-control c = let h = c .before .before .before .pre .0 .within in omega arith
 
-control-requires : tie.Need-control-requires Inv-loop μ-loop
-control-requires c κs = let s = c .before .before .before in (s .pre .0, s .pre .1, omega arith)
+add-control-2 : tie.Need-add-control-2 Inv-loop μ-loop
+add-control-2 c = let h = c .before .before .before .pre .0 .within in omega arith
 
-mul-t13 : tie.Need-mul-t13 Inv-loop μ-loop
-mul-t13 c = let h = c .before .before .loop .inv .1 .long in omega arith
+control-requires : tie.Need-control-requires Inv-loop μ-loop
+control-requires c κs =
+    let s = c .before .before .before in
+    let i = s .args .base + (s .args .from + c .before .loop .j) in
+    (held-part i (i + 1) (s .pre .0) (omega arith) (omega arith), s .pre .1)
+
+mul-t14 : tie.Need-mul-t14 Inv-loop μ-loop
+mul-t14 c = let h = c .before .before .loop .inv .1 .long in omega arith
 
 slice-set-from-row : tie.Need-slice-set-from-row Inv-loop μ-loop
 slice-set-from-row c = let h = c .before .before .loop .inv .1 .long in omega arith
@@ -49,7 +56,7 @@ same-length c = c .before .loop .inv .1 .long
 returns : tie.Need-returns Inv-loop μ-loop
 returns c =
     let m = c .before .loop in
-    filled-gathered (c .before .before .before .args .n) (m .inv .1) (omega arith) (c .before .before .before .pre .3)
+    filled-gathered (c .before .before .before .args .n) (m .inv .1) (omega arith) (c .before .before .before .pre .2)
 
 pub gather-spec : {M : Type 1} → statement M
 gather-spec =
@@ -59,8 +66,9 @@ gather-spec =
     μ-loop
     loop-holds
     add-control
+    add-control-2
     control-requires
-    mul-t13
+    mul-t14
     slice-set-from-row
     add-j
     loop-less

@@ -3,6 +3,7 @@ use borrow.Author.Needs.{needs}
 use mathlib.Core.Path.{_≡_, refl, sym, ap, _∙_}
 use mathlib.Core.List.{List, _++_}
 use Prim.Native.Nat.{ℕ, suc, _+_, _*_, _-_, _≤_, _<_}
+use native.Mathlib.Nat.{zero-add}
 use native.Mathlib.Omega.{arith}
 use lib.ListN.{length, drop, set, length-set}
 use lib.IntN.{ℤ}
@@ -15,6 +16,7 @@ use Rattle.sampler.specs.Places.{direction}
 use Rattle.sampler.specs.Controls.{controlAt}
 use Rattle.sampler.specs.Runs.{listed, pointAt}
 use Rattle.sampler.proofs.Written.{stored}
+use Rattle.sampler.proofs.Grids.{from-first}
 use Rattle.sampler.proofs.runs.write_point.Statement.{statement}
 use Rattle.sampler.proofs.runs.write_point.Tie as tie
 
@@ -26,37 +28,29 @@ Inv-loop points₀ values corners first axis axes x along t chosen k₀ points k
 abbrev μ-loop : tie.MeasureT-loop
 μ-loop points₀ values corners first axis axes x along t chosen k₀ points k = axes - k
 
--- src/runs.rt:42:5
 loop-holds : tie.Need-loop-holds Inv-loop μ-loop
 loop-holds c = (omega arith, refl, refl)
 
--- src/runs.rt:43:56
 add-coordinate : tie.Need-add-coordinate Inv-loop μ-loop
 add-coordinate c = omega arith
 
--- src/runs.rt:43:21
 coordinate-requires : tie.Need-coordinate-requires Inv-loop μ-loop
 coordinate-requires c κs =
     let s = c .before .before .before in
-    rw (toZ-ofZ (s .fits .t)) (s .pre .0, omega arith, s .pre .2)
+    rw (toZ-ofZ (s .fits .t), zero-add) (s .pre .0, omega arith, s .pre .2)
 
--- src/runs.rt:43:9
 mul-t15 : tie.Need-mul-t15 Inv-loop μ-loop
 mul-t15 c = omega (arith, c .before .before .loop .inv .1)
 
--- src/runs.rt:43:9
 slice-set-from-points : tie.Need-slice-set-from-points Inv-loop μ-loop
 slice-set-from-points c = omega (arith, c .before .before .loop .inv .1)
 
--- src/runs.rt:44:9
 add-k : tie.Need-add-k Inv-loop μ-loop
 add-k c = omega arith
 
--- src/runs.rt:42:5
 loop-less : tie.Need-loop-less Inv-loop μ-loop
 loop-less c = omega arith
 
--- src/runs.rt:42:5
 loop-again : tie.Need-loop-again Inv-loop μ-loop
 loop-again c =
     let l = c .before .before .loop in
@@ -67,14 +61,12 @@ loop-again c =
     rw (read-back-small (c .coordinate .result) (e .1)) (
       omega arith,
       length-set (l .points) (l .k) (c .coordinate .result) ∙ l .inv .1,
-      ap (λ (q : List ℤ). set q (l .k) (c .coordinate .result)) (l .inv .2) ∙ stored f (a .points .now) (l .k) (c .coordinate .result) (omega arith) (e .0),
+      ap (λ (q : List ℤ). set q (l .k) (c .coordinate .result)) (l .inv .2) ∙ stored f (a .points .now) (l .k) (c .coordinate .result) (omega arith) (e .0 ∙ from-first (direction (a .along) (a .x .now)) (toZ w32 (ofZ w32 (a .t))) (a .values .now) (a .corners .now) (a .first) (a .axis + l .k)),
     )
 
--- src/runs.rt:26:1
 same-length : tie.Need-same-length Inv-loop μ-loop
 same-length c = search needs
 
--- src/runs.rt:26:1
 returns : tie.Need-returns Inv-loop μ-loop
 unfolding pointAt
 returns c =

@@ -1,0 +1,32 @@
+-- What `has_body` answers opens the definition's two cases.
+use mathlib.Core.Path.{sym, _∙_}
+use denote.Ref.{now}
+use Rattle.tables.proofs.Asked.{body-first, body-held, body-none}
+use borrow.Author.Needs.{needs}
+use Rattle.tables.proofs.body_of.Statement.{statement}
+use Rattle.tables.proofs.body_of.Tie as tie
+
+has-body-requires : tie.Need-has-body-requires
+has-body-requires c κs = search needs
+
+sub-body-in : tie.Need-sub-body-in
+sub-body-in c =
+    let a = c .before .before .before .args in
+    body-first (a .used) (now (a .bodies)) (now (a .ranges)) (a .body) (sym (c .before .has-body .ensures) ∙ c .if1 .taken)
+
+body-in-requires : tie.Need-body-in-requires
+body-in-requires c κs = search needs
+
+returns : tie.Need-returns
+returns c =
+    let a = c .before .before .before .before .args in
+    body-held (a .used) (now (a .bodies)) (now (a .ranges)) (a .body) (c .before .before .has-body .ensures) (c .before .if1 .taken) (c .body-in .ensures)
+
+returns-2 : tie.Need-returns-2
+returns-2 c =
+    let a = c .before .before .before .args in
+    body-none (a .used) (now (a .bodies)) (now (a .ranges)) (a .body) (c .before .has-body .ensures) (c .if1 .left)
+
+pub body-of-spec : {M : Type 1} → statement M
+body-of-spec =
+    tie.close (tie.spec has-body-requires sub-body-in body-in-requires returns returns-2)

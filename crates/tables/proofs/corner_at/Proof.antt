@@ -1,0 +1,48 @@
+-- Three numbers, one after the other, from where the corners before it end; none where there are no more corners than entries.
+use denote.Ref.{now}
+use mathlib.Core.Path.{refl}
+use Rattle.tables.proofs.Asked.{corner-past}
+use borrow.Author.Needs.{needs}
+use Rattle.tables.proofs.corner_at.Statement.{statement}
+use Rattle.tables.proofs.corner_at.Tie as tie
+
+returns : tie.Need-returns
+returns c = let a = c .before .before .args in corner-past (now (a .corners)) (a .first) (a .k) (c .if1 .taken)
+
+mul-at : tie.Need-mul-at
+mul-at c = search needs
+
+add-at : tie.Need-add-at
+add-at c = search needs
+
+number-in-requires : tie.Need-number-in-requires
+number-in-requires c κs = search needs
+
+add-number-in : tie.Need-add-number-in
+add-number-in c = search needs
+
+number-in-requires-2 : tie.Need-number-in-requires-2
+number-in-requires-2 c κs = search needs
+
+add-number-in-2 : tie.Need-add-number-in-2
+add-number-in-2 c = search needs
+
+number-in-requires-3 : tie.Need-number-in-requires-3
+number-in-requires-3 c κs = search needs
+
+returns-2 : tie.Need-returns-2
+returns-2 c = rw (c .before .before .number-in .ensures, c .before .number-in2 .ensures, c .number-in3 .ensures) refl
+
+pub corner-at-spec : {M : Type 1} → statement M
+corner-at-spec =
+    tie.close
+    (tie.spec
+    returns
+    mul-at
+    add-at
+    number-in-requires
+    add-number-in
+    number-in-requires-2
+    add-number-in-2
+    number-in-requires-3
+    returns-2)
