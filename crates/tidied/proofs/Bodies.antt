@@ -8,7 +8,7 @@ use borrow.Author.Tests.{ne-eqb}
 use lib.ListN.{length, getD, take, drop}
 use lib.Seq.{take-at, drop-at, drop-drop, getD-drop}
 use lib.Dec.{eqb, leb}
-use lib.IntN.{ℤ}
+use lib.IntN.{ℤ, pos}
 use Rattle.lists.specs.Lists.{flat}
 use Rattle.forms.specs.Written.{writtenNumber, writtenCorner}
 use Rattle.forms.specs.Corner.{Corner}
@@ -18,7 +18,7 @@ use Rattle.keywords.specs.declared.Argument.the-variants.{Rational, DirectionU,
 use Rattle.keywords.specs.declared.Statement.{Statement as Keyword}
 use Rattle.keywords.specs.declared.Statement.the-variants.{BodyType}
 use Rattle.tables.specs.Bodies.{Basis, bezier, bspline, cardinal, taylor, basisNumber}
-use Rattle.tables.specs.Records.{numberAt, curveKind}
+use Rattle.tables.specs.Records.{numberAt, valueAt, bodyIn, curveKind}
 use Rattle.tables.specs.declared.Element as laid
 use Rattle.model.specs.Model.{Shape, point, line, face, Free, curve, curve2, surface, Body, plain, free}
 use Rattle.model.specs.Statements.{type, degree, body, loop, end}
@@ -30,14 +30,17 @@ use Rattle.tidying.specs.Printed as printing
 use Rattle.tidying.specs.Printed.{freeKeyword, rangeOf, printed}
 use Rattle.tidying.proofs.Values.{map-append}
 use Rattle.tidying.proofs.Rows.{Parted}
-use Rattle.tidier.specs.Rows.{kindKeyword, rangeCount, cornersFrom, elementWords, bodyIn, basisArgument, typeWords, formLines, parameterLine, parameterLines, loopLines, bodyLoops, endLine, ownLines}
-use Rattle.tidier.specs.declared.body.Body as written
+use Rattle.tidier.specs.Rows.{kindKeyword, rangeCount, cornersFrom, rangeNumbers, elementWords, basisArgument, typeWords, formLines, parameterLine, parameterLines, loopLines, bodyLoops, endLine, ownLines}
+use Rattle.tables.specs.declared.Body as written
 use Rattle.tidied.proofs.Loops.{loops-are}
 use Rattle.tidying.proofs.Bodies.{unsettled-free}
 
 -- ---- reading on from an entry
 pub number-in : (w i : ℕ) (l rows : List ℕ) → drop (w * i) l ≡ rows → (k : ℕ) → numberAt w l i k ≡ getD rows k 0
 number-in w i l rows e k = sym (getD-drop (w * i) l k 0) ∙ ap (λ (q : List ℕ). getD q k 0) e
+
+value-in : (w i : ℕ) (l rows : List ℤ) → drop (w * i) l ≡ rows → (k : ℕ) → valueAt w l i k ≡ getD rows k (pos 0)
+value-in w i l rows e k = sym (getD-drop (w * i) l k (pos 0)) ∙ ap (λ (q : List ℤ). getD q k (pos 0)) e
 
 -- ---- corners
 corners-are : (cs : List Corner) (r : List ℕ) → cornersFrom (length cs) (flat cornerRow cs ++ r) ≡ cs
@@ -57,12 +60,18 @@ laidBody p l b =
       «count_v» = length (b .vs);
       «first_loop» = firstPart l (partCount b);
       loops = partCount b;
+      «start_u» = b .start-u;
+      «end_u» = b .end-u;
+      «start_v» = b .start-v;
+      «end_v» = b .end-v;
     }
 
-body-is : (B : List ℕ) (i p l : ℕ) (b : Body) (r : List ℕ) → drop (9 * i) B ≡ bodyRow p l b ++ r → bodyIn B i ≡ laidBody p l b
-body-is B i p l b r e =
+body-is : (B : List ℕ) (G : List ℤ) (i p l : ℕ) (b : Body) (r : List ℕ) (z : List ℤ) → drop (9 * i) B ≡ bodyRow p l b ++ r → drop (4 * i) G ≡ rangeRow b ++ z
+    → bodyIn B G i ≡ laidBody p l b
+body-is B G i p l b r z e f =
     let n : (k : ℕ) → numberAt 9 B i k ≡ getD (bodyRow p l b ++ r) k 0 = number-in 9 i B (bodyRow p l b ++ r) e in
-    rw (n 0, n 1, n 2, n 3, n 4, n 5, n 6, n 7, n 8) refl
+    let m : (k : ℕ) → valueAt 4 G i k ≡ getD (rangeRow b ++ z) k (pos 0) = value-in 4 i G (rangeRow b ++ z) f in
+    rw (n 0, n 1, n 2, n 3, n 4, n 5, n 6, n 7, n 8, m 0, m 1, m 2, m 3) refl
 
 -- ---- "Before a body: cstype, deg"
 basis-argument : (t : Basis) → basisArgument (basisNumber t) ≡ printing.basisArgument t
@@ -86,10 +95,10 @@ free-keyword curve = refl
 free-keyword curve2 = refl
 free-keyword surface = refl
 
-range-is : (f : Free) (b : Body) (r : List ℤ) → take (rangeCount (freeNumber f)) (rangeRow b ++ r) ≡ rangeOf f (unfilled (unsettled f b))
-range-is curve b r = refl
-range-is curve2 b r = refl
-range-is surface b r = refl
+range-is : (f : Free) (p l : ℕ) (b : Body) → take (rangeCount (freeNumber f)) (rangeNumbers (laidBody p l b)) ≡ rangeOf f (unfilled (unsettled f b))
+range-is curve p l b = refl
+range-is curve2 p l b = refl
+range-is surface p l b = refl
 
 -- ---- "parm u, parm v"
 parameters-are : (P : List ℤ) (p l : ℕ) (b : Body) (r : List ℤ) → drop p P ≡ (b .us ++ b .vs) ++ r → (f : Free)
@@ -150,15 +159,15 @@ module _ (C B : List ℕ) (G P : List ℤ) (L : List ℕ) (S : List ℤ) (s i j 
   own-free b p l x rB rG rP rL rS eB eG eP eL eS g =
       let y = laidBody p l x in
       let e = laidElement (freeNumber (x .free)) c (length cs) (suc b) s i j m n in
-      let w = elementWords G C e in
+      let w = elementWords C y e in
       let h : leb curveKind (freeNumber (x .free)) ≡ true = high (x .free) in
       let d : suc b - 1 ≡ b = omega arith in
-      let t : bodyIn B (suc b - 1) ≡ y = ap (bodyIn B) d ∙ body-is B b p l x rB eB in
+      let t : bodyIn B G (suc b - 1) ≡ y = ap (bodyIn B G) d ∙ body-is B G b p l x rB rG eB eG in
       let a = type-words p l x in
       let o : w ≡ printed (body (atLine x) cs) = own-line in
       let q = parameters-are P p l x rP eP (x .free) in
       let k = loops-in L S p l x rL rS g eL eS in
-      ap₂ (λ (u : Bool) (v : written.Body). cond u (formLines v ++ (w ∷ (parameterLines P (freeNumber (x .free)) v ++ (bodyLoops L S v ++ endLine ∷ [])))) (w ∷ [])) h t
+      ap₂ (λ (u : Bool) (v : written.Body). cond u (formLines v ++ (elementWords C v e ∷ (parameterLines P (freeNumber (x .free)) v ++ (bodyLoops L S v ++ endLine ∷ [])))) (elementWords C v e ∷ [])) h t
       ∙ ap₂ (λ (u v : List (List ℕ)). (keywordOf BodyType ∷ u) ∷ printed (degree (x .degree-u) (x .degree-v)) ∷ v ∷ (parameterLines P (freeNumber (x .free)) y ++ (bodyLoops L S y ++ endLine ∷ []))) a o
       ∙ ap₂ (λ (u v : List (List (List ℕ))). printed (type (x .rational) (x .basis)) ∷ printed (degree (x .degree-u) (x .degree-v)) ∷ printed (body (atLine x) cs) ∷ (u ++ (v ++ endLine ∷ []))) q k
       ∙ ap (λ (u : List (List (List ℕ))). printed (type (x .rational) (x .basis)) ∷ printed (degree (x .degree-u) (x .degree-v)) ∷ printed (body (atLine x) cs) ∷ u)
@@ -170,11 +179,9 @@ module _ (C B : List ℕ) (G P : List ℤ) (L : List ℕ) (S : List ℤ) (s i j 
       high curve2 = refl
       high surface = refl
 
-      own-line : elementWords G C (laidElement (freeNumber (x .free)) c (length cs) (suc b) s i j m n) ≡ printed (body (atLine x) cs)
+      own-line : elementWords C (laidBody p l x) (laidElement (freeNumber (x .free)) c (length cs) (suc b) s i j m n) ≡ printed (body (atLine x) cs)
       own-line =
-          let d : suc b - 1 ≡ b = omega arith in
-          let a : take (rangeCount (freeNumber (x .free))) (drop (4 * (suc b - 1)) G) ≡ rangeOf (x .free) (atLine x) =
-          ap (λ (k : ℕ). take (rangeCount (freeNumber (x .free))) (drop (4 * k) G)) d ∙ ap (take (rangeCount (freeNumber (x .free)))) eG ∙ range-is (x .free) x rG in
+          let a : take (rangeCount (freeNumber (x .free))) (rangeNumbers (laidBody p l x)) ≡ rangeOf (x .free) (atLine x) = range-is (x .free) p l x in
           ap₂ (λ (u : List (List ℕ)) (v : List (List ℕ)). keywordOf (kindKeyword (freeNumber (x .free))) ∷ (u ++ v)) (ap (map writtenNumber) a) corner-words
           ∙ ap (λ (u : Keyword). keywordOf u ∷ (map writtenNumber (rangeOf (x .free) (atLine x)) ++ map writtenCorner cs)) (free-keyword (x .free))
           ∙ ap (λ (u : Free). keywordOf (freeKeyword u) ∷ (map writtenNumber (rangeOf u (atLine x)) ++ map writtenCorner cs)) (sym (unsettled-free (x .free) x))

@@ -1,5 +1,5 @@
 -- One turn of each loop that emits rows: the first row left, and then the others. By the rows' definitions, a read behind `drop` being a read further on.
-use Prim.Native.Nat.{ℕ, zero, suc, _+_, _-_, _≤_, _<_, min}
+use Prim.Native.Nat.{ℕ, zero, suc, _+_, _-_, _^_, _≤_, _<_, min}
 use mathlib.Core.Path.{_≡_, refl, sym, ap, ap₂, _∙_}
 use mathlib.Core.List.{List, [], _∷_, _++_, map, append-nil}
 use mathlib.Core.Bool.{Bool, true, false, cond}
@@ -10,6 +10,12 @@ use lib.ListN.{length, getD, take, drop}
 use lib.Seq.{take-nil, drop-nil, drop-cons, drop-drop, getD-drop}
 use lib.Dec.{eqb}
 use lib.IntN.{ℤ, pos, natAbs}
+use lib.Signed.{mag}
+use mir.Syntax.{w32}
+use mir.Val.{toZ, ofZ}
+use mir.Facts.{toZ-ofZ}
+use Rattle.tables.specs.Records.{cornerIn, cornersEnd}
+use Rattle.tables.specs.declared.Corner.{Corner}
 use Rattle.tables.proofs.Flat.{flat-append}
 use Rattle.text.specs.Written.{writtenLine, writtenLines}
 use Rattle.forms.specs.Written.{writtenWhole, writtenNumber, writtenCorner}
@@ -132,7 +138,7 @@ rows-none k c w l (suc n) h = absurd (omega arith)
 pub first-read : (l : List ℕ) (i : ℕ) → getD (drop i l) 0 0 ≡ getD l i 0
 first-read l i = getD-drop i l 0 0 ∙ ap (λ (j : ℕ). getD l j 0) (let k : i + 0 ≡ i = omega arith in k)
 
-pub corners-turn : (l : List ℕ) (i n : ℕ) → 0 < n
+corners-turn : (l : List ℕ) (i n : ℕ) → 0 < n
     → spaced (map writtenCorner (cornersFrom n (drop i l)))
     ≡ (32 ∷ writtenCorner (record { v = getD l i 0; vt = getD l (i + 1) 0; vn = getD l (i + 2) 0 })) ++ spaced (map writtenCorner (cornersFrom (n - 1) (drop (i + 3) l)))
 corners-turn l i zero h = absurd (omega arith)
@@ -144,10 +150,14 @@ corners-turn l i (suc n) h =
     row : ℕ → ℕ → ℕ → ℕ → List ℕ → List ℕ
     row x y z m t = (32 ∷ writtenCorner (record { v = x; vt = y; vn = z })) ++ spaced (map writtenCorner (cornersFrom m t))
 
-pub corner-is : {x y z a b d : ℕ} → x ≡ a → y ≡ b → z ≡ d
-    → 32 ∷ writtenCorner (record { v = x; vt = y; vn = z }) ≡ 32 ∷ writtenCorner (record { v = a; vt = b; vn = d })
-corner-is {x} {y} {z} {a} {b} {d} p q r =
-    ap₂ (λ (i j : ℕ). 32 ∷ writtenCorner (record { v = i; vt = j; vn = z })) p q ∙ ap (λ (i : ℕ). 32 ∷ writtenCorner (record { v = a; vt = b; vn = i })) r
+-- corner k of those that begin at `first`
+pub corner-turn : (l : List ℕ) (first k n : ℕ) (c : Corner) → 0 < n → c ≡ cornerIn l (cornersEnd first k)
+    → spaced (map writtenCorner (cornersFrom n (drop (cornersEnd first k) l)))
+    ≡ (32 ∷ writtenCorner (record { v = c .v; vt = c .vt; vn = c .vn })) ++ spaced (map writtenCorner (cornersFrom (n - 1) (drop (cornersEnd first (k + 1)) l)))
+corner-turn l first k n c h e =
+    corners-turn l (cornersEnd first k) n h
+    ∙ ap₂ (λ (x : Corner) (i : ℕ). (32 ∷ writtenCorner (record { v = x .v; vt = x .vt; vn = x .vn })) ++ spaced (map writtenCorner (cornersFrom (n - 1) (drop i l)))) (sym e)
+    (let d : cornersEnd first k + 3 ≡ cornersEnd first (k + 1) = omega arith in d)
 
 pub corners-none : (l : List ℕ) (n : ℕ) → n ≤ 0 → spaced (map writtenCorner (cornersFrom n l)) ≡ []
 corners-none l zero h = refl
@@ -212,3 +222,7 @@ loops-turn l z i (suc n) h =
 pub loops-none : (l : List ℕ) (z : List ℤ) (n : ℕ) → n ≤ 0 → writtenLines (loopLines n l z) ≡ []
 loops-none l z zero h = refl
 loops-none l z (suc n) h = absurd (omega arith)
+
+-- ---- a signed number as it is handed on, by its bits
+pub fitted : {z : ℤ} → mag z < 2 ^ 31 → toZ w32 (ofZ w32 z) ≡ z
+fitted {z} h = toZ-ofZ {w = w32} (record { sfits = h })

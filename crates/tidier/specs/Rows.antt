@@ -14,11 +14,11 @@ use Rattle.keywords.specs.declared.Argument.{Argument}
 use Rattle.keywords.specs.declared.Argument.the-variants.{Rational, Bezier, Bspline, Cardinal, Taylor, DirectionU, DirectionV}
 use Rattle.keywords.specs.declared.Statement.{Statement}
 use Rattle.keywords.specs.declared.Statement.the-variants.{BodyType, Degree, Point, Line, Face, Curve, Curve2, Surface, Parameters, End}
-use Rattle.tables.specs.Records.{cornerWidth, bodyWidth, rangeWidth, loopWidth, spanWidth, numberAt, pointKind, lineKind, faceKind, curveKind, curve2Kind, surfaceKind}
+use Rattle.tables.specs.Records.{cornerWidth, loopWidth, spanWidth, bodyIn, pointKind, lineKind, faceKind, curveKind, curve2Kind, surfaceKind}
 use Rattle.tables.specs.declared.Element.{Element}
+use Rattle.tables.specs.declared.Body.{Body}
 use Rattle.model.specs.Model.{parametric}
 use Rattle.tidying.specs.Printed.{coordinates, degreeWords, loopKeyword}
-use Rattle.tidier.specs.declared.body.Body.{Body}
 
 -- "One space between words": each of these with a space before it
 abbrev pub spaced : List (List ℕ) → List ℕ
@@ -49,27 +49,15 @@ abbrev pub cornersFrom : ℕ → List ℕ → List Corner
 cornersFrom zero l = []
 cornersFrom (suc n) l = record { v = getD l 0 0; vt = getD l 1 0; vn = getD l 2 0 } ∷ cornersFrom n (drop cornerWidth l)
 
-abbrev pub elementWords : List ℤ → List ℕ → Element → List (List ℕ)
-elementWords ranges corners e =
+abbrev pub rangeNumbers : Body → List ℤ
+rangeNumbers b = b .«start_u» ∷ b .«end_u» ∷ b .«start_v» ∷ b .«end_v» ∷ []
+
+abbrev pub elementWords : List ℕ → Body → Element → List (List ℕ)
+elementWords corners b e =
     keywordOf (kindKeyword (e .kind))
-    ∷ (map writtenNumber (take (rangeCount (e .kind)) (drop (rangeWidth * bodyIndex (e .body)) ranges))
-    ++ map writtenCorner (cornersFrom (e .count) (drop (e .first) corners)))
+    ∷ (map writtenNumber (take (rangeCount (e .kind)) (rangeNumbers b)) ++ map writtenCorner (cornersFrom (e .count) (drop (e .first) corners)))
 
 -- ---- "Before a body: cstype, deg"
-abbrev pub bodyIn : List ℕ → ℕ → Body
-bodyIn bodies i =
-    record {
-      basis = numberAt bodyWidth bodies i 0;
-      rational = numberAt bodyWidth bodies i 1;
-      «degree_u» = numberAt bodyWidth bodies i 2;
-      «degree_v» = numberAt bodyWidth bodies i 3;
-      «first_parameter» = numberAt bodyWidth bodies i 4;
-      «count_u» = numberAt bodyWidth bodies i 5;
-      «count_v» = numberAt bodyWidth bodies i 6;
-      «first_loop» = numberAt bodyWidth bodies i 7;
-      loops = numberAt bodyWidth bodies i 8;
-    }
-
 abbrev pub basisArgument : ℕ → Argument
 basisArgument n = cond (eqb n 1) Bezier (cond (eqb n 2) Bspline (cond (eqb n 3) Cardinal Taylor))
 
@@ -116,7 +104,7 @@ endLine = keywordOf End ∷ []
 -- ---- an element without its names
 abbrev pub ownLines : List ℕ → List ℕ → List ℤ → List ℤ → List ℕ → List ℤ → Element → List (List (List ℕ))
 ownLines corners bodies ranges parameters loops spans e =
-    let b = bodyIn bodies (bodyIndex (e .body)) in
+    let b = bodyIn bodies ranges (bodyIndex (e .body)) in
     cond (leb curveKind (e .kind))
-    (formLines b ++ (elementWords ranges corners e ∷ (parameterLines parameters (e .kind) b ++ (bodyLoops loops spans b ++ endLine ∷ []))))
-    (elementWords ranges corners e ∷ [])
+    (formLines b ++ (elementWords corners b e ∷ (parameterLines parameters (e .kind) b ++ (bodyLoops loops spans b ++ endLine ∷ []))))
+    (elementWords corners b e ∷ [])

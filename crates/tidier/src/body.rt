@@ -1,7 +1,6 @@
 // An element without its names: cstype, deg, its own line, parm, its loops and end.
 ghost use mathlib.Core.Path.{_≡_};
 ghost use mathlib.Core.List.{_∷_, [], _++_};
-ghost use Prim.Native.Nat.{_+_, _*_, _≤_};
 ghost use lib.ListN.{take, drop};
 ghost use Rattle.text.specs.Written.{writtenLine, writtenLines};
 ghost use Rattle.keywords.specs.Keywords.{keywordTable, keywordOf};
@@ -9,42 +8,12 @@ ghost use Rattle.keywords.specs.Arguments.{argumentTable};
 ghost use Rattle.keywords.specs.declared.Statement.the-variants.{BodyType, Degree};
 ghost use Rattle.tidying.specs.Printed.{degreeWords};
 ghost use Rattle.tidier.specs.Emitting.{Emitted};
-ghost use Rattle.tidier.specs.Rows.{bodyIn, basisArgument, typeWords, formLines, parameterLine, parameterLines, bodyLoops, endLine, ownLines};
+ghost use Rattle.tidier.specs.Rows.{basisArgument, typeWords, formLines, parameterLine, parameterLines, bodyLoops, endLine, ownLines};
 use crate::element;
 use crate::emit;
 use crate::loops;
 use crate::vertices;
-
-// The numbers of a body's record, in their order; docs/RECORDS.md says what each is.
-pub struct Body {
-    pub basis: u32,
-    pub rational: u32,
-    pub degree_u: u32,
-    pub degree_v: u32,
-    pub first_parameter: u32,
-    pub count_u: u32,
-    pub count_v: u32,
-    pub first_loop: u32,
-    pub loops: u32,
-}
-
-fn body_in(bodies: &[u32], index: usize) -> Body
-    requires { ⌜ index ≤ 4294967295 ⌝ }
-    ensures { λ r. ⌜ r ≡ bodyIn (now (bodies .entry)) index ⌝ }
-{
-    let at = 9 * index;
-    Body {
-        basis: tables::number_in(bodies, at),
-        rational: tables::number_in(bodies, at + 1),
-        degree_u: tables::number_in(bodies, at + 2),
-        degree_v: tables::number_in(bodies, at + 3),
-        first_parameter: tables::number_in(bodies, at + 4),
-        count_u: tables::number_in(bodies, at + 5),
-        count_v: tables::number_in(bodies, at + 6),
-        first_loop: tables::number_in(bodies, at + 7),
-        loops: tables::number_in(bodies, at + 8),
-    }
-}
+use tables::Body;
 
 fn basis_argument(basis: u32) -> keywords::Argument
     ensures { λ r. ⌜ r ≡ basisArgument basis ⌝ }
@@ -210,12 +179,12 @@ pub fn own_lines(
     requires { ⌜ now arguments ≡ argumentTable ⌝ }
     ensures { λ r. ⌜ Emitted at (writtenLines (ownLines (now (corners .entry)) (now (bodies .entry)) (now (ranges .entry)) (now (parameters .entry)) (now (parts .entry)) (now (spans .entry)) element)) (now (out .entry)) (now (out .exit)) r ⌝ }
 {
+    let body = tables::body_in(bodies, ranges, element::body_index(element.body));
     if element.kind < 4 {
-        return element::element_line(element, table, ranges, corners, out, at);
+        return element::element_line(element, body, table, corners, out, at);
     }
-    let body = body_in(bodies, element::body_index(element.body));
     let own = form_lines(body, table, arguments, out, at);
-    let parm = element::element_line(element, table, ranges, corners, out, own);
+    let parm = element::element_line(element, body, table, corners, out, own);
     closing_lines(
         element.kind,
         body,

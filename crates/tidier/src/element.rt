@@ -36,13 +36,13 @@ fn range_count(kind: u32) -> usize
     0
 }
 
-pub fn body_index(number: u32) -> usize
+pub fn body_index(number: u32) -> u32
     ensures { λ r. ⌜ r ≡ bodyIndex number ⌝ }
 {
     if number == 0 {
         return 0;
     }
-    number as usize - 1
+    number - 1
 }
 
 // `count` corners from `first` on, each with a space before it.
@@ -50,15 +50,13 @@ fn emit_corners(corners: &[u32], first: u32, count: u32, out: &mut [u8], at: usi
     requires { ⌜ at ≤ 16777217 ⌝ }
     ensures { λ r. ⌜ Emitted at (spaced (map writtenCorner (cornersFrom count (drop first (now (corners .entry)))))) (now (out .entry)) (now (out .exit)) r ⌝ }
 {
-    let mut i = first as usize;
-    let mut left = count as usize;
+    let mut k: usize = 0;
+    let mut left = count;
     let mut end = at;
     while 0 < left {
-        let v = tables::number_in(corners, i);
-        let vt = tables::number_in(corners, i + 1);
-        let vn = tables::number_in(corners, i + 2);
-        end = emit::emit_spaced_corner(out, end, v, vt, vn);
-        i += 3;
+        let corner = tables::corner_at(corners, first, k);
+        end = emit::emit_spaced_corner(out, end, corner.v, corner.vt, corner.vn);
+        k += 1;
         left -= 1;
     }
     end
@@ -66,18 +64,18 @@ fn emit_corners(corners: &[u32], first: u32, count: u32, out: &mut [u8], at: usi
 
 pub fn element_line(
     element: tables::Element,
+    body: tables::Body,
     table: &[u8; 528],
-    ranges: &[i32],
     corners: &[u32],
     out: &mut [u8],
     at: usize,
 ) -> usize
     requires { ⌜ now table ≡ keywordTable ⌝ }
-    ensures { λ r. ⌜ Emitted at (writtenLine (elementWords (now (ranges .entry)) (now (corners .entry)) element)) (now (out .entry)) (now (out .exit)) r ⌝ }
+    ensures { λ r. ⌜ Emitted at (writtenLine (elementWords (now (corners .entry)) body element)) (now (out .entry)) (now (out .exit)) r ⌝ }
 {
     let words = emit::emit_keyword(kind_keyword(element.kind), table, out, at);
-    let range = 4 * body_index(element.body);
-    let first = vertices::emit_numbers(ranges, range, range_count(element.kind), out, words);
+    let range = [body.start_u, body.end_u, body.start_v, body.end_v];
+    let first = vertices::emit_numbers(&range, 0, range_count(element.kind), out, words);
     let end = emit_corners(corners, element.first, element.count, out, first);
     emit::emit_byte(out, end, b'\n')
 }

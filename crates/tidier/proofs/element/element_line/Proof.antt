@@ -1,12 +1,12 @@
 -- The keyword, the range, the corners, the line's end.
-use Prim.Native.Nat.{ℕ, _*_}
-use mathlib.Core.Path.{ap, ap₂, _∙_}
+use mathlib.Core.Path.{ap}
 use mathlib.Core.List.{_++_, map}
 use denote.Ref.{now}
 use lib.ListN.{take, drop}
 use Rattle.forms.specs.Written.{writtenNumber, writtenCorner}
 use Rattle.keywords.specs.Keywords.{keywordOf}
-use Rattle.tidier.specs.Rows.{spaced, kindKeyword, rangeCount, bodyIndex, cornersFrom}
+use Rattle.tidier.specs.Rows.{kindKeyword, rangeCount, rangeNumbers, cornersFrom}
+use Rattle.tidier.proofs.Turns.{fitted}
 use Rattle.tidier.proofs.Emissions.{emitted-then, emitted-is}
 use Rattle.tidier.proofs.Turns.{emitted-line, spaced-append}
 use borrow.Author.Needs.{needs}
@@ -19,11 +19,8 @@ kind-keyword-requires c κs = search needs
 emit-keyword-requires : tie.Need-emit-keyword-requires
 emit-keyword-requires c κs = search needs
 
-body-index-requires : tie.Need-body-index-requires
-body-index-requires c κs = search needs
-
-mul-range : tie.Need-mul-range
-mul-range c = search needs
+slice-aggregate-emit-numbers : tie.Need-slice-aggregate-emit-numbers
+slice-aggregate-emit-numbers c = search needs
 
 range-count-requires : tie.Need-range-count-requires
 range-count-requires c κs = search needs
@@ -42,14 +39,14 @@ same-length c = search needs
 
 returns : tie.Need-returns
 returns c =
-    let a = c .before .before .before .before .before .before .before .before .before .before .before .before .before .before .before .before .before .before .before .before .before .args in
+    let a = c .before .before .before .before .before .before .before .before .before .before .before .before .before .before .before .before .before .before .before .before .before .before .args in
     let e = a .element in
-    let ns = map writtenNumber (take (rangeCount (e .kind)) (drop (4 * bodyIndex (e .body)) (now (a .ranges)))) in
+    let ns = map writtenNumber (take (rangeCount (e .kind)) (rangeNumbers (a .body))) in
     let cs = map writtenCorner (cornersFrom (e .count) (drop (e .first) (now (a .corners)))) in
-    let k = ap keywordOf (c .before .before .before .before .before .before .before .before .before .before .before .before .before .before .before .before .before .before .kind-keyword .ensures) in
-    let n = ap₂ (λ (m i : ℕ). spaced (map writtenNumber (take m (drop (4 * i) (now (a .ranges)))))) (c .before .before .before .before .before .before .before .before .before .before .before .before .range-count .ensures) (c .before .before .before .before .before .before .before .before .before .before .before .before .before .body-index .ensures) in
-    emitted-line (keywordOf (kindKeyword (e .kind))) (ns ++ cs) (emitted-is k (c .before .before .before .before .before .before .before .before .before .before .before .before .before .before .before .before .emit-keyword .ensures))
-    (emitted-is (spaced-append ns cs) (emitted-then (emitted-is n (c .before .before .before .before .before .before .before .before .before .before .emit-numbers .ensures)) (c .before .before .before .before .before .before .emit-corners .ensures))) (c .before .before .emit-byte .ensures)
+    let k = ap keywordOf (c .before .before .before .before .before .before .before .before .before .before .before .before .before .before .before .before .before .before .before .kind-keyword .ensures) in
+    let n = rw (c .before .before .before .before .before .before .before .before .before .before .before .before .range-count .ensures, fitted {z = a .body .«start_u»} (c .before .before .before .before .before .before .before .before .before .before .before .before .before .before .struct-told .given .1 .1 .1 .1 .1 .1 .1 .1 .1 .0 .1), fitted {z = a .body .«end_u»} (c .before .before .before .before .before .before .before .before .before .before .before .before .before .before .struct-told .given .1 .1 .1 .1 .1 .1 .1 .1 .1 .1 .0 .1), fitted {z = a .body .«start_v»} (c .before .before .before .before .before .before .before .before .before .before .before .before .before .before .struct-told .given .1 .1 .1 .1 .1 .1 .1 .1 .1 .1 .1 .0 .1), fitted {z = a .body .«end_v»} (c .before .before .before .before .before .before .before .before .before .before .before .before .before .before .struct-told .given .1 .1 .1 .1 .1 .1 .1 .1 .1 .1 .1 .1 .0 .1)) at (c .before .before .before .before .before .before .before .before .before .before .emit-numbers .ensures) in
+    emitted-line (keywordOf (kindKeyword (e .kind))) (ns ++ cs) (emitted-is k (c .before .before .before .before .before .before .before .before .before .before .before .before .before .before .before .before .before .emit-keyword .ensures))
+    (emitted-is (spaced-append ns cs) (emitted-then n (c .before .before .before .before .before .before .emit-corners .ensures))) (c .before .before .emit-byte .ensures)
 
 pub element-line-spec : {M : Type 1} → statement M
 element-line-spec =
@@ -57,8 +54,7 @@ element-line-spec =
     (tie.spec
     kind-keyword-requires
     emit-keyword-requires
-    body-index-requires
-    mul-range
+    slice-aggregate-emit-numbers
     range-count-requires
     emit-numbers-requires
     emit-corners-requires
