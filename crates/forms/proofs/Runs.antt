@@ -17,7 +17,7 @@ use Rattle.forms.specs.Straight.{digitOf, cap, run, WholeRead, SevenRead
 use Rattle.forms.proofs.Rows.{low-digit, high-digit, mid-digit, cap-natOf, natOf-ge, seven-small}
 
 -- ---- a byte's number tells whether it is a digit
-low : (b : ℕ) → b < 48 → digitOf b ≡ 255
+low : (b : ℕ) → b < 48 → digitOf b ≡ b + 208
 low b h = rw (lt-leb 48 b h)
 
 same : (b : ℕ) → 48 ≤ b → digitOf b ≡ b - 48

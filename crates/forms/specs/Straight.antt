@@ -26,9 +26,9 @@ abbrev pub over : List ℕ → Bool
 over [] = true
 over (b ∷ bs) = false
 
--- a digit's number, above 9 for every other byte
+-- a digit's number, above 9 for every other byte: the byte less 48, in eight bits
 abbrev pub digitOf : ℕ → ℕ
-digitOf b = cond (leb 48 b) (b - 48) 255
+digitOf b = cond (leb 48 b) (b - 48) (b + 208)
 
 -- the digits at the front, and what follows them
 abbrev pub run : List ℕ → List ℕ

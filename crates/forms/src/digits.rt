@@ -21,11 +21,15 @@ pub fn byte_at(text: &[u8], at: usize) -> u8
     10
 }
 
-// Whether the word ends at `at`.
+// Whether the word ends at `at`; most often a blank or a line's end tells.
 pub fn word_ends(text: &[u8], at: usize) -> bool
     ensures { λ r. ⌜ r ≡ over (wordOf (drop at (now (text .entry)))) ⌝ }
 {
-    if text::is_word(byte_at(text, at)) {
+    let b = byte_at(text, at);
+    if b <= 32 {
+        return true;
+    }
+    if text::is_word(b) {
         return false;
     }
     true
@@ -35,7 +39,7 @@ pub fn digit(b: u8) -> u8
     ensures { λ r. ⌜ r ≡ digitOf b ⌝ }
 {
     if b < 48 {
-        return 255;
+        return b + 208;
     }
     b - 48
 }
