@@ -1,8 +1,8 @@
 ghost use mathlib.Core.Path.{_≡_};
-ghost use Prim.Native.Nat.{ℕ, _+_, _*_, _≤_, _<_};
+ghost use Prim.Native.Nat.{ℕ, _+_, _*_, _^_, _≤_, _<_};
 ghost use lib.ListN.{length, drop};
 ghost use Rattle.text.specs.Words.{wordOf};
-ghost use Rattle.forms.specs.Straight.{first, over, digitOf, cap, run, WholeRead};
+ghost use Rattle.forms.specs.Straight.{first, over, digitOf, cap, run, WholeRead, FewRead};
 
 pub struct Run {
     pub end: usize,
@@ -77,7 +77,28 @@ pub fn whole_run(text: &[u8], at: usize) -> Run
     Run { end: i, value: a }
 }
 
-// The same, only where they end.
+// The first digits from `at`, as many as `most`, after those of `whole`.
+pub fn few(text: &[u8], at: usize, most: usize, whole: u64) -> Run
+    requires { ⌜ at + most ≤ length (now text) ⌝ }
+    requires { ⌜ (whole + 1) * 10 ^ most ≤ 2 ^ 60 ⌝ }
+    ensures { λ r. ⌜ FewRead most (now (text .entry)) at whole (r .end) (r .value) ⌝ }
+{
+    let mut i = at;
+    let mut a = whole;
+    let mut room = most;
+    while 0 < room {
+        let d = digit(text[i]);
+        if 9 < d {
+            return Run { end: i, value: a };
+        }
+        a = a * 10 + wide(d);
+        i += 1;
+        room -= 1;
+    }
+    Run { end: i, value: a }
+}
+
+// Where the digits from `at` end.
 pub fn digits_end(text: &[u8], at: usize) -> usize
     requires { ⌜ at ≤ length (now text) ⌝ }
     ensures { λ r. ⌜ r ≡ at + length (run (drop at (now (text .entry)))) ⌝ }
