@@ -7,7 +7,7 @@ use mathlib.Core.Logic.{⊎-elim}
 use lib.ListN.{length, drop, drop-of-length-le}
 use lib.Seq.{drop-drop}
 use lib.Dec.{leb, eqb}
-use borrow.Author.Tests.{leb-true, leb-false, le-leb, ne-eqb, eq-eqb}
+use borrow.Author.Tests.{leb-true, leb-false, le-leb, lt-leb, ne-eqb, eq-eqb}
 use native.Mathlib.Omega.{arith}
 use Rattle.lists.proofs.Tests.{and-left, and-right, test, never}
 use Rattle.text.specs.Bytes.{isWord}
@@ -22,6 +22,9 @@ word-on (b ∷ bs) h = rw h refl
 pub word-over : (l : List ℕ) → isWord (first l) ≡ false → true ≡ over (wordOf l)
 word-over [] h = refl
 word-over (b ∷ bs) h = rw h refl
+
+pub low-no-word : (b : ℕ) → b ≤ 32 → isWord b ≡ false
+low-no-word b h = rw (lt-leb 33 b (omega arith)) refl
 
 pub digit-word : (b : ℕ) → isDigit b ≡ true → isWord b ≡ true
 digit-word b h =

@@ -17,14 +17,14 @@ use Rattle.text.specs.Rest.{endOf}
 use Rattle.forms.specs.Said.{Said, says, wrong, ended}
 use Rattle.forms.specs.Digits.{natOf, negative}
 use Rattle.forms.specs.Number.{isSign, unsigned, numberOf}
-use Rattle.forms.specs.Straight.{first, over, run, past, cap, WholeRead, SevenRead, pointed, magnitudeOf, settleOf}
+use Rattle.forms.specs.Straight.{first, over, run, past, cap, WholeRead, FewRead, pointed, magnitudeOf, settleOf}
 use Rattle.forms.proofs.Rows.{run-rest, scaled-small}
 use Rattle.forms.proofs.Fronts.{past-at, next-at, byte-in, word-all, word-run, past-word, byte-word}
 use Rattle.forms.proofs.Decimals.{point-at, bare-at, other-at, none-at, pointed-not, pointed-none, pointed-of, number-long, number-bad, number-of}
 use Rattle.forms.proofs.Saids.{said, unsaid, ended-says, ended-wrong}
 
 -- ---- fraction
-module _ (s : List ℕ) (at count whole last value end : ℕ) (f : SevenRead s at whole last value) (g : end ≡ last + length (run (drop last s))) where
+module _ (s : List ℕ) (at count whole last value end : ℕ) (f : FewRead 7 s at whole last value) (g : end ≡ last + length (run (drop last s))) where
   -- all the digits, the first seven and the rest
   stop : end ≡ at + length (run (drop at s))
   stop =

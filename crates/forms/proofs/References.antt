@@ -7,7 +7,7 @@ use mathlib.Core.Logic.{⊎-elim}
 use lib.ListN.{length, drop, length-drop}
 use lib.Seq.{drop-drop}
 use lib.Dec.{leb, eqb}
-use borrow.Author.Tests.{le-leb, lt-leb}
+use borrow.Author.Tests.{le-leb, lt-leb, eq-eqb, ne-eqb}
 use native.Mathlib.Omega.{arith}
 use Rattle.lists.proofs.Tests.{and-first, and-second, test}
 use Rattle.text.specs.Bytes.{isWord}
@@ -26,13 +26,10 @@ minus-in [] = omega arith
 minus-in (b ∷ bs) =
     ⊎-elim (λ (t : eqb b 45 ≡ true). rw t (omega arith)) (λ (t : eqb b 45 ≡ false). rw t (omega arith)) (test (eqb b 45))
 
--- ---- part_at
-module _ (s : List ℕ) (at b n : ℕ) (h : at ≤ length s) (e : b ≡ first (drop at s)) (k : n ≡ cond (eqb b 45) 1 0) where
-  back : eqb b 45 ≡ negative (drop at s)
-  back = ap (λ (x : ℕ). eqb x 45) e ∙ negative-first (drop at s)
-
+-- ---- part_from
+module _ (s : List ℕ) (at n : ℕ) (back : Bool) (h : at ≤ length s) (e : back ≡ negative (drop at s)) (k : n ≡ cond back 1 0) where
   minus : n ≡ cond (negative (drop at s)) 1 0
-  minus = k ∙ ap (λ (t : Bool). cond t 1 0) back
+  minus = k ∙ ap (λ (t : Bool). cond t 1 0) e
 
   pub minus-fits : at + n ≤ length s
   minus-fits = let y = minus-in (drop at s) in let x = minus in let z = length-drop at s in omega arith
@@ -50,7 +47,7 @@ module _ (s : List ℕ) (at b n : ℕ) (h : at ≤ length s) (e : b ≡ first (d
     pub part-many : 10 < end - (at + n) → (leb 1 (length (places (drop at s))) && leb (length (places (drop at s))) 10) ≡ false
     part-many z = let y = size in and-second (leb 1 (length (places (drop at s)))) (lt-leb (length (places (drop at s))) 10 (omega arith))
 
-    pub part-of : (count number : ℕ) → (end ≡ at + n → ⊥) → end - (at + n) ≤ 10 → number ≡ item (eqb b 45) count value → PartRead count s at number end
+    pub part-of : (count number : ℕ) → (end ≡ at + n → ⊥) → end - (at + n) ≤ 10 → number ≡ item back count value → PartRead count s at number end
     part-of count number f g q =
         let y = size in
         let m = minus in
@@ -61,9 +58,16 @@ module _ (s : List ℕ) (at b n : ℕ) (h : at ≤ length s) (e : b ≡ first (d
           to = w .to;
           some = omega arith;
           few = few;
-          number-is = q ∙ ap₂ (λ (t : Bool) (x : ℕ). item t count x) back v;
+          number-is = q ∙ ap₂ (λ (t : Bool) (x : ℕ). item t count x) e v;
           end-is = omega arith;
         }
+
+-- ---- part_at
+pub minus-there : (l : List ℕ) (b : ℕ) → b ≡ first l → b ≡ 45 → true ≡ negative l
+minus-there l b e f = sym (sym (ap (λ (x : ℕ). eqb x 45) e ∙ negative-first l) ∙ eq-eqb b 45 f)
+
+pub minus-absent : (l : List ℕ) (b : ℕ) → b ≡ first l → (b ≡ 45 → ⊥) → false ≡ negative l
+minus-absent l b e f = sym (sym (ap (λ (x : ℕ). eqb x 45) e ∙ negative-first l) ∙ ne-eqb b 45 f)
 
 -- ---- where a part stops
 pub stops : (count : ℕ) (s : List ℕ) (at number end : ℕ) → PartRead count s at number end → drop end s ≡ past (unminus (drop at s))

@@ -4,7 +4,7 @@ use mathlib.Core.Path.{_≡_, refl, sym, ap, _∙_}
 use mathlib.Core.List.{List, [], _∷_, _++_}
 use mathlib.Core.Bool.{Bool, true, false}
 use mathlib.Core.Logic.{⊎-elim}
-use lib.ListN.{length, take, drop, length-take}
+use lib.ListN.{length, take, drop, length-take, length-append}
 use lib.Dec.{leb, eqb}
 use borrow.Author.Tests.{leb-true, lt-leb, le-leb}
 use native.Mathlib.Omega.{arith}
@@ -100,14 +100,17 @@ digits-take zero t h = refl
 digits-take (suc k) [] h = refl
 digits-take (suc k) (b ∷ bs) h = and-both (and-left (isDigit b) (digits bs) h) (digits-take k bs (and-right (isDigit b) (digits bs) h))
 
--- seven digits after a capped number are far from 64 bits
-pub seven-small : (w : ℕ) (l : List ℕ) → w ≤ 20000000005 → natOf w (take 7 (run l)) < 2 ^ 60
-seven-small w l h =
-    let t : List ℕ = take 7 (run l) in
-    let a : natOf w t < (w + 1) * 10 ^ length t = natOf-high w t (digits-take 7 (run l) (run-digits l)) in
-    let n : length t ≤ 7 = (let z = length-take 7 (run l) in omega arith) in
-    let b : 10 ^ length t ≤ 10 ^ 7 = pow-le-pow-right {n = 10} (omega arith) n in
-    let c : (w + 1) * 10 ^ length t ≤ (w + 1) * 10 ^ 7 = mul-le-mul-left (w + 1) b in
+pub run-short : (l : List ℕ) → length (run l) ≤ length l
+run-short l = let x = ap length (run-split l) in let y = length-append (run l) (drop (length (run l)) l) in omega arith
+
+-- a few digits after a small number are far from 64 bits
+pub few-small : (most w : ℕ) (l : List ℕ) → (w + 1) * 10 ^ most ≤ 2 ^ 60 → natOf w (take most (run l)) < 2 ^ 60
+few-small most w l h =
+    let t : List ℕ = take most (run l) in
+    let a : natOf w t < (w + 1) * 10 ^ length t = natOf-high w t (digits-take most (run l) (run-digits l)) in
+    let n : length t ≤ most = (let z = length-take most (run l) in omega arith) in
+    let b : 10 ^ length t ≤ 10 ^ most = pow-le-pow-right {n = 10} (omega arith) n in
+    let c : (w + 1) * 10 ^ length t ≤ (w + 1) * 10 ^ most = mul-le-mul-left (w + 1) b in
     omega arith
 
 -- nor are they where those that lack are zeros

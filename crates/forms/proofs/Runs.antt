@@ -3,21 +3,23 @@ use Prim.Native.Nat.{ℕ, zero, suc, _+_, _-_, _*_, _^_, _≤_, _<_}
 use mathlib.Core.Path.{_≡_, refl, sym, ap, _∙_, subst}
 use mathlib.Core.List.{List, [], _∷_}
 use mathlib.Core.Bool.{Bool, true, false}
-use lib.ListN.{length, take, drop, getD, drop-of-length-le}
-use lib.Seq.{drop-cons, take-nil}
+use lib.ListN.{length, take, drop, getD, drop-of-length-le, length-take, length-drop}
+use lib.Seq.{drop-cons, take-nil, take-all}
 use lib.Dec.{leb}
 use borrow.Author.Tests.{le-leb, lt-leb}
 use native.Mathlib.Omega.{arith}
+use native.Mathlib.Nat.{pow-le-pow-right, mul-le-mul-left}
 use native.Mathlib.Numerals.{add-one}
 use mathlib.Core.Logic.{⊎-elim}
 use borrow.Author.Tests.{leb-true, leb-false}
 use Rattle.lists.proofs.Tests.{test}
 use Rattle.forms.specs.Digits.{isDigit, digits, natOf}
-use Rattle.forms.specs.Straight.{digitOf, cap, run, WholeRead, SevenRead}
-use Rattle.forms.proofs.Rows.{low-digit, high-digit, mid-digit, cap-natOf, natOf-ge, seven-small}
+use Rattle.forms.specs.Straight.{digitOf, cap, run, WholeRead, FewRead}
+use Rattle.forms.proofs.Rows.{low-digit, high-digit, mid-digit, cap-natOf, natOf-ge, few-small, run-short}
+use Rattle.forms.proofs.Pieces.{ten-digits}
 
 -- ---- a byte's number tells whether it is a digit
-low : (b : ℕ) → b < 48 → digitOf b ≡ 255
+low : (b : ℕ) → b < 48 → digitOf b ≡ b + 208
 low b h = rw (lt-leb 48 b h)
 
 same : (b : ℕ) → 48 ≤ b → digitOf b ≡ b - 48
@@ -95,48 +97,81 @@ module _ (s : List ℕ) (at i a : ℕ) (g : Going s at i a) where
             ∙ (rw (run-yes s i d h e k) at (g .value-is));
       }
 
--- ---- the first seven, after those of w
-pub record Seven (s : List ℕ) (at w i a room : ℕ) : Type 0 where
-  pub to : i ≤ length s
-  pub end-is : i + length (take room (run (drop i s))) ≡ at + length (take 7 (run (drop at s)))
-  pub value-is : natOf a (take room (run (drop i s))) ≡ natOf w (take 7 (run (drop at s)))
+-- ---- the first few, after those of w
+pub record Few (most : ℕ) (s : List ℕ) (at w i a room : ℕ) : Type 0 where
+  pub within : i + room ≤ length s
+  pub end-is : i + length (take room (run (drop i s))) ≡ at + length (take most (run (drop at s)))
+  pub value-is : natOf a (take room (run (drop i s))) ≡ natOf w (take most (run (drop at s)))
 
-module _ (s : List ℕ) (at w i a room : ℕ) (g : Seven s at w i a room) where
-  stops : take room (run (drop i s)) ≡ [] → SevenRead s at w i a
+module _ (most : ℕ) (s : List ℕ) (at w i a room : ℕ) (g : Few most s at w i a room) where
+  stops : take room (run (drop i s)) ≡ [] → FewRead most s at w i a
   stops r =
       record {
-        to = g .to;
+        to = let x = g .within in omega arith;
         end-is = let q = rw r at (g .end-is) in omega arith;
         value-is = rw r at (g .value-is);
       }
 
-  pub seven-full : room ≡ 0 → SevenRead s at w i a
-  seven-full z = stops (rw z refl)
+  pub few-full : room ≡ 0 → FewRead most s at w i a
+  few-full z = stops (rw z refl)
 
-  pub seven-stop : run (drop i s) ≡ [] → SevenRead s at w i a
-  seven-stop r = stops (rw r (take-nil {A = ℕ} room))
+  pub few-stop : run (drop i s) ≡ [] → FewRead most s at w i a
+  few-stop r = stops (rw r (take-nil {A = ℕ} room))
 
   module _ (k d : ℕ) (z : room ≡ suc k) (h : i < length s) (e : d ≡ digitOf (getD s i 0)) (l : d ≤ 9) where
     front : take room (run (drop i s)) ≡ getD s i 0 ∷ take k (run (drop (i + 1) s))
     front = rw (z, run-yes s i d h e l) refl
 
-    value : natOf (a * 10 + d) (take k (run (drop (i + 1) s))) ≡ natOf w (take 7 (run (drop at s)))
+    value : natOf (a * 10 + d) (take k (run (drop (i + 1) s))) ≡ natOf w (take most (run (drop at s)))
     value =
         ap (λ (n : ℕ). natOf (a * 10 + n) (take k (run (drop (i + 1) s)))) (digit-yes (getD s i 0) d e l .1)
         ∙ (rw front at (g .value-is))
 
     -- no digit makes it wrap
-    pub seven-small-turn : w ≤ 20000000005 → a * 10 + d < 2 ^ 60
-    seven-small-turn b =
+    pub few-small-turn : (w + 1) * 10 ^ most ≤ 2 ^ 60 → a * 10 + d < 2 ^ 60
+    few-small-turn b =
         let x = natOf-ge (a * 10 + d) (take k (run (drop (i + 1) s))) in
-        let y = seven-small w (drop at s) b in
+        let y = few-small most w (drop at s) b in
         let q = value in
         omega arith
 
-    pub seven-turn : Seven s at w (i + 1) (a * 10 + d) k
-    seven-turn =
+    pub few-turn : Few most s at w (i + 1) (a * 10 + d) k
+    few-turn =
         record {
-          to = omega arith;
+          within = let x = g .within in omega arith;
           end-is = let q = rw front at (g .end-is) in omega arith;
           value-is = value;
         }
+
+-- few digits, and not as many as were allowed: all of them, far below the cap
+pub few-whole : (s : List ℕ) (at end value : ℕ) → FewRead 11 s at 0 end value → end - at < 11 → WholeRead s at end value
+few-whole s at end value f h =
+    let l : List ℕ = run (drop at s) in
+    let n : length (take 11 l) < 11 = (let x = f .end-is in omega arith) in
+    let m : length l ≤ 11 = (let x = length-take 11 l in omega arith) in
+    let e : take 11 l ≡ l = take-all 11 l m in
+    let z : length l ≤ 10 = (let x = ap length e in omega arith) in
+    record {
+      to = f .to;
+      end-is = f .end-is ∙ ap (λ (t : List ℕ). at + length t) e;
+      value-is = f .value-is ∙ ap (natOf 0) e ∙ sym (ten-digits (drop at s) z);
+    }
+
+-- fewer bytes are left than seven: their digits are all there are
+pub few-seven : (s : List ℕ) (at w left end value : ℕ) → left ≡ length s - at → left < 7 → FewRead left s at w end value → FewRead 7 s at w end value
+few-seven s at w left end value e h f =
+    let l : List ℕ = run (drop at s) in
+    let n : length l ≤ left = (let x = run-short (drop at s) in let y = length-drop at s in omega arith) in
+    let q : take left l ≡ take 7 l = take-all left l n ∙ sym (take-all 7 l (let r : length l ≤ 7 = omega arith in r)) in
+    record {
+      to = f .to;
+      end-is = f .end-is ∙ ap (λ (t : List ℕ). at + length t) q;
+      value-is = f .value-is ∙ ap (natOf w) q;
+    }
+
+-- no row of at most seven digits after a capped number wraps
+pub left-small : (w left : ℕ) → w ≤ 20000000005 → left ≤ 7 → (w + 1) * 10 ^ left ≤ 2 ^ 60
+left-small w left h l =
+    let b : 10 ^ left ≤ 10 ^ 7 = pow-le-pow-right {n = 10} (omega arith) l in
+    let c : (w + 1) * 10 ^ left ≤ (w + 1) * 10 ^ 7 = mul-le-mul-left (w + 1) b in
+    omega arith

@@ -26,9 +26,9 @@ abbrev pub over : List ℕ → Bool
 over [] = true
 over (b ∷ bs) = false
 
--- a digit's number, above 9 for every other byte
+-- a digit's number, above 9 for every other byte: the byte less 48, in eight bits
 abbrev pub digitOf : ℕ → ℕ
-digitOf b = cond (leb 48 b) (b - 48) 255
+digitOf b = cond (leb 48 b) (b - 48) (b + 208)
 
 -- the digits at the front, and what follows them
 abbrev pub run : List ℕ → List ℕ
@@ -48,11 +48,11 @@ pub record WholeRead (s : List ℕ) (at end value : ℕ) : Type 0 where
   pub end-is : end ≡ at + length (run (drop at s))
   pub value-is : value ≡ cap (natOf 0 (run (drop at s)))
 
--- the first seven of the digits of s from `at` on, after the digits of a
-pub record SevenRead (s : List ℕ) (at a end value : ℕ) : Type 0 where
+-- the first `most` of the digits of s from `at` on, after the digits of a
+pub record FewRead (most : ℕ) (s : List ℕ) (at a end value : ℕ) : Type 0 where
   pub to : end ≤ length s
-  pub end-is : end ≡ at + length (take 7 (run (drop at s)))
-  pub value-is : value ≡ natOf a (take 7 (run (drop at s)))
+  pub end-is : end ≡ at + length (take most (run (drop at s)))
+  pub value-is : value ≡ natOf a (take most (run (drop at s)))
 
 -- ten-millionths, rounded down where a seventh decimal is not the last, and too large where the whole part is
 unfoldable pub tenMillionths : List ℕ → ℕ

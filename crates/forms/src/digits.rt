@@ -1,8 +1,8 @@
 ghost use mathlib.Core.Path.{_≡_};
-ghost use Prim.Native.Nat.{ℕ, _+_, _*_, _≤_, _<_};
+ghost use Prim.Native.Nat.{ℕ, _+_, _*_, _^_, _≤_, _<_};
 ghost use lib.ListN.{length, drop};
 ghost use Rattle.text.specs.Words.{wordOf};
-ghost use Rattle.forms.specs.Straight.{first, over, digitOf, cap, run, WholeRead};
+ghost use Rattle.forms.specs.Straight.{first, over, digitOf, cap, run, WholeRead, FewRead};
 
 pub struct Run {
     pub end: usize,
@@ -21,11 +21,15 @@ pub fn byte_at(text: &[u8], at: usize) -> u8
     10
 }
 
-// Whether the word ends at `at`.
+// Whether the word ends at `at`; most often a blank or a line's end tells.
 pub fn word_ends(text: &[u8], at: usize) -> bool
     ensures { λ r. ⌜ r ≡ over (wordOf (drop at (now (text .entry)))) ⌝ }
 {
-    if text::is_word(byte_at(text, at)) {
+    let b = byte_at(text, at);
+    if b <= 32 {
+        return true;
+    }
+    if text::is_word(b) {
         return false;
     }
     true
@@ -35,7 +39,7 @@ pub fn digit(b: u8) -> u8
     ensures { λ r. ⌜ r ≡ digitOf b ⌝ }
 {
     if b < 48 {
-        return 255;
+        return b + 208;
     }
     b - 48
 }
@@ -73,7 +77,28 @@ pub fn whole_run(text: &[u8], at: usize) -> Run
     Run { end: i, value: a }
 }
 
-// The same, only where they end.
+// The first digits from `at`, as many as `most`, after those of `whole`.
+pub fn few(text: &[u8], at: usize, most: usize, whole: u64) -> Run
+    requires { ⌜ at + most ≤ length (now text) ⌝ }
+    requires { ⌜ (whole + 1) * 10 ^ most ≤ 2 ^ 60 ⌝ }
+    ensures { λ r. ⌜ FewRead most (now (text .entry)) at whole (r .end) (r .value) ⌝ }
+{
+    let mut i = at;
+    let mut a = whole;
+    let mut room = most;
+    while 0 < room {
+        let d = digit(text[i]);
+        if 9 < d {
+            return Run { end: i, value: a };
+        }
+        a = a * 10 + wide(d);
+        i += 1;
+        room -= 1;
+    }
+    Run { end: i, value: a }
+}
+
+// Where the digits from `at` end.
 pub fn digits_end(text: &[u8], at: usize) -> usize
     requires { ⌜ at ≤ length (now text) ⌝ }
     ensures { λ r. ⌜ r ≡ at + length (run (drop at (now (text .entry)))) ⌝ }

@@ -1,9 +1,8 @@
 use crate::digits::Run;
 use crate::digits::byte_at;
-use crate::digits::digit;
 use crate::digits::digits_end;
+use crate::digits::few;
 use crate::digits::whole_run;
-use crate::digits::wide;
 use crate::digits::word_ends;
 ghost use mathlib.Core.Path.{_≡_};
 ghost use Prim.Native.Nat.{ℕ, _+_, _*_, _-_, _/_, _^_, _≤_, _<_};
@@ -14,7 +13,7 @@ ghost use Rattle.text.specs.Rest.{endOf};
 ghost use Rattle.forms.specs.Said.{ended};
 ghost use Rattle.forms.specs.Number.{numberOf, signed, isSign};
 ghost use Rattle.forms.specs.Answers.{saidNumber, saidMagnitude};
-ghost use Rattle.forms.specs.Straight.{SevenRead, magnitudeOf, pointed, settleOf};
+ghost use Rattle.forms.specs.Straight.{WholeRead, FewRead, magnitudeOf, pointed, settleOf};
 
 pub enum Number {
     Value { value: i32, end: usize },
@@ -30,24 +29,27 @@ pub enum Magnitude {
 // At most seven digits from `at`, after those of `whole`.
 fn seven(text: &[u8], at: usize, whole: u64) -> Run
     requires { ⌜ (at ≤ length (now text)) × (whole ≤ 20000000005) ⌝ }
-    ensures { λ r. ⌜ SevenRead (now (text .entry)) at whole (r .end) (r .value) ⌝ }
+    ensures { λ r. ⌜ FewRead 7 (now (text .entry)) at whole (r .end) (r .value) ⌝ }
 {
-    let mut i = at;
-    let mut a = whole;
-    let mut room: u64 = 7;
-    while i < text.len() {
-        if room == 0 {
-            return Run { end: i, value: a };
-        }
-        let d = digit(text[i]);
-        if 9 < d {
-            return Run { end: i, value: a };
-        }
-        a = a * 10 + wide(d);
-        room -= 1;
-        i += 1;
+    let left = text.len() - at;
+    if left < 7 {
+        return few(text, at, left, whole);
     }
-    Run { end: i, value: a }
+    few(text, at, 7, whole)
+}
+
+// The digits from `at`, as far as they go: most often few, and far from the text's end.
+fn whole_part(text: &[u8], at: usize) -> Run
+    requires { ⌜ at ≤ length (now text) ⌝ }
+    ensures { λ r. ⌜ WholeRead (now (text .entry)) at (r .end) (r .value) ⌝ }
+{
+    if 11 <= text.len() - at {
+        let w = few(text, at, 11, 0);
+        if w.end - at < 11 {
+            return w;
+        }
+    }
+    whole_run(text, at)
 }
 
 // The ten-millionths that one of the last of n decimals counts.
@@ -91,7 +93,7 @@ fn measure(text: &[u8], at: usize) -> Magnitude
     requires { ⌜ at ≤ length (now text) ⌝ }
     ensures { λ r. ⌜ saidMagnitude r ≡ ended (magnitudeOf (wordOf (drop at (now (text .entry))))) (endOf (now (text .entry)) at) ⌝ }
 {
-    let w = whole_run(text, at);
+    let w = whole_part(text, at);
     let end = w.end;
     if byte_at(text, end) == 46 {
         return fraction(text, end + 1, end - at, w.value);

@@ -5,10 +5,10 @@ ghost use mathlib.Core.Path.{_≡_};
 ghost use mathlib.Core.Bool.{cond};
 ghost use Prim.Native.Nat.{ℕ, _+_, _≤_, _<_};
 ghost use lib.ListN.{length, drop};
-ghost use lib.Dec.{eqb};
 ghost use Rattle.text.specs.Words.{wordOf};
 ghost use Rattle.text.specs.Rest.{endOf};
 ghost use Rattle.forms.specs.Said.{ended};
+ghost use Rattle.forms.specs.Digits.{negative};
 ghost use Rattle.forms.specs.Reference.{item, referenceOf};
 ghost use Rattle.forms.specs.Answers.{saidReference};
 ghost use Rattle.forms.specs.Straight.{partIs};
@@ -24,10 +24,10 @@ pub enum Part {
     Malformed,
 }
 
-fn minus_length(b: u8) -> usize
-    ensures { λ r. ⌜ r ≡ cond (eqb b 45) 1 0 ⌝ }
+fn minus_length(back: bool) -> usize
+    ensures { λ r. ⌜ r ≡ cond back 1 0 ⌝ }
 {
-    if b == 45 {
+    if back {
         return 1;
     }
     0
@@ -50,13 +50,13 @@ fn item_of(back: bool, count: u32, k: u64) -> u32
     k as u32
 }
 
-// A reference to one of `count` from `at` to where its digits stop.
-pub fn part_at(text: &[u8], at: usize, count: u32) -> Part
+// The same as `part_at`, by whether a minus stands at `at`.
+fn part_from(text: &[u8], at: usize, back: bool, count: u32) -> Part
     requires { ⌜ at ≤ length (now text) ⌝ }
+    requires { ⌜ back ≡ negative (drop at (now text)) ⌝ }
     ensures { λ r. ⌜ partIs count (now (text .entry)) at r ⌝ }
 {
-    let b = byte_at(text, at);
-    let start = at + minus_length(b);
+    let start = at + minus_length(back);
     let w = whole_run(text, start);
     let end = w.end;
     if end == start {
@@ -66,9 +66,20 @@ pub fn part_at(text: &[u8], at: usize, count: u32) -> Part
         return Part::Malformed;
     }
     Part::Of {
-        number: item_of(b == 45, count, w.value),
+        number: item_of(back, count, w.value),
         end: end,
     }
+}
+
+// A reference to one of `count` from `at` to where its digits stop.
+pub fn part_at(text: &[u8], at: usize, count: u32) -> Part
+    requires { ⌜ at ≤ length (now text) ⌝ }
+    ensures { λ r. ⌜ partIs count (now (text .entry)) at r ⌝ }
+{
+    if byte_at(text, at) == 45 {
+        return part_from(text, at, true, count);
+    }
+    part_from(text, at, false, count)
 }
 
 // The reference to one of `count` that the word at `at` is.

@@ -16,12 +16,15 @@ use Rattle.model.specs.Room.{Rooms}
 use Rattle.state.specs.declared.State.{State}
 use Rattle.state.specs.Bounds.{Bounded}
 use Rattle.state.specs.Changed.{rowsOf, tableOf, withRow}
-use Rattle.vertices.specs.Vertex.{width, TakenVertex, NoVertex, vertexIs}
+use Rattle.vertices.specs.Vertex.{kindOf, width, TakenVertex, NoVertex, vertexIs}
+use Rattle.vertices.specs.declared.Kind.{Kind}
+use Rattle.vertices.specs.declared.Kind.the-variants.{Geometric, Texture, Normal, Parametric}
 use Rattle.vertices.specs.declared.Vertex.{Vertex}
 use Rattle.vertices.specs.declared.Vertex.the-variants as vertex
 use Rattle.blame.specs.Blame.{GivenIn}
 use Rattle.lines.specs.Holding.{Holds, NextLine}
-use Rattle.lines.specs.Stepping.{countIn, counted, withUsed, vertexStep}
+use Rattle.lines.specs.Stepping.{countIn, counted, withUsed, stepIs, withVertices, amongVertices, vertexInto, vertexStep}
+use Rattle.lines.specs.declared.Step.{Step}
 use Rattle.lines.specs.declared.Step.the-variants.{Taken, GaveUp}
 use Rattle.lines.proofs.Opened.{no-body, before-parse, before-allowed, given-kept, left-in-body}
 use Rattle.lines.proofs.Given.{given-in}
@@ -44,14 +47,18 @@ row-given parametric R s x c t p h m e =
     let n : c .used .vp ≡ length (x .model .vertices .vp) = ap (λ (u : Used). u .vp) (h .state .used) in
     given-kept (x .model .vertices .vp) (t .vp) m (given-in R s x c t p h) (λ i b. e i (let q : i < 4 * c .used .vp = omega arith in q))
 
+-- the step of a line whose vertex goes into the table l of its kind, which then holds m
+abbrev rowStep : VertexKind → List ℕ → ℕ → State → List ℤ → List ℤ → Step → Type 0
+rowStep k s at c l m r = (t : Tables) → tableOf k t ≡ l → stepIs s at (a-vertex k) c t (withRow k m t) r
+
 module _ (k : VertexKind) (s : List ℕ) (at : ℕ) (c : State) (l : List ℤ) where
-  pub vertex-open : (c .«open» .kind ≡ 0 → ⊥) → vertexStep k s at c l l GaveUp
+  pub vertex-open : (c .«open» .kind ≡ 0 → ⊥) → rowStep k s at c l l GaveUp
   vertex-open f t g R p x w b =
       left-in-body R s p at x c t (withRow k l t) w (a-vertex k) b
       (row-given k R s x c t p (b .holds) l (λ i j. ap (λ (y : List ℤ). getD y i (pos 0)) (sym g))) f (λ o. refl)
 
   module _ (n : ℕ) (e : n ≡ countIn k (c .used)) where
-    pub vertex-full : 4294967295 ≤ n → vertexStep k s at c l l GaveUp
+    pub vertex-full : 4294967295 ≤ n → rowStep k s at c l l GaveUp
     vertex-full f t g R p x w b =
         let a : n ≡ length (rowsOf k (x .model .vertices)) = e ∙ ap (countIn k) (b .holds .state .used) ∙ count-is k x in
         let i = rows-bounded k p x (b .holds .bounded) in
@@ -59,7 +66,7 @@ module _ (k : VertexKind) (s : List ℕ) (at : ℕ) (c : State) (l : List ℤ) w
         absurd (let q : ⊥ = omega arith in q)
 
     module _ (m : List ℤ) (r : Vertex) (v : vertexIs k s at n l m r) where
-      pub vertex-gave : r ≡ vertex.GaveUp → vertexStep k s at c l m GaveUp
+      pub vertex-gave : r ≡ vertex.GaveUp → rowStep k s at c l m GaveUp
       vertex-gave g t y R p x w b =
           let no-vertex : NoVertex k s at (countIn k (c .used)) (tableOf k t) m =
           subst (λ (a : List ℤ). NoVertex k s at (countIn k (c .used)) a m) (sym y) (subst (λ (i : ℕ). NoVertex k s at i l m) e (subst (vertexIs k s at n l m) g v)) in
@@ -72,7 +79,7 @@ module _ (k : VertexKind) (s : List ℕ) (at : ℕ) (c : State) (l : List ℤ) w
           }
 
       pub vertex-took : (q : ℕ) (u : Used) (d : State) → r ≡ vertex.Taken q → c .«open» .kind ≡ 0 → u ≡ counted k (n + 1) (c .used) → d ≡ withUsed u c
-          → vertexStep k s at c l m (Taken d q)
+          → rowStep k s at c l m (Taken d q)
       vertex-took q u d g o i j t y R p x w b =
           let taken : TakenVertex k s at (countIn k (c .used)) (tableOf k t) m q =
           subst (λ (a : List ℤ). TakenVertex k s at (countIn k (c .used)) a m q) (sym y) (subst (λ (i : ℕ). TakenVertex k s at i l m q) e (subst (vertexIs k s at n l m) g v)) in
@@ -81,3 +88,37 @@ module _ (k : VertexKind) (s : List ℕ) (at : ℕ) (c : State) (l : List ℤ) w
           j ∙ ap (λ (a : Used). withUsed a c) (i ∙ ap (λ (z : ℕ). counted k (z + 1) (c .used)) e) in
           subst (λ (a : State). NextLine R s p x a (withRow k m t) q × (q ≡ (restAt s p) .next)) (sym after)
           (vertex-next R s p at x c t (b .holds) w k (b .begins) (b .keyword) out m q taken)
+
+-- ---- the tables lent on
+-- the table of a kind among the four; where none is stored to, all stay
+among-is : (k : VertexKind) (v vt vn vp : List ℤ) (t : Tables) → tableOf k (withVertices v vt vn vp t) ≡ amongVertices k v vt vn vp
+among-is geometric v vt vn vp t = refl
+among-is texture v vt vn vp t = refl
+among-is normal v vt vn vp t = refl
+among-is parametric v vt vn vp t = refl
+
+pub none-stored : (k : VertexKind) (v vt vn vp : List ℤ) (t : Tables) → withVertices v vt vn vp t ≡ withRow k (amongVertices k v vt vn vp) (withVertices v vt vn vp t)
+none-stored geometric v vt vn vp t = refl
+none-stored texture v vt vn vp t = refl
+none-stored normal v vt vn vp t = refl
+none-stored parametric v vt vn vp t = refl
+
+pub lent : (k : VertexKind) (s : List ℕ) (at : ℕ) (c : State) (v vt vn vp v′ vt′ vn′ vp′ : List ℤ) (r : Step)
+    → ((t : Tables) → withVertices v′ vt′ vn′ vp′ t ≡ withRow k (amongVertices k v′ vt′ vn′ vp′) (withVertices v vt vn vp t))
+    → rowStep k s at c (amongVertices k v vt vn vp) (amongVertices k v′ vt′ vn′ vp′) r → vertexStep k s at c v vt vn vp v′ vt′ vn′ vp′ r
+lent k s at c v vt vn vp v′ vt′ vn′ vp′ r stored h t =
+    subst (λ (u : Tables). stepIs s at (a-vertex k) c (withVertices v vt vn vp t) u r) (sym (stored t)) (h (withVertices v vt vn vp t) (among-is k v vt vn vp t))
+
+-- what `take_vertex` answers, lent the table of the kind
+module _ (s : List ℕ) (at n : ℕ) (r : Vertex) (k : Kind) (v vt vn vp l : List ℤ) where
+  pub geometric-into : k ≡ Geometric → vertexIs (kindOf k) s at n v l r → vertexInto (kindOf k) s at n v vt vn vp l vt vn vp r
+  geometric-into e = subst (λ (k : Kind). vertexIs (kindOf k) s at n v l r → vertexInto (kindOf k) s at n v vt vn vp l vt vn vp r) (sym e) (λ h. (h, λ t. refl))
+
+  pub texture-into : k ≡ Texture → vertexIs (kindOf k) s at n vt l r → vertexInto (kindOf k) s at n v vt vn vp v l vn vp r
+  texture-into e = subst (λ (k : Kind). vertexIs (kindOf k) s at n vt l r → vertexInto (kindOf k) s at n v vt vn vp v l vn vp r) (sym e) (λ h. (h, λ t. refl))
+
+  pub normal-into : k ≡ Normal → vertexIs (kindOf k) s at n vn l r → vertexInto (kindOf k) s at n v vt vn vp v vt l vp r
+  normal-into e = subst (λ (k : Kind). vertexIs (kindOf k) s at n vn l r → vertexInto (kindOf k) s at n v vt vn vp v vt l vp r) (sym e) (λ h. (h, λ t. refl))
+
+  pub parametric-into : k ≡ Parametric → vertexIs (kindOf k) s at n vp l r → vertexInto (kindOf k) s at n v vt vn vp v vt vn l r
+  parametric-into e = subst (λ (k : Kind). vertexIs (kindOf k) s at n vp l r → vertexInto (kindOf k) s at n v vt vn vp v vt vn l r) (sym e) (λ h. (h, λ t. refl))

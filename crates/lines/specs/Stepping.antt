@@ -18,7 +18,9 @@ use Rattle.model.specs.Parse.{fine, fault, Keyword, a-vertex, an-element, a-bod
 use Rattle.model.specs.Room.{Rooms}
 use Rattle.model.specs.Read.{keywordOf}
 use Rattle.state.specs.declared.State.{State}
-use Rattle.state.specs.Changed.{tableOf, withRow, withElement, withRange, withLoops, withBody}
+use Rattle.state.specs.Changed.{withRow, withElement, withRange, withLoops, withBody}
+use Rattle.vertices.specs.Vertex.{vertexIs}
+use Rattle.vertices.specs.declared.Vertex.{Vertex}
 use Rattle.bodies.specs.Loops.{loopWord}
 use Rattle.blame.specs.Blame.{parseBefore, GivenIn}
 use Rattle.lines.specs.declared.Step.{Step}
@@ -63,8 +65,24 @@ stepIs s at k c t u (Refuses n) = (R : Rooms) (p : ℕ) (x : model.State) (w : W
 stepIs s at k c t u GaveUp = (R : Rooms) (p : ℕ) (x : model.State) (w : Word) → Began R s p at x c t w k → Left R s p at x u w k
 
 -- each family by the tables that it is lent; the others stay
-abbrev pub vertexStep : VertexKind → List ℕ → ℕ → State → List ℤ → List ℤ → Step → Type 0
-vertexStep k s at c l m r = (t : Tables) → tableOf k t ≡ l → stepIs s at (a-vertex k) c t (withRow k m t) r
+-- the four tables of vertices among the others, and that of one kind among the four
+abbrev pub withVertices : List ℤ → List ℤ → List ℤ → List ℤ → Tables → Tables
+withVertices v vt vn vp t = record { v = v; vt = vt; vn = vn; vp = vp; corners = t .corners; elements = t .elements; bodies = t .bodies; ranges = t .ranges; parameters = t .parameters; loops = t .loops; spans = t .spans }
+
+abbrev pub amongVertices : VertexKind → List ℤ → List ℤ → List ℤ → List ℤ → List ℤ
+amongVertices geometric v vt vn vp = v
+amongVertices texture v vt vn vp = vt
+amongVertices normal v vt vn vp = vn
+amongVertices parametric v vt vn vp = vp
+
+-- what `vertex_into` answers: a vertex goes into the table of its kind, and the other three stay
+abbrev pub vertexInto : VertexKind → List ℕ → ℕ → ℕ → List ℤ → List ℤ → List ℤ → List ℤ → List ℤ → List ℤ → List ℤ → List ℤ → Vertex → Type 0
+vertexInto k s at n v vt vn vp v′ vt′ vn′ vp′ r =
+    vertexIs k s at n (amongVertices k v vt vn vp) (amongVertices k v′ vt′ vn′ vp′) r
+    × ((t : Tables) → withVertices v′ vt′ vn′ vp′ t ≡ withRow k (amongVertices k v′ vt′ vn′ vp′) (withVertices v vt vn vp t))
+
+abbrev pub vertexStep : VertexKind → List ℕ → ℕ → State → List ℤ → List ℤ → List ℤ → List ℤ → List ℤ → List ℤ → List ℤ → List ℤ → Step → Type 0
+vertexStep k s at c v vt vn vp v′ vt′ vn′ vp′ r = (t : Tables) → stepIs s at (a-vertex k) c (withVertices v vt vn vp t) (withVertices v′ vt′ vn′ vp′ t) r
 
 abbrev pub elementStep : Shape → List ℕ → ℕ → State → List ℕ → List ℕ → List ℕ → List ℕ → Step → Type 0
 elementStep k s at c l m e f r = (t : Tables) → t .corners ≡ l → t .elements ≡ e → stepIs s at (an-element k) c t (withElement m f t) r

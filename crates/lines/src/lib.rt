@@ -12,7 +12,7 @@ ghost use mathlib.Core.Path.{_≡_};
 ghost use Prim.Native.Nat.{_+_, _≤_, _<_};
 ghost use lib.ListN.{length};
 ghost use Rattle.vertices.specs.Vertex.{kindOf};
-ghost use Rattle.lines.specs.Stepping.{countIn, counted, withUsed, vertexStep};
+ghost use Rattle.lines.specs.Stepping.{countIn, counted, withUsed, vertexInto, vertexStep};
 
 // What a line whose keyword is known comes to: the state after it, a refusal at its keyword, or a fault still to be found.
 pub enum Step {
@@ -61,10 +61,41 @@ fn with_used(used: Used, state: State) -> State
     after
 }
 
-// A line of v, vt, vn or vp, from just after its keyword on.
-pub fn vertex_line(kind: Kind, text: &[u8], at: usize, state: State, table: &mut [i32]) -> Step
+// The vertex of a line into the table of its kind, of which `used` records are used.
+fn vertex_into(
+    kind: Kind,
+    text: &[u8],
+    at: usize,
+    used: u32,
+    v: &mut [i32],
+    vt: &mut [i32],
+    vn: &mut [i32],
+    vp: &mut [i32],
+) -> Vertex
     requires { ⌜ at ≤ length (now text) ⌝ }
-    ensures { λ r. ⌜ vertexStep (kindOf kind) (now (text .entry)) at state (now (table .entry)) (now (table .exit)) r ⌝ }
+    ensures { λ r. ⌜ vertexInto (kindOf kind) (now (text .entry)) at used (now (v .entry)) (now (vt .entry)) (now (vn .entry)) (now (vp .entry)) (now (v .exit)) (now (vt .exit)) (now (vn .exit)) (now (vp .exit)) r ⌝ }
+{
+    match kind {
+        Kind::Geometric => vertices::take_vertex(kind, text, at, used, v),
+        Kind::Texture => vertices::take_vertex(kind, text, at, used, vt),
+        Kind::Normal => vertices::take_vertex(kind, text, at, used, vn),
+        Kind::Parametric => vertices::take_vertex(kind, text, at, used, vp),
+    }
+}
+
+// A line of v, vt, vn or vp, from just after its keyword on. Most lines are such lines: of the state, which is large, only a count goes along with the text.
+pub fn vertex_line(
+    kind: Kind,
+    text: &[u8],
+    at: usize,
+    state: State,
+    v: &mut [i32],
+    vt: &mut [i32],
+    vn: &mut [i32],
+    vp: &mut [i32],
+) -> Step
+    requires { ⌜ at ≤ length (now text) ⌝ }
+    ensures { λ r. ⌜ vertexStep (kindOf kind) (now (text .entry)) at state (now (v .entry)) (now (vt .entry)) (now (vn .entry)) (now (vp .entry)) (now (v .exit)) (now (vt .exit)) (now (vn .exit)) (now (vp .exit)) r ⌝ }
 {
     let open = state.open;
     if open.kind != 0 {
@@ -75,7 +106,7 @@ pub fn vertex_line(kind: Kind, text: &[u8], at: usize, state: State, table: &mut
     if 4_294_967_295 <= count {
         return Step::GaveUp;
     }
-    match vertices::take_vertex(kind, text, at, count, table) {
+    match vertex_into(kind, text, at, count, v, vt, vn, vp) {
         Vertex::GaveUp => Step::GaveUp,
         Vertex::Taken { next } => Step::Taken {
             state: with_used(counted(kind, count + 1, used), state),

@@ -10,11 +10,7 @@ use lib.ListN.{length, drop}
 use lib.Dec.{eqb}
 use Rattle.text.specs.Words.{Word, wordOf}
 use Rattle.text.specs.Rest.{Rest, restAt, push, wordAt, endOf, WordMet, EndMet, BadMet}
-use lib.IntN.{ℤ}
 use Rattle.tables.specs.Tables.{Tables}
-use Rattle.vertices.specs.Vertex.{kindOf}
-use Rattle.vertices.specs.declared.Kind.{Kind}
-use Rattle.vertices.specs.declared.Kind.the-variants.{Geometric, Texture, Normal, Parametric}
 use Rattle.keywords.specs.Keywords.{statementOf, letterOf, keywordAt}
 use Rattle.keywords.specs.declared.Keyword as spelled
 use Rattle.keywords.specs.declared.Statement.{Statement}
@@ -35,8 +31,8 @@ use Rattle.reader.specs.declared.Line.the-variants.{Next, Stopped}
 use Rattle.lines.specs.declared.Step.{Step}
 use Rattle.lines.specs.declared.Step.the-variants.{Taken, Refuses, GaveUp}
 use Rattle.lines.specs.Holding.{Holds, NextLine, lineSays}
-use Rattle.lines.specs.Stepping.{Began, stepIs, vertexStep}
-use Rattle.reader.specs.Taking.{lineIs, familyOf, familyIs, withVertices, verticesIs, stoppedBy}
+use Rattle.lines.specs.Stepping.{Began, stepIs}
+use Rattle.reader.specs.Taking.{lineIs, familyOf, familyIs, stoppedBy}
 use Rattle.lines.proofs.Given.{given-in}
 use Rattle.reader.proofs.Blamed.{stops, blamed, unknown-blamed}
 
@@ -82,19 +78,6 @@ module _ (s : List ℕ) (at : ℕ) (c : State) (t u : Tables) (r : Step) (key : 
 module _ (s : List ℕ) (at : ℕ) (c : State) (r : Step) where
   pub family-step : (t u : Tables) {f g : Family} → f ≡ g → familyIs g s at c t u r → familyIs f s at c t u r
   family-step t u e h = subst (λ (f : Family). familyIs f s at c t u r) (sym e) h
-
-  module _ (k : Kind) (v vt vn vp l : List ℤ) where
-    pub geometric-lent : k ≡ Geometric → vertexStep (kindOf k) s at c v l r → verticesIs (kindOf k) s at c v vt vn vp l vt vn vp r
-    geometric-lent e h = subst (λ (k : Kind). vertexStep (kindOf k) s at c v l r → verticesIs (kindOf k) s at c v vt vn vp l vt vn vp r) (sym e) (λ h t. h (withVertices v vt vn vp t) refl) h
-
-    pub texture-lent : k ≡ Texture → vertexStep (kindOf k) s at c vt l r → verticesIs (kindOf k) s at c v vt vn vp v l vn vp r
-    texture-lent e h = subst (λ (k : Kind). vertexStep (kindOf k) s at c vt l r → verticesIs (kindOf k) s at c v vt vn vp v l vn vp r) (sym e) (λ h t. h (withVertices v vt vn vp t) refl) h
-
-    pub normal-lent : k ≡ Normal → vertexStep (kindOf k) s at c vn l r → verticesIs (kindOf k) s at c v vt vn vp v vt l vp r
-    normal-lent e h = subst (λ (k : Kind). vertexStep (kindOf k) s at c vn l r → verticesIs (kindOf k) s at c v vt vn vp v vt l vp r) (sym e) (λ h t. h (withVertices v vt vn vp t) refl) h
-
-    pub parametric-lent : k ≡ Parametric → vertexStep (kindOf k) s at c vp l r → verticesIs (kindOf k) s at c v vt vn vp v vt vn l r
-    parametric-lent e h = subst (λ (k : Kind). vertexStep (kindOf k) s at c vp l r → verticesIs (kindOf k) s at c v vt vn vp v vt vn l r) (sym e) (λ h t. h (withVertices v vt vn vp t) refl) h
 
 -- ---- no keyword
 module _ (s : List ℕ) (p : ℕ) (c : State) (t : Tables) where

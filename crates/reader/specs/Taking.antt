@@ -4,7 +4,6 @@ use mathlib.Core.Path.{_≡_}
 use mathlib.Core.Bool.{Bool, true, false}
 use mathlib.Core.List.{List}
 use lib.ListN.{length}
-use lib.IntN.{ℤ}
 use Rattle.text.specs.Lines.{linesAt}
 use Rattle.text.specs.Rest.{restAt}
 use Rattle.tables.specs.Tables.{Tables}
@@ -12,7 +11,7 @@ use Rattle.keywords.specs.declared.Statement.{Statement}
 use Rattle.keywords.specs.declared.Statement.the-variants as statement
 use Rattle.model.specs.Parse.{fault, a-vertex, an-element, a-body, parm, ends}
 use Rattle.model.specs.Model as model
-use Rattle.model.specs.Model.{VertexKind, start}
+use Rattle.model.specs.Model.{start}
 use Rattle.model.specs.Room.{Rooms}
 use Rattle.model.specs.Read.{refused, readLines}
 use Rattle.model.specs.Layout.{tablesOf, nothing}
@@ -76,13 +75,6 @@ familyIs (Loop hole) s at c t u r = stepIs s at (loopWord hole) c t u r
 familyIs End s at c t u r = stepIs s at ends c t u r
 familyIs (Set k) s at c t u r = stepIs s at (settingOf k) c t u r
 familyIs Other s at c t u r = (r ≡ GaveUp) × (u ≡ t)
-
--- the four tables of vertices among the others
-abbrev pub withVertices : List ℤ → List ℤ → List ℤ → List ℤ → Tables → Tables
-withVertices v vt vn vp t = record { v = v; vt = vt; vn = vn; vp = vp; corners = t .corners; elements = t .elements; bodies = t .bodies; ranges = t .ranges; parameters = t .parameters; loops = t .loops; spans = t .spans }
-
-abbrev pub verticesIs : VertexKind → List ℕ → ℕ → State → List ℤ → List ℤ → List ℤ → List ℤ → List ℤ → List ℤ → List ℤ → List ℤ → Step → Type 0
-verticesIs k s at c v vt vn vp v′ vt′ vn′ vp′ r = (t : Tables) → stepIs s at (a-vertex k) c (withVertices v vt vn vp t) (withVertices v′ vt′ vn′ vp′ t) r
 
 -- ---- a line
 -- what the code finds in the line at `at`, in the state c with the tables t, which it leaves as u

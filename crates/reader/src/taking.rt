@@ -9,37 +9,12 @@ use lines::inner_lines::parm_line;
 use lines::setting_lines::setting_line;
 use lines::vertex_line;
 use state::State;
-use vertices::Kind;
 ghost use mathlib.Core.Path.{_≡_};
 ghost use Prim.Native.Nat.{_≤_};
 ghost use lib.ListN.{length};
 ghost use Rattle.keywords.specs.Arguments.{argumentTable};
 ghost use Rattle.tables.specs.Tables.{Tables, tables};
-ghost use Rattle.model.specs.Parse.{a-vertex};
-ghost use Rattle.vertices.specs.Vertex.{kindOf};
-ghost use Rattle.lines.specs.Stepping.{stepIs};
-ghost use Rattle.reader.specs.Taking.{familyIs, verticesIs};
-
-fn vertex_family(
-    kind: Kind,
-    text: &[u8],
-    at: usize,
-    state: State,
-    v: &mut [i32],
-    vt: &mut [i32],
-    vn: &mut [i32],
-    vp: &mut [i32],
-) -> Step
-    requires { ⌜ at ≤ length (now text) ⌝ }
-    ensures { λ r. ⌜ verticesIs (kindOf kind) (now (text .entry)) at state (now (v .entry)) (now (vt .entry)) (now (vn .entry)) (now (vp .entry)) (now (v .exit)) (now (vt .exit)) (now (vn .exit)) (now (vp .exit)) r ⌝ }
-{
-    match kind {
-        Kind::Geometric => vertex_line(kind, text, at, state, v),
-        Kind::Texture => vertex_line(kind, text, at, state, vt),
-        Kind::Normal => vertex_line(kind, text, at, state, vn),
-        Kind::Parametric => vertex_line(kind, text, at, state, vp),
-    }
-}
+ghost use Rattle.reader.specs.Taking.{familyIs};
 
 // A line from just after its keyword on.
 pub fn take_line(
@@ -65,7 +40,7 @@ pub fn take_line(
     ensures { λ r. ⌜ familyIs family (now (text .entry)) at state (tables (now (v .entry)) (now (vt .entry)) (now (vn .entry)) (now (vp .entry)) (now (corners .entry)) (now (elements .entry)) (now (bodies .entry)) (now (ranges .entry)) (now (parameters .entry)) (now (loops .entry)) (now (spans .entry))) (tables (now (v .exit)) (now (vt .exit)) (now (vn .exit)) (now (vp .exit)) (now (corners .exit)) (now (elements .exit)) (now (bodies .exit)) (now (ranges .exit)) (now (parameters .exit)) (now (loops .exit)) (now (spans .exit))) r ⌝ }
 {
     match family {
-        Family::Vertex(kind) => vertex_family(kind, text, at, state, v, vt, vn, vp),
+        Family::Vertex(kind) => vertex_line(kind, text, at, state, v, vt, vn, vp),
         Family::Element(shape) => element_line(shape, text, at, state, corners, elements),
         Family::Body(free) => {
             let room = bodies.len();

@@ -9,7 +9,7 @@ use native.Mathlib.Numerals.{add-one}
 use Rattle.text.specs.Bytes.{isWord, isBlank}
 use Rattle.text.specs.Lines.{comment, gap}
 use Rattle.text.specs.Words.{wordOf}
-use Rattle.text.specs.Rest.{Rest, restAt, endOf, WordMet, EndMet, BadMet, BlanksMet, JoinMet}
+use Rattle.text.specs.Rest.{Rest, restAt, endOf, WordMet, EndMet, BadMet, JoinMet}
 use Rattle.text.specs.Rest.{turnIs}
 use Rattle.text.specs.declared.Turn.{Turn}
 use Rattle.text.specs.declared.Turn.the-variants.{On, End, Refused}
@@ -45,23 +45,6 @@ module _ (s : List ℕ) (at i : ℕ) (w : InWord s at i) where
         let y = ap length z in
         let x = w .ends in
         (omega arith, w .to)
-
--- ---- `blank_end`
-pub record InBlanks (s : List ℕ) (at i : ℕ) : Type 0 where
-  pub from : at ≤ i
-  pub to : i ≤ length s
-  pub rest : restAt s at ≡ restAt s i
-
-module _ (s : List ℕ) (at i : ℕ) (w : InBlanks s at i) where
-  pub blanks-done : length s ≤ i → BlanksMet s at i
-  blanks-done h = record { from = w .from; to = w .to; rest = w .rest; stop = λ l. absurd (omega arith) }
-
-  module _ (h : i < length s) (t : Bool) (e : t ≡ isBlank (getD s i 0)) where
-    pub blanks-turn : t ≡ true → InBlanks s at (i + 1)
-    blanks-turn u = let x = w .from in record { from = omega arith; to = omega arith; rest = w .rest ∙ P.rest-blank s i h (sym e ∙ u) }
-
-    pub blanks-stop : t ≡ false → BlanksMet s at i
-    blanks-stop u = record { from = w .from; to = w .to; rest = w .rest; stop = λ l. sym e ∙ u }
 
 -- ---- `comment_end`
 pub record InComment (s : List ℕ) (at i : ℕ) : Type 0 where
@@ -110,10 +93,15 @@ module _ (s : List ℕ) (at i : ℕ) (w : InComment s at i) where
               ∙ ap (λ (q : ℕ). W.restIn comment q (drop (i + 1) s)) (sym (add-one i));
         }
 
--- ---- `gap`: blanks up to p, and then what stands there
+-- ---- `gap`: blanks and joins up to p, and then what stands there
+pub record InBlanks (s : List ℕ) (at i : ℕ) : Type 0 where
+  pub from : at ≤ i
+  pub to : i ≤ length s
+  pub rest : restAt s at ≡ restAt s i
+
 module _ (s : List ℕ) (at p : ℕ) (w : InBlanks s at p) where
-  pub gap-blanks : {q : ℕ} → BlanksMet s p q → InBlanks s at q
-  gap-blanks m = let x = m .from in let y = w .from in record { from = omega arith; to = m .to; rest = w .rest ∙ m .rest }
+  pub gap-blank : p < length s → (t : Bool) → t ≡ isBlank (getD s p 0) → t ≡ true → InBlanks s at (p + 1)
+  gap-blank h t e u = let x = w .from in record { from = omega arith; to = omega arith; rest = w .rest ∙ P.rest-blank s p h (sym e ∙ u) }
 
   pub gap-done : length s ≤ p → EndMet s at p
   gap-done h = let x = w .from in record { from = w .from; ahead = λ l. omega arith; to = w .to; rest = w .rest ∙ P.rest-past s p h }

@@ -61,13 +61,6 @@ pub record BadMet (s : List ℕ) (at p : ℕ) : Type 0 where
   pub no-words : (restAt s at) .words ≡ []
   pub bad-at : (restAt s at) .bad ≡ some p
 
--- blanks up to p, which is the text's end or holds none
-pub record BlanksMet (s : List ℕ) (at p : ℕ) : Type 0 where
-  pub from : at ≤ p
-  pub to : p ≤ length s
-  pub rest : restAt s at ≡ restAt s p
-  pub stop : p < length s → isBlank (getD s p 0) ≡ false
-
 -- a join up to p
 pub record JoinMet (s : List ℕ) (at p : ℕ) : Type 0 where
   pub ahead : at < p

@@ -4,7 +4,7 @@ ghost use Prim.Native.Nat.{_+_, _≤_, _<_};
 ghost use lib.ListN.{length, getD, drop};
 ghost use mathlib.Core.Bool.{true, false};
 ghost use Rattle.text.specs.Bytes.{isBlank, isWord, startsWord, lf};
-ghost use Rattle.text.specs.Rest.{restAt, endOf, BlanksMet, EndMet, turnIs, gapIs, scanOf};
+ghost use Rattle.text.specs.Rest.{restAt, endOf, EndMet, turnIs, gapIs, scanOf};
 ghost use Rattle.text.specs.Lines.{breakOf};
 
 // 01: "Words hold bytes 33 to 126"; a backslash is no word byte.
@@ -101,22 +101,6 @@ fn comment_end(text: &[u8], at: usize) -> usize
     i
 }
 
-// The first place at or after `at` that holds no blank.
-fn blank_end(text: &[u8], at: usize) -> usize
-    requires { ⌜ at ≤ length (now text) ⌝ }
-    ensures { λ r. ⌜ BlanksMet (now (text .entry)) at r ⌝ }
-{
-    let mut i = at;
-    while i < text.len() {
-        if is_blank(text[i]) {
-            i += 1;
-        } else {
-            return i;
-        }
-    }
-    i
-}
-
 // What a byte between words does that is neither a blank nor the start of a word.
 enum Turn {
     On(usize),
@@ -159,26 +143,28 @@ pub fn gap(text: &[u8], at: usize) -> Met
     ensures { λ r. ⌜ gapIs (now (text .entry)) at r ⌝ }
 {
     let mut i = at;
-    loop {
-        let p = blank_end(text, i);
-        if text.len() <= p {
-            return Met::End(p);
-        }
-        if starts_word(text[p]) {
-            return Met::Start(p);
-        }
-        match turn_at(text, p) {
-            Turn::On(j) => {
-                i = j;
+    while i < text.len() {
+        let b = text[i];
+        if is_blank(b) {
+            i += 1;
+        } else {
+            if starts_word(b) {
+                return Met::Start(i);
             }
-            Turn::End(q) => {
-                return Met::End(q);
-            }
-            Turn::Refused => {
-                return Met::Bad(p);
+            match turn_at(text, i) {
+                Turn::On(j) => {
+                    i = j;
+                }
+                Turn::End(q) => {
+                    return Met::End(q);
+                }
+                Turn::Refused => {
+                    return Met::Bad(i);
+                }
             }
         }
     }
+    Met::End(i)
 }
 
 pub enum Scan {

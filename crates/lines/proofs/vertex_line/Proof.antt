@@ -1,7 +1,9 @@
--- Each way out by the law of its answer.
+-- Each way out by the law of its answer, lent to the four tables.
 use denote.Ref.{now}
 use Rattle.vertices.specs.Vertex.{kindOf}
-use Rattle.lines.proofs.Stepped.{vertex-open, vertex-full, vertex-gave, vertex-took}
+use Rattle.lines.specs.Stepping.{amongVertices}
+use Rattle.lines.specs.declared.Step.the-variants.{Taken, GaveUp}
+use Rattle.lines.proofs.Stepped.{vertex-open, vertex-full, vertex-gave, vertex-took, none-stored, lent}
 use borrow.Author.Needs.{needs}
 use Rattle.lines.proofs.vertex_line.Statement.{statement}
 use Rattle.lines.proofs.vertex_line.Tie as tie
@@ -9,71 +11,107 @@ use Rattle.lines.proofs.vertex_line.Reads as reads
 use Rattle.lines.proofs.vertex_line.Lts as lts
 use Rattle.lines.proofs.count_of.Reads as count-of-reads
 use Rattle.lines.proofs.counted.Reads as counted-reads
+use Rattle.lines.proofs.vertex_into.Reads as vertex-into-reads
 use Rattle.lines.proofs.with_used.Reads as with-used-reads
-use Rattle.vertices.proofs.take_vertex.Reads as take-vertex-reads
 
--- src/lib.rt:77:9
+-- src/lib.rt:102:9
 returns : tie.Need-returns
-returns c = let a = c .before .before .before .before .args in vertex-open (kindOf (a .kind)) (now (a .text)) (a .at) (a .state) (now (a .table)) (c .if1 .taken)
+returns c =
+    let a = c .before .before .before .before .args in
+    let l = amongVertices (kindOf (a .kind)) (now (a .v)) (now (a .vt)) (now (a .vn)) (now (a .vp)) in
+    lent (kindOf (a .kind)) (now (a .text)) (a .at) (a .state) (now (a .v)) (now (a .vt)) (now (a .vn)) (now (a .vp)) (now (a .v)) (now (a .vt)) (now (a .vn)) (now (a .vp)) GaveUp (none-stored (kindOf (a .kind)) (now (a .v)) (now (a .vt)) (now (a .vn)) (now (a .vp)))
+    (vertex-open (kindOf (a .kind)) (now (a .text)) (a .at) (a .state) l (c .if1 .taken))
 
--- src/lib.rt:80:9
+-- src/lib.rt:105:9
 count-of-requires : tie.Need-count-of-requires
 count-of-requires c κs = search needs
 
--- src/lib.rt:82:9
+-- src/lib.rt:107:9
 returns-2 : tie.Need-returns-2
-returns-2 c = let a = c .before .before .before .before .before .before .before .args in vertex-full (kindOf (a .kind)) (now (a .text)) (a .at) (a .state) (now (a .table)) (c .before .count-of .result) (c .before .count-of .ensures) (c .if2 .taken)
+returns-2 c =
+    let a = c .before .before .before .before .before .before .before .args in
+    let l = amongVertices (kindOf (a .kind)) (now (a .v)) (now (a .vt)) (now (a .vn)) (now (a .vp)) in
+    lent (kindOf (a .kind)) (now (a .text)) (a .at) (a .state) (now (a .v)) (now (a .vt)) (now (a .vn)) (now (a .vp)) (now (a .v)) (now (a .vt)) (now (a .vn)) (now (a .vp)) GaveUp (none-stored (kindOf (a .kind)) (now (a .v)) (now (a .vt)) (now (a .vn)) (now (a .vp)))
+    (vertex-full (kindOf (a .kind)) (now (a .text)) (a .at) (a .state) l (c .before .count-of .result) (c .before .count-of .ensures) (c .if2 .taken))
 
--- src/lib.rt:84:11
-take-vertex-requires : tie.Need-take-vertex-requires
-take-vertex-requires c κs = search needs
+-- src/lib.rt:109:11
+vertex-into-requires : tie.Need-vertex-into-requires
+vertex-into-requires c κs = search needs
 
--- src/lib.rt:85:27
+-- src/lib.rt:110:27
 enum-told : tie.Need-enum-told
 enum-told c = search needs
 
--- src/lib.rt:86:25
+-- src/lib.rt:111:25
 enum-known-next : tie.Need-enum-known-next
 enum-known-next c = search needs
 
--- src/lib.rt:87:44
+-- src/lib.rt:112:44
 add-counted : tie.Need-add-counted
 add-counted c = search needs
 
--- src/lib.rt:87:30
+-- src/lib.rt:112:30
 counted-requires : tie.Need-counted-requires
 counted-requires c κs = search needs
 
--- src/lib.rt:87:20
+-- src/lib.rt:112:20
 with-used-requires : tie.Need-with-used-requires
 with-used-requires c κs = search needs
 
--- src/lib.rt:71:1
+-- src/lib.rt:87:1
 same-length : tie.Need-same-length
 same-length c = search needs
 
--- src/lib.rt:71:1
-returns-3 : tie.Need-returns-3
-returns-3 c =
-    let took = c .before .before .before in
-    let counted = took .before .before .before in
-    let a = counted .before .before .before .before .before .before .args in
-    vertex-gave (kindOf (a .kind)) (now (a .text)) (a .at) (a .state) (now (a .table)) (counted .count-of .result) (counted .count-of .ensures) _ _ (took .take-vertex .ensures) (c .enum-told .given .1)
-
--- src/lib.rt:71:1
+-- src/lib.rt:87:1
 same-length-2 : tie.Need-same-length-2
 same-length-2 c = search needs
 
--- src/lib.rt:71:1
+-- src/lib.rt:87:1
+same-length-3 : tie.Need-same-length-3
+same-length-3 c = search needs
+
+-- src/lib.rt:87:1
+same-length-4 : tie.Need-same-length-4
+same-length-4 c = search needs
+
+-- src/lib.rt:87:1
+returns-3 : tie.Need-returns-3
+returns-3 c =
+    let f = c .before .before .before .before .before .before .vertex-into in
+    let counts = c .before .before .before .before .before .before .before .before .before .before .before .before in
+    let a = counts .before .before .before .before .before .before .args in
+    let l = amongVertices (kindOf (a .kind)) (now (a .v)) (now (a .vt)) (now (a .vn)) (now (a .vp)) in
+    let m = amongVertices (kindOf (a .kind)) (f .last .1 .1 .1 .1 .0) (f .last .1 .1 .1 .1 .1 .0) (f .last .1 .1 .1 .1 .1 .1 .0) (f .last .1 .1 .1 .1 .1 .1 .1 .0) in
+    lent (kindOf (a .kind)) (now (a .text)) (a .at) (a .state) (now (a .v)) (now (a .vt)) (now (a .vn)) (now (a .vp)) (f .last .1 .1 .1 .1 .0) (f .last .1 .1 .1 .1 .1 .0) (f .last .1 .1 .1 .1 .1 .1 .0) (f .last .1 .1 .1 .1 .1 .1 .1 .0) GaveUp (f .ensures .1)
+    (vertex-gave (kindOf (a .kind)) (now (a .text)) (a .at) (a .state) l (counts .count-of .result) (counts .count-of .ensures) m (f .result) (f .ensures .0) (c .enum-told .given .1))
+
+-- src/lib.rt:87:1
+same-length-5 : tie.Need-same-length-5
+same-length-5 c = search needs
+
+-- src/lib.rt:87:1
+same-length-6 : tie.Need-same-length-6
+same-length-6 c = search needs
+
+-- src/lib.rt:87:1
+same-length-7 : tie.Need-same-length-7
+same-length-7 c = search needs
+
+-- src/lib.rt:87:1
+same-length-8 : tie.Need-same-length-8
+same-length-8 c = search needs
+
+-- src/lib.rt:87:1
 returns-4 : tie.Need-returns-4
 returns-4 c =
-    let told = c .before .before .before in
-    let took = told .before .before .before in
-    let counted = took .before .before .before in
-    let start = counted .before .before .before .before .before .before in
-    let a = start .args in
-    vertex-took (kindOf (a .kind)) (now (a .text)) (a .at) (a .state) (now (a .table)) (counted .count-of .result) (counted .count-of .ensures) _ _ (took .take-vertex .ensures) _ _ _
-    (told .next .given .1) (counted .before .before .if1 .left) (c .before .counted .ensures) (c .with-used .ensures)
+    let f = c .before .before .before .before .before .before .before .before .before .vertex-into in
+    let counts = c .before .before .before .before .before .before .before .before .before .before .before .before .before .before .before in
+    let a = counts .before .before .before .before .before .before .args in
+    let l = amongVertices (kindOf (a .kind)) (now (a .v)) (now (a .vt)) (now (a .vn)) (now (a .vp)) in
+    let m = amongVertices (kindOf (a .kind)) (f .last .1 .1 .1 .1 .0) (f .last .1 .1 .1 .1 .1 .0) (f .last .1 .1 .1 .1 .1 .1 .0) (f .last .1 .1 .1 .1 .1 .1 .1 .0) in
+    lent (kindOf (a .kind)) (now (a .text)) (a .at) (a .state) (now (a .v)) (now (a .vt)) (now (a .vn)) (now (a .vp)) (f .last .1 .1 .1 .1 .0) (f .last .1 .1 .1 .1 .1 .0) (f .last .1 .1 .1 .1 .1 .1 .0) (f .last .1 .1 .1 .1 .1 .1 .1 .0) (Taken (c .with-used .result) (c .before .before .before .next .given .0 .0)) (f .ensures .1)
+    (vertex-took (kindOf (a .kind)) (now (a .text)) (a .at) (a .state) l (counts .count-of .result) (counts .count-of .ensures) m (f .result) (f .ensures .0) _ _ _
+    (c .before .before .before .next .given .1) (counts .before .before .if1 .left) (c .before .counted .ensures) (c .with-used .ensures))
 
 pub vertex-line-spec : {M : Type 1} → statement M
 vertex-line-spec =
@@ -82,13 +120,19 @@ vertex-line-spec =
     returns
     count-of-requires
     returns-2
-    take-vertex-requires
+    vertex-into-requires
     enum-told
     enum-known-next
     add-counted
     counted-requires
     with-used-requires
     same-length
-    returns-3
     same-length-2
+    same-length-3
+    same-length-4
+    returns-3
+    same-length-5
+    same-length-6
+    same-length-7
+    same-length-8
     returns-4)

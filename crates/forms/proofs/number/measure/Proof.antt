@@ -8,8 +8,8 @@ use borrow.Author.Needs.{needs}
 use Rattle.forms.proofs.number.measure.Statement.{statement}
 use Rattle.forms.proofs.number.measure.Tie as tie
 
-whole-run-requires : tie.Need-whole-run-requires
-whole-run-requires c κs = search needs
+whole-part-requires : tie.Need-whole-part-requires
+whole-part-requires c κs = search needs
 
 byte-at-requires : tie.Need-byte-at-requires
 byte-at-requires c κs = search needs
@@ -25,9 +25,9 @@ fraction-requires c κs =
     let b = c .before in
     let w = b .before in
     let a = w .before .before .args in
-    let q = measure-in (now (a .text)) (a .at) (w .whole-run .result .end) (w .whole-run .result .value) (w .whole-run .ensures) (b .byte-at .result) (b .byte-at .ensures) (c .if1 .taken) in
-    let e = w .whole-run .ensures .end-is in
-    let v = w .whole-run .ensures .value-is in
+    let q = measure-in (now (a .text)) (a .at) (w .whole-part .result .end) (w .whole-part .result .value) (w .whole-part .ensures) (b .byte-at .result) (b .byte-at .ensures) (c .if1 .taken) in
+    let e = w .whole-part .ensures .end-is in
+    let v = w .whole-part .ensures .value-is in
     (omega arith, omega arith, omega arith)
 
 returns : tie.Need-returns
@@ -35,14 +35,14 @@ returns c =
     let b = c .before .before in
     let w = b .before in
     let a = w .before .before .args in
-    measure-point (now (a .text)) (a .at) (w .whole-run .result .end) (w .whole-run .result .value) (w .whole-run .ensures) (b .byte-at .result) (b .byte-at .ensures) (c .before .if1 .taken) (saidMagnitude (c .fraction .result)) (c .fraction .ensures)
+    measure-point (now (a .text)) (a .at) (w .whole-part .result .end) (w .whole-part .result .value) (w .whole-part .ensures) (b .byte-at .result) (b .byte-at .ensures) (c .before .if1 .taken) (saidMagnitude (c .fraction .result)) (c .fraction .ensures)
 
 returns-2 : tie.Need-returns-2
 returns-2 c =
     let b = c .before .before in
     let w = b .before in
     let a = w .before .before .args in
-    measure-none (now (a .text)) (a .at) (w .whole-run .result .end) (w .whole-run .result .value) (w .whole-run .ensures) (b .byte-at .result) (b .byte-at .ensures) (c .before .if1 .left) (c .if2 .taken)
+    measure-none (now (a .text)) (a .at) (w .whole-part .result .end) (w .whole-part .result .value) (w .whole-part .ensures) (b .byte-at .result) (b .byte-at .ensures) (c .before .if1 .left) (c .if2 .taken)
 
 word-ends-requires : tie.Need-word-ends-requires
 word-ends-requires c κs = search needs
@@ -55,20 +55,20 @@ returns-3 c =
     let b = c .before .before .before .before .before in
     let w = b .before in
     let a = w .before .before .args in
-    measure-of (now (a .text)) (a .at) (w .whole-run .result .end) (w .whole-run .result .value) (w .whole-run .ensures) (b .byte-at .result) (b .byte-at .ensures) (c .before .before .before .before .if1 .left) (c .before .before .before .if2 .left) (sym (c .before .if3 .taken) ∙ c .before .before .word-ends .ensures)
+    measure-of (now (a .text)) (a .at) (w .whole-part .result .end) (w .whole-part .result .value) (w .whole-part .ensures) (b .byte-at .result) (b .byte-at .ensures) (c .before .before .before .before .if1 .left) (c .before .before .before .if2 .left) (sym (c .before .if3 .taken) ∙ c .before .before .word-ends .ensures)
 
 returns-4 : tie.Need-returns-4
 returns-4 c =
     let b = c .before .before .before .before in
     let w = b .before in
     let a = w .before .before .args in
-    measure-not (now (a .text)) (a .at) (w .whole-run .result .end) (w .whole-run .result .value) (w .whole-run .ensures) (b .byte-at .result) (b .byte-at .ensures) (c .before .before .before .if1 .left) (sym (c .if3 .left) ∙ c .before .word-ends .ensures)
+    measure-not (now (a .text)) (a .at) (w .whole-part .result .end) (w .whole-part .result .value) (w .whole-part .ensures) (b .byte-at .result) (b .byte-at .ensures) (c .before .before .before .if1 .left) (sym (c .if3 .left) ∙ c .before .word-ends .ensures)
 
 pub measure-spec : {M : Type 1} → statement M
 measure-spec =
     tie.close
     (tie.spec
-    whole-run-requires
+    whole-part-requires
     byte-at-requires
     add-fraction
     sub-fraction

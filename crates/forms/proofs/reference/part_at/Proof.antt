@@ -1,7 +1,7 @@
--- The minus apart, by how many digits there are.
-use native.Mathlib.Omega.{arith}
+-- By the byte at the front.
+use lib.ListN.{drop}
 use denote.Ref.{now}
-use Rattle.forms.proofs.References.{minus-fits, part-none, part-many, part-of}
+use Rattle.forms.proofs.References.{minus-there, minus-absent}
 use borrow.Author.Needs.{needs}
 use Rattle.forms.proofs.reference.part_at.Statement.{statement}
 use Rattle.forms.proofs.reference.part_at.Tie as tie
@@ -9,61 +9,22 @@ use Rattle.forms.proofs.reference.part_at.Tie as tie
 byte-at-requires : tie.Need-byte-at-requires
 byte-at-requires c κs = search needs
 
-minus-length-requires : tie.Need-minus-length-requires
-minus-length-requires c κs = search needs
-
-add-start : tie.Need-add-start
-add-start c =
-    let n = c in
-    let b = n .before in
-    let a = b .before .before in
-    let q = minus-fits (now (a .args .text)) (a .args .at) (b .byte-at .result) (n .minus-length .result) (a .pre) (b .byte-at .ensures) (n .minus-length .ensures) in
-    omega arith
-
-whole-run-requires : tie.Need-whole-run-requires
-whole-run-requires c κs =
-    let n = c in
-    let b = n .before in
-    let a = b .before .before in
-    minus-fits (now (a .args .text)) (a .args .at) (b .byte-at .result) (n .minus-length .result) (a .pre) (b .byte-at .ensures) (n .minus-length .ensures)
+part-from-requires : tie.Need-part-from-requires
+part-from-requires c κs =
+    let a = c .before .before .before in
+    (a .pre, minus-there (drop (a .args .at) (now (a .args .text))) (c .before .byte-at .result) (c .before .byte-at .ensures) (c .if1 .taken))
 
 returns : tie.Need-returns
-returns c =
-    let n = c .before .before in
-    let b = n .before in
-    let a = b .before .before in
-    part-none (now (a .args .text)) (a .args .at) (b .byte-at .result) (n .minus-length .result) (a .pre) (b .byte-at .ensures) (n .minus-length .ensures) (c .before .whole-run .result .end) (c .before .whole-run .result .value) (c .before .whole-run .ensures) (c .if1 .taken)
+returns c = c .part-from .ensures
 
-sub-if2 : tie.Need-sub-if2
-sub-if2 c = search needs
+part-from-requires-2 : tie.Need-part-from-requires-2
+part-from-requires-2 c κs =
+    let a = c .before .before .before in
+    (a .pre, minus-absent (drop (a .args .at) (now (a .args .text))) (c .before .byte-at .result) (c .before .byte-at .ensures) (c .if1 .left))
 
 returns-2 : tie.Need-returns-2
-returns-2 c =
-    let n = c .before .before .before in
-    let b = n .before in
-    let a = b .before .before in
-    part-many (now (a .args .text)) (a .args .at) (b .byte-at .result) (n .minus-length .result) (a .pre) (b .byte-at .ensures) (n .minus-length .ensures) (c .before .before .whole-run .result .end) (c .before .before .whole-run .result .value) (c .before .before .whole-run .ensures) (c .if2 .taken)
-
-item-of-requires : tie.Need-item-of-requires
-item-of-requires c κs = search needs
-
-returns-3 : tie.Need-returns-3
-returns-3 c =
-    let n = c .before .before .before .before in
-    let b = n .before in
-    let a = b .before .before in
-    part-of (now (a .args .text)) (a .args .at) (b .byte-at .result) (n .minus-length .result) (a .pre) (b .byte-at .ensures) (n .minus-length .ensures) (c .before .before .before .whole-run .result .end) (c .before .before .before .whole-run .result .value) (c .before .before .before .whole-run .ensures) (a .args .count) (c .item-of .result) (c .before .before .if1 .left) (c .before .if2 .left) (c .item-of .ensures)
+returns-2 c = c .part-from2 .ensures
 
 pub part-at-spec : {M : Type 1} → statement M
 part-at-spec =
-    tie.close
-    (tie.spec
-    byte-at-requires
-    minus-length-requires
-    add-start
-    whole-run-requires
-    returns
-    sub-if2
-    returns-2
-    item-of-requires
-    returns-3)
+    tie.close (tie.spec byte-at-requires part-from-requires returns part-from-requires-2 returns-2)

@@ -3,7 +3,7 @@ use mathlib.Core.Path.{refl}
 use denote.Ref.{now}
 use Rattle.tables.specs.Tables.{tables}
 use Rattle.state.specs.Changed.{withElement, withRange, withLoops, withBody}
-use Rattle.reader.specs.Taking.{withVertices}
+use Rattle.lines.specs.Stepping.{withVertices}
 use Rattle.lines.specs.declared.Step.the-variants.{GaveUp}
 use Rattle.reader.proofs.Sorted.{family-step}
 use borrow.Author.Needs.{needs}
@@ -17,15 +17,15 @@ use Rattle.lines.proofs.inner_lines.end_line.Reads as end-line-reads
 use Rattle.lines.proofs.inner_lines.loop_line.Reads as loop-line-reads
 use Rattle.lines.proofs.inner_lines.parm_line.Reads as parm-line-reads
 use Rattle.lines.proofs.setting_lines.setting_line.Reads as setting-line-reads
-use Rattle.reader.proofs.taking.vertex_family.Reads as vertex-family-reads
+use Rattle.lines.proofs.vertex_line.Reads as vertex-line-reads
 
 -- src/taking.rt:68:24
 enum-known-family : tie.Need-enum-known-family
 enum-known-family c = search needs
 
 -- src/taking.rt:68:33
-vertex-family-requires : tie.Need-vertex-family-requires
-vertex-family-requires c κs = search needs
+vertex-line-requires : tie.Need-vertex-line-requires
+vertex-line-requires c κs = search needs
 
 -- src/taking.rt:69:25
 enum-known-family-2 : tie.Need-enum-known-family-2
@@ -98,7 +98,7 @@ same-length-4 c = search needs
 -- src/taking.rt:45:1
 returns : tie.Need-returns
 returns c =
-    let f = c .before .before .before .before .vertex-family in
+    let f = c .before .before .before .before .vertex-line in
     let a = c .before .before .before .before .before .before .before .before .before .before .before .before .before .before .before .before .before .args in
     let t = tables (now (a .v)) (now (a .vt)) (now (a .vn)) (now (a .vp)) (now (a .corners)) (now (a .elements)) (now (a .bodies)) (now (a .ranges)) (now (a .parameters)) (now (a .loops)) (now (a .spans)) in
     family-step (now (a .text)) (a .at) (a .state) (f .result) t (withVertices (f .last .1 .1 .1 .1 .0) (f .last .1 .1 .1 .1 .1 .0) (f .last .1 .1 .1 .1 .1 .1 .0) (f .last .1 .1 .1 .1 .1 .1 .1 .0) t) (c .before .before .before .before .before .before .before .before .before .before .family .given .1) (f .ensures t)
@@ -207,7 +207,7 @@ take-line-spec =
     tie.close
     (tie.spec
     enum-known-family
-    vertex-family-requires
+    vertex-line-requires
     enum-known-family-2
     element-line-requires
     enum-known-family-3
