@@ -1,8 +1,5 @@
 /*
  * The library behind a stream of requests: a request on standard input, its answer on standard output, one after the other.
- *
- *     drive [GUARD]        bytes of canary before and after each lent block; 0 under valgrind or AddressSanitizer
- *
  * A request is a letter, its numbers (64 bits each, least byte first), and bytes:
  *     R read      text length, eleven table lengths; the text
  *     T tidy      text length, eleven table lengths, buffer length; the text
@@ -18,7 +15,6 @@
  * of everything that was lent to be written; of a group or material its length and, where that is not 0, its place and its bytes.
  */
 #include "lent.h"
-#include <valgrind/memcheck.h>
 
 enum { USED = 9 };
 
@@ -214,10 +210,10 @@ static void part(char letter) {
     say(text.data + p.place, p.length);
 }
 
-int main(int count, char **words) {
+int main(void) {
     const size_t none[TABLES] = {0};
     char letter;
-    if (count > 1) guard = 4 * (strtoul(words[1], NULL, 10) / 4);
+    set_guard();
     text = lend(0);
     text_before = lend(0);
     tables = lend_tables(none);

@@ -4,12 +4,6 @@
  */
 #include "lent.h"
 
-#if defined(__has_feature)
-#if __has_feature(address_sanitizer)
-#define WATCHED
-#endif
-#endif
-
 #define HOLD(fact)                                                                                                                                   \
     do {                                                                                                                                             \
         if (!(fact)) {                                                                                                                               \
@@ -94,7 +88,7 @@ static void refused(struct block text, kuhlabires_reading first) {
     take_tables_back(&t);
 }
 
-/* Read in just the room it needs, and 14 with one entry less. */
+/* Read in just the room it needs, and 14 with less of any table. */
 static void just_room(struct block text, const struct tables *whole, kuhlabires_used used) {
     size_t lengths[TABLES];
     entries_of(used, lengths);
@@ -103,12 +97,14 @@ static void just_room(struct block text, const struct tables *whole, kuhlabires_
     HOLD(r.refusal == 0 && same_used(r.used, used) && same_tables(whole, &t));
     take_tables_back(&t);
     for (int i = 0; i < TABLES; i++) {
-        if (lengths[i] == 0) continue;
-        lengths[i]--;
-        t = lend_tables(lengths);
-        HOLD(read_into(text, &t).refusal == 14);
-        take_tables_back(&t);
-        lengths[i]++;
+        const size_t needed = lengths[i], less[] = {needed - 1, needed / 2};
+        for (int j = 0; needed > 0 && j < 2; j++) {
+            lengths[i] = less[j];
+            t = lend_tables(lengths);
+            HOLD(read_into(text, &t).refusal == 14);
+            take_tables_back(&t);
+        }
+        lengths[i] = needed;
     }
 }
 
@@ -156,8 +152,8 @@ static void tidied(struct block text, const struct tables *whole, kuhlabires_use
 
     struct block tidy = lend(r.length);
     HOLD(tidy_into(text, &t, tidy).refusal == 0 && memcmp(tidy.data, wide.data, r.length) == 0);
-    if (r.length > 0) {
-        struct block narrow = lend(r.length - 1);
+    for (size_t room = r.length; room > 0; room -= room / 4) {
+        struct block narrow = lend(--room);
         kuhlabires_tidying full = tidy_into(text, &t, narrow);
         HOLD(full.refusal == 16 && full.place == 0 && same_used(full.used, used) && same_tables(whole, &t));
         take_back(narrow);
@@ -259,7 +255,7 @@ static void broken(struct block text, const struct tables *whole, kuhlabires_use
     for (size_t at = 0; at < text.size; at++) chance = (chance ^ text.data[at]) * 1099511628211u;
     size_t lengths[TABLES];
     entries_of(used, lengths);
-    for (int turn = 0; turn < 4; turn++) {
+    for (int turn = 0; turn < 8; turn++) {
         struct tables t;
         for (int i = 0; i < TABLES; i++) t.of[i] = lend_copy(whole->of[i].data, 4 * lengths[i]);
         for (int change = 0; change < 2; change++) {
@@ -273,7 +269,7 @@ static void broken(struct block text, const struct tables *whole, kuhlabires_use
             memcpy(number, &after, 4);
         }
         kuhlabires_used counts = used;
-        if (turn == 3) counts.elements = 0xffffffff, counts.corners = 0xffffffff;
+        if (turn == 7) counts.elements = 0xffffffff, counts.corners = 0xffffffff;
         struct block points = lend(4 * 12);
         for (uint32_t number = 0; number <= used.elements + 1; number++) {
             kuhlabires_point p = kuhlabires_point_on_curve(counts, LEND(&t), number, 0);
@@ -298,9 +294,7 @@ static void broken(struct block text, const struct tables *whole, kuhlabires_use
 
 int LLVMFuzzerTestOneInput(const uint8_t *data, size_t size);
 int LLVMFuzzerTestOneInput(const uint8_t *data, size_t size) {
-#ifdef WATCHED
-    guard = 0;
-#endif
+    set_guard();
     struct block text = lend_copy(data, size);
     size_t lengths[TABLES];
     for (int i = 0; i < TABLES; i++) lengths[i] = KUHLABIRES_OTHER_ROOM(size) + (size_t)i % 5;

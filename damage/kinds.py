@@ -1,11 +1,12 @@
 """Seeded damage: the kinds of damaged text, lengths to lend, questions to ask.
 
     damaged(rng) -> (kind, text)
-    big(rng) -> (kind, text, rooms, buffer), some of them at the limit of 16,777,216 bytes
+    big(rng), long(rng) yield (kind, text, rooms, buffer), up to the limit of 16,777,216 bytes and one past it
 """
 
 import stream                               # puts second/ on the path
 
+from curves import text as one_curve
 from damage import BYTES, EXTRA, KEYWORDS, WORDS, body_damage, byte_damage, word_damage
 from records import TABLES, TEXT_LIMIT, WIDTHS, Fault
 from spelling import spelled
@@ -22,9 +23,14 @@ FILES = sorted(
 
 
 def whole(rng):
-    """A text to damage: a seeded one, or a file of the cases or the examples."""
-    if rng.random() < 0.3:
+    """A text to damage: a file of the cases or the examples, a seeded curve or surface, a seeded text."""
+    style = rng.random()
+    if style < 0.25:
         return rng.choice(FILES)
+    if style < 0.5:
+        kind = rng.choice(("curv", "curv2", "surf"))
+        degrees = [rng.choice((1, 2, 3, 3, rng.randint(1, 20))) for _ in range(2 if kind == "surf" else 1)]
+        return one_curve(rng, kind, rng.choice(("bezier", "bspline")), degrees)[0]
     return spelled(rng, text(rng).lines)
 
 
@@ -217,9 +223,6 @@ def big(rng):
     for start in (b"", b"v ", b"g ", b"usemtl ", b"o ", b"s ", b"deg ", b"v 0 0 0\np "):
         word = rng.choice((b"0", b"x", b"9", b"-"))
         yield f"{start!r} and one long word", start + word * (TEXT_LIMIT - len(start)), plenty, PLENTY
-    yield "blanks", b" \t" * (TEXT_LIMIT // 2), plenty, PLENTY
-    yield "joins", b"v\\\n 1" + b"\\\n" * (TEXT_LIMIT // 2 - 8) + b" 2 3\n", plenty, PLENTY
-    yield "joins with CR", b"v\\\r\n 1" + b"\\\r\n" * (TEXT_LIMIT // 3 - 8) + b" 2 3\n", plenty, PLENTY
     yield "zero bytes in a comment", b"#" + bytes(TEXT_LIMIT - 1), plenty, PLENTY
     yield "zero bytes", bytes(TEXT_LIMIT), plenty, PLENTY
     yield "noise", rng.randbytes(TEXT_LIMIT), plenty, PLENTY
@@ -228,6 +231,10 @@ def big(rng):
 
 def long(rng):
     """Texts that take the Python reader seconds."""
+    plenty = [PLENTY] * len(TABLES)
+    yield "blanks", b" \t" * (TEXT_LIMIT // 2), plenty, PLENTY
+    yield "joins", b"v\\\n 1" + b"\\\n" * (TEXT_LIMIT // 2 - 8) + b" 2 3\n", plenty, PLENTY
+    yield "joins with CR", b"v\\\r\n 1" + b"\\\r\n" * (TEXT_LIMIT // 3 - 8) + b" 2 3\n", plenty, PLENTY
     lines = TEXT_LIMIT // 30                # of "vt 0.000000 0.000000 0.000000"
     rest = TEXT_LIMIT - 30 * lines
     for more in (0, 1):
@@ -244,3 +251,10 @@ def long(rng):
     yield "one long line, its last word to nothing", data + b" 2", needed(data), 3_000_000
     data = b"g" + b" name" * 200_000 + b"\nv 1 2 3\np 1\n"
     yield "one long group", data, needed(data), 3_000_000
+
+
+# The fuzzer's dictionary
+
+if __name__ == "__main__":
+    for word in (*KEYWORDS, *WORDS, *EXTRA, b"\r\n", b"\\\r\n", b"\nend\n", b"\nparm u 0 1\n"):
+        print('"' + "".join(f"\\x{byte:02x}" for byte in word) + '"')

@@ -1,6 +1,6 @@
 /*
- * Memory to lend: each block stands between two canaries, or alone in an allocation of exactly its size where valgrind or AddressSanitizer watches
- * (guard 0). A block is filled before it is lent, so that what a call leaves alone and what it writes are both seen.
+ * Memory to lend: each block stands between two canaries, or alone in an allocation of exactly its size where valgrind or AddressSanitizer watches.
+ * A block is filled before it is lent, so that what a call leaves alone and what it writes are both seen.
  */
 #ifndef LENT_H
 #define LENT_H
@@ -10,14 +10,25 @@
 #include <stdio.h>
 #include <stdlib.h>
 #include <string.h>
+#include <valgrind/memcheck.h>
 
 enum { TABLES = 11, V = 0, VP = 3, CORNERS = 4, ELEMENTS = 5, RANGES = 7, FILLER = 0xa5 };
-static const size_t WIDTHS[TABLES] = {KUHLABIRES_V_WIDTH,       KUHLABIRES_VT_WIDTH,   KUHLABIRES_VN_WIDTH,        KUHLABIRES_VP_WIDTH,
-                                      KUHLABIRES_CORNER_WIDTH,  KUHLABIRES_ELEMENT_WIDTH, KUHLABIRES_BODY_WIDTH,   KUHLABIRES_RANGE_WIDTH,
-                                      KUHLABIRES_PARAMETER_WIDTH, KUHLABIRES_LOOP_WIDTH, KUHLABIRES_SPAN_WIDTH};
 
-/* 68 leaves a table aligned to its entries and to no more. */
-static size_t guard = 68;
+#if defined(__has_feature)
+#if __has_feature(address_sanitizer)
+#define WATCHED 1
+#endif
+#endif
+#ifndef WATCHED
+#define WATCHED RUNNING_ON_VALGRIND
+#endif
+
+/* Bytes before and after a block; with 68 a table is aligned to its entries and to no more. */
+static size_t guard;
+
+static inline void set_guard(void) {
+    guard = WATCHED ? 0 : 68;
+}
 
 struct block {
     uint8_t *data;

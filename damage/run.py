@@ -1,18 +1,19 @@
 """The proved library under damaged files, held against second/.
 
-    rt staticlib boundary && python3 damage/run.py SEED COUNT [BIG]
+    rt staticlib boundary && python3 damage/run.py SEED COUNT [LONG]
 
 COUNT seeded texts, damaged in the ways of kinds.py, are read and tidied with
 awkward lengths lent, and what they leave in the tables is asked after; so are
-tables broken on purpose. BIG adds texts of up to 16,777,217 bytes. drive.c makes
-the calls. Compared, byte by byte: each answer, each table, each buffer, used or
-not; and the canaries. The same stream runs again under valgrind, each block in an
-allocation of its own size and what is lent to be written marked as unwritten.
+tables broken on purpose. Then texts of 16,777,216 bytes and about; LONG adds
+those that take second/ seconds each. drive.c makes the calls. Compared, byte by
+byte: each answer, each table, each buffer, used or not; and the canaries. The
+seeded texts run again under valgrind, each block in an allocation of its own
+size and what is lent to be written marked as unwritten.
 
 Where DAMAGE_DRIVE names a built drive (fuzz.sh makes one with AddressSanitizer),
-that one takes valgrind's place.
+that one takes valgrind's place, for the big texts too.
 
-Exits with 1 if anything differed; the text that did is left in target/damage/.
+Exits with 1 if anything differed; the requests that did are left in target/damage/.
 """
 
 from collections import Counter
@@ -24,7 +25,7 @@ import sys
 import tempfile
 
 from kinds import big, buffer, damaged, long, needed, rooms
-from stream import CORNERS, ELEMENTS, Stream
+from stream import ELEMENTS, Stream
 
 from check import broken
 from records import CURV, CURV2, SIGNED, SURF, TABLES, Used
@@ -43,7 +44,7 @@ UINT32 = (1 << 32) - 1
 
 def parameter(rng, start, end):
     inside = rng.randint(start, end) if start <= end else start
-    return rng.choice((start, end, inside, inside, start - 1, end + 1, 0, *INT32))
+    return rng.choice((start, end, *[inside] * 5, start - 1, end + 1, rng.choice((0, *INT32))))
 
 
 def held(t):
@@ -99,11 +100,11 @@ def shaken(rng, used, tables):
     return Used(**used), tables
 
 
-def one(rng, stream, tally):
+def one(rng, stream):
     kind, data = damaged(rng)
     stream.label = f"{stream.label} ({kind})"
     needs = needed(data)
-    tally[f"{stream.read(data, rooms(rng, needs)) or 'read'}"] += 1
+    stream.read(data, rooms(rng, needs))
     if stream.used.elements:
         ask(rng, stream, 3)
     wide = tidy(data, [need + 9 for need in needs], AMPLE)
@@ -126,9 +127,9 @@ def built(folder):
          f"{ROOT}/damage/drive.c", str(ARCHIVE), "-o", drive],
         check=True,
     )
-    watched = ["valgrind", "--quiet", "--error-exitcode=9", "--leak-check=full", drive, "0"]
+    watched = ["valgrind", "--quiet", "--error-exitcode=9", "--leak-check=full", drive]
     if "DAMAGE_DRIVE" in environ:
-        watched = [environ["DAMAGE_DRIVE"], "0"]
+        watched = [environ["DAMAGE_DRIVE"]]
     return [drive], watched
 
 
@@ -168,23 +169,21 @@ def hold(stream, commands, name):
 
 
 def seeded(seed, count, commands, totals):
-    rng, differ, tally = random.Random(seed), 0, Counter()
+    rng, differ = random.Random(seed), 0
     for first in range(0, count, BATCH):
         stream = Stream()
         for case in range(first, min(first + BATCH, count)):
             stream.label = f"case {case + 1} of seed {seed}"
-            one(rng, stream, tally)
+            one(rng, stream)
         differ += hold(stream, commands, f"{seed}-{first}")
         counted(stream, totals)
-    shown = ", ".join(f"{number} {tally[number]}" for number in sorted(tally, key=lambda n: (n != "read", n.zfill(4))))
-    print(f"damage: {count} texts ({shown})")
     return differ
 
 
-def large(seed, commands, totals):
+def large(seed, makers, commands, totals):
     rng, differ, texts = random.Random(seed), 0, 0
-    for makers, chosen in ((big, commands[:1]), (long, commands[:1])):
-        for kind, data, lent, room in makers(rng):
+    for maker in makers:
+        for kind, data, lent, room in maker(rng):
             stream = Stream()
             stream.label = kind
             stream.read(data, lent)
@@ -192,28 +191,44 @@ def large(seed, commands, totals):
             ask(rng, stream, 2)
             for length in (3 * 65_537, 3 * 65_537 - 1):
                 stream.run(1, 65_536, length, 0)
-            differ += hold(stream, chosen, f"{seed}-big-{texts}")
+            differ += hold(stream, commands, f"{seed}-{maker.__name__}-{texts}")
             counted(stream, totals)
             texts += 1
-    print(f"damage: {texts} big texts")
-    return differ
+    return differ, texts
 
 
 def counted(stream, totals):
-    totals["calls"] += len(stream.answers)
-    totals["bytes compared"] += sum(len(wanted) for _, wanted in stream.answers)
+    totals.update(stream.tally)
+    totals["bytes"] += sum(len(wanted) for _, wanted in stream.answers)
+
+
+LETTERS = {
+    "R": "read", "T": "tidy", "C": "point_on_curve", "F": "point_on_surface", "N": "run_on_curve",
+    "K": "corner_of", "G": "group_of", "M": "material_of",
+}
+
+
+def show(totals):
+    """How often each function gave each number of refusal."""
+    for letter, name in LETTERS.items():
+        numbers = sorted(key[1] for key in totals if key[0] == letter)
+        shown = ", ".join(f"{number} {totals[letter, number]}" for number in numbers)
+        print(f"    {name}: {shown}")
 
 
 def main(seed, count, more):
     totals = Counter()
     with tempfile.TemporaryDirectory() as folder:
-        commands = built(folder)
-        differ = seeded(seed, count, commands, totals)
-        if more:
-            differ += large(seed, commands, totals)
-    print(f"damage: {totals['calls']} calls, {totals['bytes compared']} bytes compared: {differ} differ")
+        plain, watched = built(folder)
+        differ = seeded(seed, count, [plain, watched], totals)
+        quick = [plain, watched] if "DAMAGE_DRIVE" in environ else [plain]
+        more_differ, texts = large(seed, [big, long] if more else [big], quick, totals)
+    differ += more_differ
+    size = totals.pop("bytes")
+    show(totals)
+    print(f"damage: {count} texts and {texts} big ones, {totals.total()} calls, {size} bytes compared: {differ} differ")
     return 1 if differ else 0
 
 
 if __name__ == "__main__":
-    sys.exit(main(int(sys.argv[1]), int(sys.argv[2]), sys.argv[3:] == ["BIG"]))
+    sys.exit(main(int(sys.argv[1]), int(sys.argv[2]), sys.argv[3:] == ["LONG"]))

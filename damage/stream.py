@@ -5,6 +5,7 @@ or set left, as drive.c does, and asks of them.
 """
 
 from array import array
+from collections import Counter
 from pathlib import Path
 import sys
 
@@ -13,8 +14,8 @@ sys.path.append(str(SECOND))
 
 from reader import corner_of, group_of, material_of, read
 from records import SIGNED, TABLES, Refused, Used, zeros
-from sampler import RefusedPoint, Space, point_on_curve, point_on_surface, run_on_curve
-from tidier import Refused as RefusedTidying, TooLong, tidy
+from sampler import RefusedPoint, point_on_curve, point_on_surface, run_on_curve
+from tidier import TooLong, tidy
 
 FILLER = b"\xa5"
 NONE = Used(*[0] * len(Used._fields))
@@ -35,12 +36,14 @@ def entries(tables):
 
 class Stream:
     def __init__(self):
+        self.tally = Counter()              # of (letter, number of refusal)
         self.requests = []
         self.answers = []                   # (what was asked, the bytes wanted)
         self.label = ""
         self.text, self.used, self.tables = b"", NONE, zeros([0] * len(TABLES))
 
-    def ask(self, letter, request, *answer):
+    def ask(self, letter, number, request, *answer):
+        self.tally[letter, number] += 1
         self.requests += [letter.encode(), *request]
         wanted = b"".join((letter.encode(), b"\0", *answer))
         self.answers.append((f"{self.label}: {letter}", wanted))
@@ -51,16 +54,15 @@ class Stream:
         self.text = text
         self.used, self.tables = (NONE, zeros(rooms)) if number else answer
         self.ask(
-            "R", (numbers(len(text), *rooms), text),
+            "R", number, (numbers(len(text), *rooms), text),
             numbers(number, place, *self.used), entries(self.tables),
         )
-        return number
 
     def tidy(self, text, rooms, room):
         answer = tidy(text, rooms, room)
         written, number, place = b"", 0, 0
         self.text = text
-        if isinstance(answer, RefusedTidying):
+        if isinstance(answer, Refused):
             number, place = answer
             self.used, self.tables = NONE, zeros(rooms)
         else:
@@ -70,11 +72,10 @@ class Stream:
             else:
                 written = answer.text
         self.ask(
-            "T", (numbers(len(text), *rooms, room), text),
+            "T", number, (numbers(len(text), *rooms, room), text),
             numbers(number, place, len(written), *self.used), entries(self.tables),
             written, FILLER * (room - len(written)),
         )
-        return number
 
     def set(self, text, used, tables):
         self.text, self.used, self.tables = text, used, tables
@@ -86,14 +87,13 @@ class Stream:
         if isinstance(point, RefusedPoint):
             number, axes, coordinates = point.number, 0, ()
         padded = [c & 0xFFFF_FFFF for c in (*coordinates, 0, 0, 0)[:3]]
-        self.ask(letter, (numbers(*request),), numbers(number, axes, *padded))
-        return number
+        self.ask(letter, number, (numbers(*request),), numbers(number, axes, *padded))
 
     def curve(self, element, t):
-        return self.point("C", (element, t), point_on_curve(self.used, self.tables, element, t))
+        self.point("C", (element, t), point_on_curve(self.used, self.tables, element, t))
 
     def surface(self, element, s, t):
-        return self.point("F", (element, s, t), point_on_surface(self.used, self.tables, element, s, t))
+        self.point("F", (element, s, t), point_on_surface(self.used, self.tables, element, s, t))
 
     def run(self, element, steps, length, at):
         filler = array("i", FILLER * 4)[0]
@@ -102,8 +102,7 @@ class Stream:
         refused = isinstance(answer, RefusedPoint)
         number, written = (answer.number, 0) if refused else (0, answer.numbers)
         after = array("i", points if refused else answer.points).tobytes()
-        self.ask("N", (numbers(element, steps, length, at),), numbers(number, written), after)
-        return number
+        self.ask("N", number, (numbers(element, steps, length, at),), numbers(number, written), after)
 
     def corner(self, element, k):
         """Corner k counts from 0, as the library counts."""
@@ -111,11 +110,12 @@ class Stream:
             self.tables[CORNERS], self.tables[ELEMENTS], self.used.corners, self.used.elements,
             element, k + 1,
         )
-        self.ask("K", (numbers(element, k),), numbers(*found))
+        self.ask("K", 0, (numbers(element, k),), numbers(*found))
 
     def part(self, letter, element, field, part):
         place = self.tables[ELEMENTS][9 * (element - 1) + field] if part else 0
-        self.ask(letter, (numbers(element),), numbers(len(part)), *((numbers(place), part) if part else ()))
+        shown = (numbers(place), part) if part else ()
+        self.ask(letter, 0, (numbers(element),), numbers(len(part)), *shown)
 
     def group(self, element):
         self.part("G", element, 5, group_of(self.text, self.tables[ELEMENTS], self.used.elements, element))
