@@ -14,10 +14,11 @@ from statements import Reader
 from texts import text
 from words import joined_lines
 
+ROOT = stream.SECOND.parent
 FILES = sorted(
     path.read_bytes()
-    for folder in (stream.SECOND / "cases", stream.SECOND.parent / "examples")
-    for path in folder.rglob("*.obj")
+    for folder in ("second/cases", "examples", "damage/corpus")
+    for path in (ROOT / folder).rglob("*.obj")
     if path.stat().st_size < 4_096
 )
 

@@ -2,9 +2,9 @@
 
     rt staticlib boundary && python3 damage/run.py SEED COUNT [LONG]
 
-COUNT seeded texts, damaged in the ways of kinds.py, are read and tidied with
-awkward lengths lent, and what they leave in the tables is asked after; so are
-tables broken on purpose. Then texts of 16,777,216 bytes and about; LONG adds
+Every stored case and example, and COUNT seeded texts, damaged in the ways of
+kinds.py, are read and tidied with awkward lengths lent, and what they leave in
+the tables is asked after; so are tables broken on purpose. Then texts of 16,777,216 bytes and about; LONG adds
 those that take second/ seconds each. drive.c makes the calls. Compared, byte by
 byte: each answer, each table, each buffer, used or not; and the canaries. The
 seeded texts run again under valgrind, each block in an allocation of its own
@@ -17,6 +17,7 @@ Exits with 1 if anything differed; the requests that did are left in target/dama
 """
 
 from collections import Counter
+from itertools import islice
 from os import environ
 from pathlib import Path
 import random
@@ -24,11 +25,11 @@ import subprocess
 import sys
 import tempfile
 
-from kinds import big, buffer, damaged, long, needed, rooms
+from kinds import FILES, big, buffer, damaged, long, needed, rooms
 from stream import ELEMENTS, Stream
 
 from check import broken
-from records import CURV, CURV2, SIGNED, SURF, TABLES, Used
+from records import CURV, CURV2, SIGNED, SURF, TABLES, Refused, Used
 from tidier import tidy
 
 ROOT = Path(__file__).resolve().parent.parent
@@ -100,18 +101,17 @@ def shaken(rng, used, tables):
     return Used(**used), tables
 
 
-def one(rng, stream):
-    kind, data = damaged(rng)
-    stream.label = f"{stream.label} ({kind})"
+def one(rng, stream, data):
     needs = needed(data)
     stream.read(data, rooms(rng, needs))
     if stream.used.elements:
         ask(rng, stream, 3)
-    wide = tidy(data, [need + 9 for need in needs], AMPLE)
-    stream.tidy(data, rooms(rng, needs) if rng.random() < 0.5 else needs, buffer(rng, len(getattr(wide, "text", b""))))
-    if not hasattr(wide, "text"):
+    wide = tidy(data, needs, AMPLE)
+    length = 0 if isinstance(wide, Refused) else len(wide.text)
+    stream.tidy(data, rooms(rng, needs), buffer(rng, length))
+    stream.tidy(data, needs, length)
+    if isinstance(wide, Refused):
         return
-    stream.tidy(data, needs, len(wide.text))
     ask(rng, stream, 3)
     for _ in range(2):
         stream.set(data, *shaken(rng, wide.used, wide.tables))
@@ -168,16 +168,26 @@ def hold(stream, commands, name):
     return differ
 
 
+def texts(rng, seed, count):
+    """(label, text): every stored file as it is, then damaged texts."""
+    for number, data in enumerate(FILES):
+        yield f"stored file {number}", data
+    for case in range(1, count + 1):
+        kind, data = damaged(rng)
+        yield f"case {case} of seed {seed} ({kind})", data
+
+
 def seeded(seed, count, commands, totals):
-    rng, differ = random.Random(seed), 0
-    for first in range(0, count, BATCH):
+    rng, differ, number = random.Random(seed), 0, 0
+    found = texts(rng, seed, count)
+    while batch := list(islice(found, BATCH)):
         stream = Stream()
-        for case in range(first, min(first + BATCH, count)):
-            stream.label = f"case {case + 1} of seed {seed}"
-            one(rng, stream)
-        differ += hold(stream, commands, f"{seed}-{first}")
+        for stream.label, data in batch:
+            one(rng, stream, data)
+        differ += hold(stream, commands, f"{seed}-{number}")
         counted(stream, totals)
-    return differ
+        number += len(batch)
+    return differ, number
 
 
 def large(seed, makers, commands, totals):
@@ -220,7 +230,7 @@ def main(seed, count, more):
     totals = Counter()
     with tempfile.TemporaryDirectory() as folder:
         plain, watched = built(folder)
-        differ = seeded(seed, count, [plain, watched], totals)
+        differ, count = seeded(seed, count, [plain, watched], totals)
         quick = [plain, watched] if "DAMAGE_DRIVE" in environ else [plain]
         more_differ, texts = large(seed, [big, long] if more else [big], quick, totals)
     differ += more_differ
