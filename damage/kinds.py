@@ -209,6 +209,10 @@ def filled(start, end, size):
 
 CURVE = b"v 0 0 0\nv 1 1 1\ncstype bezier\ndeg 1\ncurv 0 1 1 2\nparm u 0 1\n"
 MESH = b"v 0 0 0\nv 1.5 0 0\nv 1.5 .25 0\nvt 0 .5\nvn 0 0 1\ng top\nf -3/-1/-1 -2/-1/-1 -1/-1/-1\n"
+TRIMMED = (
+    b"vp 0 0\nvp 1 0\nvp 1 1\ncstype bspline\ndeg 1 1\ncurv2 -3 -2 -1\nparm u 0 0 1 2 2\nend\n"
+    b"v 0 0 0\nv 1 0 0\nv 0 1 0\nv 1 1 9\nsurf 0 1 0 1 -4 -3 -2 -1\nparm u 0 0 1 1\nparm v 0 0 1 1\ntrim 0 2 -1\nhole 0 1 -1 1 2 -1\nend\n"
+)
 PLENTY = 4_096
 
 
@@ -252,6 +256,19 @@ def long(rng):
     yield "one long line, its last word to nothing", data + b" 2", needed(data), 3_000_000
     data = b"g" + b" name" * 200_000 + b"\nv 1 2 3\np 1\n"
     yield "one long group", data, needed(data), 3_000_000
+
+
+def alike(rng):
+    """(name, text) too big for second/: held against themselves by the fuzz target. The first has a tidy text over the limit."""
+    for name, block, size in (
+        ("mesh", MESH, TEXT_LIMIT), ("mesh", MESH, TEXT_LIMIT // 3), ("curves", CURVE + b"end\n", 500_000),
+        ("trimmed", TRIMMED, 200_000),
+    ):
+        data = block * (size // len(block))
+        yield f"{name}-{size}", data
+        at = rng.randrange(len(data))
+        byte = rng.choice((b"\0", b"x", b"\\", b"\n", b"9"))
+        yield f"{name}-{size}-damaged", data[:at] + byte + data[at + 1:]
 
 
 # The fuzzer's dictionary

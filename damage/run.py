@@ -5,7 +5,8 @@
 Every stored case and example, and COUNT seeded texts, damaged in the ways of
 kinds.py, are read and tidied with awkward lengths lent, and what they leave in
 the tables is asked after; so are tables broken on purpose. Then texts of 16,777,216 bytes and about; LONG adds
-those that take second/ seconds each. drive.c makes the calls. Compared, byte by
+those that take second/ seconds each, and some that are held against themselves
+alone, by the fuzz target. drive.c makes the calls. Compared, byte by
 byte: each answer, each table, each buffer, used or not; and the canaries. The
 seeded texts run again under valgrind, each block in an allocation of its own
 size and what is lent to be written marked as unwritten.
@@ -25,7 +26,7 @@ import subprocess
 import sys
 import tempfile
 
-from kinds import FILES, big, buffer, damaged, long, needed, rooms
+from kinds import FILES, alike, big, buffer, damaged, long, needed, rooms
 from stream import ELEMENTS, Stream
 
 from check import broken
@@ -36,6 +37,7 @@ ROOT = Path(__file__).resolve().parent.parent
 ARCHIVE = ROOT / "target" / "staticlib" / "libboundary.a"
 LEFT = ROOT / "target" / "damage"
 BATCH = 400
+PATIENCE = 600                              # seconds for a batch, some 2 of them needed
 AMPLE = 1 << 24
 INT32 = (-(1 << 31), (1 << 31) - 1)
 UINT32 = (1 << 32) - 1
@@ -120,23 +122,37 @@ def one(rng, stream, data):
 
 # Running
 
-def built(folder):
-    drive = f"{folder}/drive"
+def compiled(folder, name, *words):
+    program = f"{folder}/{name}"
     subprocess.run(
-        ["gcc", "-std=c11", "-O2", "-Wall", "-Wextra", "-Werror", f"-I{ROOT}/include",
-         f"{ROOT}/damage/drive.c", str(ARCHIVE), "-o", drive],
+        ["gcc", "-std=c11", "-O2", "-Wall", "-Wextra", "-Werror", *words, f"-I{ROOT}/include",
+         f"{ROOT}/damage/{name}.c", str(ARCHIVE), "-o", program],
         check=True,
     )
+    return program
+
+
+def built(folder):
+    """The commands that answer a stream: plain, and watched."""
+    drive = compiled(folder, "drive")
     watched = ["valgrind", "--quiet", "--error-exitcode=9", "--leak-check=full", drive]
     if "DAMAGE_DRIVE" in environ:
         watched = [environ["DAMAGE_DRIVE"]]
     return [drive], watched
 
 
+def ended(command, asked, out):
+    """How the command ended on these requests; None where it did not."""
+    try:
+        return subprocess.run(command, stdin=asked, stdout=out, timeout=PATIENCE).returncode
+    except subprocess.TimeoutExpired:
+        return None
+
+
 def differences(command, asked, answers, folder):
     """What was asked and answered otherwise, or not at all."""
-    with open(f"{folder}/answers", "wb") as out:
-        status = subprocess.run(command, stdin=open(asked, "rb"), stdout=out).returncode
+    with open(asked, "rb") as requests, open(f"{folder}/answers", "wb") as out:
+        status = ended(command, requests, out)
     found = []
     with open(f"{folder}/answers", "rb") as answered:
         for label, wanted in answers:
@@ -147,7 +163,7 @@ def differences(command, asked, answers, folder):
             if answered.read(1):
                 found.append("more answers than requests")
     if status != 0:
-        found.append(f"{Path(command[0]).name} ended with {status}")
+        found.append(f"ended with {status}")
     return found
 
 
@@ -207,6 +223,19 @@ def large(seed, makers, commands, totals):
     return differ, texts
 
 
+def agreeing(seed, folder):
+    """How many texts differ that are too big for second/ and held against themselves."""
+    differ = 0
+    replay = compiled(folder, "fuzz", "-DREPLAY")
+    for name, data in alike(random.Random(seed)):
+        path = Path(folder) / "big.obj"
+        path.write_bytes(data)
+        if subprocess.run([replay, path], stdout=subprocess.DEVNULL).returncode != 0:
+            differ += 1
+            print(f"does not agree with itself: {name} of seed {seed}")
+    return differ
+
+
 def counted(stream, totals):
     totals.update(stream.tally)
     totals["bytes"] += sum(len(wanted) for _, wanted in stream.answers)
@@ -233,7 +262,9 @@ def main(seed, count, more):
         differ, count = seeded(seed, count, [plain, watched], totals)
         quick = [plain, watched] if "DAMAGE_DRIVE" in environ else [plain]
         more_differ, texts = large(seed, [big, long] if more else [big], quick, totals)
-    differ += more_differ
+        differ += more_differ
+        if more:
+            differ += agreeing(seed, folder)
     size = totals.pop("bytes")
     show(totals)
     print(f"damage: {count} texts and {texts} big ones, {totals.total()} calls, {size} bytes compared: {differ} differ")
