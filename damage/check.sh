@@ -1,6 +1,6 @@
 #!/usr/bin/env bash
-# The short run: seeded damage against second/, plain and under valgrind, and the fuzzer's corpus and every stored case through its target.
-# docs/DAMAGE.md says how the long ones are run.
+# The short run, after `rt staticlib boundary`: seeded damage against second/, plain and under valgrind; the fuzzer's corpus and every stored case
+# through its target. docs/DAMAGE.md says how the long ones are run.
 set -euo pipefail
 cd "$(dirname "$0")/.."
 
@@ -10,7 +10,6 @@ need() {
 need gcc
 need valgrind
 
-[ -f target/staticlib/libboundary.a ] || rt staticlib boundary
 python3 damage/run.py 2026 2000
 gcc -std=c11 -O2 -Wall -Wextra -Werror -DREPLAY -Iinclude damage/fuzz.c target/staticlib/libboundary.a -o target/replay
 find damage/corpus second/cases examples -type f -name '*.obj' -exec target/replay {} +

@@ -1,7 +1,10 @@
-"""Seeded damage: the kinds of damaged text, lengths to lend, questions to ask.
+"""Seeded damage: the kinds of damaged text, and lengths to lend.
 
     damaged(rng) -> (kind, text)
-    big(rng), long(rng) yield (kind, text, rooms, buffer), up to the limit of 16,777,216 bytes and one past it
+    big(rng), long(rng) yield (kind, text, rooms, buffer), alike(rng) (name, text)
+
+The last three go up to the limit of 16,777,216 bytes; big goes one past it.
+Run as a script it prints the words for the fuzzer's dictionary.
 """
 
 import stream                               # puts second/ on the path
@@ -24,7 +27,7 @@ FILES = sorted(
 
 
 def whole(rng):
-    """A text to damage: a file of the cases or the examples, a seeded curve or surface, a seeded text."""
+    """A text to damage: a stored file, a seeded curve or surface, a seeded text."""
     style = rng.random()
     if style < 0.25:
         return rng.choice(FILES)
@@ -104,7 +107,9 @@ def random_words(rng):
 
 
 def endings_mixed(rng):
-    endings = rng.choice(((b"\r\n",), (b"\n", b"\r\n"), (b"\n", b"\r\n", b"\n", b"\r\n", b"\r"), (b"\n\r", b"\n")))
+    endings = rng.choice((
+        (b"\r\n",), (b"\n", b"\r\n"), (b"\n", b"\r\n", b"\n", b"\r\n", b"\r"), (b"\n\r", b"\n"),
+    ))
     return b"".join(line + rng.choice(endings) for line in whole(rng).split(b"\n"))
 
 
@@ -120,7 +125,8 @@ def joins_for_blanks(rng):
 
 
 def strange_bytes(rng):
-    return inserted(rng, whole(rng), (b"\0", b"\x7f", b"\x80", b"\xff", b"\x0b", b"\x1a", b"\xef\xbb\xbf", b"#\0\xff\r"))
+    bytes_ = (b"\0", b"\x7f", b"\x80", b"\xff", b"\x0b", b"\x1a", b"\xef\xbb\xbf", b"#\0\xff\r")
+    return inserted(rng, whole(rng), bytes_)
 
 
 def long_words(rng):
@@ -140,7 +146,8 @@ def long_lines(rng):
 
 
 def long_comments(rng):
-    return inserted(rng, whole(rng), (b"#" + bytes(range(11, 256)) * rng.choice((1, 20, 300)) + b"\n", b" # \\\n"))
+    comment = b"#" + bytes(range(11, 256)) * rng.choice((1, 20, 300)) + b"\n"
+    return inserted(rng, whole(rng), (comment, b" # \\\n"))
 
 
 KINDS = (
@@ -211,7 +218,8 @@ CURVE = b"v 0 0 0\nv 1 1 1\ncstype bezier\ndeg 1\ncurv 0 1 1 2\nparm u 0 1\n"
 MESH = b"v 0 0 0\nv 1.5 0 0\nv 1.5 .25 0\nvt 0 .5\nvn 0 0 1\ng top\nf -3/-1/-1 -2/-1/-1 -1/-1/-1\n"
 TRIMMED = (
     b"vp 0 0\nvp 1 0\nvp 1 1\ncstype bspline\ndeg 1 1\ncurv2 -3 -2 -1\nparm u 0 0 1 2 2\nend\n"
-    b"v 0 0 0\nv 1 0 0\nv 0 1 0\nv 1 1 9\nsurf 0 1 0 1 -4 -3 -2 -1\nparm u 0 0 1 1\nparm v 0 0 1 1\ntrim 0 2 -1\nhole 0 1 -1 1 2 -1\nend\n"
+    b"v 0 0 0\nv 1 0 0\nv 0 1 0\nv 1 1 9\nsurf 0 1 0 1 -4 -3 -2 -1\nparm u 0 0 1 1\nparm v 0 0 1 1\n"
+    b"trim 0 2 -1\nhole 0 1 -1 1 2 -1\nend\n"
 )
 PLENTY = 4_096
 
@@ -259,7 +267,8 @@ def long(rng):
 
 
 def alike(rng):
-    """(name, text) too big for second/: held against themselves by the fuzz target. The first has a tidy text over the limit."""
+    """Texts too big for second/, which the fuzz target holds against themselves. The
+    first has a tidy text over the limit."""
     for name, block, size in (
         ("mesh", MESH, TEXT_LIMIT), ("mesh", MESH, TEXT_LIMIT // 3), ("curves", CURVE + b"end\n", 500_000),
         ("trimmed", TRIMMED, 200_000),

@@ -19,7 +19,7 @@ from tidier import TooLong, tidy
 
 FILLER = b"\xa5"
 NONE = Used(*[0] * len(Used._fields))
-ELEMENTS, CORNERS = TABLES.index("elements"), TABLES.index("corners")
+ELEMENTS, CORNERS, RANGES = map(TABLES.index, ("elements", "corners", "ranges"))
 
 
 def numbers(*values):
