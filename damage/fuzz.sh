@@ -31,7 +31,8 @@ RATTLE_HOME=$made/kit rt staticlib boundary > "$made/staticlib.log" || { cat "$m
 
 target=--target=x86_64-unknown-linux-gnu
 "$tools/bin/clang" $target -Xclang -disable-llvm-passes -S -emit-llvm -x ir "$made/module.bc" -o "$made/module.ll"
-sed -i 's/^attributes #0 = {/& sanitize_address/' "$made/module.ll"
+sed -i '/^attributes .*"probe-stack"/s/{/{ sanitize_address/' "$made/module.ll"
+grep -q '{ sanitize_address' "$made/module.ll"
 "$tools/bin/clang" $target -fsanitize=address,fuzzer-no-link -fno-sanitize-ignorelist -fPIC -O2 -c -x ir "$made/module.ll" -o "$made/module.o"
 flags="-std=c11 -O1 -g -Wall -Wextra -Werror -Iinclude"
 # shellcheck disable=SC2086
@@ -42,4 +43,4 @@ clang $flags -fsanitize=address damage/drive.c "$made/module.o" -o "$made/drive"
 python3 damage/kinds.py > "$made/words"
 mapfile -t seeds < <(find second/cases -type d)
 nice -n 19 "$made/fuzz" -seed=2026 -max_len=2048 -max_total_time="$1" -dict="$made/words" -print_final_stats=1 -artifact_prefix="$made/found-" \
-    "$made/corpus" damage/corpus examples "${seeds[@]}" 2>&1 | tee "$made/fuzz.log" | grep -v -e REDUCE -e NEW
+    "$made/corpus" damage/corpus examples "${seeds[@]}" 2>&1 | tee "$made/fuzz.log" | grep -e INITED -e DONE -e Done -e stat:: -e 'not so' -e ERROR

@@ -33,7 +33,8 @@ def whole(rng):
         return rng.choice(FILES)
     if style < 0.5:
         kind = rng.choice(("curv", "curv2", "surf"))
-        degrees = [rng.choice((1, 2, 3, 3, rng.randint(1, 20))) for _ in range(2 if kind == "surf" else 1)]
+        directions = 2 if kind == "surf" else 1
+        degrees = [rng.choice((1, 2, 3, 3, rng.randint(1, 20))) for _ in range(directions)]
         return one_curve(rng, kind, rng.choice(("bezier", "bspline")), degrees)[0]
     return spelled(rng, text(rng).lines)
 

@@ -118,7 +118,9 @@ class Stream:
         self.ask(letter, 0, (numbers(element),), numbers(len(part)), *shown)
 
     def group(self, element):
-        self.part("G", element, 5, group_of(self.text, self.tables[ELEMENTS], self.used.elements, element))
+        part = group_of(self.text, self.tables[ELEMENTS], self.used.elements, element)
+        self.part("G", element, 5, part)
 
     def material(self, element):
-        self.part("M", element, 7, material_of(self.text, self.tables[ELEMENTS], self.used.elements, element))
+        part = material_of(self.text, self.tables[ELEMENTS], self.used.elements, element)
+        self.part("M", element, 7, part)
