@@ -55,8 +55,8 @@ def number(word):
     """A number in millionths: the exact decimal value, rounded once, ties away
     from zero."""
     place, letters = word
-    form = NUMBER.fullmatch(letters)
-    if form is None or len(letters) > 64:
+    form = NUMBER.fullmatch(letters) if len(letters) <= 64 else None
+    if form is None:
         raise Fault(6, place)
     sign, whole, fraction = form.groups()
     if not whole and not fraction:

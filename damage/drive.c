@@ -1,0 +1,237 @@
+/*
+ * The library behind a stream of requests: a request on standard input, its answer on standard output, one after the other.
+ * A request is a letter, its numbers (64 bits each, least byte first), and bytes:
+ *     R read      text length, eleven table lengths; the text
+ *     T tidy      text length, eleven table lengths, buffer length; the text
+ *     S set       text length, nine used counts, eleven table lengths; the text, the tables' bytes. No answer
+ * and of the text, the tables and the used counts that one of these left:
+ *     C curve     element, t
+ *     F surface   element, s, t
+ *     N run       element, steps, point table's length, place
+ *     K corner    element, corner
+ *     G group     element
+ *     M material  element
+ * An answer is the letter, a byte (0 where all canaries stand and nothing lent to be read has changed), the numbers of the C struct, and the bytes
+ * of everything that was lent to be written; of a group or material its length and, where that is not 0, its place and its bytes.
+ */
+#include "lent.h"
+
+enum { USED = 9 };
+
+static struct block text, text_before;
+static struct tables tables, tables_before;
+static kuhlabires_used used;
+
+static int take(void *into, size_t size) {
+    return fread(into, 1, size, stdin) == size;
+}
+
+static void must_take(void *into, size_t size) {
+    if (!take(into, size)) {
+        fprintf(stderr, "a request breaks off\n");
+        exit(2);
+    }
+}
+
+static uint64_t number(void) {
+    uint64_t n;
+    must_take(&n, sizeof n);
+    return n;
+}
+
+static void say(const void *from, size_t size) {
+    if (fwrite(from, 1, size, stdout) != size) {
+        perror("drive");
+        exit(2);
+    }
+}
+
+static void say_number(uint64_t n) {
+    say(&n, sizeof n);
+}
+
+static void say_used(void) {
+    uint32_t counts[USED];
+    memcpy(counts, &used, sizeof counts);
+    for (int i = 0; i < USED; i++) say_number(counts[i]);
+}
+
+static void say_tables(void) {
+    for (int i = 0; i < TABLES; i++) say(tables.of[i].data, tables.of[i].size);
+}
+
+static void say_head(char letter, int kept) {
+    say(&letter, 1);
+    say(kept ? "\0" : "\1", 1);
+}
+
+static int unchanged(struct block lent, struct block before) {
+    return intact(lent) && memcmp(lent.data, before.data, lent.size) == 0;
+}
+
+static int all_unchanged(void) {
+    for (int i = 0; i < TABLES; i++)
+        if (!unchanged(tables.of[i], tables_before.of[i])) return 0;
+    return unchanged(text, text_before);
+}
+
+static void forget(void) {
+    take_back(text);
+    take_back(text_before);
+    take_tables_back(&tables);
+    take_tables_back(&tables_before);
+}
+
+static void keep_tables(void) {
+    for (int i = 0; i < TABLES; i++) tables_before.of[i] = lend_copy(tables.of[i].data, tables.of[i].size);
+}
+
+static void take_lengths(size_t lengths[TABLES]) {
+    for (int i = 0; i < TABLES; i++) lengths[i] = number();
+}
+
+static void take_text(size_t length) {
+    text = lend(length);
+    must_take(text.data, length);
+    text_before = lend_copy(text.data, length);
+}
+
+/* For memcheck: what a block holds is not to be looked at before it is written. */
+static void not_to_be_looked_at(struct block lent) {
+    (void)VALGRIND_MAKE_MEM_UNDEFINED(lent.data, lent.size);
+}
+
+static void left_as_it_was(struct block lent, size_t from, size_t to) {
+    if (from < to && to <= lent.size) (void)VALGRIND_MAKE_MEM_DEFINED(lent.data + from, to - from);
+}
+
+/* ---- The requests ---- */
+
+static void read_text(void) {
+    size_t length = number(), lengths[TABLES];
+    take_lengths(lengths);
+    forget();
+    take_text(length);
+    tables = lend_tables(lengths);
+    for (int i = 0; i < TABLES; i++) not_to_be_looked_at(tables.of[i]);
+    kuhlabires_reading r = kuhlabires_read(text.data, text.size, LEND(&tables));
+    used = r.used;
+    say_head('R', unchanged(text, text_before) && tables_intact(&tables));
+    say_number(r.refusal);
+    say_number(r.place);
+    say_used();
+    say_tables();
+    keep_tables();
+}
+
+static void tidy_text(void) {
+    size_t length = number(), lengths[TABLES];
+    take_lengths(lengths);
+    struct block out = lend(number());
+    forget();
+    take_text(length);
+    tables = lend_tables(lengths);
+    for (int i = 0; i < TABLES; i++) not_to_be_looked_at(tables.of[i]);
+    not_to_be_looked_at(out);
+    kuhlabires_tidying r = kuhlabires_tidy(text.data, text.size, LEND(&tables), out.data, out.size);
+    used = r.used;
+    left_as_it_was(out, r.length, out.size);
+    say_head('T', unchanged(text, text_before) && tables_intact(&tables) && intact(out));
+    say_number(r.refusal);
+    say_number(r.place);
+    say_number(r.length);
+    say_used();
+    say_tables();
+    say(out.data, out.size);
+    take_back(out);
+    keep_tables();
+}
+
+static void set(void) {
+    size_t length = number(), lengths[TABLES];
+    uint32_t counts[USED];
+    for (int i = 0; i < USED; i++) counts[i] = (uint32_t)number();
+    memcpy(&used, counts, sizeof counts);
+    take_lengths(lengths);
+    forget();
+    take_text(length);
+    tables = lend_tables(lengths);
+    for (int i = 0; i < TABLES; i++) must_take(tables.of[i].data, tables.of[i].size);
+    keep_tables();
+}
+
+static void point(char letter) {
+    uint32_t element = (uint32_t)number();
+    int32_t s = letter == 'F' ? (int32_t)number() : 0, t = (int32_t)number();
+    kuhlabires_point p = letter == 'F' ? kuhlabires_point_on_surface(used, LEND(&tables), element, s, t)
+                                       : kuhlabires_point_on_curve(used, LEND(&tables), element, t);
+    say_head(letter, all_unchanged());
+    say_number(p.refusal);
+    say_number(p.axes);
+    say_number((uint32_t)p.x);
+    say_number((uint32_t)p.y);
+    say_number((uint32_t)p.z);
+}
+
+static void run(void) {
+    uint32_t element = (uint32_t)number(), steps = (uint32_t)number();
+    size_t length = number(), at = number();
+    struct block points = lend(4 * length);
+    not_to_be_looked_at(points);
+    kuhlabires_run r = kuhlabires_run_on_curve(used, LEND(&tables), element, steps, (int32_t *)(void *)points.data, length, at);
+    size_t from = r.numbers > 0 ? 4 * at : 0;
+    left_as_it_was(points, 0, from);
+    left_as_it_was(points, from + 4 * r.numbers, points.size);
+    say_head('N', all_unchanged() && intact(points));
+    say_number(r.refusal);
+    say_number(r.numbers);
+    say(points.data, points.size);
+    take_back(points);
+}
+
+static void corner(void) {
+    uint32_t element = (uint32_t)number(), k = (uint32_t)number();
+    kuhlabires_corner c = kuhlabires_corner_of(used, TABLE(&tables, ELEMENTS, const uint32_t), TABLE(&tables, CORNERS, const uint32_t), element, k);
+    say_head('K', all_unchanged());
+    say_number(c.v);
+    say_number(c.vt);
+    say_number(c.vn);
+}
+
+static void part(char letter) {
+    uint32_t element = (uint32_t)number();
+    kuhlabires_part p = letter == 'G' ? kuhlabires_group_of(text.data, text.size, used, TABLE(&tables, ELEMENTS, const uint32_t), element)
+                                      : kuhlabires_material_of(text.data, text.size, used, TABLE(&tables, ELEMENTS, const uint32_t), element);
+    int stands = p.place <= text.size && p.length <= text.size - p.place;
+    say_head(letter, all_unchanged() && stands);
+    say_number(p.length);
+    if (p.length == 0 || !stands) return;
+    say_number(p.place);
+    say(text.data + p.place, p.length);
+}
+
+int main(void) {
+    const size_t none[TABLES] = {0};
+    char letter;
+    set_guard();
+    text = lend(0);
+    text_before = lend(0);
+    tables = lend_tables(none);
+    keep_tables();
+    while (take(&letter, 1)) {
+        switch (letter) {
+        case 'R': read_text(); break;
+        case 'T': tidy_text(); break;
+        case 'S': set(); break;
+        case 'C':
+        case 'F': point(letter); break;
+        case 'N': run(); break;
+        case 'K': corner(); break;
+        case 'G':
+        case 'M': part(letter); break;
+        default: fprintf(stderr, "no request: %d\n", letter); return 2;
+        }
+    }
+    forget();
+    return fflush(stdout) == 0 ? 0 : 2;
+}

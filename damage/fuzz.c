@@ -1,0 +1,348 @@
+/*
+ * The fuzz target: on any text, what the library answers has to agree with itself, whatever the tables and buffers that it is lent; abort() where it
+ * does not. With -DREPLAY it is a program that runs the target on each file that it is given.
+ */
+#include "lent.h"
+
+#define HOLD(fact)                                                                                                                                   \
+    do {                                                                                                                                             \
+        if (!(fact)) {                                                                                                                               \
+            fprintf(stderr, "%s:%d: not so: %s\n", __FILE__, __LINE__, #fact);                                                                       \
+            abort();                                                                                                                                 \
+        }                                                                                                                                            \
+    } while (0)
+
+static const kuhlabires_used NONE;
+
+static int same_used(kuhlabires_used a, kuhlabires_used b) {
+    return memcmp(&a, &b, sizeof a) == 0;
+}
+
+static void entries_of(kuhlabires_used used, size_t lengths[TABLES]) {
+    const size_t entries[TABLES] = {4 * (size_t)used.v,        3 * (size_t)used.vt,      3 * (size_t)used.vn,     4 * (size_t)used.vp,
+                                    used.corners,              9 * (size_t)used.elements, 9 * (size_t)used.bodies, 4 * (size_t)used.bodies,
+                                    used.parameters,           2 * (size_t)used.loops,   2 * (size_t)used.loops};
+    memcpy(lengths, entries, sizeof entries);
+}
+
+static uint32_t entry(const struct tables *t, int table, size_t at) {
+    uint32_t number;
+    memcpy(&number, t->of[table].data + 4 * at, 4);
+    return number;
+}
+
+static int zeros(const struct tables *t) {
+    for (int i = 0; i < TABLES; i++)
+        if (!all_from(t->of[i], 0, 0)) return 0;
+    return 1;
+}
+
+/* Equal as far as the shorter goes, and 0 after it. */
+static int same_table(struct block a, struct block b) {
+    size_t both = a.size < b.size ? a.size : b.size;
+    return memcmp(a.data, b.data, both) == 0 && all_from(a, both, 0) && all_from(b, both, 0);
+}
+
+static int same_tables(const struct tables *a, const struct tables *b) {
+    for (int i = 0; i < TABLES; i++)
+        if (!same_table(a->of[i], b->of[i])) return 0;
+    return 1;
+}
+
+/* ---- Reading and tidying, with what always holds ---- */
+
+static kuhlabires_reading read_into(struct block text, const struct tables *t) {
+    kuhlabires_reading r = kuhlabires_read(text.data, text.size, LEND(t));
+    HOLD(intact(text) && tables_intact(t));
+    HOLD(r.place <= text.size);
+    if (r.refusal == 0) {
+        size_t lengths[TABLES];
+        entries_of(r.used, lengths);
+        HOLD(r.place == 0);
+        for (int i = 0; i < TABLES; i++) HOLD(4 * lengths[i] <= t->of[i].size && all_from(t->of[i], 4 * lengths[i], 0));
+    } else {
+        HOLD(r.refusal >= 2 && r.refusal <= 14);
+        HOLD(same_used(r.used, NONE) && zeros(t));
+    }
+    return r;
+}
+
+static kuhlabires_tidying tidy_into(struct block text, const struct tables *t, struct block out) {
+    kuhlabires_tidying r = kuhlabires_tidy(text.data, text.size, LEND(t), out.data, out.size);
+    HOLD(intact(text) && tables_intact(t) && intact(out));
+    HOLD(r.length <= out.size && all_from(out, r.length, FILLER));
+    if (r.refusal != 0) HOLD(r.length == 0);
+    return r;
+}
+
+/* Refused is refused for any room, with the same number and place unless a table lacks room before. */
+static void refused(struct block text, kuhlabires_reading first) {
+    const size_t none[TABLES] = {0};
+    struct tables t = lend_tables(none);
+    kuhlabires_reading r = read_into(text, &t);
+    HOLD(r.refusal == 14 ? r.place <= first.place : r.refusal == first.refusal && r.place == first.place);
+    struct block out = lend(text.size);
+    kuhlabires_tidying tidied = tidy_into(text, &t, out);
+    HOLD(tidied.refusal == r.refusal && tidied.place == r.place && same_used(tidied.used, NONE));
+    take_back(out);
+    take_tables_back(&t);
+}
+
+/* Read in just the room it needs, and 14 with less of any table. */
+static void just_room(struct block text, const struct tables *whole, kuhlabires_used used) {
+    size_t lengths[TABLES];
+    entries_of(used, lengths);
+    struct tables t = lend_tables(lengths);
+    kuhlabires_reading r = read_into(text, &t);
+    HOLD(r.refusal == 0 && same_used(r.used, used) && same_tables(whole, &t));
+    take_tables_back(&t);
+    for (int i = 0; i < TABLES; i++) {
+        const size_t needed = lengths[i], less[] = {needed - 1, needed / 2};
+        for (int j = 0; needed > 0 && j < 2; j++) {
+            lengths[i] = less[j];
+            t = lend_tables(lengths);
+            HOLD(read_into(text, &t).refusal == 14);
+            take_tables_back(&t);
+        }
+        lengths[i] = needed;
+    }
+}
+
+/* ---- Names ---- */
+
+static size_t next_name(struct block text, size_t at, size_t end, size_t *length) {
+    while (at < end && strchr("\t \\\r\n", text.data[at]) != NULL && text.data[at] != 0) at++;
+    size_t start = at;
+    while (at < end && (text.data[at] == 0 || strchr("\t \\\r\n", text.data[at]) == NULL)) at++;
+    *length = at - start;
+    return start;
+}
+
+static int same_names(struct block a, kuhlabires_part in_a, struct block b, kuhlabires_part in_b) {
+    size_t at = in_a.place, bt = in_b.place, la, lb;
+    HOLD(at + in_a.length <= a.size && bt + in_b.length <= b.size);
+    do {
+        at = next_name(a, at, in_a.place + in_a.length, &la);
+        bt = next_name(b, bt, in_b.place + in_b.length, &lb);
+        if (la != lb || memcmp(a.data + at, b.data + bt, la) != 0) return 0;
+        at += la;
+        bt += lb;
+    } while (la > 0);
+    return 1;
+}
+
+static int same_element(struct block a, const struct tables *ta, struct block b, const struct tables *tb, kuhlabires_used used, uint32_t number) {
+    size_t at = KUHLABIRES_ELEMENT_WIDTH * (size_t)(number - 1);
+    for (size_t field = 0; field < KUHLABIRES_ELEMENT_GROUP_PLACE; field++)
+        if (entry(ta, ELEMENTS, at + field) != entry(tb, ELEMENTS, at + field)) return 0;
+    return same_names(a, kuhlabires_group_of(a.data, a.size, used, TABLE(ta, ELEMENTS, const uint32_t), number), b,
+                      kuhlabires_group_of(b.data, b.size, used, TABLE(tb, ELEMENTS, const uint32_t), number)) &&
+           same_names(a, kuhlabires_material_of(a.data, a.size, used, TABLE(ta, ELEMENTS, const uint32_t), number), b,
+                      kuhlabires_material_of(b.data, b.size, used, TABLE(tb, ELEMENTS, const uint32_t), number));
+}
+
+/* The tidy text reads to the same tables, names aside, and is its own tidy text; it is written exactly where it finds room. */
+static void tidied(struct block text, const struct tables *whole, kuhlabires_used used) {
+    size_t lengths[TABLES];
+    entries_of(used, lengths);
+    struct tables t = lend_tables(lengths);
+    struct block wide = lend(16 * text.size + 4096);
+    kuhlabires_tidying r = tidy_into(text, &t, wide);
+    HOLD(r.place == 0 && same_used(r.used, used) && same_tables(whole, &t));
+    if (r.refusal == 16 && wide.size > KUHLABIRES_MOST_BYTES) {
+        take_back(wide);
+        take_tables_back(&t);
+        return;
+    }
+    HOLD(r.refusal == 0);
+
+    struct block tidy = lend(r.length);
+    HOLD(tidy_into(text, &t, tidy).refusal == 0 && memcmp(tidy.data, wide.data, r.length) == 0);
+    for (size_t room = r.length; room > 0; room -= room / 4) {
+        struct block narrow = lend(--room);
+        kuhlabires_tidying full = tidy_into(text, &t, narrow);
+        HOLD(full.refusal == 16 && full.place == 0 && same_used(full.used, used) && same_tables(whole, &t));
+        take_back(narrow);
+    }
+
+    struct tables again = lend_tables(lengths);
+    struct block twice = lend(r.length);
+    r = tidy_into(tidy, &again, twice);
+    HOLD(r.refusal == 0 && same_used(r.used, used) && r.length == twice.size);
+    HOLD(memcmp(tidy.data, twice.data, twice.size) == 0);
+    for (int i = 0; i < TABLES; i++)
+        if (i != ELEMENTS) HOLD(same_table(whole->of[i], again.of[i]));
+    for (uint32_t number = 1; number <= used.elements; number++) HOLD(same_element(text, whole, tidy, &again, used, number));
+
+    take_back(twice);
+    take_back(tidy);
+    take_back(wide);
+    take_tables_back(&again);
+    take_tables_back(&t);
+}
+
+/* ---- Sampling ---- */
+
+static int refused_point(kuhlabires_point p, uint32_t refusal) {
+    return p.refusal == refusal && p.axes == 0 && p.x == 0 && p.y == 0 && p.z == 0;
+}
+
+/* Each coordinate lies between the least and the greatest among the element's controls. */
+static void within(const struct tables *t, kuhlabires_used used, uint32_t number, uint32_t corners, kuhlabires_point p) {
+    const int32_t point[3] = {p.x, p.y, p.z};
+    for (uint32_t axis = 0; axis < p.axes; axis++) {
+        int32_t least = INT32_MAX, greatest = INT32_MIN;
+        for (uint32_t k = 0; k < corners; k++) {
+            kuhlabires_corner c = kuhlabires_corner_of(used, TABLE(t, ELEMENTS, const uint32_t), TABLE(t, CORNERS, const uint32_t), number, k);
+            HOLD(c.v >= 1);
+            int32_t x = (int32_t)(p.axes == 2 ? entry(t, VP, 4 * (size_t)(c.v - 1) + 1 + axis) : entry(t, V, 4 * (size_t)(c.v - 1) + axis));
+            if (x < least) least = x;
+            if (x > greatest) greatest = x;
+        }
+        HOLD(least <= point[axis] && point[axis] <= greatest);
+    }
+}
+
+static kuhlabires_point curve_at(const struct tables *t, kuhlabires_used used, uint32_t number, int64_t at) {
+    return kuhlabires_point_on_curve(used, LEND(t), number, (int32_t)at);
+}
+
+static void run(const struct tables *t, kuhlabires_used used, uint32_t number, uint32_t axes, int64_t start, int64_t end) {
+    const uint32_t steps = 3;
+    const size_t place = 1, needed = (size_t)axes * (steps + 1);
+    struct block points = lend(4 * (place + needed));
+    kuhlabires_run r = kuhlabires_run_on_curve(used, LEND(t), number, steps, (int32_t *)(void *)points.data, place + needed - 1, place);
+    HOLD(r.refusal == 16 && r.numbers == 0 && all_from(points, 0, FILLER));
+    r = kuhlabires_run_on_curve(used, LEND(t), number, steps, (int32_t *)(void *)points.data, place + needed, place);
+    HOLD(r.refusal == 0 && r.numbers == needed && intact(points));
+    for (uint32_t j = 0; j <= steps; j++) {
+        kuhlabires_point p = curve_at(t, used, number, start + j * (end - start) / steps);
+        const int32_t point[3] = {p.x, p.y, p.z};
+        HOLD(p.refusal == 0 && p.axes == axes);
+        HOLD(memcmp(points.data + 4 * (place + (size_t)axes * j), point, 4 * axes) == 0);
+    }
+    take_back(points);
+}
+
+/* Elements as read: 15 never, 17 for another kind, 19 outside; points between their controls, and a run the same points. */
+static void sampled(const struct tables *t, kuhlabires_used used, uint32_t number) {
+    size_t at = KUHLABIRES_ELEMENT_WIDTH * (size_t)(number - 1);
+    uint32_t kind = entry(t, ELEMENTS, at), corners = entry(t, ELEMENTS, at + KUHLABIRES_ELEMENT_CORNERS);
+    uint32_t body = entry(t, ELEMENTS, at + KUHLABIRES_ELEMENT_BODY);
+    int64_t limits[4] = {0};
+    for (size_t i = 0; body > 0 && i < 4; i++) limits[i] = (int32_t)entry(t, RANGES, 4 * (size_t)(body - 1) + i);
+    for (int j = 0; j < 3; j++) {
+        int64_t u = limits[0] + j * (limits[1] - limits[0]) / 2, v = limits[2] + j * (limits[3] - limits[2]) / 2;
+        kuhlabires_point curve = curve_at(t, used, number, u);
+        kuhlabires_point surface = kuhlabires_point_on_surface(used, LEND(t), number, (int32_t)u, (int32_t)v);
+        int is_curve = kind == KUHLABIRES_CURV || kind == KUHLABIRES_CURV2, is_surface = kind == KUHLABIRES_SURF;
+        HOLD(is_curve ? curve.refusal == 0 || refused_point(curve, 18) : refused_point(curve, 17));
+        HOLD(is_surface ? surface.refusal == 0 || refused_point(surface, 18) : refused_point(surface, 17));
+        if (is_curve && curve.refusal == 0) {
+            HOLD(curve.axes == (kind == KUHLABIRES_CURV2 ? 2u : 3u));
+            within(t, used, number, corners, curve);
+            HOLD(refused_point(curve_at(t, used, number, limits[0] - 1), 19) && refused_point(curve_at(t, used, number, limits[1] + 1), 19));
+            if (j == 0) run(t, used, number, curve.axes, limits[0], limits[1]);
+        }
+        if (is_surface && surface.refusal == 0) within(t, used, number, corners, surface);
+    }
+    for (uint32_t k = 0; k <= corners; k++) {
+        kuhlabires_corner c = kuhlabires_corner_of(used, TABLE(t, ELEMENTS, const uint32_t), TABLE(t, CORNERS, const uint32_t), number, k);
+        size_t first = entry(t, ELEMENTS, at + KUHLABIRES_ELEMENT_FIRST_CORNER) + 3 * (size_t)k;
+        if (k < corners) HOLD(c.v == entry(t, CORNERS, first) && c.vt == entry(t, CORNERS, first + 1) && c.vn == entry(t, CORNERS, first + 2));
+        else HOLD(c.v == 0 && c.vt == 0 && c.vn == 0);
+    }
+}
+
+/* Tables changed at random are answered too, and nothing lent is written but a run's own part. */
+static void broken(struct block text, const struct tables *whole, kuhlabires_used used) {
+    static const uint32_t odd[] = {0, 1, 2, 3, 4, 5, 9, 20, 21, 65536, 1000000, 2000000001, 0x7fffffff, 0x80000000, 0xffffffff, 0xfffffffe};
+    uint64_t chance = 88172645463325252u;
+    for (size_t at = 0; at < text.size; at++) chance = (chance ^ text.data[at]) * 1099511628211u;
+    size_t lengths[TABLES];
+    entries_of(used, lengths);
+    for (int turn = 0; turn < 8; turn++) {
+        struct tables t;
+        for (int i = 0; i < TABLES; i++) t.of[i] = lend_copy(whole->of[i].data, 4 * lengths[i]);
+        for (int change = 0; change < 2; change++) {
+            chance ^= chance << 13, chance ^= chance >> 7, chance ^= chance << 17;
+            struct block table = t.of[chance % TABLES];
+            if (table.size == 0) continue;
+            uint8_t *number = table.data + 4 * ((chance >> 8) % (table.size / 4));
+            uint32_t before;
+            memcpy(&before, number, 4);
+            uint32_t after = chance >> 40 & 1 ? odd[(chance >> 41) % (sizeof odd / sizeof *odd)] : before + (uint32_t)(chance >> 41) % 7 - 3;
+            memcpy(number, &after, 4);
+        }
+        kuhlabires_used counts = used;
+        if (turn == 7) counts.elements = 0xffffffff, counts.corners = 0xffffffff;
+        struct block points = lend(4 * 12);
+        for (uint32_t number = 0; number <= used.elements + 1; number++) {
+            kuhlabires_point p = kuhlabires_point_on_curve(counts, LEND(&t), number, 0);
+            HOLD(p.refusal == 0 ? p.axes == 2 || p.axes == 3 : refused_point(p, p.refusal));
+            p = kuhlabires_point_on_surface(counts, LEND(&t), number, 0, 0);
+            HOLD(p.refusal == 0 ? p.axes == 3 : refused_point(p, p.refusal));
+            kuhlabires_run r = kuhlabires_run_on_curve(counts, LEND(&t), number, 2, (int32_t *)(void *)points.data, 12, 3);
+            HOLD(intact(points) && (r.refusal == 0 ? r.numbers == 9 || r.numbers == 6 : r.numbers == 0));
+            HOLD(all_from(points, 4 * (3 + r.numbers), FILLER));
+            memset(points.data, FILLER, points.size);
+            kuhlabires_part part = kuhlabires_group_of(text.data, text.size, counts, TABLE(&t, ELEMENTS, const uint32_t), number);
+            HOLD(part.place <= text.size && part.length <= text.size - part.place);
+            part = kuhlabires_material_of(text.data, text.size, counts, TABLE(&t, ELEMENTS, const uint32_t), number);
+            HOLD(part.place <= text.size && part.length <= text.size - part.place);
+            kuhlabires_corner_of(counts, TABLE(&t, ELEMENTS, const uint32_t), TABLE(&t, CORNERS, const uint32_t), number, (uint32_t)(chance >> 32));
+        }
+        HOLD(tables_intact(&t) && intact(text));
+        take_back(points);
+        take_tables_back(&t);
+    }
+}
+
+int LLVMFuzzerTestOneInput(const uint8_t *data, size_t size);
+int LLVMFuzzerTestOneInput(const uint8_t *data, size_t size) {
+    set_guard();
+    struct block text = lend_copy(data, size);
+    size_t lengths[TABLES];
+    for (int i = 0; i < TABLES; i++) lengths[i] = KUHLABIRES_OTHER_ROOM(size) + (size_t)i % 5;
+    lengths[CORNERS] = KUHLABIRES_CORNER_ROOM(size);
+    lengths[ELEMENTS] = KUHLABIRES_ELEMENT_ROOM(size);
+    struct tables whole = lend_tables(lengths);
+    kuhlabires_reading r = read_into(text, &whole);
+    HOLD(r.refusal != 14);
+    if (r.refusal != 0) {
+        refused(text, r);
+    } else {
+        just_room(text, &whole, r.used);
+        tidied(text, &whole, r.used);
+        for (uint32_t number = 1; number <= r.used.elements; number++) sampled(&whole, r.used, number);
+        broken(text, &whole, r.used);
+    }
+    HOLD(memcmp(text.data, data, size) == 0);
+    take_tables_back(&whole);
+    take_back(text);
+    return 0;
+}
+
+#ifdef REPLAY
+int main(int count, char **names) {
+    for (int i = 1; i < count; i++) {
+        FILE *file = fopen(names[i], "rb");
+        if (file == NULL || fseek(file, 0, SEEK_END) != 0) {
+            perror(names[i]);
+            return 2;
+        }
+        size_t size = (size_t)ftell(file);
+        uint8_t *data = malloc(size + 1);
+        rewind(file);
+        if (data == NULL || fread(data, 1, size, file) != size) {
+            perror(names[i]);
+            return 2;
+        }
+        fclose(file);
+        LLVMFuzzerTestOneInput(data, size);
+        free(data);
+    }
+    printf("fuzz: %d texts replayed\n", count - 1);
+    return 0;
+}
+#endif

@@ -1,0 +1,94 @@
+"""What is asked of the library about one text: reading and tidying it with awkward
+lengths lent, then points, runs, corners and names of the tables that this leaves
+and of tables broken on purpose.
+"""
+
+from kinds import buffer, needed, rooms
+from stream import ELEMENTS, RANGES
+
+from check import broken
+from records import CURV, CURV2, SIGNED, SURF, TABLES, Refused, Used
+from tidier import tidy
+
+AMPLE = 1 << 24
+INT32 = (-(1 << 31), (1 << 31) - 1)
+UINT32 = (1 << 32) - 1
+
+
+def parameter(rng, start, end):
+    inside = rng.randint(start, end) if start <= end else start
+    return rng.choice((start, end, *[inside] * 5, start - 1, end + 1, rng.choice((0, *INT32))))
+
+
+def held(t):
+    return max(INT32[0], min(INT32[1], t))
+
+
+def ask(rng, stream, most):
+    """Questions of the elements that the stream's tables have, and of none."""
+    count = min(stream.used.elements, len(stream.tables[ELEMENTS]) // 9)
+    there = rng.sample(range(1, count + 1), min(count, most))
+    for element in (*there, rng.choice((0, count + 1, stream.used.elements, UINT32))):
+        record = [0] * 9
+        if 1 <= element <= count:
+            record = stream.tables[ELEMENTS][9 * (element - 1):9 * element]
+        kind, corners, body = record[0], record[2], record[3]
+        limits = stream.tables[RANGES][4 * (body - 1):4 * body] if body else []
+        start, end, v_start, v_end = limits if len(limits) == 4 else (0, 1_000_000, 0, 1_000_000)
+        s, t = held(parameter(rng, start, end)), held(parameter(rng, v_start, v_end))
+        if kind in (CURV, CURV2) or rng.random() < 0.3:
+            stream.curve(element, s)
+            axes = 2 if kind == CURV2 else 3
+            steps = rng.choice((0, 1, 2, 7, 30, 65_537, UINT32))
+            needs = axes * (steps + 1) if steps < 65_536 else 9
+            at = rng.choice((0, 0, 1, 5))
+            length = max(0, at + needs + rng.choice((-needs, -1, 0, 0, 0, 4)))
+            place = rng.choice((at, at, at, at, length, (1 << 64) - 1, 1 << 62))
+            stream.run(element, steps, length, place)
+        if kind == SURF or rng.random() < 0.3:
+            stream.surface(element, s, t)
+        for k in {0, corners - 1, corners, rng.choice((1, UINT32, rng.randrange(1 << 32)))}:
+            stream.corner(element, k & UINT32)
+        stream.group(element)
+        stream.material(element)
+
+
+def shaken(rng, used, tables):
+    """Tables broken as second/ breaks them, then at times far beyond."""
+    if any(map(any, tables)):
+        used, tables = broken(rng, used, tables)
+    used, tables = used._asdict(), [list(table) for table in tables]
+    if rng.random() < 0.4:
+        for _ in range(rng.randint(1, 4)):
+            table = rng.choice(tables)
+            if table:
+                far = (UINT32, *INT32, -1, 0, 1, 3, 1 << 30, rng.randrange(1 << 32))
+                table[rng.randrange(len(table))] = rng.choice(far)
+    if rng.random() < 0.2:
+        used[rng.choice(Used._fields)] = rng.choice((UINT32, 0, 1 << 31))
+    if rng.random() < 0.2:
+        table = rng.choice(tables)
+        del table[rng.randint(0, len(table)):]
+    if rng.random() < 0.1:
+        rng.choice(tables).extend(rng.choices((0, 1, 2, 77), k=rng.randint(1, 9)))
+    for name, table in zip(TABLES, tables):
+        low = INT32[0] if name in SIGNED else 0
+        table[:] = [(number - low) % (1 << 32) + low for number in table]
+    return Used(**used), tables
+
+
+def one(rng, stream, data):
+    needs = needed(data)
+    stream.read(data, rooms(rng, needs))
+    if stream.used.elements:
+        ask(rng, stream, 3)
+    wide = tidy(data, needs, AMPLE)
+    length = 0 if isinstance(wide, Refused) else len(wide.text)
+    stream.tidy(data, rooms(rng, needs), buffer(rng, length))
+    stream.tidy(data, needs, length)
+    if isinstance(wide, Refused):
+        return
+    ask(rng, stream, 3)
+    for _ in range(2):
+        stream.set(data, *shaken(rng, wide.used, wide.tables))
+        ask(rng, stream, 4)

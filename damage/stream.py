@@ -1,0 +1,126 @@
+"""Requests to drive.c as bytes, each with the answer that second/ gives to it.
+
+A Stream holds the text, the used counts and the tables that the last read, tidy
+or set left, as drive.c does, and asks of them.
+"""
+
+from array import array
+from collections import Counter
+from pathlib import Path
+import sys
+
+SECOND = Path(__file__).resolve().parent.parent / "second"
+sys.path.append(str(SECOND))
+
+from reader import corner_of, group_of, material_of, read
+from records import SIGNED, TABLES, Refused, Used, zeros
+from sampler import RefusedPoint, point_on_curve, point_on_surface, run_on_curve
+from tidier import TooLong, tidy
+
+FILLER = b"\xa5"
+NONE = Used(*[0] * len(Used._fields))
+ELEMENTS, CORNERS, RANGES = map(TABLES.index, ("elements", "corners", "ranges"))
+
+
+def numbers(*values):
+    return array("Q", [value & 0xFFFF_FFFF_FFFF_FFFF for value in values]).tobytes()
+
+
+def entries(tables):
+    """The tables' bytes."""
+    return b"".join(
+        array("i" if name in SIGNED else "I", table).tobytes()
+        for name, table in zip(TABLES, tables)
+    )
+
+
+class Stream:
+    def __init__(self):
+        self.tally = Counter()              # of (letter, number of refusal)
+        self.requests = []
+        self.answers = []                   # (what was asked, the bytes wanted)
+        self.label = ""
+        self.text, self.used, self.tables = b"", NONE, zeros([0] * len(TABLES))
+
+    def ask(self, letter, number, request, *answer):
+        self.tally[letter, number] += 1
+        self.requests += [letter.encode(), *request]
+        wanted = b"".join((letter.encode(), b"\0", *answer))
+        self.answers.append((f"{self.label}: {letter}", wanted))
+
+    def read(self, text, rooms):
+        answer = read(text, rooms)
+        number, place = answer if isinstance(answer, Refused) else (0, 0)
+        self.text = text
+        self.used, self.tables = (NONE, zeros(rooms)) if number else answer
+        self.ask(
+            "R", number, (numbers(len(text), *rooms), text),
+            numbers(number, place, *self.used), entries(self.tables),
+        )
+
+    def tidy(self, text, rooms, room):
+        answer = tidy(text, rooms, room)
+        written, number, place = b"", 0, 0
+        self.text = text
+        if isinstance(answer, Refused):
+            number, place = answer
+            self.used, self.tables = NONE, zeros(rooms)
+        else:
+            self.used, self.tables = answer.used, answer.tables
+            if isinstance(answer, TooLong):
+                number = 16
+            else:
+                written = answer.text
+        self.ask(
+            "T", number, (numbers(len(text), *rooms, room), text),
+            numbers(number, place, len(written), *self.used), entries(self.tables),
+            written, FILLER * (room - len(written)),
+        )
+
+    def set(self, text, used, tables):
+        self.text, self.used, self.tables = text, used, tables
+        lengths = [len(table) for table in tables]
+        self.requests += [b"S", numbers(len(text), *used, *lengths), text, entries(tables)]
+
+    def point(self, letter, request, point):
+        number, axes, coordinates = 0, len(point), tuple(point)
+        if isinstance(point, RefusedPoint):
+            number, axes, coordinates = point.number, 0, ()
+        padded = [c & 0xFFFF_FFFF for c in (*coordinates, 0, 0, 0)[:3]]
+        self.ask(letter, number, (numbers(*request),), numbers(number, axes, *padded))
+
+    def curve(self, element, t):
+        self.point("C", (element, t), point_on_curve(self.used, self.tables, element, t))
+
+    def surface(self, element, s, t):
+        self.point("F", (element, s, t), point_on_surface(self.used, self.tables, element, s, t))
+
+    def run(self, element, steps, length, at):
+        filler = array("i", FILLER * 4)[0]
+        points = [filler] * length
+        answer = run_on_curve(self.used, self.tables, element, steps, points, at)
+        refused = isinstance(answer, RefusedPoint)
+        number, written = (answer.number, 0) if refused else (0, answer.numbers)
+        after = array("i", points if refused else answer.points).tobytes()
+        self.ask("N", number, (numbers(element, steps, length, at),), numbers(number, written), after)
+
+    def corner(self, element, k):
+        """Corner k counts from 0, as the library counts."""
+        found = corner_of(
+            self.tables[CORNERS], self.tables[ELEMENTS], self.used.corners, self.used.elements,
+            element, k + 1,
+        )
+        self.ask("K", 0, (numbers(element, k),), numbers(*found))
+
+    def part(self, letter, element, field, part):
+        place = self.tables[ELEMENTS][9 * (element - 1) + field] if part else 0
+        shown = (numbers(place), part) if part else ()
+        self.ask(letter, 0, (numbers(element),), numbers(len(part)), *shown)
+
+    def group(self, element):
+        part = group_of(self.text, self.tables[ELEMENTS], self.used.elements, element)
+        self.part("G", element, 5, part)
+
+    def material(self, element):
+        part = material_of(self.text, self.tables[ELEMENTS], self.used.elements, element)
+        self.part("M", element, 7, part)
