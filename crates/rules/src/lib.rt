@@ -1,12 +1,14 @@
 // Refusal 15: whether one element's records, and every vertex that they name, obey the rules and lie within the used and the lent entries.
 ghost use mathlib.Core.Path.{_≡_};
 ghost use mathlib.Core.Bool.{cond};
+ghost use mathlib.Core.List.{[]};
 ghost use Prim.Native.Nat.{_≤_};
 ghost use lib.Dec.{eqb};
-ghost use Rattle.rules.specs.Rules.{obeys, curvesAmong};
+ghost use Rattle.rules.specs.Rules.{obeys, curvesAmong, curvesNamed};
 ghost use Rattle.tables.specs.Tables.{tables};
 use crate::bodies::body_obeys;
 use crate::corners::corners_obey;
+use tables::Element;
 use tables::Used;
 
 mod bodies;
@@ -77,7 +79,7 @@ fn curve_or_none(kind: u32) -> u32
 }
 
 // How many curv2 elements stand at indices below `index`; there are no more elements than entries.
-pub fn curves_before(elements: &[u32], index: u32) -> u32
+fn curves_before(elements: &[u32], index: u32) -> u32
     ensures { λ r. ⌜ r ≡ curvesAmong (now (elements .entry)) index ⌝ }
 {
     let mut before = 0;
@@ -90,4 +92,27 @@ pub fn curves_before(elements: &[u32], index: u32) -> u32
         i += 1;
     }
     before
+}
+
+// The same where the element names some of them, a surface with loops; else they are not counted.
+pub fn curves_named(
+    elements: &[u32],
+    bodies: &[u32],
+    ranges: &[i32],
+    element: Element,
+    index: u32,
+) -> u32
+    ensures { λ r. ⌜ r ≡ curvesNamed (tables [] [] [] [] [] (now (elements .entry)) (now (bodies .entry)) (now (ranges .entry)) [] [] []) element index ⌝ }
+{
+    if element.kind != 6 {
+        return 0;
+    }
+    if element.body == 0 {
+        return 0;
+    }
+    let body = tables::body_in(bodies, ranges, element.body - 1);
+    if body.loops == 0 {
+        return 0;
+    }
+    curves_before(elements, index)
 }

@@ -11,7 +11,7 @@ use crate::records::is_carried;
 use crate::records::is_inside;
 use crate::records::is_wanted;
 use crate::runs::write_run;
-use rules::curves_before;
+use rules::curves_named;
 use rules::obeys;
 use tables::Used;
 
@@ -67,7 +67,7 @@ fn refusal(
     if !is_wanted(surface, e.kind) {
         return 17;
     }
-    let curves = curves_before(elements, index);
+    let curves = curves_named(elements, bodies, ranges, e, index);
     if !obeys(
         used,
         v,

@@ -9,7 +9,8 @@ use Rattle.tables.specs.Tables.{Tables, tables}
 use Rattle.tables.specs.Records.{bodyAt}
 use Rattle.tables.specs.declared.Element.{Element}
 use Rattle.tables.specs.declared.Body.{Body}
-use Rattle.rules.specs.Rules.{obeys, curvesBefore}
+use Rattle.rules.specs.Rules.{obeys, curvesBefore, curvesNamed}
+use Rattle.rules.proofs.Named.{named-obeys}
 use Rattle.sampler.specs.Answers.{wanted, carried, elementOf, bodyOf}
 use Rattle.sampler.proofs.Obeyed.{Lent}
 use Rattle.sampler.proofs.Refusals.{none-such, past-used, past-lent, other-kind, broken, body-lent, not-carried, none-given}
@@ -54,7 +55,12 @@ module _ (c : tie.After-obeys) where
   kind-yes = sym (kind-is k) ∙ not-false _ (c .before .before .if4 .left)
 
   obeys-is : c .obeys .result ≡ obeys (s .args .used) (lent-tables s) (curvesBefore (lent-tables s) (s .args .element - 1)) (s .args .element - 1)
-  obeys-is = c .obeys .ensures ∙ ap (λ (q : ℕ). obeys (s .args .used) (lent-tables s) q (s .args .element - 1)) (c .before .curves-before .ensures)
+  obeys-is =
+      let t = lent-tables s in
+      let i = s .args .element - 1 in
+      c .obeys .ensures
+      ∙ ap (λ (q : ℕ). obeys (s .args .used) t q i) (c .before .curves-named .ensures ∙ ap (λ (x : Element). curvesNamed t x i) (element-is k))
+      ∙ named-obeys (s .args .used) t i
 
 -- the body, once 15 is passed
 module _ (c : tie.Else5) where
@@ -113,8 +119,8 @@ returns-4 c =
     let a = s .args in
     other-kind (a .surface) (a .used) (lent-tables s) (a .element) (some k) (in-use k) (lent k) (sym (kind-is k) ∙ not-true _ (c .if4 .taken))
 
-curves-before-requires : tie.Need-curves-before-requires
-curves-before-requires c κs = search needs
+curves-named-requires : tie.Need-curves-named-requires
+curves-named-requires c κs = search needs
 
 obeys-requires : tie.Need-obeys-requires
 obeys-requires c κs = search needs
@@ -161,7 +167,7 @@ refusal-spec =
     element-in-requires
     is-wanted-requires
     returns-4
-    curves-before-requires
+    curves-named-requires
     obeys-requires
     returns-5
     sub-body-in
