@@ -9,6 +9,7 @@ ghost use Rattle.sampler.specs.Places.{direction, On};
 ghost use Rattle.sampler.specs.Rows.{Gathered};
 ghost use Rattle.sampler.specs.Controls.{controlAt, Held, Reached};
 use crate::rows::Along;
+use crate::rows::Row;
 use crate::rows::pyramid;
 
 // Number `axis` of the vertex that control i names, of the controls from the corner number `first` on.
@@ -22,7 +23,7 @@ fn control(values: &[i32], corners: &[u32], first: u32, axis: usize, i: usize) -
 
 // Controls from to from + n of those from control `base` on, at the front of the row.
 fn gather(
-    row: &mut [i32],
+    row: &mut [i32; 21],
     values: &[i32],
     corners: &[u32],
     first: u32,
@@ -31,7 +32,7 @@ fn gather(
     from: usize,
     n: usize,
 )
-    requires { ⌜ Held (now values) (now corners) first (base + from) (base + (from + n) + 1) × (axis < 4) × (n < length (now row)) ⌝ }
+    requires { ⌜ Held (now values) (now corners) first (base + from) (base + (from + n) + 1) × (axis < 4) × (n ≤ 20) × (n < length (now row)) ⌝ }
     ensures { λ r. ⌜ Gathered (now (row .exit)) (λ j. controlAt (now (values .entry)) (now (corners .entry)) first axis (base + (from + j))) n ⌝ }
 {
     let mut j = 0;
@@ -68,9 +69,12 @@ pub fn coordinate(
     ensures { λ z. ⌜ (z ≡ curveSampled (direction along (now (x .entry))) t (λ i. controlAt (now (values .entry)) (now (corners .entry)) first axis (base + i))) × Small z ⌝ }
 {
     let from = first_control(along, chosen);
-    let mut row = [0i32; 21];
+    let mut row = Row {
+        values: [0i32; 21],
+        count: along.degree + 1,
+    };
     gather(
-        &mut row,
+        &mut row.values,
         values,
         corners,
         first,
@@ -79,7 +83,7 @@ pub fn coordinate(
         from,
         along.degree,
     );
-    pyramid(&mut row, x, along, t, chosen)
+    pyramid(row, x, along, t, chosen)
 }
 
 // One coordinate of a surface's point at s and t: u first along each row, then v.
@@ -108,5 +112,9 @@ pub fn across(
         numbers[j] = coordinate(values, corners, first, row, axis, x, u, s, across_u);
         j += 1;
     }
-    pyramid(&mut numbers, y, v, t, across_v)
+    let row = Row {
+        values: numbers,
+        count: v.degree + 1,
+    };
+    pyramid(row, y, v, t, across_v)
 }

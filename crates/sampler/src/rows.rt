@@ -8,6 +8,12 @@ ghost use Rattle.sampler.specs.Rows.{Fine, Level};
 use whole::apart;
 use whole::between;
 
+// The working row of one axis: one number shorter at each level.
+pub struct Row {
+    pub values: [i32; 21],
+    pub count: usize,
+}
+
 // A direction but for its parameters: type 1 is bezier, 2 bspline.
 pub struct Along {
     pub basis: u32,
@@ -47,26 +53,27 @@ fn step(x: &[i32], along: Along, t: i32, chosen: usize, r: usize, j: usize, a: i
 }
 
 // One level of de Casteljau's or de Boor's scheme, in place: of last + 1 numbers the first `last` become the next row.
-fn level(row: &mut [i32], last: usize, x: &[i32], along: Along, t: i32, chosen: usize)
-    requires { ⌜ Fine (now row) (last + 1) × On along (now x) t chosen × (0 < last) × (last ≤ along .degree) ⌝ }
-    ensures { λ r. ⌜ Level (now (row .exit)) (now (row .entry)) last (partAt (direction along (now (x .entry))) t (last - 1)) (gapAt (direction along (now (x .entry))) t (last - 1)) ⌝ }
+fn level(values: &mut [i32; 21], last: usize, x: &[i32], along: Along, t: i32, chosen: usize)
+    requires { ⌜ Fine (now values) (last + 1) × On along (now x) t chosen × (0 < last) × (last ≤ along .degree) ⌝ }
+    ensures { λ r. ⌜ Level (now (values .exit)) (now (values .entry)) last (partAt (direction along (now (x .entry))) t (last - 1)) (gapAt (direction along (now (x .entry))) t (last - 1)) ⌝ }
 {
     let mut i = 0;
     while i < last {
-        row[i] = step(x, along, t, chosen, last - 1, i, row[i], row[i + 1]);
+        values[i] = step(x, along, t, chosen, last - 1, i, values[i], values[i + 1]);
         i += 1;
     }
 }
 
 // Level by level from n + 1 numbers to one.
-pub fn pyramid(row: &mut [i32], x: &[i32], along: Along, t: i32, chosen: usize) -> i32
-    requires { ⌜ Fine (now row) (along .degree + 1) × On along (now x) t chosen ⌝ }
-    ensures { λ z. ⌜ (z ≡ pyramid (partAt (direction along (now (x .entry))) t) (gapAt (direction along (now (x .entry))) t) (along .degree) (at (now (row .entry)))) × Small z ⌝ }
+pub fn pyramid(row: Row, x: &[i32], along: Along, t: i32, chosen: usize) -> i32
+    requires { ⌜ Fine (row .values) (row .count) × On along (now x) t chosen × (row .count ≡ along .degree + 1) ⌝ }
+    ensures { λ z. ⌜ (z ≡ pyramid (partAt (direction along (now (x .entry))) t) (gapAt (direction along (now (x .entry))) t) (along .degree) (at (row .values))) × Small z ⌝ }
 {
-    let mut last = along.degree;
-    while 0 < last {
-        level(row, last, x, along, t, chosen);
-        last -= 1;
+    let mut rest = row;
+    while 1 < rest.count {
+        let last = rest.count - 1;
+        level(&mut rest.values, last, x, along, t, chosen);
+        rest.count = last;
     }
-    row[0]
+    rest.values[0]
 }

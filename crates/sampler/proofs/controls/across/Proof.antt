@@ -81,26 +81,26 @@ loop-again c =
     let e = c .coordinate .ensures in
     (omega arith, rw (read-back-small (c .coordinate .result) (e .1)) (filled-more (c .coordinate .result) (l .loop .inv .1) (omega (arith, few l)) (e .0) (e .1)))
 
-slice-aggregate-pyramid : tie.Need-slice-aggregate-pyramid Inv-loop μ-loop
-slice-aggregate-pyramid c = sym (c .before .before .before .loop .inv .1 .long)
+add-t24 : tie.Need-add-t24 Inv-loop μ-loop
+add-t24 c = omega (arith, few (c .before .before .before))
 
 pyramid-requires : tie.Need-pyramid-requires Inv-loop μ-loop
 pyramid-requires c κs =
     let l = c .before .before .before in
     let s = l .before .before .before in
     let g = filled-gathered (s .args .v .degree) (l .loop .inv .1) (omega arith) (omega (arith, few l)) in
-    rw (toZ-ofZ (s .fits .t)) (gathered-fine g, s .pre .3)
+    rw (toZ-ofZ (s .fits .t)) (gathered-fine g, s .pre .3, refl)
 
 returns : tie.Need-returns Inv-loop μ-loop
 returns c =
-    let l = c .before .before .before .before .before in
+    let l = c .before .before .before .before in
     let s = l .before .before .before in
     let a = s .args in
     let du = direction (a .u) (a .x .now) in
     let dv = direction (a .v) (a .y .now) in
-    let e = c .before .pyramid .ensures in
+    let e = c .pyramid .ensures in
     let g = filled-gathered (a .v .degree) (rw (toZ-ofZ (s .fits .s)) at (l .loop .inv .1)) (omega arith) (omega (arith, few l)) in
-    rw (read-back-small (c .before .pyramid .result) (e .1)) (
+    rw (read-back-small (c .pyramid .result) (e .1)) (
       rw (toZ-ofZ (s .fits .t)) at (e .0) ∙ gathered-pyramid (partAt dv (a .t)) (gapAt dv (a .t)) g
           ∙ grid-rows du dv (a .s) (a .t) (a .values .now) (a .corners .now) (a .first) (a .axis) (a .u .controls) (l .before .first-control .result)
           (first-is (s .pre .3) (l .before .first-control .ensures)),
@@ -123,6 +123,6 @@ across-spec =
     add-j
     loop-less
     loop-again
-    slice-aggregate-pyramid
+    add-t24
     pyramid-requires
     returns)

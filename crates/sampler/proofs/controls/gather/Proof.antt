@@ -33,10 +33,10 @@ control-requires c κs =
     (held-part i (i + 1) (s .pre .0) (omega arith) (omega arith), s .pre .1)
 
 mul-t14 : tie.Need-mul-t14 Inv-loop μ-loop
-mul-t14 c = let h = c .before .before .loop .inv .1 .long in omega arith
+mul-t14 c = omega arith
 
-slice-set-from-row : tie.Need-slice-set-from-row Inv-loop μ-loop
-slice-set-from-row c = let h = c .before .before .loop .inv .1 .long in omega arith
+element-set-from-row : tie.Need-element-set-from-row Inv-loop μ-loop
+element-set-from-row c = omega arith
 
 add-j : tie.Need-add-j Inv-loop μ-loop
 add-j c = omega arith
@@ -50,13 +50,10 @@ loop-again c =
     let e = c .control .ensures in
     (omega arith, rw (read-back-small (c .control .result) (e .1)) (filled-more (c .control .result) (m .inv .1) (omega arith) (e .0) (e .1)))
 
-same-length : tie.Need-same-length Inv-loop μ-loop
-same-length c = c .before .loop .inv .1 .long
-
 returns : tie.Need-returns Inv-loop μ-loop
 returns c =
     let m = c .before .loop in
-    filled-gathered (c .before .before .before .args .n) (m .inv .1) (omega arith) (c .before .before .before .pre .2)
+    filled-gathered (c .before .before .before .args .n) (m .inv .1) (omega arith) (c .before .before .before .pre .3)
 
 pub gather-spec : {M : Type 1} → statement M
 gather-spec =
@@ -69,9 +66,8 @@ gather-spec =
     add-control-2
     control-requires
     mul-t14
-    slice-set-from-row
+    element-set-from-row
     add-j
     loop-less
     loop-again
-    same-length
     returns)

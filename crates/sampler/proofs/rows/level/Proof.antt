@@ -19,11 +19,11 @@ use Rattle.sampler.proofs.rows.level.Statement.{statement}
 use Rattle.sampler.proofs.rows.level.Tie as tie
 
 abbrev Inv-loop : tie.InvT-loop
-Inv-loop row₀ last x along t chosen i₀ row i =
-    (i ≤ last) × Partly (partAt (direction along x) (toZ w32 t) (last - 1)) (gapAt (direction along x) (toZ w32 t) (last - 1)) row₀ row i
+Inv-loop values₀ last x along t chosen i₀ values i =
+    (i ≤ last) × Partly (partAt (direction along x) (toZ w32 t) (last - 1)) (gapAt (direction along x) (toZ w32 t) (last - 1)) values₀ values i
 
 abbrev μ-loop : tie.MeasureT-loop
-μ-loop row₀ last x along t chosen i₀ row i = last - i
+μ-loop values₀ last x along t chosen i₀ values i = last - i
 
 loop-holds : tie.Need-loop-holds Inv-loop μ-loop
 loop-holds c = (omega arith, partly-none _ _ _)
@@ -36,34 +36,34 @@ module _ (c : tie.In-loop Inv-loop μ-loop) where
   s = c .before .before
 
   abbrev old : List ℤ
-  old = s .args .row .now
+  old = s .args .values .now
 
   abbrev i : ℕ
   i = c .before .loop .i
 
-  long : length (c .before .loop .row) ≡ length old
+  long : length (c .before .loop .values) ≡ length old
   long = c .before .loop .inv .1 .long
 
-  inside : i + 1 < length (c .before .loop .row)
+  inside : i + 1 < length (c .before .loop .values)
   inside = omega (arith, long, s .pre .0 .most)
 
-  here-is : at (c .before .loop .row) i ≡ at old i
+  here-is : at (c .before .loop .values) i ≡ at old i
   here-is = c .before .loop .inv .1 .rest i (omega arith)
 
-  next-is : at (c .before .loop .row) (i + 1) ≡ at old (i + 1)
+  next-is : at (c .before .loop .values) (i + 1) ≡ at old (i + 1)
   next-is = c .before .loop .inv .1 .rest (i + 1) (omega arith)
 
-  here : Small (at (c .before .loop .row) i)
+  here : Small (at (c .before .loop .values) i)
   here = rw here-is (s .pre .0 .small i (omega arith))
 
-  next : Small (at (c .before .loop .row) (i + 1))
+  next : Small (at (c .before .loop .values) (i + 1))
   next = rw next-is (s .pre .0 .small (i + 1) (omega arith))
 
 mul-step : tie.Need-mul-step Inv-loop μ-loop
 mul-step c = omega (arith, inside c)
 
-slice-copy-out-step : tie.Need-slice-copy-out-step Inv-loop μ-loop
-slice-copy-out-step c = omega (arith, inside c)
+element-copy-out-step : tie.Need-element-copy-out-step Inv-loop μ-loop
+element-copy-out-step c = omega (arith, inside c)
 
 add-step : tie.Need-add-step Inv-loop μ-loop
 add-step c = omega (arith, inside (c .before))
@@ -71,8 +71,8 @@ add-step c = omega (arith, inside (c .before))
 mul-step-2 : tie.Need-mul-step-2 Inv-loop μ-loop
 mul-step-2 c = omega (arith, inside (c .before))
 
-slice-copy-out-step-2 : tie.Need-slice-copy-out-step-2 Inv-loop μ-loop
-slice-copy-out-step-2 c = omega (arith, inside (c .before))
+element-copy-out-step-2 : tie.Need-element-copy-out-step-2 Inv-loop μ-loop
+element-copy-out-step-2 c = omega (arith, inside (c .before))
 
 step-requires : tie.Need-step-requires Inv-loop μ-loop
 step-requires c κs =
@@ -80,11 +80,11 @@ step-requires c κs =
     rw (toZ-ofZ (s t .fits .t), read-back-small _ (here t), read-back-small _ (next t))
     (s t .pre .1, omega arith, omega arith, here t, next t)
 
-mul-t18 : tie.Need-mul-t18 Inv-loop μ-loop
-mul-t18 c = omega (arith, inside (c .before .before .before))
+mul-t20 : tie.Need-mul-t20 Inv-loop μ-loop
+mul-t20 c = omega (arith, inside (c .before .before .before))
 
-slice-set-from-row : tie.Need-slice-set-from-row Inv-loop μ-loop
-slice-set-from-row c = omega (arith, inside (c .before .before .before))
+element-set-from-values : tie.Need-element-set-from-values Inv-loop μ-loop
+element-set-from-values c = omega (arith, inside (c .before .before .before))
 
 add-i : tie.Need-add-i Inv-loop μ-loop
 add-i c = omega arith
@@ -102,9 +102,6 @@ loop-again c =
           (rw (toZ-ofZ (s t .fits .t), read-back-small _ (here t), read-back-small _ (next t)) at (e .0)) (e .1)),
     )
 
-same-length : tie.Need-same-length Inv-loop μ-loop
-same-length c = c .before .loop .inv .1 .long
-
 returns : tie.Need-returns Inv-loop μ-loop
 returns c =
     let s = c .before .before in
@@ -120,15 +117,14 @@ level-spec =
     loop-holds
     sub-step
     mul-step
-    slice-copy-out-step
+    element-copy-out-step
     add-step
     mul-step-2
-    slice-copy-out-step-2
+    element-copy-out-step-2
     step-requires
-    mul-t18
-    slice-set-from-row
+    mul-t20
+    element-set-from-values
     add-i
     loop-less
     loop-again
-    same-length
     returns)

@@ -1,6 +1,6 @@
 -- What is left of the rows comes to what the first row comes to.
 use borrow.Author.Needs.{needs}
-use mathlib.Core.Path.{_≡_, refl, sym, _∙_}
+use mathlib.Core.Path.{_≡_, refl, sym, subst, _∙_}
 use Prim.Native.Nat.{ℕ, _+_, _-_, _≤_, _<_}
 use native.Mathlib.Omega.{arith}
 use lib.ListN.{length}
@@ -18,55 +18,59 @@ use Rattle.sampler.proofs.rows.pyramid.Statement.{statement}
 use Rattle.sampler.proofs.rows.pyramid.Tie as tie
 
 abbrev Inv-loop : tie.InvT-loop
-Inv-loop row₀ x along t chosen last₀ row last =
-    Fine row (last + 1) × (last ≤ along .degree) × (length row ≡ length row₀)
-    × (pyramid (partAt (direction along x) (toZ w32 t)) (gapAt (direction along x) (toZ w32 t)) last (at row)
-    ≡ pyramid (partAt (direction along x) (toZ w32 t)) (gapAt (direction along x) (toZ w32 t)) (along .degree) (at row₀))
+Inv-loop x along t chosen rest₀ rest =
+    Fine (rest .values) (rest .count) × (0 < rest .count) × (rest .count ≤ along .degree + 1)
+    × (pyramid (partAt (direction along x) (toZ w32 t)) (gapAt (direction along x) (toZ w32 t)) (rest .count - 1) (at (rest .values))
+    ≡ pyramid (partAt (direction along x) (toZ w32 t)) (gapAt (direction along x) (toZ w32 t)) (along .degree) (at (rest₀ .values)))
 
 abbrev μ-loop : tie.MeasureT-loop
-μ-loop row₀ x along t chosen last₀ row last = last
+μ-loop x along t chosen rest₀ rest = rest .count
 
 loop-holds : tie.Need-loop-holds Inv-loop μ-loop
-loop-holds c = (c .pre .0, omega arith, refl, refl)
+loop-holds c =
+    let e : c .args .row .count - 1 ≡ c .args .along .degree = omega arith in
+    (c .pre .0, omega arith, omega arith, rw e refl)
+
+sub-last : tie.Need-sub-last Inv-loop μ-loop
+sub-last c = omega arith
 
 level-requires : tie.Need-level-requires Inv-loop μ-loop
 level-requires c κs =
     let l = c .before .before in
     let s = l .before in
-    rw (toZ-ofZ (s .fits .t)) (l .loop .inv .0, s .pre .1, c .before .loop-test .taken, l .loop .inv .1)
-
-sub-last : tie.Need-sub-last Inv-loop μ-loop
-sub-last c = omega arith
+    let one : l .loop .rest .count - 1 + 1 ≡ l .loop .rest .count = omega arith in
+    rw (one, toZ-ofZ (s .fits .t)) (l .loop .inv .0, s .pre .1, omega arith, omega arith)
 
 loop-less : tie.Need-loop-less Inv-loop μ-loop
 loop-less c = omega arith
 
 loop-again : tie.Need-loop-again Inv-loop μ-loop
 loop-again c =
-    let l = c .before .before .before .before in
+    let l = c .before .before .before in
     let m = l .loop in
-    let h = c .before .before .before .loop-test .taken in
-    let e = c .before .level .ensures in
     let s = l .before .args in
     let d = direction (s .along) (s .x .now) in
     let t = toZ w32 (ofZ w32 (s .t)) in
-    let one : m .last - 1 + 1 ≡ m .last = omega arith in
-    (rw one (level-fine e (m .inv .0)), omega arith, e .long ∙ m .inv .2, level-row (partAt d t) (gapAt d t) (m .last) h e ∙ m .inv .3)
+    let one : m .rest .count ≡ m .rest .count - 1 + 1 = omega arith in
+    let more : 0 < m .rest .count - 1 = omega arith in
+    let e = c .level .ensures in (
+      level-fine e (subst (λ (k : ℕ). Fine (m .rest .values) k) one (m .inv .0)),
+      more,
+      omega arith,
+      level-row (partAt d t) (gapAt d t) (m .rest .count - 1) more e ∙ m .inv .3,
+    )
 
-slice-copy-out-result : tie.Need-slice-copy-out-result Inv-loop μ-loop
-slice-copy-out-result c = omega (arith, c .before .loop .inv .0 .most)
-
-same-length : tie.Need-same-length Inv-loop μ-loop
-same-length c = c .before .before .loop .inv .2
+element-copy-out-result : tie.Need-element-copy-out-result Inv-loop μ-loop
+element-copy-out-result c = search needs
 
 returns : tie.Need-returns Inv-loop μ-loop
 returns c =
     let m = c .before .before .loop in
     let s = c .before .before .before in
     let d = direction (s .args .along) (s .args .x .now) in
-    let k = m .inv .0 .small 0 (omega arith) in
-    let one = pyramid-one (partAt d (s .args .t)) (gapAt d (s .args .t)) (m .last) (at (m .row)) (omega arith) in
+    let k = m .inv .0 .small 0 (m .inv .1) in
+    let one = pyramid-one (partAt d (s .args .t)) (gapAt d (s .args .t)) (m .rest .count - 1) (at (m .rest .values)) (omega arith) in
     rw (read-back-small _ k) (sym one ∙ rw (toZ-ofZ (s .fits .t)) at (m .inv .3), k)
 
 pub pyramid-spec : {M : Type 1} → statement M
-pyramid-spec = tie.close (tie.spec Inv-loop μ-loop loop-holds level-requires sub-last loop-less loop-again slice-copy-out-result same-length returns)
+pyramid-spec = tie.close (tie.spec Inv-loop μ-loop loop-holds sub-last level-requires loop-less loop-again element-copy-out-result returns)
