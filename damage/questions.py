@@ -6,7 +6,8 @@ and of tables broken on purpose.
 from kinds import buffer, needed, rooms
 from stream import ELEMENTS, RANGES
 
-from check import broken
+from check import CASES, broken, changed, rows
+from reader import read
 from records import CURV, CURV2, SIGNED, SURF, TABLES, Refused, Used
 from tidier import tidy
 
@@ -92,3 +93,23 @@ def one(rng, stream, data):
     for _ in range(2):
         stream.set(data, *shaken(rng, wide.used, wide.tables))
         ask(rng, stream, 4)
+
+
+def stored_calls(stream):
+    """The calls of second/cases/points.txt, of tables changed as its lines say; `obeys` shows in what sampling refuses."""
+    for name, call, changes, _, _ in rows(CASES / "points.txt"):
+        data = (CASES / name).read_bytes()
+        stream.label = f"{name} | {call} | {changes}"
+        stream.set(data, *changed(read(data, dict.fromkeys(TABLES, 2_000)), changes))
+        word, *given = call.split()
+        element, *rest = map(int, given)
+        if word == "run":
+            steps, room, at = rest
+            stream.run(element, steps, room, at)
+        elif word == "corner":
+            stream.corner(element, rest[0] - 1)
+        elif word == "obeys":
+            stream.curve(element, 0)
+            stream.surface(element, 0, 0)
+        else:
+            getattr(stream, word)(element, *rest)

@@ -2,8 +2,8 @@
 
     rt staticlib boundary && python3 damage/run.py SEED COUNT [LONG]
 
-Every stored case and example, and COUNT seeded texts, damaged in the ways of
-kinds.py, are read, tidied and asked after as questions.py says. Then texts of
+The stored calls on points; then every stored case and example, and COUNT seeded
+texts, damaged in the ways of kinds.py, are read, tidied and asked after as questions.py says. Then texts of
 16,777,216 bytes and about; LONG adds those that take second/ seconds each, and
 some that are held against themselves alone, by the fuzz target.
 
@@ -28,7 +28,7 @@ import sys
 import tempfile
 
 from kinds import FILES, alike, big, damaged, long
-from questions import ask, one
+from questions import ask, one, stored_calls
 from stream import Stream
 
 ROOT = Path(__file__).resolve().parent.parent
@@ -110,7 +110,11 @@ def texts(rng, seed, count):
 
 
 def seeded(seed, count, commands, totals):
-    rng, differ, number = random.Random(seed), 0, 0
+    stream = Stream()
+    stored_calls(stream)
+    differ = hold(stream, commands, "calls")
+    counted(stream, totals)
+    rng, number = random.Random(seed), 0
     found = texts(rng, seed, count)
     while batch := list(islice(found, BATCH)):
         stream = Stream()
