@@ -217,6 +217,13 @@ pub fn corner_at(corners: &[u32], first: u32, k: usize) -> Corner
         return Corner { v: 0, vt: 0, vn: 0 };
     }
     let at = first as usize + 3 * k;
+    if at + 2 < corners.len() {
+        return Corner {
+            v: corners[at],
+            vt: corners[at + 1],
+            vn: corners[at + 2],
+        };
+    }
     Corner {
         v: number_in(corners, at),
         vt: number_in(corners, at + 1),

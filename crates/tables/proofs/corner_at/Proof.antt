@@ -15,6 +15,36 @@ mul-at c = search needs
 add-at : tie.Need-add-at
 add-at c = search needs
 
+add-if2 : tie.Need-add-if2
+add-if2 c = search needs
+
+mul-t8 : tie.Need-mul-t8
+mul-t8 c = search needs
+
+shared-slice-read-t10 : tie.Need-shared-slice-read-t10
+shared-slice-read-t10 c = search needs
+
+add-t11 : tie.Need-add-t11
+add-t11 c = search needs
+
+mul-t12 : tie.Need-mul-t12
+mul-t12 c = search needs
+
+shared-slice-read-t14 : tie.Need-shared-slice-read-t14
+shared-slice-read-t14 c = search needs
+
+add-t15 : tie.Need-add-t15
+add-t15 c = search needs
+
+mul-t16 : tie.Need-mul-t16
+mul-t16 c = search needs
+
+shared-slice-read-t18 : tie.Need-shared-slice-read-t18
+shared-slice-read-t18 c = search needs
+
+returns-2 : tie.Need-returns-2
+returns-2 c = search needs
+
 number-in-requires : tie.Need-number-in-requires
 number-in-requires c κs = search needs
 
@@ -30,8 +60,8 @@ add-number-in-2 c = search needs
 number-in-requires-3 : tie.Need-number-in-requires-3
 number-in-requires-3 c κs = search needs
 
-returns-2 : tie.Need-returns-2
-returns-2 c = rw (c .before .before .number-in .ensures, c .before .number-in2 .ensures, c .number-in3 .ensures) refl
+returns-3 : tie.Need-returns-3
+returns-3 c = rw (c .before .before .number-in .ensures, c .before .number-in2 .ensures, c .number-in3 .ensures) refl
 
 pub corner-at-spec : {M : Type 1} → statement M
 corner-at-spec =
@@ -40,9 +70,19 @@ corner-at-spec =
     returns
     mul-at
     add-at
+    add-if2
+    mul-t8
+    shared-slice-read-t10
+    add-t11
+    mul-t12
+    shared-slice-read-t14
+    add-t15
+    mul-t16
+    shared-slice-read-t18
+    returns-2
     number-in-requires
     add-number-in
     number-in-requires-2
     add-number-in-2
     number-in-requires-3
-    returns-2)
+    returns-3)
