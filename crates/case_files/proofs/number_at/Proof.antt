@@ -13,55 +13,42 @@ Inv-loop cases at value₀ i₀ value i = (value ≤ 50000000000) × (i ≤ leng
 abbrev μ-loop : tie.MeasureT-loop
 μ-loop cases at value₀ i₀ value i = length cases - i
 
--- src/main.rt:42:5
 loop-holds : tie.Need-loop-holds Inv-loop μ-loop
 loop-holds c = search needs
 
--- src/main.rt:43:17
 shared-slice-read-b : tie.Need-shared-slice-read-b Inv-loop μ-loop
 shared-slice-read-b c = search needs
 
--- src/main.rt:44:9
 add-i : tie.Need-add-i Inv-loop μ-loop
 add-i c = search needs
 
--- src/main.rt:54:17
 mul-value : tie.Need-mul-value Inv-loop μ-loop
 mul-value c = search needs
 
--- src/main.rt:54:31
 cast-value : tie.Need-cast-value Inv-loop μ-loop
 cast-value c = search needs
 
--- src/main.rt:54:31
 sub-value : tie.Need-sub-value Inv-loop μ-loop
 sub-value c = search needs
 
--- src/main.rt:54:17
 add-value : tie.Need-add-value Inv-loop μ-loop
 add-value c = search needs
 
--- src/main.rt:42:5
 loop-less : tie.Need-loop-less Inv-loop μ-loop
 loop-less c = search needs
 
--- src/main.rt:42:5
 loop-again : tie.Need-loop-again Inv-loop μ-loop
 loop-again c = search needs
 
--- src/main.rt:37:1
 returns : tie.Need-returns Inv-loop μ-loop
 returns c = search needs
 
--- src/main.rt:37:1
 returns-2 : tie.Need-returns-2 Inv-loop μ-loop
 returns-2 c = search needs
 
--- src/main.rt:37:1
 returns-3 : tie.Need-returns-3 Inv-loop μ-loop
 returns-3 c = search needs
 
--- src/main.rt:37:1
 returns-4 : tie.Need-returns-4 Inv-loop μ-loop
 returns-4 c = search needs
 

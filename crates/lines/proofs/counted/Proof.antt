@@ -6,35 +6,27 @@ use Rattle.lines.proofs.counted.Tie as tie
 use Rattle.lines.proofs.counted.Reads as reads
 use Rattle.lines.proofs.counted.Lts as lts
 
--- src/lib.rt:47:13
 enum-told : tie.Need-enum-told
 enum-told c = search needs
 
--- src/lib.rt:50:13
 enum-told-2 : tie.Need-enum-told-2
 enum-told-2 c = search needs
 
--- src/lib.rt:53:13
 enum-told-3 : tie.Need-enum-told-3
 enum-told-3 c = search needs
 
--- src/lib.rt:56:13
 enum-told-4 : tie.Need-enum-told-4
 enum-told-4 c = search needs
 
--- src/lib.rt:41:1
 returns : tie.Need-returns
 returns c = let kind = c .enum-told .given .1 in rw kind refl
 
--- src/lib.rt:41:1
 returns-2 : tie.Need-returns-2
 returns-2 c = let kind = c .enum-told2 .given .1 in rw kind refl
 
--- src/lib.rt:41:1
 returns-3 : tie.Need-returns-3
 returns-3 c = let kind = c .enum-told3 .given .1 in rw kind refl
 
--- src/lib.rt:41:1
 returns-4 : tie.Need-returns-4
 returns-4 c = let kind = c .enum-told4 .given .1 in rw kind refl
 

@@ -8,43 +8,33 @@ use Rattle.lines.proofs.vertex_into.Reads as reads
 use Rattle.lines.proofs.vertex_into.Lts as lts
 use Rattle.vertices.proofs.take_vertex.Reads as take-vertex-reads
 
--- src/lib.rt:79:72
 enum-told : tie.Need-enum-told
 enum-told c = search needs
 
--- src/lib.rt:79:28
 take-vertex-requires : tie.Need-take-vertex-requires
 take-vertex-requires c κs = search needs
 
--- src/lib.rt:80:70
 enum-told-2 : tie.Need-enum-told-2
 enum-told-2 c = search needs
 
--- src/lib.rt:80:26
 take-vertex-requires-2 : tie.Need-take-vertex-requires-2
 take-vertex-requires-2 c κs = search needs
 
--- src/lib.rt:81:69
 enum-told-3 : tie.Need-enum-told-3
 enum-told-3 c = search needs
 
--- src/lib.rt:81:25
 take-vertex-requires-3 : tie.Need-take-vertex-requires-3
 take-vertex-requires-3 c κs = search needs
 
--- src/lib.rt:82:73
 enum-told-4 : tie.Need-enum-told-4
 enum-told-4 c = search needs
 
--- src/lib.rt:82:29
 take-vertex-requires-4 : tie.Need-take-vertex-requires-4
 take-vertex-requires-4 c κs = search needs
 
--- src/lib.rt:65:1
 same-length : tie.Need-same-length
 same-length c = search needs
 
--- src/lib.rt:65:1
 returns : tie.Need-returns
 returns c =
     let f = c .before .take-vertex in
@@ -52,11 +42,9 @@ returns c =
     let a = told .before .before .before .args in
     geometric-into (now (a .text)) (a .at) (a .used) (f .result) (a .kind) (now (a .v)) (now (a .vt)) (now (a .vn)) (now (a .vp)) (f .last .1 .1 .1 .1 .0) (told .enum-told .given .1) (f .ensures)
 
--- src/lib.rt:65:1
 same-length-2 : tie.Need-same-length-2
 same-length-2 c = search needs
 
--- src/lib.rt:65:1
 returns-2 : tie.Need-returns-2
 returns-2 c =
     let f = c .before .take-vertex2 in
@@ -64,11 +52,9 @@ returns-2 c =
     let a = told .before .before .before .args in
     texture-into (now (a .text)) (a .at) (a .used) (f .result) (a .kind) (now (a .v)) (now (a .vt)) (now (a .vn)) (now (a .vp)) (f .last .1 .1 .1 .1 .0) (told .enum-told2 .given .1) (f .ensures)
 
--- src/lib.rt:65:1
 same-length-3 : tie.Need-same-length-3
 same-length-3 c = search needs
 
--- src/lib.rt:65:1
 returns-3 : tie.Need-returns-3
 returns-3 c =
     let f = c .before .take-vertex3 in
@@ -76,11 +62,9 @@ returns-3 c =
     let a = told .before .before .before .args in
     normal-into (now (a .text)) (a .at) (a .used) (f .result) (a .kind) (now (a .v)) (now (a .vt)) (now (a .vn)) (now (a .vp)) (f .last .1 .1 .1 .1 .0) (told .enum-told3 .given .1) (f .ensures)
 
--- src/lib.rt:65:1
 same-length-4 : tie.Need-same-length-4
 same-length-4 c = search needs
 
--- src/lib.rt:65:1
 returns-4 : tie.Need-returns-4
 returns-4 c =
     let f = c .before .take-vertex4 in

@@ -14,7 +14,6 @@ use Rattle.lines.proofs.counted.Reads as counted-reads
 use Rattle.lines.proofs.vertex_into.Reads as vertex-into-reads
 use Rattle.lines.proofs.with_used.Reads as with-used-reads
 
--- src/lib.rt:102:9
 returns : tie.Need-returns
 returns c =
     let a = c .before .before .before .before .args in
@@ -22,11 +21,9 @@ returns c =
     lent (kindOf (a .kind)) (now (a .text)) (a .at) (a .state) (now (a .v)) (now (a .vt)) (now (a .vn)) (now (a .vp)) (now (a .v)) (now (a .vt)) (now (a .vn)) (now (a .vp)) GaveUp (none-stored (kindOf (a .kind)) (now (a .v)) (now (a .vt)) (now (a .vn)) (now (a .vp)))
     (vertex-open (kindOf (a .kind)) (now (a .text)) (a .at) (a .state) l (c .if1 .taken))
 
--- src/lib.rt:105:9
 count-of-requires : tie.Need-count-of-requires
 count-of-requires c κs = search needs
 
--- src/lib.rt:107:9
 returns-2 : tie.Need-returns-2
 returns-2 c =
     let a = c .before .before .before .before .before .before .before .args in
@@ -34,47 +31,36 @@ returns-2 c =
     lent (kindOf (a .kind)) (now (a .text)) (a .at) (a .state) (now (a .v)) (now (a .vt)) (now (a .vn)) (now (a .vp)) (now (a .v)) (now (a .vt)) (now (a .vn)) (now (a .vp)) GaveUp (none-stored (kindOf (a .kind)) (now (a .v)) (now (a .vt)) (now (a .vn)) (now (a .vp)))
     (vertex-full (kindOf (a .kind)) (now (a .text)) (a .at) (a .state) l (c .before .count-of .result) (c .before .count-of .ensures) (c .if2 .taken))
 
--- src/lib.rt:109:11
 vertex-into-requires : tie.Need-vertex-into-requires
 vertex-into-requires c κs = search needs
 
--- src/lib.rt:110:27
 enum-told : tie.Need-enum-told
 enum-told c = search needs
 
--- src/lib.rt:111:25
 enum-known-next : tie.Need-enum-known-next
 enum-known-next c = search needs
 
--- src/lib.rt:112:44
 add-counted : tie.Need-add-counted
 add-counted c = search needs
 
--- src/lib.rt:112:30
 counted-requires : tie.Need-counted-requires
 counted-requires c κs = search needs
 
--- src/lib.rt:112:20
 with-used-requires : tie.Need-with-used-requires
 with-used-requires c κs = search needs
 
--- src/lib.rt:87:1
 same-length : tie.Need-same-length
 same-length c = search needs
 
--- src/lib.rt:87:1
 same-length-2 : tie.Need-same-length-2
 same-length-2 c = search needs
 
--- src/lib.rt:87:1
 same-length-3 : tie.Need-same-length-3
 same-length-3 c = search needs
 
--- src/lib.rt:87:1
 same-length-4 : tie.Need-same-length-4
 same-length-4 c = search needs
 
--- src/lib.rt:87:1
 returns-3 : tie.Need-returns-3
 returns-3 c =
     let f = c .before .before .before .before .before .before .vertex-into in
@@ -85,23 +71,18 @@ returns-3 c =
     lent (kindOf (a .kind)) (now (a .text)) (a .at) (a .state) (now (a .v)) (now (a .vt)) (now (a .vn)) (now (a .vp)) (f .last .1 .1 .1 .1 .0) (f .last .1 .1 .1 .1 .1 .0) (f .last .1 .1 .1 .1 .1 .1 .0) (f .last .1 .1 .1 .1 .1 .1 .1 .0) GaveUp (f .ensures .1)
     (vertex-gave (kindOf (a .kind)) (now (a .text)) (a .at) (a .state) l (counts .count-of .result) (counts .count-of .ensures) m (f .result) (f .ensures .0) (c .enum-told .given .1))
 
--- src/lib.rt:87:1
 same-length-5 : tie.Need-same-length-5
 same-length-5 c = search needs
 
--- src/lib.rt:87:1
 same-length-6 : tie.Need-same-length-6
 same-length-6 c = search needs
 
--- src/lib.rt:87:1
 same-length-7 : tie.Need-same-length-7
 same-length-7 c = search needs
 
--- src/lib.rt:87:1
 same-length-8 : tie.Need-same-length-8
 same-length-8 c = search needs
 
--- src/lib.rt:87:1
 returns-4 : tie.Need-returns-4
 returns-4 c =
     let f = c .before .before .before .before .before .before .before .before .before .vertex-into in

@@ -14,59 +14,45 @@ Inv-loop points axes i₀ axis₀ t5 t6 i axis = Unit {0}
 abbrev μ-loop : tie.MeasureT-loop
 μ-loop points axes i₀ axis₀ t5 t6 i axis = length points - i
 
--- src/main.rt:38:5
 loop-holds : tie.Need-loop-holds Inv-loop μ-loop
 loop-holds c = search needs
 
--- src/main.rt:40:24
 mul-put-number : tie.Need-mul-put-number Inv-loop μ-loop
 mul-put-number c = search needs
 
--- src/main.rt:40:24
 shared-slice-copy-out-put-number : tie.Need-shared-slice-copy-out-put-number Inv-loop μ-loop
 shared-slice-copy-out-put-number c = search needs
 
--- src/main.rt:40:35
 slice-aggregate-put-number : tie.Need-slice-aggregate-put-number Inv-loop μ-loop
 slice-aggregate-put-number c = search needs
 
--- src/main.rt:40:13
 put-number-requires : tie.Need-put-number-requires Inv-loop μ-loop
 put-number-requires c κs = search needs
 
--- src/main.rt:41:13
 add-axis : tie.Need-add-axis Inv-loop μ-loop
 add-axis c = search needs
 
--- src/main.rt:43:24
 mul-put-number-2 : tie.Need-mul-put-number-2 Inv-loop μ-loop
 mul-put-number-2 c = search needs
 
--- src/main.rt:43:24
 shared-slice-copy-out-put-number-2 : tie.Need-shared-slice-copy-out-put-number-2 Inv-loop μ-loop
 shared-slice-copy-out-put-number-2 c = search needs
 
--- src/main.rt:43:35
 slice-aggregate-put-number-2 : tie.Need-slice-aggregate-put-number-2 Inv-loop μ-loop
 slice-aggregate-put-number-2 c = search needs
 
--- src/main.rt:43:13
 put-number-requires-2 : tie.Need-put-number-requires-2 Inv-loop μ-loop
 put-number-requires-2 c κs = search needs
 
--- src/main.rt:46:9
 add-i : tie.Need-add-i Inv-loop μ-loop
 add-i c = search needs
 
--- src/main.rt:38:5
 loop-less : tie.Need-loop-less Inv-loop μ-loop
 loop-less c = search needs
 
--- src/main.rt:38:5
 loop-again : tie.Need-loop-again Inv-loop μ-loop
 loop-again c = search needs
 
--- src/main.rt:35:1
 returns : tie.Need-returns Inv-loop μ-loop
 returns c = search needs
 

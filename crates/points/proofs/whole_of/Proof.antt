@@ -14,59 +14,45 @@ Inv-loop word value₀ i₀ value i = value ≤ 4294967295
 abbrev μ-loop : tie.MeasureT-loop
 μ-loop word value₀ i₀ value i = length word - i
 
--- src/main.rt:54:5
 loop-holds : tie.Need-loop-holds Inv-loop μ-loop
 loop-holds c = search needs
 
--- src/main.rt:55:17
 shared-slice-read-b : tie.Need-shared-slice-read-b Inv-loop μ-loop
 shared-slice-read-b c = search needs
 
--- src/main.rt:57:13
 returns : tie.Need-returns Inv-loop μ-loop
 returns c = search needs
 
--- src/main.rt:60:13
 returns-2 : tie.Need-returns-2 Inv-loop μ-loop
 returns-2 c = search needs
 
--- src/main.rt:62:23
 mul-least : tie.Need-mul-least Inv-loop μ-loop
 mul-least c = search needs
 
--- src/main.rt:62:37
 cast-least : tie.Need-cast-least Inv-loop μ-loop
 cast-least c = search needs
 
--- src/main.rt:62:37
 sub-least : tie.Need-sub-least Inv-loop μ-loop
 sub-least c = search needs
 
--- src/main.rt:62:23
 add-least : tie.Need-add-least Inv-loop μ-loop
 add-least c = search needs
 
--- src/main.rt:62:9
 least-requires : tie.Need-least-requires Inv-loop μ-loop
 least-requires c κs = search needs
 
--- src/main.rt:63:9
 add-i : tie.Need-add-i Inv-loop μ-loop
 add-i c = search needs
 
--- src/main.rt:54:5
 loop-less : tie.Need-loop-less Inv-loop μ-loop
 loop-less c = search needs
 
--- src/main.rt:54:5
 loop-again : tie.Need-loop-again Inv-loop μ-loop
 loop-again c = search needs
 
--- src/main.rt:65:5
 cast-result : tie.Need-cast-result Inv-loop μ-loop
 cast-result c = search needs
 
--- src/main.rt:51:1
 returns-3 : tie.Need-returns-3 Inv-loop μ-loop
 returns-3 c = search needs
 

@@ -15,39 +15,30 @@ Inv-loop table sum₀ i₀ sum i = Unit {0}
 abbrev μ-loop : tie.MeasureT-loop
 μ-loop table sum₀ i₀ sum i = length table - i
 
--- src/main.rt:116:5
 loop-holds : tie.Need-loop-holds Inv-loop μ-loop
 loop-holds c = search needs
 
--- src/main.rt:117:35
 mul-unsigned : tie.Need-mul-unsigned Inv-loop μ-loop
 mul-unsigned c = search needs
 
--- src/main.rt:117:35
 shared-slice-copy-out-unsigned : tie.Need-shared-slice-copy-out-unsigned Inv-loop μ-loop
 shared-slice-copy-out-unsigned c = search needs
 
--- src/main.rt:117:26
 unsigned-requires : tie.Need-unsigned-requires Inv-loop μ-loop
 unsigned-requires c κs = search needs
 
--- src/main.rt:117:9
 added-requires : tie.Need-added-requires Inv-loop μ-loop
 added-requires c κs = search needs
 
--- src/main.rt:118:9
 add-i : tie.Need-add-i Inv-loop μ-loop
 add-i c = search needs
 
--- src/main.rt:116:5
 loop-less : tie.Need-loop-less Inv-loop μ-loop
 loop-less c = search needs
 
--- src/main.rt:116:5
 loop-again : tie.Need-loop-again Inv-loop μ-loop
 loop-again c = search needs
 
--- src/main.rt:113:1
 returns : tie.Need-returns Inv-loop μ-loop
 returns c = search needs
 

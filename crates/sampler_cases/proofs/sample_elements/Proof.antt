@@ -17,59 +17,45 @@ abbrev μ-loop : tie.MeasureT-loop
 μ-loop used v vt vn vp corners elements bodies ranges parameters loops spans steps first s t from element₀ t19 element =
     3 - element
 
--- src/main.rt:199:9
 returns : tie.Need-returns Inv-loop μ-loop
 returns c = search needs
 
--- src/main.rt:201:13
 shared-slice-copy-out-s : tie.Need-shared-slice-copy-out-s Inv-loop μ-loop
 shared-slice-copy-out-s c = search needs
 
--- src/main.rt:202:13
 shared-slice-copy-out-t : tie.Need-shared-slice-copy-out-t Inv-loop μ-loop
 shared-slice-copy-out-t c = search needs
 
--- src/main.rt:203:16
 least-requires : tie.Need-least-requires Inv-loop μ-loop
 least-requires c κs = search needs
 
--- src/main.rt:203:16
 cast-from : tie.Need-cast-from Inv-loop μ-loop
 cast-from c = search needs
 
--- src/main.rt:205:5
 loop-holds : tie.Need-loop-holds Inv-loop μ-loop
 loop-holds c = search needs
 
--- src/main.rt:219:13
 add-sample : tie.Need-add-sample Inv-loop μ-loop
 add-sample c = search needs
 
--- src/main.rt:206:9
 sample-requires : tie.Need-sample-requires Inv-loop μ-loop
 sample-requires c κs = search needs
 
--- src/main.rt:224:9
 add-element : tie.Need-add-element Inv-loop μ-loop
 add-element c = search needs
 
--- src/main.rt:205:5
 loop-less : tie.Need-loop-less Inv-loop μ-loop
 loop-less c = search needs
 
--- src/main.rt:205:5
 loop-again : tie.Need-loop-again Inv-loop μ-loop
 loop-again c = search needs
 
--- src/main.rt:226:9
 slice-aggregate-put : tie.Need-slice-aggregate-put Inv-loop μ-loop
 slice-aggregate-put c = search needs
 
--- src/main.rt:226:5
 put-requires : tie.Need-put-requires Inv-loop μ-loop
 put-requires c κs = search needs
 
--- src/main.rt:182:1
 returns-2 : tie.Need-returns-2 Inv-loop μ-loop
 returns-2 c = search needs
 

@@ -14,23 +14,19 @@ use Rattle.elements.proofs.body.take_body_line.Reads as take-body-line-reads
 use Rattle.lines.proofs.body_lines.one_body.Reads as one-body-reads
 use Rattle.lines.proofs.element_lines.countable.Reads as countable-reads
 
--- src/body_lines.rt:63:9
 returns : tie.Need-returns
 returns c =
     let a = c .before .before .before .before .before .before .args in
     body-inside (freeOf (a .free)) (now (a .text)) (a .at) (a .state) (now (a .vp)) (now (a .corners)) _ (now (a .elements)) _ (a .bodies) (now (a .ranges)) _ (c .if1 .taken)
 
--- src/body_lines.rt:66:9
 countable-requires : tie.Need-countable-requires
 countable-requires c κs = search needs
 
--- src/body_lines.rt:67:9
 returns-2 : tie.Need-returns-2
 returns-2 c =
     let a = c .before .before .before .before .before .before .before .before .before .args in
     body-full (freeOf (a .free)) (now (a .text)) (a .at) (a .state) (now (a .vp)) (now (a .corners)) _ (now (a .elements)) _ (a .bodies) (now (a .ranges)) _ (sym (c .before .countable .ensures) ∙ not-true _ (c .if2 .taken))
 
--- src/body_lines.rt:69:11
 take-body-line-requires : tie.Need-take-body-line-requires
 take-body-line-requires c κs =
     let tested = c .before .before .before in
@@ -38,27 +34,21 @@ take-body-line-requires c κs =
     let u = countable-parts (start .args .state .used) (sym (tested .before .countable .ensures) ∙ not-false _ (tested .if2 .left)) in
     (start .pre .0, start .pre .1, u .2)
 
--- src/body_lines.rt:82:28
 enum-told : tie.Need-enum-told
 enum-told c = search needs
 
--- src/body_lines.rt:83:26
 enum-known-count : tie.Need-enum-known-count
 enum-known-count c = search needs
 
--- src/body_lines.rt:85:17
 same-length : tie.Need-same-length
 same-length c = search needs
 
--- src/body_lines.rt:85:17
 same-length-2 : tie.Need-same-length-2
 same-length-2 c = search needs
 
--- src/body_lines.rt:85:17
 same-length-3 : tie.Need-same-length-3
 same-length-3 c = search needs
 
--- src/body_lines.rt:85:17
 returns-3 : tie.Need-returns-3
 returns-3 c =
     let told = c .before .before in
@@ -69,7 +59,6 @@ returns-3 c =
     body-long (freeOf (a .free)) (now (a .text)) (a .at) (a .state) (now (a .vp)) (now (a .corners)) _ (now (a .elements)) _ (a .bodies) (now (a .ranges)) _ (tested .if1 .left) _ _ _
     (called .take-body-line .ensures) (told .count .given .1) (start .pre .0) (start .pre .1) (c .if3 .taken)
 
--- src/body_lines.rt:88:24
 one-body-requires : tie.Need-one-body-requires
 one-body-requires c κs =
     let tested = c .before .before .before .before .before .before .before .before .before .before .before .before .before in
@@ -77,19 +66,15 @@ one-body-requires c κs =
     let u = countable-parts (start .args .state .used) (sym (tested .before .countable .ensures) ∙ not-false _ (tested .if2 .left)) in
     (c .if3 .left, u .0, u .1, u .2)
 
--- src/body_lines.rt:47:1
 same-length-4 : tie.Need-same-length-4
 same-length-4 c = search needs
 
--- src/body_lines.rt:47:1
 same-length-5 : tie.Need-same-length-5
 same-length-5 c = search needs
 
--- src/body_lines.rt:47:1
 same-length-6 : tie.Need-same-length-6
 same-length-6 c = search needs
 
--- src/body_lines.rt:47:1
 returns-4 : tie.Need-returns-4
 returns-4 c =
     let called = c .before .before .before .before .before .before .before in
@@ -97,19 +82,15 @@ returns-4 c =
     let a = tested .before .before .before .before .before .before .args in
     body-gave (freeOf (a .free)) (now (a .text)) (a .at) (a .state) (now (a .vp)) (now (a .corners)) _ (now (a .elements)) _ (a .bodies) (now (a .ranges)) _ (tested .if1 .left) _ (called .take-body-line .ensures) (c .enum-told .given .1)
 
--- src/body_lines.rt:47:1
 same-length-7 : tie.Need-same-length-7
 same-length-7 c = search needs
 
--- src/body_lines.rt:47:1
 same-length-8 : tie.Need-same-length-8
 same-length-8 c = search needs
 
--- src/body_lines.rt:47:1
 same-length-9 : tie.Need-same-length-9
 same-length-9 c = search needs
 
--- src/body_lines.rt:47:1
 returns-5 : tie.Need-returns-5
 returns-5 c =
     let told = c .before .before .before in

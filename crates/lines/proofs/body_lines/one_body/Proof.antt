@@ -10,22 +10,18 @@ use Rattle.lines.proofs.body_lines.one_body.Lts as lts
 use Rattle.lines.proofs.body_lines.kind_of.Reads as kind-of-reads
 use Rattle.lines.proofs.element_lines.one_element.Reads as one-element-reads
 
--- src/body_lines.rt:31:9
 one-element-requires : tie.Need-one-element-requires
 one-element-requires c κs = search needs
 
--- src/body_lines.rt:32:5
 add-used : tie.Need-add-used
 add-used c =
     let e = ap (λ (u : Used). u .bodies) (c .before .one-element .ensures) in
     let b = c .before .before .pre .3 in
     record { fits = omega (arith, e, b) }
 
--- src/body_lines.rt:34:15
 kind-of-requires : tie.Need-kind-of-requires
 kind-of-requires c κs = search needs
 
--- src/body_lines.rt:27:1
 returns : tie.Need-returns
 returns c = rw (c .before .before .one-element .ensures, c .kind-of .ensures) refl
 

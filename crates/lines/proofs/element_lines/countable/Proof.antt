@@ -6,17 +6,14 @@ use Rattle.lines.proofs.element_lines.countable.Tie as tie
 use Rattle.lines.proofs.element_lines.countable.Reads as reads
 use Rattle.lines.proofs.element_lines.countable.Lts as lts
 
--- src/element_lines.rt:20:9
 returns : tie.Need-returns
 returns c = rw (lt-leb (c .before .before .args .used .corners) 50331648 (c .if1 .taken)) refl
 
--- src/element_lines.rt:23:9
 returns-2 : tie.Need-returns-2
 returns-2 c =
     let u = c .before .before .before .before .args .used in
     rw (le-leb (u .corners) 50331648 (c .before .before .if1 .left), lt-leb (u .elements) 16777216 (c .if2 .taken)) refl
 
--- src/element_lines.rt:16:1
 returns-3 : tie.Need-returns-3
 returns-3 c =
     let u = c .before .before .before .before .before .args .used in

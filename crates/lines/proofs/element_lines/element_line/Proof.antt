@@ -18,43 +18,34 @@ use Rattle.lines.proofs.element_lines.countable.Reads as countable-read
 use Rattle.lines.proofs.element_lines.one_element.Reads as one-element-reads
 use Rattle.lines.proofs.with_used.Reads as with-used-reads
 
--- src/element_lines.rt:52:9
 returns : tie.Need-returns
 returns c =
     let a = c .before .before .before .before .before .before .args in
     element-inside (shapeOf (a .shape)) (now (a .text)) (a .at) (a .state) (now (a .corners)) _ (now (a .elements)) _ (c .if1 .taken)
 
--- src/element_lines.rt:55:9
 countable-requires : tie.Need-countable-requires
 countable-requires c κs = search needs
 
--- src/element_lines.rt:56:9
 returns-2 : tie.Need-returns-2
 returns-2 c =
     let a = c .before .before .before .before .before .before .before .before .before .args in
     element-full (shapeOf (a .shape)) (now (a .text)) (a .at) (a .state) (now (a .corners)) _ (now (a .elements)) _ (sym (c .before .countable .ensures) ∙ not-true _ (c .if2 .taken))
 
--- src/element_lines.rt:58:11
 take-element-requires : tie.Need-take-element-requires
 take-element-requires c κs = search needs
 
--- src/element_lines.rt:59:28
 enum-told : tie.Need-enum-told
 enum-told c = search needs
 
--- src/element_lines.rt:60:26
 enum-known-count : tie.Need-enum-known-count
 enum-known-count c = search needs
 
--- src/element_lines.rt:62:17
 same-length : tie.Need-same-length
 same-length c = search needs
 
--- src/element_lines.rt:62:17
 same-length-2 : tie.Need-same-length-2
 same-length-2 c = search needs
 
--- src/element_lines.rt:62:17
 returns-3 : tie.Need-returns-3
 returns-3 c =
     let told = c .before .before in
@@ -65,26 +56,21 @@ returns-3 c =
     element-long (shapeOf (a .shape)) (now (a .text)) (a .at) (a .state) (now (a .corners)) _ (now (a .elements)) _ (tested .if1 .left) _ _ _
     (called .take-element .ensures) (told .count .given .1) (start .pre .0) (start .pre .1) (c .if3 .taken)
 
--- src/element_lines.rt:65:34
 one-element-requires : tie.Need-one-element-requires
 one-element-requires c κs =
     let counts = c .before .before .before .before .before .before .before .before .before .before .before .before in
     let u = countable-parts (counts .before .before .before .before .before .before .before .before .args .state .used) (sym (counts .countable .ensures) ∙ not-false _ (c .before .before .before .before .before .before .before .before .before .before .before .if2 .left)) in
     (omega (arith, c .if3 .left), u .0, u .1)
 
--- src/element_lines.rt:65:24
 with-used-requires : tie.Need-with-used-requires
 with-used-requires c κs = search needs
 
--- src/element_lines.rt:39:1
 same-length-3 : tie.Need-same-length-3
 same-length-3 c = search needs
 
--- src/element_lines.rt:39:1
 same-length-4 : tie.Need-same-length-4
 same-length-4 c = search needs
 
--- src/element_lines.rt:39:1
 returns-4 : tie.Need-returns-4
 returns-4 c =
     let called = c .before .before .before .before .before .before in
@@ -92,15 +78,12 @@ returns-4 c =
     let a = tested .before .before .before .before .before .before .args in
     element-gave (shapeOf (a .shape)) (now (a .text)) (a .at) (a .state) (now (a .corners)) _ (now (a .elements)) _ (tested .if1 .left) _ (called .take-element .ensures) (c .enum-told .given .1)
 
--- src/element_lines.rt:39:1
 same-length-5 : tie.Need-same-length-5
 same-length-5 c = search needs
 
--- src/element_lines.rt:39:1
 same-length-6 : tie.Need-same-length-6
 same-length-6 c = search needs
 
--- src/element_lines.rt:39:1
 returns-5 : tie.Need-returns-5
 returns-5 c =
     let told = c .before .before .before .before in

@@ -13,43 +13,33 @@ use Rattle.lines.proofs.inner_lines.closable.Reads as reads
 use Rattle.lines.proofs.inner_lines.closable.Lts as lts
 use Rattle.lines.proofs.inner_lines.counts_hold.Reads as counts-hold-reads
 
--- src/inner_lines.rt:155:9
 counts-hold-requires : tie.Need-counts-hold-requires
 counts-hold-requires c κs = search needs
 
--- src/inner_lines.rt:156:9
 returns : tie.Need-returns
 returns c = let a = c .before .before .before .before .args in sym (and-first (leb (4 * a .state .used .bodies) (a .ranges)) (and-first (leb (9 * a .state .used .bodies) (a .bodies)) (and-first (leb (a .state .«open» .«v_at») (a .text)) (and-first (leb (a .state .«open» .«u_at») (a .text)) (sym (c .before .counts-hold .ensures) ∙ not-true _ (c .if1 .taken))))))
 
--- src/inner_lines.rt:159:9
 returns-2 : tie.Need-returns-2
 returns-2 c = let a = c .before .before .before .before .before .before .args in sym (and-first (leb (4 * a .state .used .bodies) (a .ranges)) (and-first (leb (9 * a .state .used .bodies) (a .bodies)) (and-first (leb (a .state .«open» .«v_at») (a .text)) (and-second (countsHold (a .state)) (lt-leb (a .state .«open» .«u_at») (a .text) (c .if2 .taken))))))
 
--- src/inner_lines.rt:162:9
 returns-3 : tie.Need-returns-3
 returns-3 c = let a = c .before .before .before .before .before .before .before .before .args in sym (and-first (leb (4 * a .state .used .bodies) (a .ranges)) (and-first (leb (9 * a .state .used .bodies) (a .bodies)) (and-second ((countsHold (a .state)) && (leb (a .state .«open» .«u_at») (a .text))) (lt-leb (a .state .«open» .«v_at») (a .text) (c .if3 .taken)))))
 
--- src/inner_lines.rt:164:22
 cast-if4 : tie.Need-cast-if4
 cast-if4 c = search needs
 
--- src/inner_lines.rt:164:17
 mul-if4 : tie.Need-mul-if4
 mul-if4 c = search needs
 
--- src/inner_lines.rt:165:9
 returns-4 : tie.Need-returns-4
 returns-4 c = let a = c .before .before .before .before .before .before .before .before .before .before .args in sym (and-first (leb (4 * a .state .used .bodies) (a .ranges)) (and-second ((countsHold (a .state)) && (leb (a .state .«open» .«u_at») (a .text)) && (leb (a .state .«open» .«v_at») (a .text))) (lt-leb (9 * a .state .used .bodies) (a .bodies) (c .if4 .taken))))
 
--- src/inner_lines.rt:167:10
 cast-result : tie.Need-cast-result
 cast-result c = search needs
 
--- src/inner_lines.rt:167:5
 mul-result : tie.Need-mul-result
 mul-result c = search needs
 
--- src/inner_lines.rt:150:1
 returns-5 : tie.Need-returns-5
 returns-5 c = let a = c .before .before .before .before .before .before .before .before .before .before .before .args in sym (ap (λ (z : Bool). z && (leb (4 * a .state .used .bodies) (a .ranges))) (and-both (and-both (and-both (sym (c .before .before .before .before .before .before .before .before .counts-hold .ensures) ∙ not-false _ (c .before .before .before .before .before .before .before .if1 .left)) (le-leb (a .state .«open» .«u_at») (a .text) (c .before .before .before .before .before .if2 .left))) (le-leb (a .state .«open» .«v_at») (a .text) (c .before .before .before .if3 .left))) (le-leb (9 * a .state .used .bodies) (a .bodies) (c .before .if4 .left))))
 

@@ -7,19 +7,15 @@ use Rattle.lines.proofs.inner_lines.closed_with.Reads as reads
 use Rattle.lines.proofs.inner_lines.closed_with.Lts as lts
 use Rattle.lines.proofs.inner_lines.curves_after.Reads as curves-after-reads
 
--- src/inner_lines.rt:205:42
 add-used : tie.Need-add-used
 add-used c = search needs
 
--- src/inner_lines.rt:205:23
 add-used-2 : tie.Need-add-used-2
 add-used-2 c = search needs
 
--- src/inner_lines.rt:207:9
 curves-after-requires : tie.Need-curves-after-requires
 curves-after-requires c κs = search needs
 
--- src/inner_lines.rt:200:1
 returns : tie.Need-returns
 returns c = rw (c .curves-after .ensures) refl
 

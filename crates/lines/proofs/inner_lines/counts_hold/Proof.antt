@@ -6,23 +6,18 @@ use Rattle.lines.proofs.inner_lines.counts_hold.Tie as tie
 use Rattle.lines.proofs.inner_lines.counts_hold.Reads as reads
 use Rattle.lines.proofs.inner_lines.counts_hold.Lts as lts
 
--- src/inner_lines.rt:66:9
 returns : tie.Need-returns
 returns c = let a = c .before .before .before .before .args .state in rw (lt-leb 1 (a .used .bodies) (c .if1 .taken)) refl
 
--- src/inner_lines.rt:69:9
 returns-2 : tie.Need-returns-2
 returns-2 c = let a = c .before .before .before .before .before .before .before .args .state in rw (le-leb 1 (a .used .bodies) (c .before .before .before .if1 .left), lt-leb (a .«open» .parts) (a .used .loops) (c .if2 .taken)) refl
 
--- src/inner_lines.rt:72:9
 returns-3 : tie.Need-returns-3
 returns-3 c = let a = c .before .before .before .before .before .before .before .before .before .args .state in rw (le-leb 1 (a .used .bodies) (c .before .before .before .before .before .if1 .left), le-leb (a .«open» .parts) (a .used .loops) (c .before .before .if2 .left), lt-leb (a .used .loops) 16777216 (c .if3 .taken)) refl
 
--- src/inner_lines.rt:75:9
 returns-4 : tie.Need-returns-4
 returns-4 c = let a = c .before .before .before .before .before .before .before .before .before .before .before .args .state in rw (le-leb 1 (a .used .bodies) (c .before .before .before .before .before .before .before .if1 .left), le-leb (a .«open» .parts) (a .used .loops) (c .before .before .before .before .if2 .left), le-leb (a .used .loops) 16777216 (c .before .before .if3 .left), lt-leb (a .used .parameters) 16777216 (c .if4 .taken)) refl
 
--- src/inner_lines.rt:60:1
 returns-5 : tie.Need-returns-5
 returns-5 c = let a = c .before .before .before .before .before .before .before .before .before .before .before .before .args .state in rw (le-leb 1 (a .used .bodies) (c .before .before .before .before .before .before .before .before .if1 .left), le-leb (a .«open» .parts) (a .used .loops) (c .before .before .before .before .before .if2 .left), le-leb (a .used .loops) 16777216 (c .before .before .before .if3 .left), le-leb (a .used .parameters) 16777216 (c .before .if4 .left)) refl
 

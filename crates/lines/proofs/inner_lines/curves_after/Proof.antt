@@ -7,15 +7,12 @@ use Rattle.lines.proofs.inner_lines.curves_after.Tie as tie
 use Rattle.lines.proofs.inner_lines.curves_after.Reads as reads
 use Rattle.lines.proofs.inner_lines.curves_after.Lts as lts
 
--- src/inner_lines.rt:194:16
 add-result : tie.Need-add-result
 add-result c = search needs
 
--- src/inner_lines.rt:194:9
 returns : tie.Need-returns
 returns c = rw (eq-eqb (c .before .args .kind) 5 (c .if1 .taken)) refl
 
--- src/inner_lines.rt:189:1
 returns-2 : tie.Need-returns-2
 returns-2 c = rw (ne-eqb (c .before .args .kind) 5 (c .if1 .left)) refl
 

@@ -6,11 +6,9 @@ use Rattle.lines.proofs.inner_lines.degree_for.Tie as tie
 use Rattle.lines.proofs.inner_lines.degree_for.Reads as reads
 use Rattle.lines.proofs.inner_lines.degree_for.Lts as lts
 
--- src/inner_lines.rt:128:9
 returns : tie.Need-returns
 returns c = rw (eq-eqb (c .before .args .basis) 3 (c .if1 .taken)) refl
 
--- src/inner_lines.rt:124:1
 returns-2 : tie.Need-returns-2
 returns-2 c = rw (ne-eqb (c .before .args .basis) 3 (c .if1 .left)) refl
 

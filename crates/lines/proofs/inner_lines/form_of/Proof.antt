@@ -8,23 +8,18 @@ use Rattle.lines.proofs.inner_lines.form_of.Lts as lts
 use Rattle.lines.proofs.inner_lines.degree_for.Reads as degree-for-reads
 use Rattle.lines.proofs.inner_lines.type_for.Reads as type-for-reads
 
--- src/inner_lines.rt:148:9
 type-for-requires : tie.Need-type-for-requires
 type-for-requires c κs = search needs
 
--- src/inner_lines.rt:149:9
 degree-for-requires : tie.Need-degree-for-requires
 degree-for-requires c κs = search needs
 
--- src/inner_lines.rt:150:9
 degree-for-requires-2 : tie.Need-degree-for-requires-2
 degree-for-requires-2 c κs = search needs
 
--- src/inner_lines.rt:152:9
 returns : tie.Need-returns
 returns c = let a = c .before .before .before .before .args in form-surface (a .kind) (a .form) (c .before .before .before .type-for .ensures) (c .before .before .degree-for .ensures) (c .before .degree-for2 .ensures) (c .if1 .taken)
 
--- src/inner_lines.rt:145:1
 returns-2 : tie.Need-returns-2
 returns-2 c = let a = c .before .before .before .before .args in form-curve (a .kind) (a .form) (c .before .before .before .type-for .ensures) (c .before .before .degree-for .ensures) (c .if1 .left)
 

@@ -5,11 +5,9 @@ use Rattle.lines.proofs.inner_lines.keeping.Tie as tie
 use Rattle.lines.proofs.inner_lines.keeping.Reads as reads
 use Rattle.lines.proofs.inner_lines.keeping.Lts as lts
 
--- src/inner_lines.rt:31:9
 returns : tie.Need-returns
 returns c = rw (c .if1 .taken) refl
 
--- src/inner_lines.rt:23:1
 returns-2 : tie.Need-returns-2
 returns-2 c = rw (c .if1 .left) refl
 

@@ -12,55 +12,42 @@ use Rattle.bodies.proofs.loops.take_loop.Reads as take-loop-reads
 use Rattle.lines.proofs.inner_lines.counts_hold.Reads as counts-hold-reads
 use Rattle.lines.proofs.inner_lines.looped.Reads as looped-reads
 
--- src/inner_lines.rt:108:9
 returns : tie.Need-returns
 returns c = let a = c .before .before .before .before .before .args in loop-shut (a .hole) (now (a .text)) (a .at) (a .state) (now (a .loops)) (now (a .loops)) (now (a .spans)) (now (a .spans)) (c .if1 .taken)
 
--- src/inner_lines.rt:110:9
 counts-hold-requires : tie.Need-counts-hold-requires
 counts-hold-requires c κs = search needs
 
--- src/inner_lines.rt:111:9
 returns-2 : tie.Need-returns-2
 returns-2 c = let a = c .before .before .before .before .before .before .before .args in loop-unsound (a .hole) (now (a .text)) (a .at) (a .state) (now (a .loops)) (now (a .loops)) (now (a .spans)) (now (a .spans)) (sym (c .before .counts-hold .ensures) ∙ not-true _ (c .if2 .taken))
 
--- src/inner_lines.rt:114:11
 take-loop-requires : tie.Need-take-loop-requires
 take-loop-requires c κs = search needs
 
--- src/inner_lines.rt:115:25
 enum-told : tie.Need-enum-told
 enum-told c = search needs
 
--- src/inner_lines.rt:116:23
 enum-known-parts : tie.Need-enum-known-parts
 enum-known-parts c = search needs
 
--- src/inner_lines.rt:117:20
 looped-requires : tie.Need-looped-requires
 looped-requires c κs = let a = c .before .before .before .before .before .before .before .before .before .before .before .before .before .before .before .before .before .args in loop-sums (a .hole) (now (a .text)) (a .at) (a .state) (now (a .loops)) _ (now (a .spans)) _ (c .before .before .before .before .before .before .take-loop .result) _ _ (sym (c .before .before .before .before .before .before .before .before .before .before .before .counts-hold .ensures) ∙ not-false _ (c .before .before .before .before .before .before .before .before .before .before .if2 .left)) (c .before .before .before .before .before .before .before .before .before .before .before .before .before .before .before .before .before .pre .1) (c .before .before .before .before .before .before .take-loop .ensures) (c .before .parts .given .1)
 
--- src/inner_lines.rt:95:1
 same-length : tie.Need-same-length
 same-length c = search needs
 
--- src/inner_lines.rt:95:1
 same-length-2 : tie.Need-same-length-2
 same-length-2 c = search needs
 
--- src/inner_lines.rt:95:1
 returns-3 : tie.Need-returns-3
 returns-3 c = let a = c .before .before .before .before .before .before .before .before .before .before .before .before .before .before .before .before .args in loop-gave (a .hole) (now (a .text)) (a .at) (a .state) (now (a .loops)) _ (now (a .spans)) _ (c .before .before .before .before .before .take-loop .result) (c .before .before .before .before .before .before .before .before .before .before .before .if1 .left) (c .before .before .before .before .before .take-loop .ensures) (c .enum-told .given .1)
 
--- src/inner_lines.rt:95:1
 same-length-3 : tie.Need-same-length-3
 same-length-3 c = search needs
 
--- src/inner_lines.rt:95:1
 same-length-4 : tie.Need-same-length-4
 same-length-4 c = search needs
 
--- src/inner_lines.rt:95:1
 returns-4 : tie.Need-returns-4
 returns-4 c = let a = c .before .before .before .before .before .before .before .before .before .before .before .before .before .before .before .before .before .before .args in loop-took (a .hole) (now (a .text)) (a .at) (a .state) (now (a .loops)) _ (now (a .spans)) _ (c .before .before .before .before .before .before .before .take-loop .result) _ _ (c .looped .result) (c .before .before .before .before .before .before .before .before .before .before .before .before .before .if1 .left) (c .before .before .before .before .before .before .before .take-loop .ensures) (c .before .before .parts .given .1) (c .looped .ensures)
 

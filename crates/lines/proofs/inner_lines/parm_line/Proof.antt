@@ -11,31 +11,24 @@ use Rattle.lines.proofs.inner_lines.parm_line.Lts as lts
 use Rattle.bodies.proofs.parm.take_parm.Reads as take-parm-reads
 use Rattle.lines.proofs.inner_lines.keeping.Reads as keeping-reads
 
--- src/inner_lines.rt:44:9
 returns : tie.Need-returns
 returns c = let a = c .before .before .before .before .args in parm-outside (now (a .text)) (a .at) (a .state) (c .if1 .taken)
 
--- src/inner_lines.rt:46:11
 take-parm-requires : tie.Need-take-parm-requires
 take-parm-requires c κs = search needs
 
--- src/inner_lines.rt:47:25
 enum-told : tie.Need-enum-told
 enum-told c = search needs
 
--- src/inner_lines.rt:49:13
 enum-known-along-v : tie.Need-enum-known-along-v
 enum-known-along-v c = search needs
 
--- src/inner_lines.rt:53:20
 keeping-requires : tie.Need-keeping-requires
 keeping-requires c κs = search needs
 
--- src/inner_lines.rt:37:1
 returns-2 : tie.Need-returns-2
 returns-2 c = let a = c .before .before .before .before .before .before .before .before .args in parm-gave (now (a .text)) (a .at) (a .state) (c .before .before .take-parm .result) (eqb (a .state .«open» .kind) 6) refl (c .before .before .take-parm .ensures) (c .enum-told .given .1)
 
--- src/inner_lines.rt:37:1
 returns-3 : tie.Need-returns-3
 returns-3 c = let a = c .before .before .before .before .before .before .before .before .before .before .args in parm-took (now (a .text)) (a .at) (a .state) (c .before .before .before .before .take-parm .result) (eqb (a .state .«open» .kind) 6) _ _ _ (c .keeping .result) refl (c .before .before .before .before .before .before .if1 .left) (c .before .before .before .before .take-parm .ensures) (c .before .before .along-v .given .1) (c .keeping .ensures)
 

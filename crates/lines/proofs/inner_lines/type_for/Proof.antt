@@ -6,11 +6,9 @@ use Rattle.lines.proofs.inner_lines.type_for.Tie as tie
 use Rattle.lines.proofs.inner_lines.type_for.Reads as reads
 use Rattle.lines.proofs.inner_lines.type_for.Lts as lts
 
--- src/inner_lines.rt:139:9
 returns : tie.Need-returns
 returns c = rw (eq-eqb (c .before .args .basis) 0 (c .if1 .taken)) refl
 
--- src/inner_lines.rt:135:1
 returns-2 : tie.Need-returns-2
 returns-2 c = rw (ne-eqb (c .before .args .basis) 0 (c .if1 .left)) refl
 

@@ -6,19 +6,15 @@ use Rattle.lines.proofs.setting_lines.names_step.Tie as tie
 use Rattle.lines.proofs.setting_lines.names_step.Reads as reads
 use Rattle.lines.proofs.setting_lines.names_step.Lts as lts
 
--- src/setting_lines.rt:44:31
 enum-told : tie.Need-enum-told
 enum-told c = search needs
 
--- src/setting_lines.rt:45:29
 enum-known-taken : tie.Need-enum-known-taken
 enum-known-taken c = search needs
 
--- src/setting_lines.rt:40:1
 returns : tie.Need-returns
 returns c = search needs
 
--- src/setting_lines.rt:40:1
 returns-2 : tie.Need-returns-2
 returns-2 c = let taken = c .before .taken .given .1 in rw taken refl
 

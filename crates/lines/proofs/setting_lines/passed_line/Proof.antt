@@ -9,26 +9,21 @@ use Rattle.lines.proofs.setting_lines.passed_line.Reads as reads
 use Rattle.lines.proofs.setting_lines.passed_line.Lts as lts
 use Rattle.text.proofs.scan_line.Reads as scan-line-reads
 
--- src/setting_lines.rt:60:11
 scan-line-requires : tie.Need-scan-line-requires
 scan-line-requires c κs = search needs
 
--- src/setting_lines.rt:61:32
 enum-known-next : tie.Need-enum-known-next
 enum-known-next c = search needs
 
--- src/setting_lines.rt:65:25
 enum-told : tie.Need-enum-told
 enum-told c = search needs
 
--- src/setting_lines.rt:56:1
 returns : tie.Need-returns
 returns c =
     let scanned = c .before .before .before in
     let a = scanned .before .before .args in
     λ out. passed-line (now (a .text)) (a .at) (a .state) out _ _ (sym (c .before .next .given .1) ∙ scanned .scan-line .ensures)
 
--- src/setting_lines.rt:56:1
 returns-2 : tie.Need-returns-2
 returns-2 c =
     let scanned = c .before .before in

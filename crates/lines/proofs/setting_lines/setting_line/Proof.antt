@@ -16,79 +16,60 @@ use Rattle.settings.proofs.take_material.Reads as take-material-reads
 use Rattle.settings.proofs.take_smoothing.Reads as take-smoothing-reads
 use Rattle.settings.proofs.take_type.Reads as take-type-reads
 
--- src/setting_lines.rt:83:9
 returns : tie.Need-returns
 returns c = let a = c .before .before .before .before .args in setting-inside (now (a .text)) (a .at) (a .state) (a .setting) (c .if1 .taken)
 
--- src/setting_lines.rt:88:47
 enum-told : tie.Need-enum-told
 enum-told c = search needs
 
--- src/setting_lines.rt:88:47
 take-type-requires : tie.Need-take-type-requires
 take-type-requires c κs = search needs
 
--- src/setting_lines.rt:88:30
 form-step-requires : tie.Need-form-step-requires
 form-step-requires c κs = search needs
 
--- src/setting_lines.rt:89:45
 enum-told-2 : tie.Need-enum-told-2
 enum-told-2 c = search needs
 
--- src/setting_lines.rt:89:45
 take-degree-requires : tie.Need-take-degree-requires
 take-degree-requires c κs = search needs
 
--- src/setting_lines.rt:89:28
 form-step-requires-2 : tie.Need-form-step-requires-2
 form-step-requires-2 c κs = search needs
 
--- src/setting_lines.rt:90:45
 enum-told-3 : tie.Need-enum-told-3
 enum-told-3 c = search needs
 
--- src/setting_lines.rt:90:45
 take-group-requires : tie.Need-take-group-requires
 take-group-requires c κs = search needs
 
--- src/setting_lines.rt:90:27
 names-step-requires : tie.Need-names-step-requires
 names-step-requires c κs = search needs
 
--- src/setting_lines.rt:91:49
 enum-told-4 : tie.Need-enum-told-4
 enum-told-4 c = search needs
 
--- src/setting_lines.rt:91:49
 take-smoothing-requires : tie.Need-take-smoothing-requires
 take-smoothing-requires c κs = search needs
 
--- src/setting_lines.rt:91:31
 names-step-requires-2 : tie.Need-names-step-requires-2
 names-step-requires-2 c κs = search needs
 
--- src/setting_lines.rt:92:48
 enum-told-5 : tie.Need-enum-told-5
 enum-told-5 c = search needs
 
--- src/setting_lines.rt:92:48
 take-material-requires : tie.Need-take-material-requires
 take-material-requires c κs = search needs
 
--- src/setting_lines.rt:92:30
 names-step-requires-3 : tie.Need-names-step-requires-3
 names-step-requires-3 c κs = search needs
 
--- src/setting_lines.rt:93:32
 enum-told-6 : tie.Need-enum-told-6
 enum-told-6 c = search needs
 
--- src/setting_lines.rt:93:32
 passed-line-requires : tie.Need-passed-line-requires
 passed-line-requires c κs = search needs
 
--- src/setting_lines.rt:70:1
 returns-2 : tie.Need-returns-2
 returns-2 c =
     let told = c .before .before in
@@ -96,7 +77,6 @@ returns-2 c =
     let a = left .before .before .before .before .args in
     setting-is (now (a .text)) (a .at) (a .state) (told .enum-told .given .1) (c .form-step .ensures) (type-line (now (a .text)) (a .at) (a .state) (left .if1 .left) _ (c .before .take-type .ensures))
 
--- src/setting_lines.rt:70:1
 returns-3 : tie.Need-returns-3
 returns-3 c =
     let told = c .before .before in
@@ -104,7 +84,6 @@ returns-3 c =
     let a = left .before .before .before .before .args in
     setting-is (now (a .text)) (a .at) (a .state) (told .enum-told2 .given .1) (c .form-step2 .ensures) (degree-line (now (a .text)) (a .at) (a .state) (left .if1 .left) _ (c .before .take-degree .ensures))
 
--- src/setting_lines.rt:70:1
 returns-4 : tie.Need-returns-4
 returns-4 c =
     let told = c .before .before in
@@ -112,7 +91,6 @@ returns-4 c =
     let a = left .before .before .before .before .args in
     setting-is (now (a .text)) (a .at) (a .state) (told .enum-told3 .given .1) (c .names-step .ensures) (group-line (now (a .text)) (a .at) (a .state) (left .if1 .left) _ (c .before .take-group .ensures))
 
--- src/setting_lines.rt:70:1
 returns-5 : tie.Need-returns-5
 returns-5 c =
     let told = c .before .before in
@@ -120,7 +98,6 @@ returns-5 c =
     let a = left .before .before .before .before .args in
     setting-is (now (a .text)) (a .at) (a .state) (told .enum-told4 .given .1) (c .names-step2 .ensures) (smoothing-line (now (a .text)) (a .at) (a .state) (left .if1 .left) _ (c .before .take-smoothing .ensures))
 
--- src/setting_lines.rt:70:1
 returns-6 : tie.Need-returns-6
 returns-6 c =
     let told = c .before .before in
@@ -128,7 +105,6 @@ returns-6 c =
     let a = left .before .before .before .before .args in
     setting-is (now (a .text)) (a .at) (a .state) (told .enum-told5 .given .1) (c .names-step3 .ensures) (material-line (now (a .text)) (a .at) (a .state) (left .if1 .left) _ (c .before .take-material .ensures))
 
--- src/setting_lines.rt:70:1
 returns-7 : tie.Need-returns-7
 returns-7 c =
     let told = c .before in

@@ -17,31 +17,24 @@ use Rattle.reader.proofs.line_by_line.stopped.Reads as stopped-reads
 use Rattle.reader.proofs.taking.take_line.Reads as take-line-reads
 use Rattle.text.proofs.gap.Reads as gap-reads
 
--- src/line_by_line.rt:64:11
 gap-requires : tie.Need-gap-requires
 gap-requires c κs = search needs
 
--- src/line_by_line.rt:65:18
 enum-known-q : tie.Need-enum-known-q
 enum-known-q c = search needs
 
--- src/line_by_line.rt:69:18
 enum-known-p : tie.Need-enum-known-p
 enum-known-p c = search needs
 
--- src/line_by_line.rt:73:20
 enum-known-p-2 : tie.Need-enum-known-p-2
 enum-known-p-2 c = search needs
 
--- src/line_by_line.rt:74:17
 keyword-at-requires : tie.Need-keyword-at-requires
 keyword-at-requires c κs = search needs
 
--- src/line_by_line.rt:76:17
 family-of-requires : tie.Need-family-of-requires
 family-of-requires c κs = search needs
 
--- src/line_by_line.rt:77:19
 take-line-requires : tie.Need-take-line-requires
 take-line-requires c κs =
     let g = c .before .before .before .before .before .before .before .before .before .before .before .before .before .before .before .before in
@@ -49,88 +42,69 @@ take-line-requires c κs =
     let a = start .args in
     ((keyword-to (now (a .text)) (a .at) _ (c .before .before .before .before .before .before .before .before .before .before .before .before .keyword-at .result) (word-found (now (a .text)) (a .at) (g .gap .result) (g .gap .ensures) (c .before .before .before .before .before .before .before .before .before .before .before .before .before .before .p2 .given .1)) (c .before .before .before .before .before .before .before .before .before .before .before .before .keyword-at .ensures), start .pre .0 .1), start .pre .1 .1)
 
--- src/line_by_line.rt:95:31
 enum-known-state : tie.Need-enum-known-state
 enum-known-state c = search needs
 
--- src/line_by_line.rt:99:31
 enum-known-number : tie.Need-enum-known-number
 enum-known-number c = search needs
 
--- src/line_by_line.rt:104:65
 enum-told : tie.Need-enum-told
 enum-told c = search needs
 
--- src/line_by_line.rt:104:25
 blame-requires : tie.Need-blame-requires
 blame-requires c κs =
     let start = c .before .before .before .before .before .before .before .before .before .before .before .before .before .before .before .before .before .before .before .before .before .before .before .before .before .before .before .before .before .before .before .before .before .before .before .before .before .before .before .before .before in
     let below = start .pre .0 .0 in
     (omega (arith, below), (start .pre .1 .0, start .pre .1 .1))
 
--- src/line_by_line.rt:105:21
 stopped-requires : tie.Need-stopped-requires
 stopped-requires c κs = search needs
 
--- src/line_by_line.rt:41:1
 returns : tie.Need-returns
 returns c =
     let g = c .before .before .before in
     let a = g .before .before .before .before .before .before .args in
     line-empty (now (a .text)) (a .at) (a .state) (tables (now (a .v)) (now (a .vt)) (now (a .vn)) (now (a .vp)) (now (a .corners)) (now (a .elements)) (now (a .bodies)) (now (a .ranges)) (now (a .parameters)) (now (a .loops)) (now (a .spans))) (end-found (now (a .text)) (a .at) (g .gap .result) (g .gap .ensures) (c .before .q .given .1))
 
--- src/line_by_line.rt:41:1
 returns-2 : tie.Need-returns-2
 returns-2 c =
     let g = c .before .before .before in
     let a = g .before .before .before .before .before .before .args in
     line-bad (now (a .text)) (a .at) (a .state) (tables (now (a .v)) (now (a .vt)) (now (a .vn)) (now (a .vp)) (now (a .corners)) (now (a .elements)) (now (a .bodies)) (now (a .ranges)) (now (a .parameters)) (now (a .loops)) (now (a .spans))) (bad-found (now (a .text)) (a .at) (g .gap .result) (g .gap .ensures) (c .before .p .given .1))
 
--- src/line_by_line.rt:41:1
 same-length : tie.Need-same-length
 same-length c = c .before .before .before .before .before .before .before .before .before .before .before .before .before .before .before .before .before .before .take-line .kept .1 .1 .1 .1 .0
 
--- src/line_by_line.rt:41:1
 same-length-2 : tie.Need-same-length-2
 same-length-2 c = c .before .before .before .before .before .before .before .before .before .before .before .before .before .before .before .before .before .before .take-line .kept .1 .1 .1 .1 .1 .0
 
--- src/line_by_line.rt:41:1
 same-length-3 : tie.Need-same-length-3
 same-length-3 c = c .before .before .before .before .before .before .before .before .before .before .before .before .before .before .before .before .before .before .take-line .kept .1 .1 .1 .1 .1 .1 .0
 
--- src/line_by_line.rt:41:1
 same-length-4 : tie.Need-same-length-4
 same-length-4 c = c .before .before .before .before .before .before .before .before .before .before .before .before .before .before .before .before .before .before .take-line .kept .1 .1 .1 .1 .1 .1 .1 .0
 
--- src/line_by_line.rt:41:1
 same-length-5 : tie.Need-same-length-5
 same-length-5 c = c .before .before .before .before .before .before .before .before .before .before .before .before .before .before .before .before .before .before .take-line .kept .1 .1 .1 .1 .1 .1 .1 .1 .0
 
--- src/line_by_line.rt:41:1
 same-length-6 : tie.Need-same-length-6
 same-length-6 c = c .before .before .before .before .before .before .before .before .before .before .before .before .before .before .before .before .before .before .take-line .kept .1 .1 .1 .1 .1 .1 .1 .1 .1 .0
 
--- src/line_by_line.rt:41:1
 same-length-7 : tie.Need-same-length-7
 same-length-7 c = c .before .before .before .before .before .before .before .before .before .before .before .before .before .before .before .before .before .before .take-line .kept .1 .1 .1 .1 .1 .1 .1 .1 .1 .1 .0
 
--- src/line_by_line.rt:41:1
 same-length-8 : tie.Need-same-length-8
 same-length-8 c = c .before .before .before .before .before .before .before .before .before .before .before .before .before .before .before .before .before .before .take-line .kept .1 .1 .1 .1 .1 .1 .1 .1 .1 .1 .1 .0
 
--- src/line_by_line.rt:41:1
 same-length-9 : tie.Need-same-length-9
 same-length-9 c = c .before .before .before .before .before .before .before .before .before .before .before .before .before .before .before .before .before .before .take-line .kept .1 .1 .1 .1 .1 .1 .1 .1 .1 .1 .1 .1 .0
 
--- src/line_by_line.rt:41:1
 same-length-10 : tie.Need-same-length-10
 same-length-10 c = c .before .before .before .before .before .before .before .before .before .before .before .before .before .before .before .before .before .before .take-line .kept .1 .1 .1 .1 .1 .1 .1 .1 .1 .1 .1 .1 .1 .0
 
--- src/line_by_line.rt:41:1
 same-length-11 : tie.Need-same-length-11
 same-length-11 c = c .before .before .before .before .before .before .before .before .before .before .before .before .before .before .before .before .before .before .take-line .kept .1 .1 .1 .1 .1 .1 .1 .1 .1 .1 .1 .1 .1 .1 .0
 
--- src/line_by_line.rt:41:1
 returns-3 : tie.Need-returns-3
 returns-3 c =
     let took = c .before .before .before .before .before .before .before .before .before .before .before .before .before .before .before .before .before .before in
@@ -144,51 +118,39 @@ returns-3 c =
     line-taken s (a .at) _ (a .state) (tables (now (a .v)) (now (a .vt)) (now (a .vn)) (now (a .vp)) (now (a .corners)) (now (a .elements)) (now (a .bodies)) (now (a .ranges)) (now (a .parameters)) (now (a .loops)) (now (a .spans))) (tables (took .take-line .last .1 .1 .1 .1 .0) (took .take-line .last .1 .1 .1 .1 .1 .0) (took .take-line .last .1 .1 .1 .1 .1 .1 .0) (took .take-line .last .1 .1 .1 .1 .1 .1 .1 .0) (took .take-line .last .1 .1 .1 .1 .1 .1 .1 .1 .0) (took .take-line .last .1 .1 .1 .1 .1 .1 .1 .1 .1 .0) (took .take-line .last .1 .1 .1 .1 .1 .1 .1 .1 .1 .1 .0) (took .take-line .last .1 .1 .1 .1 .1 .1 .1 .1 .1 .1 .1 .0) (took .take-line .last .1 .1 .1 .1 .1 .1 .1 .1 .1 .1 .1 .1 .0) (took .take-line .last .1 .1 .1 .1 .1 .1 .1 .1 .1 .1 .1 .1 .1 .0) (took .take-line .last .1 .1 .1 .1 .1 .1 .1 .1 .1 .1 .1 .1 .1 .1 .0)) (key .keyword-at .result) (sorted .family-of .result) (took .take-line .result)
     (near (a .at) _ (start .pre .0 .0) (start .pre .0 .1)) met (key .keyword-at .ensures) (sorted .family-of .ensures) (took .take-line .ensures) _ _ (c .before .state .given .1)
 
--- src/line_by_line.rt:41:1
 same-length-12 : tie.Need-same-length-12
 same-length-12 c = c .before .before .before .before .before .before .before .before .before .before .before .before .before .before .before .before .before .before .take-line .kept .1 .1 .1 .1 .0
 
--- src/line_by_line.rt:41:1
 same-length-13 : tie.Need-same-length-13
 same-length-13 c = c .before .before .before .before .before .before .before .before .before .before .before .before .before .before .before .before .before .before .take-line .kept .1 .1 .1 .1 .1 .0
 
--- src/line_by_line.rt:41:1
 same-length-14 : tie.Need-same-length-14
 same-length-14 c = c .before .before .before .before .before .before .before .before .before .before .before .before .before .before .before .before .before .before .take-line .kept .1 .1 .1 .1 .1 .1 .0
 
--- src/line_by_line.rt:41:1
 same-length-15 : tie.Need-same-length-15
 same-length-15 c = c .before .before .before .before .before .before .before .before .before .before .before .before .before .before .before .before .before .before .take-line .kept .1 .1 .1 .1 .1 .1 .1 .0
 
--- src/line_by_line.rt:41:1
 same-length-16 : tie.Need-same-length-16
 same-length-16 c = c .before .before .before .before .before .before .before .before .before .before .before .before .before .before .before .before .before .before .take-line .kept .1 .1 .1 .1 .1 .1 .1 .1 .0
 
--- src/line_by_line.rt:41:1
 same-length-17 : tie.Need-same-length-17
 same-length-17 c = c .before .before .before .before .before .before .before .before .before .before .before .before .before .before .before .before .before .before .take-line .kept .1 .1 .1 .1 .1 .1 .1 .1 .1 .0
 
--- src/line_by_line.rt:41:1
 same-length-18 : tie.Need-same-length-18
 same-length-18 c = c .before .before .before .before .before .before .before .before .before .before .before .before .before .before .before .before .before .before .take-line .kept .1 .1 .1 .1 .1 .1 .1 .1 .1 .1 .0
 
--- src/line_by_line.rt:41:1
 same-length-19 : tie.Need-same-length-19
 same-length-19 c = c .before .before .before .before .before .before .before .before .before .before .before .before .before .before .before .before .before .before .take-line .kept .1 .1 .1 .1 .1 .1 .1 .1 .1 .1 .1 .0
 
--- src/line_by_line.rt:41:1
 same-length-20 : tie.Need-same-length-20
 same-length-20 c = c .before .before .before .before .before .before .before .before .before .before .before .before .before .before .before .before .before .before .take-line .kept .1 .1 .1 .1 .1 .1 .1 .1 .1 .1 .1 .1 .0
 
--- src/line_by_line.rt:41:1
 same-length-21 : tie.Need-same-length-21
 same-length-21 c = c .before .before .before .before .before .before .before .before .before .before .before .before .before .before .before .before .before .before .take-line .kept .1 .1 .1 .1 .1 .1 .1 .1 .1 .1 .1 .1 .1 .0
 
--- src/line_by_line.rt:41:1
 same-length-22 : tie.Need-same-length-22
 same-length-22 c = c .before .before .before .before .before .before .before .before .before .before .before .before .before .before .before .before .before .before .take-line .kept .1 .1 .1 .1 .1 .1 .1 .1 .1 .1 .1 .1 .1 .1 .0
 
--- src/line_by_line.rt:41:1
 returns-4 : tie.Need-returns-4
 returns-4 c =
     let took = c .before .before .before .before .before .before .before .before .before .before .before .before .before .before .before .before .before .before in
@@ -202,51 +164,39 @@ returns-4 c =
     line-refuses s (a .at) _ (a .state) (tables (now (a .v)) (now (a .vt)) (now (a .vn)) (now (a .vp)) (now (a .corners)) (now (a .elements)) (now (a .bodies)) (now (a .ranges)) (now (a .parameters)) (now (a .loops)) (now (a .spans))) (tables (took .take-line .last .1 .1 .1 .1 .0) (took .take-line .last .1 .1 .1 .1 .1 .0) (took .take-line .last .1 .1 .1 .1 .1 .1 .0) (took .take-line .last .1 .1 .1 .1 .1 .1 .1 .0) (took .take-line .last .1 .1 .1 .1 .1 .1 .1 .1 .0) (took .take-line .last .1 .1 .1 .1 .1 .1 .1 .1 .1 .0) (took .take-line .last .1 .1 .1 .1 .1 .1 .1 .1 .1 .1 .0) (took .take-line .last .1 .1 .1 .1 .1 .1 .1 .1 .1 .1 .1 .0) (took .take-line .last .1 .1 .1 .1 .1 .1 .1 .1 .1 .1 .1 .1 .0) (took .take-line .last .1 .1 .1 .1 .1 .1 .1 .1 .1 .1 .1 .1 .1 .0) (took .take-line .last .1 .1 .1 .1 .1 .1 .1 .1 .1 .1 .1 .1 .1 .1 .0)) (key .keyword-at .result) (sorted .family-of .result) (took .take-line .result)
     (near (a .at) _ (start .pre .0 .0) (start .pre .0 .1)) met (key .keyword-at .ensures) (sorted .family-of .ensures) (took .take-line .ensures) _ (c .before .number .given .1)
 
--- src/line_by_line.rt:41:1
 same-length-23 : tie.Need-same-length-23
 same-length-23 c = c .before .before .before .before .before .before .before .before .before .before .before .before .before .before .before .before .before .before .before .before .take-line .kept .1 .1 .1 .1 .0
 
--- src/line_by_line.rt:41:1
 same-length-24 : tie.Need-same-length-24
 same-length-24 c = c .before .before .before .before .before .before .before .before .before .before .before .before .before .before .before .before .before .before .before .before .take-line .kept .1 .1 .1 .1 .1 .0
 
--- src/line_by_line.rt:41:1
 same-length-25 : tie.Need-same-length-25
 same-length-25 c = c .before .before .before .before .before .before .before .before .before .before .before .before .before .before .before .before .before .before .before .before .take-line .kept .1 .1 .1 .1 .1 .1 .0
 
--- src/line_by_line.rt:41:1
 same-length-26 : tie.Need-same-length-26
 same-length-26 c = c .before .before .before .before .before .before .before .before .before .before .before .before .before .before .before .before .before .before .before .before .take-line .kept .1 .1 .1 .1 .1 .1 .1 .0
 
--- src/line_by_line.rt:41:1
 same-length-27 : tie.Need-same-length-27
 same-length-27 c = c .before .before .before .before .before .before .before .before .before .before .before .before .before .before .before .before .before .before .before .before .take-line .kept .1 .1 .1 .1 .1 .1 .1 .1 .0
 
--- src/line_by_line.rt:41:1
 same-length-28 : tie.Need-same-length-28
 same-length-28 c = c .before .before .before .before .before .before .before .before .before .before .before .before .before .before .before .before .before .before .before .before .take-line .kept .1 .1 .1 .1 .1 .1 .1 .1 .1 .0
 
--- src/line_by_line.rt:41:1
 same-length-29 : tie.Need-same-length-29
 same-length-29 c = c .before .before .before .before .before .before .before .before .before .before .before .before .before .before .before .before .before .before .before .before .take-line .kept .1 .1 .1 .1 .1 .1 .1 .1 .1 .1 .0
 
--- src/line_by_line.rt:41:1
 same-length-30 : tie.Need-same-length-30
 same-length-30 c = c .before .before .before .before .before .before .before .before .before .before .before .before .before .before .before .before .before .before .before .before .take-line .kept .1 .1 .1 .1 .1 .1 .1 .1 .1 .1 .1 .0
 
--- src/line_by_line.rt:41:1
 same-length-31 : tie.Need-same-length-31
 same-length-31 c = c .before .before .before .before .before .before .before .before .before .before .before .before .before .before .before .before .before .before .before .before .take-line .kept .1 .1 .1 .1 .1 .1 .1 .1 .1 .1 .1 .1 .0
 
--- src/line_by_line.rt:41:1
 same-length-32 : tie.Need-same-length-32
 same-length-32 c = c .before .before .before .before .before .before .before .before .before .before .before .before .before .before .before .before .before .before .before .before .take-line .kept .1 .1 .1 .1 .1 .1 .1 .1 .1 .1 .1 .1 .1 .0
 
--- src/line_by_line.rt:41:1
 same-length-33 : tie.Need-same-length-33
 same-length-33 c = c .before .before .before .before .before .before .before .before .before .before .before .before .before .before .before .before .before .before .before .before .take-line .kept .1 .1 .1 .1 .1 .1 .1 .1 .1 .1 .1 .1 .1 .1 .0
 
--- src/line_by_line.rt:41:1
 returns-5 : tie.Need-returns-5
 returns-5 c =
     let took = c .before .before .before .before .before .before .before .before .before .before .before .before .before .before .before .before .before .before .before .before in

@@ -11,118 +11,90 @@ use Rattle.reader.proofs.line_by_line.read_lines.Lts as lts
 use Rattle.reader.proofs.line_by_line.lines_of.Reads as lines-of-reads
 use Rattle.tables.proofs.storing.clear.Reads as clear-reads
 
--- src/line_by_line.rt:242:11
 lines-of-requires : tie.Need-lines-of-requires
 lines-of-requires c κs = search needs
 
--- src/line_by_line.rt:258:23
 enum-known-used : tie.Need-enum-known-used
 enum-known-used c = search needs
 
--- src/line_by_line.rt:259:28
 enum-known-number : tie.Need-enum-known-number
 enum-known-number c = search needs
 
--- src/line_by_line.rt:260:13
 clear-requires : tie.Need-clear-requires
 clear-requires c κs = search needs
 
--- src/line_by_line.rt:220:1
 same-length : tie.Need-same-length
 same-length c = c .before .before .before .before .before .before .before .before .before .before .before .before .before .before .before .before .before .before .lines-of .kept .1 .0
 
--- src/line_by_line.rt:220:1
 same-length-2 : tie.Need-same-length-2
 same-length-2 c = c .before .before .before .before .before .before .before .before .before .before .before .before .before .before .before .before .before .before .lines-of .kept .1 .1 .0
 
--- src/line_by_line.rt:220:1
 same-length-3 : tie.Need-same-length-3
 same-length-3 c = c .before .before .before .before .before .before .before .before .before .before .before .before .before .before .before .before .before .before .lines-of .kept .1 .1 .1 .0
 
--- src/line_by_line.rt:220:1
 same-length-4 : tie.Need-same-length-4
 same-length-4 c = c .before .before .before .before .before .before .before .before .before .before .before .before .before .before .before .before .before .before .lines-of .kept .1 .1 .1 .1 .0
 
--- src/line_by_line.rt:220:1
 same-length-5 : tie.Need-same-length-5
 same-length-5 c = c .before .before .before .before .before .before .before .before .before .before .before .before .before .before .before .before .before .before .lines-of .kept .1 .1 .1 .1 .1 .0
 
--- src/line_by_line.rt:220:1
 same-length-6 : tie.Need-same-length-6
 same-length-6 c = c .before .before .before .before .before .before .before .before .before .before .before .before .before .before .before .before .before .before .lines-of .kept .1 .1 .1 .1 .1 .1 .0
 
--- src/line_by_line.rt:220:1
 same-length-7 : tie.Need-same-length-7
 same-length-7 c = c .before .before .before .before .before .before .before .before .before .before .before .before .before .before .before .before .before .before .lines-of .kept .1 .1 .1 .1 .1 .1 .1 .0
 
--- src/line_by_line.rt:220:1
 same-length-8 : tie.Need-same-length-8
 same-length-8 c = c .before .before .before .before .before .before .before .before .before .before .before .before .before .before .before .before .before .before .lines-of .kept .1 .1 .1 .1 .1 .1 .1 .1 .0
 
--- src/line_by_line.rt:220:1
 same-length-9 : tie.Need-same-length-9
 same-length-9 c = c .before .before .before .before .before .before .before .before .before .before .before .before .before .before .before .before .before .before .lines-of .kept .1 .1 .1 .1 .1 .1 .1 .1 .1 .0
 
--- src/line_by_line.rt:220:1
 same-length-10 : tie.Need-same-length-10
 same-length-10 c = c .before .before .before .before .before .before .before .before .before .before .before .before .before .before .before .before .before .before .lines-of .kept .1 .1 .1 .1 .1 .1 .1 .1 .1 .1 .0
 
--- src/line_by_line.rt:220:1
 same-length-11 : tie.Need-same-length-11
 same-length-11 c = c .before .before .before .before .before .before .before .before .before .before .before .before .before .before .before .before .before .before .lines-of .kept .1 .1 .1 .1 .1 .1 .1 .1 .1 .1 .1 .0
 
--- src/line_by_line.rt:220:1
 returns : tie.Need-returns
 returns c =
     let went = c .before .before .before .before .before .before .before .before .before .before .before .before .before .before .before .before .before .before in
     let a = went .before .before .before .before .before .before .before .before .before .before .before .before .before .before .before .before .before .args in
     all-read (now (a .text)) (tables (now (a .v)) (now (a .vt)) (now (a .vn)) (now (a .vp)) (now (a .corners)) (now (a .elements)) (now (a .bodies)) (now (a .ranges)) (now (a .parameters)) (now (a .loops)) (now (a .spans))) (tables (went .lines-of .last .1 .0) (went .lines-of .last .1 .1 .0) (went .lines-of .last .1 .1 .1 .0) (went .lines-of .last .1 .1 .1 .1 .0) (went .lines-of .last .1 .1 .1 .1 .1 .0) (went .lines-of .last .1 .1 .1 .1 .1 .1 .0) (went .lines-of .last .1 .1 .1 .1 .1 .1 .1 .0) (went .lines-of .last .1 .1 .1 .1 .1 .1 .1 .1 .0) (went .lines-of .last .1 .1 .1 .1 .1 .1 .1 .1 .1 .0) (went .lines-of .last .1 .1 .1 .1 .1 .1 .1 .1 .1 .1 .0) (went .lines-of .last .1 .1 .1 .1 .1 .1 .1 .1 .1 .1 .1 .0)) (went .lines-of .result) (went .lines-of .ensures) _ (c .before .used .given .1)
 
--- src/line_by_line.rt:220:1
 same-length-12 : tie.Need-same-length-12
 same-length-12 c = c .before .before .before .before .before .before .before .before .before .before .before .before .before .before .before .clear .kept .0 ∙ c .before .before .before .before .before .before .before .before .before .before .before .before .before .before .before .before .before .before .before .before .before .before .before .before .before .before .before .before .before .before .before .before .before .before .before .before .before .before .before .before .before .before .before .before .before .lines-of .kept .1 .0
 
--- src/line_by_line.rt:220:1
 same-length-13 : tie.Need-same-length-13
 same-length-13 c = c .before .before .before .before .before .before .before .before .before .before .before .before .before .before .before .clear .kept .1 .0 ∙ c .before .before .before .before .before .before .before .before .before .before .before .before .before .before .before .before .before .before .before .before .before .before .before .before .before .before .before .before .before .before .before .before .before .before .before .before .before .before .before .before .before .before .before .before .before .lines-of .kept .1 .1 .0
 
--- src/line_by_line.rt:220:1
 same-length-14 : tie.Need-same-length-14
 same-length-14 c = c .before .before .before .before .before .before .before .before .before .before .before .before .before .before .before .clear .kept .1 .1 .0 ∙ c .before .before .before .before .before .before .before .before .before .before .before .before .before .before .before .before .before .before .before .before .before .before .before .before .before .before .before .before .before .before .before .before .before .before .before .before .before .before .before .before .before .before .before .before .before .lines-of .kept .1 .1 .1 .0
 
--- src/line_by_line.rt:220:1
 same-length-15 : tie.Need-same-length-15
 same-length-15 c = c .before .before .before .before .before .before .before .before .before .before .before .before .before .before .before .clear .kept .1 .1 .1 .0 ∙ c .before .before .before .before .before .before .before .before .before .before .before .before .before .before .before .before .before .before .before .before .before .before .before .before .before .before .before .before .before .before .before .before .before .before .before .before .before .before .before .before .before .before .before .before .before .lines-of .kept .1 .1 .1 .1 .0
 
--- src/line_by_line.rt:220:1
 same-length-16 : tie.Need-same-length-16
 same-length-16 c = c .before .before .before .before .before .before .before .before .before .before .before .before .before .before .before .clear .kept .1 .1 .1 .1 .0 ∙ c .before .before .before .before .before .before .before .before .before .before .before .before .before .before .before .before .before .before .before .before .before .before .before .before .before .before .before .before .before .before .before .before .before .before .before .before .before .before .before .before .before .before .before .before .before .lines-of .kept .1 .1 .1 .1 .1 .0
 
--- src/line_by_line.rt:220:1
 same-length-17 : tie.Need-same-length-17
 same-length-17 c = c .before .before .before .before .before .before .before .before .before .before .before .before .before .before .before .clear .kept .1 .1 .1 .1 .1 .0 ∙ c .before .before .before .before .before .before .before .before .before .before .before .before .before .before .before .before .before .before .before .before .before .before .before .before .before .before .before .before .before .before .before .before .before .before .before .before .before .before .before .before .before .before .before .before .before .lines-of .kept .1 .1 .1 .1 .1 .1 .0
 
--- src/line_by_line.rt:220:1
 same-length-18 : tie.Need-same-length-18
 same-length-18 c = c .before .before .before .before .before .before .before .before .before .before .before .before .before .before .before .clear .kept .1 .1 .1 .1 .1 .1 .0 ∙ c .before .before .before .before .before .before .before .before .before .before .before .before .before .before .before .before .before .before .before .before .before .before .before .before .before .before .before .before .before .before .before .before .before .before .before .before .before .before .before .before .before .before .before .before .before .lines-of .kept .1 .1 .1 .1 .1 .1 .1 .0
 
--- src/line_by_line.rt:220:1
 same-length-19 : tie.Need-same-length-19
 same-length-19 c = c .before .before .before .before .before .before .before .before .before .before .before .before .before .before .before .clear .kept .1 .1 .1 .1 .1 .1 .1 .0 ∙ c .before .before .before .before .before .before .before .before .before .before .before .before .before .before .before .before .before .before .before .before .before .before .before .before .before .before .before .before .before .before .before .before .before .before .before .before .before .before .before .before .before .before .before .before .before .lines-of .kept .1 .1 .1 .1 .1 .1 .1 .1 .0
 
--- src/line_by_line.rt:220:1
 same-length-20 : tie.Need-same-length-20
 same-length-20 c = c .before .before .before .before .before .before .before .before .before .before .before .before .before .before .before .clear .kept .1 .1 .1 .1 .1 .1 .1 .1 .0 ∙ c .before .before .before .before .before .before .before .before .before .before .before .before .before .before .before .before .before .before .before .before .before .before .before .before .before .before .before .before .before .before .before .before .before .before .before .before .before .before .before .before .before .before .before .before .before .lines-of .kept .1 .1 .1 .1 .1 .1 .1 .1 .1 .0
 
--- src/line_by_line.rt:220:1
 same-length-21 : tie.Need-same-length-21
 same-length-21 c = c .before .before .before .before .before .before .before .before .before .before .before .before .before .before .before .clear .kept .1 .1 .1 .1 .1 .1 .1 .1 .1 .0 ∙ c .before .before .before .before .before .before .before .before .before .before .before .before .before .before .before .before .before .before .before .before .before .before .before .before .before .before .before .before .before .before .before .before .before .before .before .before .before .before .before .before .before .before .before .before .before .lines-of .kept .1 .1 .1 .1 .1 .1 .1 .1 .1 .1 .0
 
--- src/line_by_line.rt:220:1
 same-length-22 : tie.Need-same-length-22
 same-length-22 c = c .before .before .before .before .before .before .before .before .before .before .before .before .before .before .before .clear .kept .1 .1 .1 .1 .1 .1 .1 .1 .1 .1 .0 ∙ c .before .before .before .before .before .before .before .before .before .before .before .before .before .before .before .before .before .before .before .before .before .before .before .before .before .before .before .before .before .before .before .before .before .before .before .before .before .before .before .before .before .before .before .before .before .lines-of .kept .1 .1 .1 .1 .1 .1 .1 .1 .1 .1 .1 .0
 
--- src/line_by_line.rt:220:1
 returns-2 : tie.Need-returns-2
 returns-2 c =
     let cleared = c .before .before .before .before .before .before .before .before .before .before .before .before .before .before .before in

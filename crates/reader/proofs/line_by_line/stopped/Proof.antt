@@ -6,19 +6,15 @@ use Rattle.reader.proofs.line_by_line.stopped.Tie as tie
 use Rattle.reader.proofs.line_by_line.stopped.Reads as reads
 use Rattle.reader.proofs.line_by_line.stopped.Lts as lts
 
--- src/line_by_line.rt:29:28
 enum-known-refusal : tie.Need-enum-known-refusal
 enum-known-refusal c = search needs
 
--- src/line_by_line.rt:33:29
 enum-told : tie.Need-enum-told
 enum-told c = search needs
 
--- src/line_by_line.rt:25:1
 returns : tie.Need-returns
 returns c = let refusal = c .before .refusal .given .1 in rw refusal refl
 
--- src/line_by_line.rt:25:1
 returns-2 : tie.Need-returns-2
 returns-2 c = let refusal = c .enum-told .given .1 in rw refusal refl
 

@@ -19,83 +19,63 @@ use Rattle.lines.proofs.inner_lines.parm_line.Reads as parm-line-reads
 use Rattle.lines.proofs.setting_lines.setting_line.Reads as setting-line-reads
 use Rattle.lines.proofs.vertex_line.Reads as vertex-line-reads
 
--- src/taking.rt:68:24
 enum-known-family : tie.Need-enum-known-family
 enum-known-family c = search needs
 
--- src/taking.rt:68:33
 vertex-line-requires : tie.Need-vertex-line-requires
 vertex-line-requires c κs = search needs
 
--- src/taking.rt:69:25
 enum-known-family-2 : tie.Need-enum-known-family-2
 enum-known-family-2 c = search needs
 
--- src/taking.rt:69:35
 element-line-requires : tie.Need-element-line-requires
 element-line-requires c κs = search needs
 
--- src/taking.rt:70:22
 enum-known-family-3 : tie.Need-enum-known-family-3
 enum-known-family-3 c = search needs
 
--- src/taking.rt:72:13
 body-line-requires : tie.Need-body-line-requires
 body-line-requires c κs = search needs
 
--- src/taking.rt:74:31
 enum-told : tie.Need-enum-told
 enum-told c = search needs
 
--- src/taking.rt:74:31
 parm-line-requires : tie.Need-parm-line-requires
 parm-line-requires c κs = search needs
 
--- src/taking.rt:75:24
 enum-known-family-4 : tie.Need-enum-known-family-4
 enum-known-family-4 c = search needs
 
--- src/taking.rt:75:34
 loop-line-requires : tie.Need-loop-line-requires
 loop-line-requires c κs = search needs
 
--- src/taking.rt:76:50
 enum-told-2 : tie.Need-enum-told-2
 enum-told-2 c = search needs
 
--- src/taking.rt:76:24
 end-line-requires : tie.Need-end-line-requires
 end-line-requires c κs = search needs
 
--- src/taking.rt:77:21
 enum-known-family-5 : tie.Need-enum-known-family-5
 enum-known-family-5 c = search needs
 
--- src/taking.rt:77:33
 setting-line-requires : tie.Need-setting-line-requires
 setting-line-requires c κs = search needs
 
--- src/taking.rt:78:26
 enum-told-3 : tie.Need-enum-told-3
 enum-told-3 c = search needs
 
--- src/taking.rt:45:1
 same-length : tie.Need-same-length
 same-length c = search needs
 
--- src/taking.rt:45:1
 same-length-2 : tie.Need-same-length-2
 same-length-2 c = search needs
 
--- src/taking.rt:45:1
 same-length-3 : tie.Need-same-length-3
 same-length-3 c = search needs
 
--- src/taking.rt:45:1
 same-length-4 : tie.Need-same-length-4
 same-length-4 c = search needs
 
--- src/taking.rt:45:1
 returns : tie.Need-returns
 returns c =
     let f = c .before .before .before .before .vertex-line in
@@ -103,15 +83,12 @@ returns c =
     let t = tables (now (a .v)) (now (a .vt)) (now (a .vn)) (now (a .vp)) (now (a .corners)) (now (a .elements)) (now (a .bodies)) (now (a .ranges)) (now (a .parameters)) (now (a .loops)) (now (a .spans)) in
     family-step (now (a .text)) (a .at) (a .state) (f .result) t (withVertices (f .last .1 .1 .1 .1 .0) (f .last .1 .1 .1 .1 .1 .0) (f .last .1 .1 .1 .1 .1 .1 .0) (f .last .1 .1 .1 .1 .1 .1 .1 .0) t) (c .before .before .before .before .before .before .before .before .before .before .family .given .1) (f .ensures t)
 
--- src/taking.rt:45:1
 same-length-5 : tie.Need-same-length-5
 same-length-5 c = search needs
 
--- src/taking.rt:45:1
 same-length-6 : tie.Need-same-length-6
 same-length-6 c = search needs
 
--- src/taking.rt:45:1
 returns-2 : tie.Need-returns-2
 returns-2 c =
     let f = c .before .before .before .before .element-line in
@@ -119,23 +96,18 @@ returns-2 c =
     let t = tables (now (a .v)) (now (a .vt)) (now (a .vn)) (now (a .vp)) (now (a .corners)) (now (a .elements)) (now (a .bodies)) (now (a .ranges)) (now (a .parameters)) (now (a .loops)) (now (a .spans)) in
     family-step (now (a .text)) (a .at) (a .state) (f .result) t (withElement (f .last .1 .1 .1 .1 .0) (f .last .1 .1 .1 .1 .1 .0) t) (c .before .before .before .before .before .before .before .before .family2 .given .1) (f .ensures t refl refl)
 
--- src/taking.rt:45:1
 same-length-7 : tie.Need-same-length-7
 same-length-7 c = search needs
 
--- src/taking.rt:45:1
 same-length-8 : tie.Need-same-length-8
 same-length-8 c = search needs
 
--- src/taking.rt:45:1
 same-length-9 : tie.Need-same-length-9
 same-length-9 c = search needs
 
--- src/taking.rt:45:1
 same-length-10 : tie.Need-same-length-10
 same-length-10 c = search needs
 
--- src/taking.rt:45:1
 returns-3 : tie.Need-returns-3
 returns-3 c =
     let f = c .before .before .before .before .before .body-line in
@@ -143,7 +115,6 @@ returns-3 c =
     let t = tables (now (a .v)) (now (a .vt)) (now (a .vn)) (now (a .vp)) (now (a .corners)) (now (a .elements)) (now (a .bodies)) (now (a .ranges)) (now (a .parameters)) (now (a .loops)) (now (a .spans)) in
     family-step (now (a .text)) (a .at) (a .state) (f .result) t (withRange (f .last .1 .1 .1 .1 .1 .1 .1 .1 .0) (withElement (f .last .1 .1 .1 .1 .1 .0) (f .last .1 .1 .1 .1 .1 .1 .0) t)) (c .before .before .before .before .before .before .before .before .before .before .before .family3 .given .1) (f .ensures t refl refl refl refl refl)
 
--- src/taking.rt:45:1
 returns-4 : tie.Need-returns-4
 returns-4 c =
     let f = c .parm-line in
@@ -151,15 +122,12 @@ returns-4 c =
     let t = tables (now (a .v)) (now (a .vt)) (now (a .vn)) (now (a .vp)) (now (a .corners)) (now (a .elements)) (now (a .bodies)) (now (a .ranges)) (now (a .parameters)) (now (a .loops)) (now (a .spans)) in
     family-step (now (a .text)) (a .at) (a .state) (f .result) t (t) (c .before .enum-told .given .1) (f .ensures t)
 
--- src/taking.rt:45:1
 same-length-11 : tie.Need-same-length-11
 same-length-11 c = search needs
 
--- src/taking.rt:45:1
 same-length-12 : tie.Need-same-length-12
 same-length-12 c = search needs
 
--- src/taking.rt:45:1
 returns-5 : tie.Need-returns-5
 returns-5 c =
     let f = c .before .before .before .loop-line in
@@ -167,19 +135,15 @@ returns-5 c =
     let t = tables (now (a .v)) (now (a .vt)) (now (a .vn)) (now (a .vp)) (now (a .corners)) (now (a .elements)) (now (a .bodies)) (now (a .ranges)) (now (a .parameters)) (now (a .loops)) (now (a .spans)) in
     family-step (now (a .text)) (a .at) (a .state) (f .result) t (withLoops (f .last .1 .1 .1 .1 .0) (f .last .1 .1 .1 .1 .1 .0) t) (c .before .before .before .before .before .before .before .family4 .given .1) (f .ensures t refl refl)
 
--- src/taking.rt:45:1
 same-length-13 : tie.Need-same-length-13
 same-length-13 c = search needs
 
--- src/taking.rt:45:1
 same-length-14 : tie.Need-same-length-14
 same-length-14 c = search needs
 
--- src/taking.rt:45:1
 same-length-15 : tie.Need-same-length-15
 same-length-15 c = search needs
 
--- src/taking.rt:45:1
 returns-6 : tie.Need-returns-6
 returns-6 c =
     let f = c .before .before .before .before .end-line in
@@ -187,7 +151,6 @@ returns-6 c =
     let t = tables (now (a .v)) (now (a .vt)) (now (a .vn)) (now (a .vp)) (now (a .corners)) (now (a .elements)) (now (a .bodies)) (now (a .ranges)) (now (a .parameters)) (now (a .loops)) (now (a .spans)) in
     family-step (now (a .text)) (a .at) (a .state) (f .result) t (withBody (f .last .1 .1 .1 .0) (f .last .1 .1 .1 .1 .0) (f .last .1 .1 .1 .1 .1 .0) t) (c .before .before .before .before .before .before .before .before .enum-told2 .given .1) (f .ensures t refl refl refl)
 
--- src/taking.rt:45:1
 returns-7 : tie.Need-returns-7
 returns-7 c =
     let f = c .setting-line in
@@ -195,7 +158,6 @@ returns-7 c =
     let t = tables (now (a .v)) (now (a .vt)) (now (a .vn)) (now (a .vp)) (now (a .corners)) (now (a .elements)) (now (a .bodies)) (now (a .ranges)) (now (a .parameters)) (now (a .loops)) (now (a .spans)) in
     family-step (now (a .text)) (a .at) (a .state) (f .result) t (t) (c .before .before .family5 .given .1) (f .ensures t)
 
--- src/taking.rt:45:1
 returns-8 : tie.Need-returns-8
 returns-8 c =
     let a = c .before .before .before .before .before .before .before .args in

@@ -5,11 +5,9 @@ use borrow.Author.Tests.{ne-eqb}
 use Rattle.sampler.proofs.records.axes_of.Statement.{statement}
 use Rattle.sampler.proofs.records.axes_of.Tie as tie
 
--- src/records.rt:77:9
 returns : tie.Need-returns
 returns c = rw (c .if1 .taken) (refl, omega arith)
 
--- src/records.rt:73:1
 returns-2 : tie.Need-returns-2
 returns-2 c = rw (ne-eqb _ _ (c .if1 .left)) (refl, omega arith)
 

@@ -37,35 +37,27 @@ module _ (c : tie.After-apart) where
   low : part < 9223372036854775808
   low = omega (arith, within, c .apart .ensures .1)
 
--- src/runs.rt:21:27
 apart-requires : tie.Need-apart-requires
 apart-requires c κs = search needs
 
--- src/runs.rt:21:16
 mul-part : tie.Need-mul-part
 mul-part c = record { fits = omega (arith, product-small (c .before .args .j) (c .apart .result) (omega arith) (c .apart .ensures .1)) }
 
--- src/runs.rt:21:16
 div-part : tie.Need-div-part
 div-part c = search needs
 
--- src/runs.rt:22:6
 cast-result : tie.Need-cast-result
 cast-result c = rw (toZ-ofZ (c .before .fits .start)) (sfits-widen tt (c .before .fits .start))
 
--- src/runs.rt:22:21
 cast-result-2 : tie.Need-cast-result-2
 cast-result-2 c = record { sfits = low c }
 
--- src/runs.rt:22:6
 add-result : tie.Need-add-result
 add-result c = rw (widened (c .before .fits .start), toZ-pos w64 {n = part c} (low c)) (fits-abs w64 _ (omega (arith, small c)))
 
--- src/runs.rt:22:5
 cast-result-3 : tie.Need-cast-result-3
 cast-result-3 c = rw (widened (c .before .fits .start), toZ-pos w64 {n = part c} (low c), read-back w64 (c .before .args .start +ℤ pos (part c)) (omega (arith, small c))) (fits-abs w32 _ (omega (arith, small c)))
 
--- src/runs.rt:17:1
 returns : tie.Need-returns
 returns c = rw (widened (c .before .fits .start), toZ-pos w64 {n = part c} (low c), read-back w64 (c .before .args .start +ℤ pos (part c)) (omega (arith, small c)), read-back-small (c .before .args .start +ℤ pos (part c)) (small c)) (is c, small c)
 

@@ -31,14 +31,12 @@ Inv-loop points₀ values corners first axis axes x along start end steps chosen
 abbrev μ-loop : tie.MeasureT-loop
 μ-loop points₀ values corners first axis axes x along start end steps chosen₀ j₀ points chosen j = steps + 1 - j
 
--- src/runs.rt:65:9
 find-requires : tie.Need-find-requires Inv-loop μ-loop
 find-requires c κs =
     let s = c .before in
     let r = s .pre .2 in
     rw (toZ-ofZ (s .fits .start)) (r .sound (s .args .start) (≤ℤ-refl (s .args .start)) (r .ordered))
 
--- src/runs.rt:67:5
 loop-holds : tie.Need-loop-holds Inv-loop μ-loop
 unfolding pointsUpto
 loop-holds c =
@@ -47,7 +45,6 @@ loop-holds c =
     rw (toZ-ofZ (s .fits .start), toZ-ofZ (s .fits .end), mul-zero)
     (omega arith, refl, rw r (rw (toZ-ofZ (s .fits .start)) at (c .find .ensures)), refl)
 
--- src/runs.rt:68:13
 parameter-at-requires : tie.Need-parameter-at-requires Inv-loop μ-loop
 parameter-at-requires c κs =
     let s = c .before .before .before .before in
@@ -88,35 +85,27 @@ module _ (c : tie.After-parameter-at Inv-loop μ-loop) where
 add-search : tie.Need-add-search Inv-loop μ-loop
 add-search c = omega (arith, hint c .upto, limit-inside (sound c))
 
--- src/runs.rt:69:9
 search-requires : tie.Need-search-requires Inv-loop μ-loop
 search-requires c κs = rw (t-bits c) (sound c, hint c)
 
--- src/runs.rt:70:25
 cast-at : tie.Need-cast-at Inv-loop μ-loop
 cast-at c = omega arith
 
--- src/runs.rt:70:18
 mul-at : tie.Need-mul-at Inv-loop μ-loop
 mul-at c = omega (arith, fits (c .before))
 
--- src/runs.rt:72:13
 mul-write-point : tie.Need-mul-write-point Inv-loop μ-loop
 mul-write-point c = omega (arith, fits (c .before))
 
--- src/runs.rt:72:13
 sub-write-point : tie.Need-sub-write-point Inv-loop μ-loop
 sub-write-point c = omega (arith, fits (c .before))
 
--- src/runs.rt:72:13
 part-write-point-start : tie.Need-part-write-point-start Inv-loop μ-loop
 part-write-point-start c = omega (arith, fits (c .before))
 
--- src/runs.rt:72:13
 part-write-point-end : tie.Need-part-write-point-end Inv-loop μ-loop
 part-write-point-end c = omega arith
 
--- src/runs.rt:71:9
 write-point-requires : tie.Need-write-point-requires Inv-loop μ-loop
 write-point-requires c κs =
     let p = c .before .before in
@@ -124,15 +113,12 @@ write-point-requires c κs =
     let s = l .before .before .before in
     (s .pre .0, s .pre .1, c .before .search .ensures, simp (length-take, length-drop) (omega (arith, fits p)))
 
--- src/runs.rt:83:9
 add-j : tie.Need-add-j Inv-loop μ-loop
 add-j c = omega arith
 
--- src/runs.rt:67:5
 loop-less : tie.Need-loop-less Inv-loop μ-loop
 loop-less c = omega arith
 
--- src/runs.rt:67:5
 loop-again : tie.Need-loop-again Inv-loop μ-loop
 loop-again c =
     let p = c .before .before .before .before in
@@ -159,11 +145,9 @@ loop-again c =
       e ∙ ap (λ (q : List ℤ). q ++ drop (m * (j + 1)) (v .points .now)) (sym (upto (j + 1))),
     )
 
--- src/runs.rt:49:1
 same-length : tie.Need-same-length Inv-loop μ-loop
 same-length c = search needs
 
--- src/runs.rt:49:1
 returns : tie.Need-returns Inv-loop μ-loop
 returns c =
     let l = c .before .loop in

@@ -8,36 +8,30 @@ use Rattle.sampler.specs.Inner.{runBy}
 use Rattle.sampler.proofs.runs.write_run.Statement.{statement}
 use Rattle.sampler.proofs.runs.write_run.Tie as tie
 
--- src/runs.rt:108:9
 write-points-requires : tie.Need-write-points-requires
 write-points-requires c κs =
     let s = c .before .before .before in
     let e = eq-eqb _ _ (c .before .if1 .taken) in
     rw (toZ-ofZ (s .fits .start), toZ-ofZ (s .fits .end)) (rw e at (s .pre .0), omega arith, s .pre .1, s .pre .2, s .pre .3, rw e at (s .pre .4))
 
--- src/runs.rt:110:9
 write-points-requires-2 : tie.Need-write-points-requires-2
 write-points-requires-2 c κs =
     let s = c .before .before .before in
     let e = ne-eqb _ _ (c .before .if1 .left) in
     rw (toZ-ofZ (s .fits .start), toZ-ofZ (s .fits .end)) (rw e at (s .pre .0), omega arith, s .pre .1, s .pre .2, s .pre .3, rw e at (s .pre .4))
 
--- src/runs.rt:91:1
 same-length : tie.Need-same-length
 same-length c = search needs
 
--- src/runs.rt:91:1
 returns : tie.Need-returns
 unfolding runBy
 returns c =
     let s = c .before .before .before .before .before in
     rw (c .before .before .before .if1 .taken) (rw (toZ-ofZ (s .fits .start), toZ-ofZ (s .fits .end)) at (c .before .write-points .ensures))
 
--- src/runs.rt:91:1
 same-length-2 : tie.Need-same-length-2
 same-length-2 c = search needs
 
--- src/runs.rt:91:1
 returns-2 : tie.Need-returns-2
 unfolding runBy
 returns-2 c =
