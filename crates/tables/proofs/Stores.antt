@@ -34,6 +34,9 @@ module _ {A : Type 0} where
   pub put-refused : (l : List A) (at w : ℕ) → length l < at + w → (false ≡ leb (at + w) (length l)) × (l ≡ l)
   put-refused l at w h = (sym (lt-leb (at + w) (length l) h), refl)
 
--- a signed number that a call gave, as it is handed on to a put
+-- a signed number as it is handed on, or read from a lent table, is itself, by its bits
+pub fitted : {z : ℤ} → mag z < 2147483648 → toZ w32 (ofZ w32 z) ≡ z
+fitted {z} h = toZ-ofZ {w = w32} (record { sfits = h })
+
 pub passed : {z z′ : ℤ} → mag z < 2 ^ 31 → z ≡ z′ → toZ w32 (ofZ w32 z) ≡ z′
-passed h e = toZ-ofZ (record { sfits = h }) ∙ e
+passed h e = fitted h ∙ e

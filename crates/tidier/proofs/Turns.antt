@@ -222,7 +222,3 @@ loops-turn l z i (suc n) h =
 pub loops-none : (l : List ℕ) (z : List ℤ) (n : ℕ) → n ≤ 0 → writtenLines (loopLines n l z) ≡ []
 loops-none l z zero h = refl
 loops-none l z (suc n) h = absurd (omega arith)
-
--- ---- a signed number as it is handed on, by its bits
-pub fitted : {z : ℤ} → mag z < 2 ^ 31 → toZ w32 (ofZ w32 z) ≡ z
-fitted {z} h = toZ-ofZ {w = w32} (record { sfits = h })

@@ -39,10 +39,6 @@ getD-sets-before l i (v ∷ vs) j d h =
 pub before-stored : (l m : List ℤ) (first : ℕ) (zs : List ℤ) → m ≡ sets l first zs → (i : ℕ) → i < first → getD m i (pos 0) ≡ getD l i (pos 0)
 before-stored l m first zs e i h = ap (λ (t : List ℤ). getD t i (pos 0)) e ∙ getD-sets-before l first zs i (pos 0) h
 
--- a signed value that is handed on
-pub passed : {z : ℤ} → mag z < 2 ^ 31 → toZ w32 (ofZ w32 z) ≡ z
-passed h = toZ-ofZ (record { sfits = h })
-
 -- numbers already stored, before those to come
 abbrev pub after : List ℤ → Walk → Walk
 after zs (ended ys q) = ended (zs ++ ys) q

@@ -1,5 +1,5 @@
 -- Each case of the answer by its own line of the definition.
-use Rattle.basis.proofs.Tests.{fitted}
+use Rattle.tables.proofs.Stores.{fitted}
 use Rattle.boundary.proofs.Points.{space-in, plane-in, refused-in}
 use borrow.Author.Needs.{needs}
 use Rattle.boundary.proofs.point_of.Statement.{statement}

@@ -5,6 +5,7 @@ use native.Mathlib.Omega.{arith}
 use borrow.Author.Needs.{needs}
 use borrow.Author.Tests.{not-true, not-false}
 use denote.Ref.{now}
+use Rattle.tables.proofs.Stores.{fitted}
 use Rattle.vertices.proofs.Walking as W
 use Rattle.vertices.proofs.numbers_into.Statement.{statement}
 use Rattle.vertices.proofs.numbers_into.Tie as tie
@@ -72,7 +73,7 @@ returns c =
     let l = turn .loop in
     let met = W.met-word (now (a .text)) (l .i) (ahead .gap .ensures) (word .p .given .1) in
     let value = W.is-value (now (a .text)) (word .p .given .0 .0) (read .number-at .ensures) (number .value .given .1) in
-    W.stop-room (a .most) (now (a .text)) (a .at) (a .first) (now (a .table)) (l .i) (l .count) (l .table) (l .inv) (test .loop-test .taken) met value (W.passed (told .known-told2 .given .0 .1)) (put .put-i32 .ensures) (not-true _ (c .if1 .taken))
+    W.stop-room (a .most) (now (a .text)) (a .at) (a .first) (now (a .table)) (l .i) (l .count) (l .table) (l .inv) (test .loop-test .taken) met value (fitted (told .known-told2 .given .0 .1)) (put .put-i32 .ensures) (not-true _ (c .if1 .taken))
 
 add-count : tie.Need-add-count Inv-loop μ-loop
 add-count c =
@@ -102,7 +103,7 @@ loop-again c =
     let l = turn .loop in
     let met = W.met-word (now (a .text)) (l .i) (ahead .gap .ensures) (word .p .given .1) in
     let value = W.is-value (now (a .text)) (word .p .given .0 .0) (read .number-at .ensures) (number .value .given .1) in
-    W.turn (a .most) (now (a .text)) (a .at) (a .first) (now (a .table)) (l .i) (l .count) (l .table) (l .inv) (test .loop-test .taken) met value (W.passed (told .known-told2 .given .0 .1)) (put .put-i32 .ensures) (not-false _ (c .if1 .left))
+    W.turn (a .most) (now (a .text)) (a .at) (a .first) (now (a .table)) (l .i) (l .count) (l .table) (l .inv) (test .loop-test .taken) met value (fitted (told .known-told2 .given .0 .1)) (put .put-i32 .ensures) (not-false _ (c .if1 .left))
 
 enum-told : tie.Need-enum-told Inv-loop μ-loop
 enum-told c = search needs
