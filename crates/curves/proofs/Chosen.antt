@@ -37,18 +37,6 @@ last-found f (suc m) i h p = go (f m) refl (λ l. last-found f m i l p)
     go true e k = record { below = le-refl (suc m); passes = e; last = λ j a b. absurd (omega arith) }
     go false e k = more e k (eq-or-lt-of-le (le-of-suc-le-suc h))
 
--- there is one such number only: what a search finds is what the definition says
-pub last-is : (f : ℕ → Bool) (m g : ℕ) → Last f m g → lastWhere f m ≡ g
-last-is f m g l = go (decLe (lastWhere f m) g) (decLe g (lastWhere f m))
-  where
-    r : Last f m (lastWhere f m)
-    r = last-found f m g (l .below) (l .passes)
-
-    go : Dec (lastWhere f m ≤ g) → Dec (g ≤ lastWhere f m) → lastWhere f m ≡ g
-    go (yes a) (yes b) = omega arith
-    go (no a) b = never (sym (l .last (lastWhere f m) (omega arith) (r .below)) ∙ r .passes)
-    go (yes a) (no b) = never (sym (r .last g (omega arith) (l .below)) ∙ l .passes)
-
 -- some number passes, or none does
 some-or-none : (f : ℕ → Bool) (m : ℕ) → Last f m (lastWhere f m) ⊎ ((j : ℕ) → j < m → f j ≡ false)
 some-or-none f zero = inr (λ j h. absurd (not-suc-le-zero h))
@@ -141,16 +129,3 @@ module _ {n k : ℕ} {x : List ℤ} {t : ℤ} (d : SplineRules n k x t) where
           let b : s < k = span-below in
           let e : suc s + (k - suc s) ≡ k = omega arith in
           subst (λ (q : ℕ). at x q <ℤ t) e (under l (k - suc s) (omega arith))
-
--- ---- of either kind
-chosen-of : (b : Basis) (n k : ℕ) (x : List ℤ) (t : ℤ) → (let d : Direction = record { basis = b; degree = n; controls = k; parameters = x } in
-    Rules d t → Holds (at x) t (chosen d t) × (suc (chosen d t) < length x))
-unfolding Rules chosen
-chosen-of bezier n k x t r = (segment-holds r, segment-below r)
-chosen-of bspline n k x t r = (span-holds r, omega (arith, span-below r, r .count))
-
-pub chosen-holds : (d : Direction) (t : ℤ) → Rules d t → Holds (at (d .parameters)) t (chosen d t)
-chosen-holds d t r = chosen-of (d .basis) (d .degree) (d .controls) (d .parameters) t r .0
-
-pub chosen-below : (d : Direction) (t : ℤ) → Rules d t → suc (chosen d t) < length (d .parameters)
-chosen-below d t r = chosen-of (d .basis) (d .degree) (d .controls) (d .parameters) t r .1

@@ -9,4 +9,3 @@ pub mod Parse
 pub mod Ranges
 pub mod Wide
 pub mod ParseBody
-pub mod Records

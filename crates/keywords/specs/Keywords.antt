@@ -11,30 +11,7 @@ use Rattle.text.specs.Rest.{endOf}
 use Rattle.keywords.specs.Rows.{Row, rowOf, kindOr, kindBy, spellingOf, line}
 use Rattle.keywords.specs.declared.Keyword.{Keyword}
 use Rattle.keywords.specs.declared.Statement.{Statement}
-use Rattle.keywords.specs.declared.Statement.the-variants.{
-  Vertex,
-  TextureVertex,
-  VertexNormal,
-  ParameterVertex,
-  BodyType,
-  Degree,
-  Point,
-  Line,
-  Face,
-  Curve,
-  Curve2,
-  Surface,
-  Parameters,
-  Trim,
-  Hole,
-  End,
-  Group,
-  Smoothing,
-  Material,
-  PassedOver,
-  Refused,
-  Unknown,
-}
+use Rattle.keywords.specs.declared.Statement.the-variants.{Vertex, TextureVertex, VertexNormal, ParameterVertex, BodyType, Degree, Point, Line, Face, Curve, Curve2, Surface, Parameters, Trim, Hole, End, Group, Smoothing, Material, PassedOver, Refused, Unknown}
 
 -- the letter that stands for a kind in the code's table: stored statements A to S; a blank is no row's
 abbrev pub letterOf : Statement → ℕ

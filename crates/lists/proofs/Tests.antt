@@ -23,12 +23,6 @@ pub and-second : (a : Bool) {b : Bool} → b ≡ false → (a && b) ≡ false
 and-second true h = h
 and-second false h = refl
 
-pub or-first : {a : Bool} (b : Bool) → a ≡ true → (a || b) ≡ true
-or-first {a} b h = rw h refl
-
-pub or-neither : {a b : Bool} → a ≡ false → b ≡ false → (a || b) ≡ false
-or-neither {a} h k = rw h k
-
 -- a test holds or fails
 pub test : (t : Bool) → (t ≡ true) ⊎ (t ≡ false)
 test true = inl refl

@@ -79,10 +79,6 @@ module _ (used : Used) (t : Tables) (curves kind count k : ℕ) (h : bodyObeys u
   unfolding surfaceObeys
   surface-of e = surface-facts (parametersU t body) (parametersV t body) body count (and-left (directionsObey (parametersU t body) (parametersV t body) body count) _ (surface-holds e))
 
-  pub loops-of : kind ≡ 6 → loopsObey (used .loops) t curves (body .«first_loop») (body .loops) ≡ true
-  unfolding surfaceObeys
-  loops-of e = and-right (directionsObey (parametersU t body) (parametersV t body) body count) _ (surface-holds e)
-
 -- the element itself
 pub record Obeys (used : Used) (t : Tables) (curves i : ℕ) : Type 0 where
   pub lent-one : 9 * i + 9 ≤ length (t .elements)

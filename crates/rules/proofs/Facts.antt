@@ -66,10 +66,6 @@ module _ (used : Used) (t : Tables) (kind first count : ℕ) (c : Corners used t
   unfolding controlObeys
   corner-control h = parameter-facts (t .vp) (used .vp) (cornerAt t first k .v) (and-left (parameterVertexObeys (t .vp) (used .vp) (cornerAt t first k .v)) _ (control-holds h))
 
-  pub corner-given : kind ≡ 5 → leZ (pos 2) (valueAt 4 (t .vp) (cornerAt t first k .v - 1) 0) ≡ true
-  unfolding controlObeys
-  corner-given h = and-right (parameterVertexObeys (t .vp) (used .vp) (cornerAt t first k .v)) _ (control-holds h)
-
 -- ---- bodies
 pub record Degree (type n : ℕ) : Type 0 where
   pub some : 1 ≤ n

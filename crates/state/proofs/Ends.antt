@@ -48,14 +48,6 @@ module _ (R : Rooms) (m : Model) (n : Names) (f : Form) (o : Open) where
   abbrev last : Body
   last = settled (o .body .free) (o .body)
 
-  -- a curv2's range stands where zeros stood
-  pub range-settled : (s : Body) → o .body .start-u ≡ pos 0 → o .body .end-u ≡ pos 0 → o .body .start-v ≡ pos 0 → o .body .end-v ≡ pos 0 → 4 * length bodies + 4 ≤ R .ranges
-      → sets (imageOf R (state m n f (some o)) .ranges) (4 * length bodies) (rangeRow s) ≡ filled (R .ranges) (pos 0) (flat rangeRow (bodies ++ s ∷ []))
-  unfolding imageOf
-  range-settled s a b c d h =
-      ap (λ (l : List ℤ). sets l (4 * length bodies) (rangeRow s)) (sym (no-range-stored (R .ranges) bodies (o .body) a b c d h))
-      ∙ range-stored (R .ranges) bodies s h
-
   pub end-image : (r : List ℤ) →
       let t : Tables = imageOf R (state m n f (some o)) in
       let p : ℕ = summed (λ b. length (b .us) + length (b .vs)) bodies in

@@ -33,27 +33,6 @@ module _ (R : Rooms) (x : State) where
   vertex-image normal z w l h = ap (λ (r : List ℤ). withRow normal r (imageOf R x)) (vertex-stored (R .vn) 3 (x .model .vertices .vn) z (w .rows normal) l h)
   vertex-image parametric z w l h = ap (λ (r : List ℤ). withRow parametric r (imageOf R x)) (vertex-stored (R .vp) 4 (x .model .vertices .vp) z (w .rows parametric) l h)
 
-  -- what is in force is in no table
-  pub group-image : (ws : List Word) → imageOf R (apply (group ws) x) ≡ imageOf R x
-  unfolding imageOf
-  group-image ws = refl
-
-  pub smoothing-image : (k : ℕ) → imageOf R (apply (smoothing k) x) ≡ imageOf R x
-  unfolding imageOf
-  smoothing-image k = refl
-
-  pub material-image : (w : Word) → imageOf R (apply (material w) x) ≡ imageOf R x
-  unfolding imageOf
-  material-image w = refl
-
-  pub type-image : (r : Bool) (t : Basis) → imageOf R (apply (type r t) x) ≡ imageOf R x
-  unfolding imageOf
-  type-image r t = refl
-
-  pub degree-image : (m n : ℕ) → imageOf R (apply (degree m n) x) ≡ imageOf R x
-  unfolding imageOf
-  degree-image m n = refl
-
 -- ---- elements and bodies: a state taken apart by its body that has no end yet
 module _ (R : Rooms) (m : Model) (n : Names) (f : Form) where
   -- p, l, f

@@ -40,14 +40,6 @@ module _ (number used w lent : ℕ) where
   unfolding held
   held-first h = leb-true 1 number (and-left (leb 1 number) (leb number used) (and-left (leb 1 number && leb number used) (leb (w * number) lent) h))
 
-  pub held-used : held number used w lent ≡ true → number ≤ used
-  unfolding held
-  held-used h = leb-true number used (and-right (leb 1 number) (leb number used) (and-left (leb 1 number && leb number used) (leb (w * number) lent) h))
-
-  pub held-lent : held number used w lent ≡ true → w * number ≤ lent
-  unfolding held
-  held-lent h = leb-true (w * number) lent (and-right (leb 1 number && leb number used) (leb (w * number) lent) h)
-
 module _ (used : Used) (elements : List ℕ) (number : ℕ) where
   pub element-held : {e : Element} {b : Bool} → b ≡ held number (used .elements) 9 (length elements) → b ≡ true → e ≡ elementIn elements (number - 1) → e ≡ elementOf used elements number
   unfolding elementOf

@@ -65,6 +65,3 @@ module _ {A : Type 0} where
   take-drop-append zero m xs ys h = take-append-le m xs ys (omega arith)
   take-drop-append (suc k) m [] ys h = absurd (omega arith)
   take-drop-append (suc k) m (x ∷ xs) ys h = take-drop-append k m xs ys (omega arith)
-
-  pub take-drop-filled : (n : ℕ) (z : A) (xs : List A) (k m : ℕ) → k + m ≤ length xs → take m (drop k (filled n z xs)) ≡ take m (drop k xs)
-  take-drop-filled n z xs k m h = take-drop-append k m xs (replicate (n - length xs) z) h

@@ -7,19 +7,12 @@ use native.Mathlib.Omega.{arith}
 use lib.ListN.{length, getD, take, drop, length-append, List·getD-append}
 use lib.Seq.{take-at, drop-at, getD-append-add, take-append-add, drop-append-add, take-nil, drop-nil}
 use Rattle.lists.specs.Lists.{flat, filled}
-use Rattle.tables.proofs.Filled.{getD-filled, take-drop-filled}
+use Rattle.tables.proofs.Filled.{getD-filled}
 
 module _ {A R : Type 0} (f : R → List A) where
   pub flat-append : (rs ss : List R) → flat f (rs ++ ss) ≡ flat f rs ++ flat f ss
   flat-append [] ss = refl
   flat-append (r ∷ rs) ss = ap (λ (t : List A). f r ++ t) (flat-append rs ss) ∙ sym (append-assoc (f r) (flat f rs) (flat f ss))
-
-  -- a record of any width: it stands after those before it
-  pub run-flat : (rs : List R) (r : R) (ss : List R) → take (length (f r)) (drop (length (flat f rs)) (flat f (rs ++ r ∷ ss))) ≡ f r
-  run-flat rs r ss =
-      ap (λ (t : List A). take (length (f r)) (drop (length (flat f rs)) t)) (flat-append rs (r ∷ ss))
-      ∙ ap (λ (t : List A). take (length (f r)) t) (drop-at (flat f rs) (f r ++ flat f ss) (length (flat f rs)) refl)
-      ∙ take-at (f r) (flat f ss) (length (f r)) refl
 
 module _ {A R : Type 0} (f : R → List A) (w : ℕ) (wide : (r : R) → length (f r) ≡ w) where
   pub length-flat : (rs : List R) → length (flat f rs) ≡ w * length rs
@@ -67,25 +60,6 @@ module _ {A R : Type 0} (f : R → List A) (w : ℕ) (wide : (r : R) → length 
       let m : w * suc i ≡ length (f r) + w * i = rw mul-suc (omega arith) in
       ap (λ (k : ℕ). take w (drop k (f r ++ flat f rs))) m ∙ ap (λ (t : List A). take w t) (drop-append-add (f r) (flat f rs) (w * i)) ∙ record-flat rs i none (omega arith)
 
-  pub getD-flat-append : (rs : List R) (ys : List A) (i k : ℕ) (none : R) (z : A) → i < length rs → k < w → getD (flat f rs ++ ys) (w * i + k) z ≡ getD (f (getD rs i none)) k z
-  getD-flat-append rs ys i k none z h l =
-      let e : length (flat f rs) ≡ w * length rs = length-flat rs in
-      let m : w * (i + 1) ≤ w * length rs = mul-le-mul-left w (omega arith) in
-      List·getD-append (flat f rs) ys z (w * i + k) (omega arith) ∙ getD-flat rs i k none z h l
-
   -- both in a lent table that holds the records
   pub getD-table : (n : ℕ) (z : A) (rs : List R) (i k : ℕ) (none : R) → i < length rs → k < w → getD (filled n z (flat f rs)) (w * i + k) z ≡ getD (f (getD rs i none)) k z
   getD-table n z rs i k none h l = getD-filled n z (flat f rs) (w * i + k) ∙ getD-flat rs i k none z h l
-
-  pub record-table : (n : ℕ) (z : A) (rs : List R) (i : ℕ) (none : R) → i < length rs → take w (drop (w * i) (filled n z (flat f rs))) ≡ f (getD rs i none)
-  record-table n z rs i none h =
-      let l : length (flat f rs) ≡ w * length rs = length-flat rs in
-      let m : w * (i + 1) ≤ w * length rs = mul-le-mul-left w (omega arith) in
-      take-drop-filled n z (flat f rs) (w * i) w (omega arith) ∙ record-flat rs i none h
-
-  -- a run of m records from record i on
-  pub run-table : (n : ℕ) (z : A) (rs : List R) (i m : ℕ) → i + m ≤ length rs → take (w * m) (drop (w * i) (filled n z (flat f rs))) ≡ flat f (take m (drop i rs))
-  run-table n z rs i m h =
-      let l : length (flat f rs) ≡ w * length rs = length-flat rs in
-      let k : w * (i + m) ≤ w * length rs = mul-le-mul-left w h in
-      take-drop-filled n z (flat f rs) (w * i) (w * m) (omega arith) ∙ ap (λ (t : List A). take (w * m) t) (drop-flat rs i) ∙ take-flat (drop i rs) m

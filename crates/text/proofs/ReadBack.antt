@@ -80,11 +80,6 @@ line-back p (w ∷ ws) t h =
     ∙ ap (push (record { place = p; bytes = w })) (after-back (p + length w) ws t (and-right (isToken w) (all isToken ws) h))
     ∙ ap (λ (q : ℕ). record { words = record { place = p; bytes = w } ∷ placedAfter (p + length w) ws; bad = none; next = q }) e
 
--- a text that goes on with a written line at p
-pub written-at : (s : List ℕ) (p : ℕ) (ws : List (List ℕ)) (t : List ℕ) → drop p s ≡ writtenLine ws ++ t → all isToken ws ≡ true
-    → restAt s p ≡ record { words = placed p ws; bad = none; next = p + length (writtenLine ws) }
-written-at s p ws t d h = rest-in s p ∙ ap (restIn gap p) d ∙ line-back p ws t h
-
 after-bytes : (p : ℕ) (ws : List (List ℕ)) → bytesOf (placedAfter p ws) ≡ ws
 after-bytes p [] = refl
 after-bytes p (w ∷ ws) = ap (λ (r : List (List ℕ)). w ∷ r) (after-bytes (suc p + length w) ws)

@@ -134,11 +134,6 @@ module _ (s : List ℕ) where
   unfolding restAt
   words-stand at = rw (words-cut gap at (drop at s)) (stand gap at (drop at s) refl)
 
-  -- the same of the word that `gap` met
-  pub word-stands : (at p : ℕ) → WordMet s at p → stands s (wordAt s p) ≡ true
-  word-stands at p m =
-      and-left (stands s (wordAt s p)) (all (stands s) ((restAt s (endOf s p)) .words)) (sym (ap (λ (r : Rest). all (stands s) (r .words)) (m .rest)) ∙ words-stand at)
-
   -- the test, taken apart
   module _ (w : Word) (h : stands s w ≡ true) where
     abbrev front : (isToken (w .bytes) && leb (w .place + length (w .bytes)) (length s)) ≡ true
@@ -172,10 +167,3 @@ few-step m p b bs ih refused e t o = rw e (omega arith)
 pub few : (m : Mode) (p : ℕ) (l : List ℕ) → length (words m p l) ≤ length l
 few m p [] = omega arith
 few m p (b ∷ bs) = few-step m p b bs (λ n. few n (suc p) bs) (look m b bs) refl (opens m (onward (look m b bs) (λ n. n) gap gap)) refl
-
-pub words-few : (s : List ℕ) (at : ℕ) → length ((restAt s at) .words) ≤ length s - at
-unfolding restAt
-words-few s at =
-    let x = few gap at (drop at s) in
-    let y = length-drop at s in
-    rw (words-cut gap at (drop at s)) (omega arith)

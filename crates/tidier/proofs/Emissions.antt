@@ -17,9 +17,6 @@ pub emitted-room : (at : ℕ) (w l m : List ℕ) (n e r : ℕ) → n ≡ length 
 emitted-room at w l m n e r i j k s =
     record { ends = omega (arith, s .0); same = ap length (s .1) ∙ length-sets l at w; stored = λ a b. s .1 }
 
-pub room-for : (at : ℕ) (w l : List ℕ) (n e : ℕ) → n ≡ length w → e ≡ min (at + n) 16777217 → e ≤ min (length l) 16777216 → at + length w ≤ length l
-room-for at w l n e i j k = omega arith
-
 pub emitted-roomless : (at : ℕ) (w l : List ℕ) (n e : ℕ) → n ≡ length w → e ≡ min (at + n) 16777217 → min (length l) 16777216 < e → Emitted at w l l e
 emitted-roomless at w l n e i j k = record { ends = omega arith; same = refl; stored = λ (a : at + length w ≤ length l) (b : at + length w ≤ 16777216). absurd (omega arith) }
 
