@@ -34,9 +34,10 @@ use Rattle.lines.specs.Holding.{Opened, opened, Holds, lineSays, NextLine}
 use Rattle.lines.proofs.Opened.{no-body, some-body}
 use Rattle.reader.specs.declared.Reading.{Reading}
 use Rattle.reader.specs.declared.Reading.the-variants.{Read, Refused}
-use Rattle.reader.specs.Taking.{lineIs, begin}
-use Rattle.reader.specs.declared.Line.{Line}
-use Rattle.reader.specs.declared.Line.the-variants.{Next, Stopped}
+use Rattle.taking.specs.Taking.{lineIs}
+use Rattle.reader.specs.Lines.{begin}
+use Rattle.taking.specs.declared.Line.{Line}
+use Rattle.taking.specs.declared.Line.the-variants.{Next, Stopped}
 
 -- ---- at the start
 pub begins : (R : Rooms) (s : List ℕ) → Holds R s start begin (tablesOf R nothing) 0

@@ -1,4 +1,2 @@
 pub mod Going
-pub mod Blamed
-pub mod Sorted
 pub mod Whole

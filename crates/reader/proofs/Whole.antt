@@ -17,12 +17,13 @@ use Rattle.model.specs.Room.{Rooms}
 use Rattle.model.specs.Read.{Answer, refused, readLines, readOf}
 use Rattle.model.specs.Layout.{tablesOf, nothing}
 use Rattle.state.specs.declared.State.{State}
-use Rattle.reader.specs.declared.Line as lines
-use Rattle.reader.specs.declared.Line.the-variants.{Next, Stopped}
+use Rattle.taking.specs.declared.Line as lines
+use Rattle.taking.specs.declared.Line.the-variants.{Next, Stopped}
 use Rattle.reader.specs.declared.Reading.{Reading}
 use Rattle.reader.specs.declared.Reading.the-variants.{Read, Refused}
 use Rattle.reader.specs.Reading.{Result, result, roomsOf, answered, readInto}
-use Rattle.reader.specs.Taking.{lineIs, begin, Blank, linesRead, linesIs}
+use Rattle.taking.specs.Taking.{lineIs}
+use Rattle.reader.specs.Lines.{begin, Blank, linesRead, linesIs}
 use Rattle.reader.proofs.Going.{Going, going-start, going-on, going-stops, going-read, going-open, read-short, read-long}
 
 -- ---- the loop

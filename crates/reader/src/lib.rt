@@ -1,10 +1,7 @@
 // Reading a text into lent tables.
-mod families; // statements by the tables they fill
-mod taking; // a line's function by its family
 mod line_by_line; // the loop over lines
 
 use crate::line_by_line::read_lines;
-use state::State;
 use tables::Used;
 use tables::storing::clear;
 ghost use mathlib.Core.Path.{_≡_};
@@ -15,11 +12,6 @@ ghost use Rattle.reader.specs.Reading.{result, readInto};
 pub enum Reading {
     Read(Used),
     Refused { number: u32, place: usize },
-}
-
-pub enum Line {
-    Next { state: State, next: usize },
-    Stopped { number: u32, place: usize },
 }
 
 // Reads a text into the lent tables: 01's rules decide what they hold and what is refused.

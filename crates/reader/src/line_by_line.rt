@@ -1,17 +1,13 @@
 // A text's lines, one after the other.
-use crate::Line;
 use crate::Reading;
-use crate::families::family_of;
-use crate::taking::take_line;
-use blame::Refusal;
-use lines::Step;
 use state::Form;
 use state::Names;
 use state::Open;
 use state::State;
 use tables::Used;
 use tables::storing::clear;
-use text::Met;
+use taking::Line;
+use taking::line_at;
 ghost use mathlib.Core.Path.{_≡_};
 ghost use Prim.Native.Nat.{_≤_, _<_};
 ghost use lib.ListN.{length};
@@ -19,95 +15,7 @@ ghost use Rattle.keywords.specs.Keywords.{keywordTable};
 ghost use Rattle.keywords.specs.Arguments.{argumentTable};
 ghost use Rattle.tables.specs.Tables.{tables};
 ghost use Rattle.reader.specs.Reading.{roomsOf, result};
-ghost use Rattle.reader.specs.Taking.{lineIs, stoppedBy, begin, Blank, linesRead, linesIs};
-
-// 14 where nothing is wrong with the line itself.
-fn stopped(key: usize, refusal: Refusal) -> Line
-    ensures { λ r. ⌜ r ≡ stoppedBy key refusal ⌝ }
-{
-    match refusal {
-        Refusal::Refused { number, place } => Line::Stopped {
-            number: number,
-            place: place,
-        },
-        Refusal::Nothing => Line::Stopped {
-            number: 14,
-            place: key,
-        },
-    }
-}
-
-// The line that starts at `at`.
-fn line_at(
-    text: &[u8],
-    at: usize,
-    state: State,
-    v: &mut [i32],
-    vt: &mut [i32],
-    vn: &mut [i32],
-    vp: &mut [i32],
-    corners: &mut [u32],
-    elements: &mut [u32],
-    bodies: &mut [u32],
-    ranges: &mut [i32],
-    parameters: &mut [i32],
-    loops: &mut [u32],
-    spans: &mut [i32],
-    keyword_table: &[u8; 528],
-    argument_table: &[u8; 108],
-) -> Line
-    requires { ⌜ (at < length (now text)) × (length (now text) ≤ 16777216) ⌝ }
-    requires { ⌜ now «keyword_table» ≡ keywordTable ⌝ }
-    requires { ⌜ now «argument_table» ≡ argumentTable ⌝ }
-    ensures { λ r. ⌜ lineIs (now (text .entry)) at state (tables (now (v .entry)) (now (vt .entry)) (now (vn .entry)) (now (vp .entry)) (now (corners .entry)) (now (elements .entry)) (now (bodies .entry)) (now (ranges .entry)) (now (parameters .entry)) (now (loops .entry)) (now (spans .entry))) (tables (now (v .exit)) (now (vt .exit)) (now (vn .exit)) (now (vp .exit)) (now (corners .exit)) (now (elements .exit)) (now (bodies .exit)) (now (ranges .exit)) (now (parameters .exit)) (now (loops .exit)) (now (spans .exit))) r ⌝ }
-{
-    match text::gap(text, at) {
-        Met::End(q) => Line::Next {
-            state: state,
-            next: q,
-        },
-        Met::Bad(p) => Line::Stopped {
-            number: 2,
-            place: p,
-        },
-        Met::Start(p) => {
-            let keyword = keywords::keyword_at(text, p, keyword_table);
-            let statement = keyword.statement;
-            let family = family_of(statement);
-            match take_line(
-                family,
-                text,
-                keyword.end,
-                state,
-                v,
-                vt,
-                vn,
-                vp,
-                corners,
-                elements,
-                bodies,
-                ranges,
-                parameters,
-                loops,
-                spans,
-                argument_table,
-            ) {
-                Step::Taken { state, next } => Line::Next {
-                    state: state,
-                    next: next,
-                },
-                Step::Refuses(number) => Line::Stopped {
-                    number: number,
-                    place: p,
-                },
-                Step::GaveUp => {
-                    let refusal = blame::blame(text, at, state, vp, keyword_table, argument_table);
-                    stopped(p, refusal)
-                }
-            }
-        }
-    }
-}
+ghost use Rattle.reader.specs.Lines.{begin, Blank, linesRead, linesIs};
 
 fn begin() -> State
     ensures { λ r. ⌜ r ≡ begin ⌝ }

@@ -12,7 +12,7 @@ use Rattle.reader.proofs.line_by_line.lines_of.Tie as tie
 use Rattle.reader.proofs.line_by_line.lines_of.Reads as reads
 use Rattle.reader.proofs.line_by_line.lines_of.Lts as lts
 use Rattle.reader.proofs.line_by_line.begin.Reads as begin-reads
-use Rattle.reader.proofs.line_by_line.line_at.Reads as line-at-reads
+use Rattle.taking.proofs.line_at.Reads as line-at-reads
 
 abbrev Inv-loop : tie.InvT-loop
 Inv-loop text v₀ vt₀ vn₀ vp₀ corners₀ elements₀ bodies₀ ranges₀ parameters₀ loops₀ spans₀ keyword-table argument-table state₀ at₀ v vt vn vp corners elements bodies ranges parameters loops spans state at =

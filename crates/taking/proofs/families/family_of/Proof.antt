@@ -1,10 +1,10 @@
 -- By the statement, each case computes.
 use mathlib.Core.Path.{refl}
 use borrow.Author.Needs.{needs}
-use Rattle.reader.proofs.families.family_of.Statement.{statement}
-use Rattle.reader.proofs.families.family_of.Tie as tie
-use Rattle.reader.proofs.families.family_of.Reads as reads
-use Rattle.reader.proofs.families.family_of.Lts as lts
+use Rattle.taking.proofs.families.family_of.Statement.{statement}
+use Rattle.taking.proofs.families.family_of.Tie as tie
+use Rattle.taking.proofs.families.family_of.Reads as reads
+use Rattle.taking.proofs.families.family_of.Lts as lts
 
 enum-told : tie.Need-enum-told
 enum-told c = search needs

@@ -1,10 +1,10 @@
 -- By the answer, each case computes.
 use mathlib.Core.Path.{refl}
 use borrow.Author.Needs.{needs}
-use Rattle.reader.proofs.line_by_line.stopped.Statement.{statement}
-use Rattle.reader.proofs.line_by_line.stopped.Tie as tie
-use Rattle.reader.proofs.line_by_line.stopped.Reads as reads
-use Rattle.reader.proofs.line_by_line.stopped.Lts as lts
+use Rattle.taking.proofs.stopped.Statement.{statement}
+use Rattle.taking.proofs.stopped.Tie as tie
+use Rattle.taking.proofs.stopped.Reads as reads
+use Rattle.taking.proofs.stopped.Lts as lts
 
 enum-known-refusal : tie.Need-enum-known-refusal
 enum-known-refusal c = search needs

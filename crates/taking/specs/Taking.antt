@@ -3,18 +3,13 @@ use Prim.Native.Nat.{ℕ}
 use mathlib.Core.Path.{_≡_}
 use mathlib.Core.Bool.{Bool, true, false}
 use mathlib.Core.List.{List}
-use lib.ListN.{length}
-use Rattle.text.specs.Lines.{linesAt}
 use Rattle.text.specs.Rest.{restAt}
 use Rattle.tables.specs.Tables.{Tables}
 use Rattle.keywords.specs.declared.Statement.{Statement}
 use Rattle.keywords.specs.declared.Statement.the-variants as statement
 use Rattle.model.specs.Parse.{fault, a-vertex, an-element, a-body, parm, ends}
 use Rattle.model.specs.Model as model
-use Rattle.model.specs.Model.{start}
 use Rattle.model.specs.Room.{Rooms}
-use Rattle.model.specs.Read.{refused, readLines}
-use Rattle.model.specs.Layout.{tablesOf, nothing}
 use Rattle.state.specs.declared.State.{State}
 use Rattle.vertices.specs.Vertex.{kindOf}
 use Rattle.vertices.specs.declared.Kind.the-variants.{Geometric, Texture, Normal, Parametric}
@@ -27,15 +22,12 @@ use Rattle.blame.specs.declared.Refusal.{Refusal}
 use Rattle.blame.specs.declared.Refusal.the-variants as refusal
 use Rattle.lines.specs.declared.setting_lines.Setting.{Setting}
 use Rattle.lines.specs.declared.setting_lines.Setting.the-variants.{BodyType, Degree, Group, Smoothing, Material, PassedOver}
-use Rattle.reader.specs.declared.families.Family.{Family}
-use Rattle.reader.specs.declared.families.Family.the-variants.{Vertex, Element, Body, Parameters, Loop, End, Set, Other}
-use Rattle.reader.specs.declared.Line as lines
-use Rattle.reader.specs.declared.Line.the-variants.{Next, Stopped}
+use Rattle.taking.specs.declared.families.Family.{Family}
+use Rattle.taking.specs.declared.families.Family.the-variants.{Vertex, Element, Body, Parameters, Loop, End, Set, Other}
+use Rattle.taking.specs.declared.Line as lines
+use Rattle.taking.specs.declared.Line.the-variants.{Next, Stopped}
 use Rattle.lines.specs.declared.Step.{Step}
 use Rattle.lines.specs.declared.Step.the-variants.{GaveUp}
-use Rattle.reader.specs.declared.Reading.{Reading}
-use Rattle.reader.specs.declared.Reading.the-variants.{Read, Refused}
-use Rattle.reader.specs.Reading.{Result, roomsOf, result, answered}
 use Rattle.lines.specs.Holding.{Holds, lineSays, NextLine}
 use Rattle.lines.specs.InForce.{settingOf}
 use Rattle.lines.specs.Stepping.{stepIs}
@@ -86,27 +78,3 @@ lineIs s at c t u (Stopped n p) = (R : Rooms) (x : model.State) → Holds R s x 
 abbrev pub stoppedBy : ℕ → Refusal → lines.Line
 stoppedBy key (refusal.Refused n p) = Stopped n p
 stoppedBy key refusal.Nothing = Stopped 14 key
-
--- ---- the whole text
-abbrev pub begin : State
-begin =
-    record {
-      used = record { v = 0; vt = 0; vn = 0; vp = 0; corners = 0; elements = 0; bodies = 0; parameters = 0; loops = 0 };
-      curves = 0;
-      names = record { «group_place» = 0; «group_length» = 0; «material_place» = 0; «material_length» = 0; smoothing = 0 };
-      form = record { basis = 0; rational = 0; «degree_u» = 0; «degree_v» = 0 };
-      «open» = record { kind = 0; controls = 0; parts = 0; «u_at» = 0; «v_at» = 0 };
-    }
-
--- tables that hold nothing
-abbrev pub Blank : Tables → Type 0
-Blank t = t ≡ tablesOf (roomsOf t) nothing
-
--- what all lines of the text come to, with the tables cleared on a refusal
-abbrev pub linesRead : List ℕ → Rooms → Result
-linesRead s R = answered R (readLines R (length s) (linesAt s 0) start)
-
--- the same before they are cleared: they held nothing and then hold u
-abbrev pub linesIs : List ℕ → Rooms → Tables → Reading → Type 0
-linesIs s R u (Read n) = result (Read n) u ≡ linesRead s R
-linesIs s R u (Refused n p) = readLines R (length s) (linesAt s 0) start ≡ refused n p

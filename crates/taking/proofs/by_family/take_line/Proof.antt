@@ -5,12 +5,12 @@ use Rattle.tables.specs.Tables.{tables}
 use Rattle.state.specs.Changed.{withElement, withRange, withLoops, withBody}
 use Rattle.lines.specs.Stepping.{withVertices}
 use Rattle.lines.specs.declared.Step.the-variants.{GaveUp}
-use Rattle.reader.proofs.Sorted.{family-step}
+use Rattle.taking.proofs.Sorted.{family-step}
 use borrow.Author.Needs.{needs}
-use Rattle.reader.proofs.taking.take_line.Statement.{statement}
-use Rattle.reader.proofs.taking.take_line.Tie as tie
-use Rattle.reader.proofs.taking.take_line.Reads as reads
-use Rattle.reader.proofs.taking.take_line.Lts as lts
+use Rattle.taking.proofs.by_family.take_line.Statement.{statement}
+use Rattle.taking.proofs.by_family.take_line.Tie as tie
+use Rattle.taking.proofs.by_family.take_line.Reads as reads
+use Rattle.taking.proofs.by_family.take_line.Lts as lts
 use Rattle.lines.proofs.body_lines.body_line.Reads as body-line-reads
 use Rattle.lines.proofs.element_lines.element_line.Reads as element-line-reads
 use Rattle.lines.proofs.inner_lines.end_line.Reads as end-line-reads

@@ -5,7 +5,7 @@ use keywords::Statement;
 use lines::setting_lines::Setting;
 use vertices::Kind;
 ghost use mathlib.Core.Path.{_≡_};
-ghost use Rattle.reader.specs.Taking.{familyOf};
+ghost use Rattle.taking.specs.Taking.{familyOf};
 
 pub enum Family {
     Vertex(Kind),

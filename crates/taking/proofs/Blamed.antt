@@ -19,11 +19,11 @@ use Rattle.blame.specs.declared.Refusal.{Refusal}
 use Rattle.blame.specs.declared.Refusal.the-variants.{Refused, Nothing}
 use Rattle.blame.specs.Blame.{blameOf, parseBefore, faultBefore, GivenIn, BlameIs}
 use Rattle.blame.proofs.Before.{before-fault}
-use Rattle.reader.specs.declared.Line.{Line}
-use Rattle.reader.specs.declared.Line.the-variants.{Next, Stopped}
+use Rattle.taking.specs.declared.Line.{Line}
+use Rattle.taking.specs.declared.Line.the-variants.{Next, Stopped}
 use Rattle.lines.specs.Holding.{Holds, lineSays}
 use Rattle.lines.specs.Stepping.{Began, Left}
-use Rattle.reader.specs.Taking.{stoppedBy}
+use Rattle.taking.specs.Taking.{stoppedBy}
 use Rattle.lines.proofs.Steps.{line-fault}
 
 -- the line at p is refused as the code says

@@ -4,17 +4,17 @@ use native.Mathlib.Omega.{arith}
 use denote.Ref.{now}
 use Rattle.text.proofs.Found.{word-found, end-found, bad-found}
 use Rattle.tables.specs.Tables.{tables}
-use Rattle.reader.proofs.Sorted.{keyword-to, near, line-empty, line-bad, line-taken, line-refuses, line-gave-up}
+use Rattle.taking.proofs.Sorted.{keyword-to, near, line-empty, line-bad, line-taken, line-refuses, line-gave-up}
 use borrow.Author.Needs.{needs}
-use Rattle.reader.proofs.line_by_line.line_at.Statement.{statement}
-use Rattle.reader.proofs.line_by_line.line_at.Tie as tie
-use Rattle.reader.proofs.line_by_line.line_at.Reads as reads
-use Rattle.reader.proofs.line_by_line.line_at.Lts as lts
+use Rattle.taking.proofs.line_at.Statement.{statement}
+use Rattle.taking.proofs.line_at.Tie as tie
+use Rattle.taking.proofs.line_at.Reads as reads
+use Rattle.taking.proofs.line_at.Lts as lts
 use Rattle.blame.proofs.blame.Reads as blame-reads
 use Rattle.keywords.proofs.keyword_at.Reads as keyword-at-reads
-use Rattle.reader.proofs.families.family_of.Reads as family-of-reads
-use Rattle.reader.proofs.line_by_line.stopped.Reads as stopped-reads
-use Rattle.reader.proofs.taking.take_line.Reads as take-line-reads
+use Rattle.taking.proofs.families.family_of.Reads as family-of-reads
+use Rattle.taking.proofs.stopped.Reads as stopped-reads
+use Rattle.taking.proofs.by_family.take_line.Reads as take-line-reads
 use Rattle.text.proofs.gap.Reads as gap-reads
 
 gap-requires : tie.Need-gap-requires

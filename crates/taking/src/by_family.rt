@@ -14,7 +14,7 @@ ghost use Prim.Native.Nat.{_≤_};
 ghost use lib.ListN.{length};
 ghost use Rattle.keywords.specs.Arguments.{argumentTable};
 ghost use Rattle.tables.specs.Tables.{Tables, tables};
-ghost use Rattle.reader.specs.Taking.{familyIs};
+ghost use Rattle.taking.specs.Taking.{familyIs};
 
 // A line from just after its keyword on.
 pub fn take_line(

@@ -25,16 +25,16 @@ use Rattle.state.proofs.Bounds.{later}
 use Rattle.blame.specs.declared.Refusal.{Refusal}
 use Rattle.blame.specs.declared.Refusal.the-variants as refusal
 use Rattle.blame.specs.Blame.{BlameIs}
-use Rattle.reader.specs.declared.families.Family.{Family}
-use Rattle.reader.specs.declared.Line as lines
-use Rattle.reader.specs.declared.Line.the-variants.{Next, Stopped}
+use Rattle.taking.specs.declared.families.Family.{Family}
+use Rattle.taking.specs.declared.Line as lines
+use Rattle.taking.specs.declared.Line.the-variants.{Next, Stopped}
 use Rattle.lines.specs.declared.Step.{Step}
 use Rattle.lines.specs.declared.Step.the-variants.{Taken, Refuses, GaveUp}
 use Rattle.lines.specs.Holding.{Holds, NextLine, lineSays}
 use Rattle.lines.specs.Stepping.{Began, stepIs}
-use Rattle.reader.specs.Taking.{lineIs, familyOf, familyIs, stoppedBy}
+use Rattle.taking.specs.Taking.{lineIs, familyOf, familyIs, stoppedBy}
 use Rattle.lines.proofs.Given.{given-in}
-use Rattle.reader.proofs.Blamed.{stops, blamed, unknown-blamed}
+use Rattle.taking.proofs.Blamed.{stops, blamed, unknown-blamed}
 
 -- ---- a statement by its family: the step of its keyword, or given up
 record Known (s : List ℕ) (at : ℕ) (c : State) (t u : Tables) (r : Step) (k : Statement) (key : ℕ) : Type 0 where
