@@ -20,9 +20,9 @@ use Rattle.tidying.specs.Agree.{wordsAt}
 use Rattle.tidying.proofs.Good.{stays, plus, GoodElements}
 use Rattle.tidying.proofs.Reading.{read-came}
 use Rattle.tidying.proofs.Named.{Stands, NamesStand, ElementsStand, none-stands, read-stands}
-use Rattle.tidier.specs.Naming.{sameBytes}
-use Rattle.tidier.specs.Rows.{spaced}
-use Rattle.tidier.proofs.Naming.{named-same}
+use Rattle.emitting.specs.Naming.{sameBytes}
+use Rattle.emitting.specs.Emitting.{spaced}
+use Rattle.emitting.proofs.Naming.{named-same}
 
 -- a line is its keyword, its words with a space before each, and LF
 written-after : (ws : List (List ℕ)) → writtenAfter ws ≡ spaced ws ++ 10 ∷ []

@@ -24,11 +24,12 @@ use Rattle.keywords.specs.declared.Statement.{Statement}
 use Rattle.keywords.specs.declared.Statement.the-variants.{Smoothing}
 use Rattle.model.specs.Model.{parametric}
 use Rattle.tidying.specs.Printed.{coordinates, degreeWords}
-use Rattle.tidier.specs.Emitting.{Emitted}
-use Rattle.tidier.specs.Rows.{spaced, rowNumbers, vertexRows, cornersFrom, partWords, goingOn, loopWords, begunLines, loopLines}
-use Rattle.tidier.specs.Naming.{sameBytes}
+use Rattle.emitting.specs.Emitting.{Emitted}
+use Rattle.emitting.specs.Emitting.{spaced}
+use Rattle.tidier.specs.Rows.{rowNumbers, vertexRows, cornersFrom, partWords, goingOn, loopWords, begunLines, loopLines}
+use Rattle.emitting.specs.Naming.{sameBytes}
 use Rattle.tidier.specs.TidyFrom.{changed, smoothed}
-use Rattle.tidier.proofs.Emissions.{emitted-then, emitted-is}
+use Rattle.emitting.proofs.Emissions.{emitted-then, emitted-is}
 use Rattle.tidier.proofs.NamedLines.{written-spaced}
 
 -- ---- lines

@@ -1,4 +1,2 @@
-pub mod Emitting
-pub mod Naming
 pub mod Rows
 pub mod TidyFrom

@@ -5,7 +5,6 @@ use mathlib.Core.Bool.{Bool, true, false, cond}
 use lib.ListN.{getD, take, drop}
 use lib.Dec.{eqb, leb}
 use lib.IntN.{ℤ, pos}
-use Rattle.lists.specs.Lists.{flat}
 use Rattle.forms.specs.Written.{writtenWhole, writtenNumber, writtenCorner}
 use Rattle.forms.specs.Corner.{Corner}
 use Rattle.keywords.specs.Keywords.{keywordOf}
@@ -19,10 +18,6 @@ use Rattle.tables.specs.declared.Element.{Element}
 use Rattle.tables.specs.declared.Body.{Body}
 use Rattle.model.specs.Model.{parametric}
 use Rattle.tidying.specs.Printed.{coordinates, degreeWords, loopKeyword}
-
--- "One space between words": each of these with a space before it
-abbrev pub spaced : List (List ℕ) → List ℕ
-spaced ws = flat (λ (w : List ℕ). 32 ∷ w) ws
 
 -- ---- "All v, vt, vn (every coordinate), vp (those given)": n records of w numbers, which begin, or not, with how many were given
 abbrev pub rowNumbers : Bool → List ℤ → List ℤ

@@ -15,7 +15,7 @@ use Rattle.tables.specs.Asking.{elementOf}
 use Rattle.tables.specs.declared.Used.{Used}
 use Rattle.tables.specs.declared.Element.{Element}
 use Rattle.tidying.specs.Agree.{wordsAt}
-use Rattle.tidier.specs.Naming.{sameBytes}
+use Rattle.emitting.specs.Naming.{sameBytes}
 use Rattle.tidier.specs.Rows.{vertexRows, ownLines}
 
 -- "g, s, usemtl lines where the names (as words) or number differ from the element before"

@@ -7,10 +7,9 @@ ghost use Rattle.keywords.specs.Keywords.{keywordTable, keywordOf};
 ghost use Rattle.keywords.specs.Arguments.{argumentTable};
 ghost use Rattle.keywords.specs.declared.Statement.the-variants.{BodyType, Degree};
 ghost use Rattle.tidying.specs.Printed.{degreeWords};
-ghost use Rattle.tidier.specs.Emitting.{Emitted};
+ghost use Rattle.emitting.specs.Emitting.{Emitted};
 ghost use Rattle.tidier.specs.Rows.{basisArgument, typeWords, formLines, parameterLine, parameterLines, bodyLoops, endLine, ownLines};
 use crate::element;
-use crate::emit;
 use crate::loops;
 use crate::vertices;
 use tables::Body;
@@ -38,14 +37,19 @@ fn type_line(
     requires { ⌜ now arguments ≡ argumentTable ⌝ }
     ensures { λ r. ⌜ Emitted at (writtenLine (keywordOf BodyType ∷ typeWords body)) (now (out .entry)) (now (out .exit)) r ⌝ }
 {
-    let words = emit::emit_keyword(keywords::Statement::BodyType, table, out, at);
+    let words = emitting::emit_keyword(keywords::Statement::BodyType, table, out, at);
     if body.rational == 1 {
-        let basis = emit::emit_spaced_argument(keywords::Argument::Rational, arguments, out, words);
-        let end = emit::emit_spaced_argument(basis_argument(body.basis), arguments, out, basis);
-        return emit::emit_byte(out, end, b'\n');
+        let basis = emitting::emit_spaced_argument(
+            keywords::Argument::Rational,
+            arguments,
+            out,
+            words,
+        );
+        let end = emitting::emit_spaced_argument(basis_argument(body.basis), arguments, out, basis);
+        return emitting::emit_byte(out, end, b'\n');
     }
-    let end = emit::emit_spaced_argument(basis_argument(body.basis), arguments, out, words);
-    emit::emit_byte(out, end, b'\n')
+    let end = emitting::emit_spaced_argument(basis_argument(body.basis), arguments, out, words);
+    emitting::emit_byte(out, end, b'\n')
 }
 
 // One number on a curve, whose v degree is 0, two on a surface.
@@ -53,13 +57,13 @@ fn degree_line(body: Body, table: &[u8; 528], out: &mut [u8], at: usize) -> usiz
     requires { ⌜ now table ≡ keywordTable ⌝ }
     ensures { λ r. ⌜ Emitted at (writtenLine (keywordOf Degree ∷ degreeWords (body .«degree_u») (body .«degree_v»))) (now (out .entry)) (now (out .exit)) r ⌝ }
 {
-    let words = emit::emit_keyword(keywords::Statement::Degree, table, out, at);
-    let second = emit::emit_spaced_whole(out, words, body.degree_u);
+    let words = emitting::emit_keyword(keywords::Statement::Degree, table, out, at);
+    let second = emitting::emit_spaced_whole(out, words, body.degree_u);
     if body.degree_v == 0 {
-        return emit::emit_byte(out, second, b'\n');
+        return emitting::emit_byte(out, second, b'\n');
     }
-    let end = emit::emit_spaced_whole(out, second, body.degree_v);
-    emit::emit_byte(out, end, b'\n')
+    let end = emitting::emit_spaced_whole(out, second, body.degree_v);
+    emitting::emit_byte(out, end, b'\n')
 }
 
 fn parameter_line(
@@ -76,10 +80,10 @@ fn parameter_line(
     requires { ⌜ now arguments ≡ argumentTable ⌝ }
     ensures { λ r. ⌜ Emitted at (writtenLine (parameterLine direction (take count (drop first (now (parameters .entry)))))) (now (out .entry)) (now (out .exit)) r ⌝ }
 {
-    let words = emit::emit_keyword(keywords::Statement::Parameters, table, out, at);
-    let numbers = emit::emit_spaced_argument(direction, arguments, out, words);
+    let words = emitting::emit_keyword(keywords::Statement::Parameters, table, out, at);
+    let numbers = emitting::emit_spaced_argument(direction, arguments, out, words);
     let end = vertices::emit_numbers(parameters, first, count, out, numbers);
-    emit::emit_byte(out, end, b'\n')
+    emitting::emit_byte(out, end, b'\n')
 }
 
 fn parameter_lines(
@@ -157,8 +161,8 @@ fn closing_lines(
     let trims = parameter_lines(kind, body, table, arguments, parameters, out, at);
     let first = 2 * (body.first_loop as usize);
     let end = loops::loop_lines(table, parts, spans, first, body.loops, out, trims);
-    let last = emit::emit_keyword(keywords::Statement::End, table, out, end);
-    emit::emit_byte(out, last, b'\n')
+    let last = emitting::emit_keyword(keywords::Statement::End, table, out, end);
+    emitting::emit_byte(out, last, b'\n')
 }
 
 // An element's lines, its names apart.

@@ -6,9 +6,9 @@ ghost use lib.ListN.{drop};
 ghost use Rattle.text.specs.Written.{writtenLine};
 ghost use Rattle.forms.specs.Written.{writtenCorner};
 ghost use Rattle.keywords.specs.Keywords.{keywordTable};
-ghost use Rattle.tidier.specs.Emitting.{Emitted};
-ghost use Rattle.tidier.specs.Rows.{spaced, kindKeyword, rangeCount, bodyIndex, cornersFrom, elementWords};
-use crate::emit;
+ghost use Rattle.emitting.specs.Emitting.{Emitted};
+ghost use Rattle.emitting.specs.Emitting.{spaced};
+ghost use Rattle.tidier.specs.Rows.{kindKeyword, rangeCount, bodyIndex, cornersFrom, elementWords};
 use crate::vertices;
 
 fn kind_keyword(kind: u32) -> keywords::Statement
@@ -55,7 +55,7 @@ fn emit_corners(corners: &[u32], first: u32, count: u32, out: &mut [u8], at: usi
     let mut end = at;
     while 0 < left {
         let corner = tables::corner_at(corners, first, k);
-        end = emit::emit_spaced_corner(out, end, corner.v, corner.vt, corner.vn);
+        end = emitting::emit_spaced_corner(out, end, corner.v, corner.vt, corner.vn);
         k += 1;
         left -= 1;
     }
@@ -73,9 +73,9 @@ pub fn element_line(
     requires { ⌜ now table ≡ keywordTable ⌝ }
     ensures { λ r. ⌜ Emitted at (writtenLine (elementWords (now (corners .entry)) body element)) (now (out .entry)) (now (out .exit)) r ⌝ }
 {
-    let words = emit::emit_keyword(kind_keyword(element.kind), table, out, at);
+    let words = emitting::emit_keyword(kind_keyword(element.kind), table, out, at);
     let range = [body.start_u, body.end_u, body.start_v, body.end_v];
     let first = vertices::emit_numbers(&range, 0, range_count(element.kind), out, words);
     let end = emit_corners(corners, element.first, element.count, out, first);
-    emit::emit_byte(out, end, b'\n')
+    emitting::emit_byte(out, end, b'\n')
 }

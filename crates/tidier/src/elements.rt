@@ -5,11 +5,10 @@ ghost use Rattle.text.specs.Written.{writtenLines};
 ghost use Rattle.keywords.specs.Keywords.{keywordTable};
 ghost use Rattle.keywords.specs.Arguments.{argumentTable};
 ghost use Rattle.tidying.specs.Agree.{wordsAt};
-ghost use Rattle.tidier.specs.Emitting.{Emitted};
+ghost use Rattle.emitting.specs.Emitting.{Emitted};
 ghost use Rattle.tidier.specs.TidyFrom.{changed, smoothed, namesLines, elementLines, elementsFrom};
 use crate::body;
-use crate::emit;
-use crate::names;
+use emitting::names;
 use crate::vertices;
 
 // The names from `place` on, where they are not those from `before` on.
@@ -37,9 +36,9 @@ fn name_line(
     ) {
         return at;
     }
-    let words = emit::emit_keyword(statement, table, out, at);
+    let words = emitting::emit_keyword(statement, table, out, at);
     let end = names::emit_names(text, place as usize, length as usize, out, words);
-    emit::emit_byte(out, end, b'\n')
+    emitting::emit_byte(out, end, b'\n')
 }
 
 fn smoothing_line(
@@ -56,9 +55,9 @@ fn smoothing_line(
     if before == smoothing {
         return at;
     }
-    let words = emit::emit_keyword(keywords::Statement::Smoothing, table, out, at);
-    let end = emit::emit_spaced_whole(out, words, smoothing);
-    emit::emit_byte(out, end, b'\n')
+    let words = emitting::emit_keyword(keywords::Statement::Smoothing, table, out, at);
+    let end = emitting::emit_spaced_whole(out, words, smoothing);
+    emitting::emit_byte(out, end, b'\n')
 }
 
 fn names_lines(

@@ -2,8 +2,6 @@
 pub mod body;
 pub mod element;
 pub mod elements;
-pub mod emit;
 pub mod loops;
-pub mod names;
 pub mod tidy_text;
 pub mod vertices;

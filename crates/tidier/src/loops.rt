@@ -7,17 +7,17 @@ ghost use lib.Dec.{eqb};
 ghost use Rattle.text.specs.Written.{writtenLines};
 ghost use Rattle.keywords.specs.Keywords.{keywordTable};
 ghost use Rattle.tidying.specs.Printed.{loopKeyword};
-ghost use Rattle.tidier.specs.Emitting.{Emitted};
-ghost use Rattle.tidier.specs.Rows.{spaced, partWords, goingOn, begunLines, loopLines};
-use crate::emit;
+ghost use Rattle.emitting.specs.Emitting.{Emitted};
+ghost use Rattle.emitting.specs.Emitting.{spaced};
+ghost use Rattle.tidier.specs.Rows.{partWords, goingOn, begunLines, loopLines};
 
 fn emit_part(loops: &[u32], spans: &[i32], i: usize, out: &mut [u8], at: usize) -> usize
     requires { ⌜ i ≤ 17179869180 ⌝ }
     ensures { λ r. ⌜ Emitted at (spaced (partWords (drop i (now (loops .entry))) (drop i (now (spans .entry))))) (now (out .entry)) (now (out .exit)) r ⌝ }
 {
-    let to = emit::emit_spaced_number(out, at, tables::value_in(spans, i));
-    let curve = emit::emit_spaced_number(out, to, tables::value_in(spans, i + 1));
-    emit::emit_spaced_whole(out, curve, tables::number_in(loops, i + 1))
+    let to = emitting::emit_spaced_number(out, at, tables::value_in(spans, i));
+    let curve = emitting::emit_spaced_number(out, to, tables::value_in(spans, i + 1));
+    emitting::emit_spaced_whole(out, curve, tables::number_in(loops, i + 1))
 }
 
 // Of `count` parts from `first` on, those that go on with a loop.
@@ -73,10 +73,10 @@ fn loop_line(
     if begins == 0 {
         return at;
     }
-    let words = emit::emit_keyword(loop_keyword(begins), table, out, at);
+    let words = emitting::emit_keyword(loop_keyword(begins), table, out, at);
     let rest = emit_part(loops, spans, first, out, words);
     let end = emit_going_on(loops, spans, first + 2, count, out, rest);
-    emit::emit_byte(out, end, b'\n')
+    emitting::emit_byte(out, end, b'\n')
 }
 
 // The lines of the loops that begin in `count` parts from `first` on.

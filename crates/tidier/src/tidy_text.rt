@@ -4,7 +4,7 @@ ghost use Prim.Native.Nat.{_≤_};
 ghost use Rattle.text.specs.Written.{writtenLines};
 ghost use Rattle.keywords.specs.Keywords.{keywordTable};
 ghost use Rattle.tables.specs.Tables.{tables};
-ghost use Rattle.tidier.specs.Emitting.{Emitted};
+ghost use Rattle.emitting.specs.Emitting.{Emitted};
 ghost use Rattle.tidier.specs.TidyFrom.{verticesFrom, tidyFrom};
 use crate::elements;
 use crate::vertices;

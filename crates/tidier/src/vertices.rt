@@ -7,9 +7,9 @@ ghost use lib.ListN.{getD, take, drop};
 ghost use Rattle.text.specs.Written.{writtenLine, writtenLines};
 ghost use Rattle.forms.specs.Written.{writtenNumber};
 ghost use Rattle.keywords.specs.Keywords.{keywordTable, keywordOf};
-ghost use Rattle.tidier.specs.Emitting.{Emitted};
-ghost use Rattle.tidier.specs.Rows.{spaced, rowNumbers, vertexRows};
-use crate::emit;
+ghost use Rattle.emitting.specs.Emitting.{Emitted};
+ghost use Rattle.emitting.specs.Emitting.{spaced};
+ghost use Rattle.tidier.specs.Rows.{rowNumbers, vertexRows};
 
 // Up to `count` numbers from `first` on, each with a space before it.
 pub fn emit_numbers(values: &[i32], first: usize, count: usize, out: &mut [u8], at: usize) -> usize
@@ -23,7 +23,7 @@ pub fn emit_numbers(values: &[i32], first: usize, count: usize, out: &mut [u8], 
         if values.len() <= i {
             return end;
         }
-        end = emit::emit_spaced_number(out, end, values[i]);
+        end = emitting::emit_spaced_number(out, end, values[i]);
         i += 1;
         left -= 1;
     }
@@ -43,9 +43,9 @@ fn number_line(
     requires { ⌜ now table ≡ keywordTable ⌝ }
     ensures { λ r. ⌜ Emitted at (writtenLine (keywordOf statement ∷ map writtenNumber (take count (drop first (now (values .entry)))))) (now (out .entry)) (now (out .exit)) r ⌝ }
 {
-    let words = emit::emit_keyword(statement, table, out, at);
+    let words = emitting::emit_keyword(statement, table, out, at);
     let end = emit_numbers(values, first, count, out, words);
-    emit::emit_byte(out, end, b'\n')
+    emitting::emit_byte(out, end, b'\n')
 }
 
 // How many numbers were given, of the record that begins with it.

@@ -13,7 +13,7 @@ use Rattle.tables.specs.Tables.{Tables}
 use Rattle.tables.specs.declared.Used.{Used}
 use Rattle.model.specs.Read.{Answer, read, refused, readOf}
 use Rattle.model.specs.Layout.{tablesOf, usedOf}
-use Rattle.tidier.specs.Emitting.{Emitted}
+use Rattle.emitting.specs.Emitting.{Emitted}
 use Rattle.tidier.specs.TidyFrom.{tidyFrom}
 use Rattle.tidied.proofs.TidyFrom.{tidy-from}
 use Rattle.reader.specs.Reading.{Result, result, roomsOf, readInto}

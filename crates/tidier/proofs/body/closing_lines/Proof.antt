@@ -2,7 +2,7 @@
 use mathlib.Core.List.{[], _∷_}
 use denote.Ref.{now}
 use Rattle.tidier.specs.Rows.{parameterLines, bodyLoops, endLine}
-use Rattle.tidier.proofs.Emissions.{emitted-then, emitted-is}
+use Rattle.emitting.proofs.Emissions.{emitted-then, emitted-is}
 use Rattle.tidier.proofs.Turns.{one-line, three-lines}
 use borrow.Author.Needs.{needs}
 use Rattle.tidier.proofs.body.closing_lines.Statement.{statement}

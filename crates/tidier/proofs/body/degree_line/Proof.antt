@@ -6,7 +6,7 @@ use Rattle.text.specs.Written.{writtenLine}
 use Rattle.forms.specs.Written.{writtenWhole}
 use Rattle.keywords.specs.Keywords.{keywordOf}
 use Rattle.keywords.specs.declared.Statement.the-variants.{Degree}
-use Rattle.tidier.proofs.Emissions.{emitted-then, emitted-is}
+use Rattle.emitting.proofs.Emissions.{emitted-then, emitted-is}
 use Rattle.tidier.proofs.Turns.{emitted-line, spaced-one, spaced-two, degree-one, degree-two}
 use borrow.Author.Needs.{needs}
 use Rattle.tidier.proofs.body.degree_line.Statement.{statement}

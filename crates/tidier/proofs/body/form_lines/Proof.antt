@@ -4,7 +4,7 @@ use Rattle.keywords.specs.Keywords.{keywordOf}
 use Rattle.keywords.specs.declared.Statement.the-variants.{BodyType, Degree}
 use Rattle.tidying.specs.Printed.{degreeWords}
 use Rattle.tidier.specs.Rows.{typeWords}
-use Rattle.tidier.proofs.Emissions.{emitted-then, emitted-is}
+use Rattle.emitting.proofs.Emissions.{emitted-then, emitted-is}
 use Rattle.tidier.proofs.Turns.{two-lines}
 use borrow.Author.Needs.{needs}
 use Rattle.tidier.proofs.body.form_lines.Statement.{statement}

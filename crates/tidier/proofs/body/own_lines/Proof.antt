@@ -8,7 +8,7 @@ use Rattle.text.specs.Written.{writtenLine, writtenLines}
 use Rattle.tables.specs.declared.Body.{Body}
 use Rattle.tables.specs.Records.{bodyIn}
 use Rattle.tidier.specs.Rows.{bodyIndex, formLines, elementWords, parameterLines, bodyLoops, endLine}
-use Rattle.tidier.proofs.Emissions.{emitted-then, emitted-is}
+use Rattle.emitting.proofs.Emissions.{emitted-then, emitted-is}
 use Rattle.tidier.proofs.ElementTurns.{own-plain, own-body}
 use borrow.Author.Needs.{needs}
 use Rattle.tidier.proofs.body.own_lines.Statement.{statement}

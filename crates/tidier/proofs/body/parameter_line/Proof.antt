@@ -6,7 +6,7 @@ use Rattle.forms.specs.Written.{writtenNumber}
 use Rattle.keywords.specs.Keywords.{keywordOf}
 use Rattle.keywords.specs.Arguments.{argumentBytes}
 use Rattle.keywords.specs.declared.Statement.the-variants.{Parameters}
-use Rattle.tidier.proofs.Emissions.{emitted-then}
+use Rattle.emitting.proofs.Emissions.{emitted-then}
 use Rattle.tidier.proofs.Turns.{emitted-line}
 use borrow.Author.Needs.{needs}
 use Rattle.tidier.proofs.body.parameter_line.Statement.{statement}

@@ -9,7 +9,7 @@ use lib.ListN.{take, drop}
 use Rattle.text.specs.Written.{writtenLine, writtenLines}
 use Rattle.keywords.specs.declared.Argument.the-variants.{DirectionU, DirectionV}
 use Rattle.tidier.specs.Rows.{parameterLine}
-use Rattle.tidier.proofs.Emissions.{emitted-then, emitted-is}
+use Rattle.emitting.proofs.Emissions.{emitted-then, emitted-is}
 use Rattle.tidier.proofs.Turns.{one-line, two-lines}
 use borrow.Author.Needs.{needs}
 use Rattle.tidier.proofs.body.parameter_lines.Statement.{statement}

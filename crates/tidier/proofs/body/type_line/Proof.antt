@@ -12,7 +12,7 @@ use Rattle.keywords.specs.declared.Argument.{Argument}
 use Rattle.keywords.specs.declared.Argument.the-variants.{Rational}
 use Rattle.keywords.specs.declared.Statement.the-variants.{BodyType}
 use Rattle.tidier.specs.Rows.{basisArgument}
-use Rattle.tidier.proofs.Emissions.{emitted-then, emitted-is}
+use Rattle.emitting.proofs.Emissions.{emitted-then, emitted-is}
 use Rattle.tidier.proofs.Turns.{emitted-line, spaced-one, spaced-two}
 use borrow.Author.Needs.{needs}
 use Rattle.tidier.proofs.body.type_line.Statement.{statement}

@@ -7,7 +7,7 @@ use Rattle.forms.specs.Written.{writtenNumber, writtenCorner}
 use Rattle.keywords.specs.Keywords.{keywordOf}
 use Rattle.tidier.specs.Rows.{kindKeyword, rangeCount, rangeNumbers, cornersFrom}
 use Rattle.tables.proofs.Stores.{fitted}
-use Rattle.tidier.proofs.Emissions.{emitted-then, emitted-is}
+use Rattle.emitting.proofs.Emissions.{emitted-then, emitted-is}
 use Rattle.tidier.proofs.Turns.{emitted-line, spaced-append}
 use borrow.Author.Needs.{needs}
 use Rattle.tidier.proofs.element.element_line.Statement.{statement}

@@ -8,8 +8,9 @@ use denote.Ref.{now}
 use lib.ListN.{drop}
 use Rattle.forms.specs.Written.{writtenCorner}
 use Rattle.tables.specs.Records.{cornersEnd}
-use Rattle.tidier.specs.Rows.{spaced, cornersFrom}
-use Rattle.tidier.proofs.Emissions.{Left, left-start, left-turn, left-ends}
+use Rattle.emitting.specs.Emitting.{spaced}
+use Rattle.tidier.specs.Rows.{cornersFrom}
+use Rattle.emitting.proofs.Emissions.{Left, left-start, left-turn, left-ends}
 use Rattle.tidier.proofs.Turns.{corner-turn, corners-none}
 use Rattle.tidier.proofs.element.emit_corners.Statement.{statement}
 use Rattle.tidier.proofs.element.emit_corners.Tie as tie

@@ -7,7 +7,7 @@ use Rattle.tables.specs.Asking.{elementOf}
 use Rattle.tables.specs.declared.Element.{Element}
 use Rattle.tidier.specs.Rows.{ownLines}
 use Rattle.tidier.specs.TidyFrom.{namesLines}
-use Rattle.tidier.proofs.Emissions.{emitted-then, emitted-is}
+use Rattle.emitting.proofs.Emissions.{emitted-then, emitted-is}
 use Rattle.tidier.proofs.Turns.{lines-append}
 use borrow.Author.Needs.{needs}
 use Rattle.tidier.proofs.elements.element_lines.Statement.{statement}

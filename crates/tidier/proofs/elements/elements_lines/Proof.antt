@@ -3,7 +3,7 @@ use borrow.Author.Needs.{needs}
 use Prim.Native.Nat.{_+_, _<_, _≤_}
 use native.Mathlib.Omega.{arith}
 use denote.Ref.{now}
-use Rattle.tidier.proofs.Emissions.{Left, left-start, left-turn, left-ends}
+use Rattle.emitting.proofs.Emissions.{Left, left-start, left-turn, left-ends}
 use Rattle.tidier.proofs.ElementTurns.{onward, elements-turn, elements-none}
 use Rattle.tidier.proofs.elements.elements_lines.Statement.{statement}
 use Rattle.tidier.proofs.elements.elements_lines.Tie as tie

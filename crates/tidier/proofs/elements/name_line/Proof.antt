@@ -3,7 +3,7 @@ use mathlib.Core.Path.{sym, _∙_}
 use denote.Ref.{now}
 use Rattle.keywords.specs.Keywords.{keywordOf}
 use Rattle.tidying.specs.Agree.{wordsAt}
-use Rattle.tidier.proofs.Emissions.{emitted-none, emitted-is}
+use Rattle.emitting.proofs.Emissions.{emitted-none, emitted-is}
 use Rattle.tidier.proofs.Turns.{emitted-line, changed-none, changed-line}
 use borrow.Author.Needs.{needs}
 use Rattle.tidier.proofs.elements.name_line.Statement.{statement}

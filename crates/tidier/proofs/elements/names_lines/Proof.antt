@@ -3,7 +3,7 @@ use denote.Ref.{now}
 use Rattle.keywords.specs.declared.Statement.the-variants.{Group, Material}
 use Rattle.tidying.specs.Agree.{wordsAt}
 use Rattle.tidier.specs.TidyFrom.{changed, smoothed}
-use Rattle.tidier.proofs.Emissions.{emitted-then, emitted-is}
+use Rattle.emitting.proofs.Emissions.{emitted-then, emitted-is}
 use Rattle.tidier.proofs.Turns.{three-lines}
 use borrow.Author.Needs.{needs}
 use Rattle.tidier.proofs.elements.names_lines.Statement.{statement}

@@ -4,7 +4,7 @@ use denote.Ref.{now}
 use Rattle.forms.specs.Written.{writtenWhole}
 use Rattle.keywords.specs.Keywords.{keywordOf}
 use Rattle.keywords.specs.declared.Statement.the-variants.{Smoothing}
-use Rattle.tidier.proofs.Emissions.{emitted-none, emitted-is}
+use Rattle.emitting.proofs.Emissions.{emitted-none, emitted-is}
 use Rattle.tidier.proofs.Turns.{emitted-line, spaced-one, smoothed-none, smoothed-line}
 use borrow.Author.Needs.{needs}
 use Rattle.tidier.proofs.elements.smoothing_line.Statement.{statement}

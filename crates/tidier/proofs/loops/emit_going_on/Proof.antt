@@ -5,8 +5,9 @@ use mathlib.Core.Path.{_≡_}
 use native.Mathlib.Omega.{arith}
 use denote.Ref.{now}
 use lib.ListN.{getD, drop}
-use Rattle.tidier.specs.Rows.{spaced, goingOn}
-use Rattle.tidier.proofs.Emissions.{Left, left-start, left-turn, left-ends}
+use Rattle.emitting.specs.Emitting.{spaced}
+use Rattle.tidier.specs.Rows.{goingOn}
+use Rattle.emitting.proofs.Emissions.{Left, left-start, left-turn, left-ends}
 use Rattle.tidier.proofs.Turns.{going-turn, going-stops, going-none}
 use Rattle.tidier.proofs.loops.emit_going_on.Statement.{statement}
 use Rattle.tidier.proofs.loops.emit_going_on.Tie as tie

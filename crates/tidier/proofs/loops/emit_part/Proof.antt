@@ -6,7 +6,7 @@ use lib.IntN.{ℤ}
 use mir.Facts.{toZ-ofZ}
 use Prim.Native.Nat.{ℕ}
 use Rattle.forms.specs.Written.{writtenWhole, writtenNumber}
-use Rattle.tidier.proofs.Emissions.{emitted-then, emitted-is}
+use Rattle.emitting.proofs.Emissions.{emitted-then, emitted-is}
 use Rattle.tidier.proofs.Turns.{part-words}
 use borrow.Author.Needs.{needs}
 use Rattle.tidier.proofs.loops.emit_part.Statement.{statement}

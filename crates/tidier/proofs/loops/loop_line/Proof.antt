@@ -8,7 +8,7 @@ use lib.ListN.{getD, drop}
 use Rattle.keywords.specs.Keywords.{keywordOf}
 use Rattle.tidying.specs.Printed.{loopKeyword}
 use Rattle.tidier.specs.Rows.{partWords, goingOn}
-use Rattle.tidier.proofs.Emissions.{emitted-none, emitted-then, emitted-is}
+use Rattle.emitting.proofs.Emissions.{emitted-none, emitted-then, emitted-is}
 use Rattle.tidier.proofs.Turns.{emitted-line, first-read, loop-words, begun-none, begun-line}
 use borrow.Author.Needs.{needs}
 use Rattle.tidier.proofs.loops.loop_line.Statement.{statement}

@@ -6,7 +6,7 @@ use denote.Ref.{now}
 use lib.ListN.{drop}
 use Rattle.text.specs.Written.{writtenLines}
 use Rattle.tidier.specs.Rows.{loopLines}
-use Rattle.tidier.proofs.Emissions.{Left, left-start, left-turn, left-ends}
+use Rattle.emitting.proofs.Emissions.{Left, left-start, left-turn, left-ends}
 use Rattle.tidier.proofs.Turns.{loops-turn, loops-none}
 use Rattle.tidier.proofs.loops.loop_lines.Statement.{statement}
 use Rattle.tidier.proofs.loops.loop_lines.Tie as tie

@@ -7,7 +7,7 @@ use denote.Ref.{now}
 use Rattle.text.specs.Written.{writtenLines}
 use Rattle.keywords.specs.declared.Statement.the-variants.{Vertex, TextureVertex, VertexNormal, ParameterVertex}
 use Rattle.tidier.specs.Rows.{vertexRows}
-use Rattle.tidier.proofs.Emissions.{emitted-then, emitted-is}
+use Rattle.emitting.proofs.Emissions.{emitted-then, emitted-is}
 use Rattle.tidier.proofs.Turns.{lines-append, three-lines}
 use borrow.Author.Needs.{needs}
 use Rattle.tidier.proofs.tidy_text.all_vertices.Statement.{statement}

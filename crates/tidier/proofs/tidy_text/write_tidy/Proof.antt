@@ -3,7 +3,7 @@ use mathlib.Core.List.{List, _++_}
 use native.Mathlib.Omega.{arith}
 use denote.Ref.{now}
 use Rattle.tidier.specs.TidyFrom.{verticesFrom, elementsFrom, tidyFrom}
-use Rattle.tidier.proofs.Emissions.{emitted-then, emitted-is}
+use Rattle.emitting.proofs.Emissions.{emitted-then, emitted-is}
 use Rattle.tidier.proofs.Turns.{lines-append}
 use borrow.Author.Needs.{needs}
 use Rattle.tidier.proofs.tidy_text.write_tidy.Statement.{statement}

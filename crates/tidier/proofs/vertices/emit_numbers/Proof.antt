@@ -10,8 +10,8 @@ use lib.ListN.{getD, length, take, drop}
 use mir.Syntax.{w32}
 use mir.Facts.{toZ-ofZ}
 use Rattle.forms.specs.Written.{writtenNumber}
-use Rattle.tidier.specs.Rows.{spaced}
-use Rattle.tidier.proofs.Emissions.{Left, left-start, left-turn, left-ends, emitted-is}
+use Rattle.emitting.specs.Emitting.{spaced}
+use Rattle.emitting.proofs.Emissions.{Left, left-start, left-turn, left-ends, emitted-is}
 use Rattle.tidier.proofs.Turns.{numbers-turn, numbers-past, numbers-none}
 use Rattle.tidier.proofs.vertices.emit_numbers.Statement.{statement}
 use Rattle.tidier.proofs.vertices.emit_numbers.Tie as tie

@@ -10,7 +10,7 @@ use Rattle.text.specs.Written.{writtenLine}
 use Rattle.forms.specs.Written.{writtenNumber}
 use Rattle.keywords.specs.Keywords.{keywordOf}
 use Rattle.tidier.specs.Rows.{rowNumbers}
-use Rattle.tidier.proofs.Emissions.{emitted-is}
+use Rattle.emitting.proofs.Emissions.{emitted-is}
 use Rattle.tidier.proofs.Turns.{counted-row}
 use Rattle.tidier.proofs.vertices.row_line.Statement.{statement}
 use Rattle.tidier.proofs.vertices.row_line.Tie as tie

@@ -6,7 +6,7 @@ use denote.Ref.{now}
 use lib.ListN.{drop}
 use Rattle.text.specs.Written.{writtenLines}
 use Rattle.tidier.specs.Rows.{vertexRows}
-use Rattle.tidier.proofs.Emissions.{Left, left-start, left-turn, left-ends}
+use Rattle.emitting.proofs.Emissions.{Left, left-start, left-turn, left-ends}
 use Rattle.tidier.proofs.Turns.{rows-turn, rows-none}
 use Rattle.tidier.proofs.vertices.vertex_lines.Statement.{statement}
 use Rattle.tidier.proofs.vertices.vertex_lines.Tie as tie

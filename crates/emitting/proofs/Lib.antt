@@ -1,0 +1,3 @@
+pub mod Emissions
+pub mod Naming
+pub mod NamesLeft

@@ -1,0 +1,44 @@
+-- Written where it ends within the buffer and the longest text; else only the place after it is told.
+use native.Mathlib.Omega.{arith}
+use denote.Ref.{now}
+use Rattle.forms.specs.Written.{writtenCorner}
+use Rattle.emitting.proofs.Emissions.{emitted-roomless}
+use borrow.Author.Needs.{needs}
+use Rattle.emitting.proofs.emit_corner.Statement.{statement}
+use Rattle.emitting.proofs.emit_corner.Tie as tie
+
+corner-length-requires : tie.Need-corner-length-requires
+corner-length-requires c κs = search needs
+
+place-after-requires : tie.Need-place-after-requires
+place-after-requires c κs = search needs
+
+room-in-requires : tie.Need-room-in-requires
+room-in-requires c κs = search needs
+
+write-corner-requires : tie.Need-write-corner-requires
+write-corner-requires c κs = search needs
+
+same-length : tie.Need-same-length
+same-length c = search needs
+
+returns : tie.Need-returns
+returns c = search needs
+
+returns-2 : tie.Need-returns-2
+returns-2 c =
+    let s = c .before .before .before .before .before in
+    let e = c .before .before .place-after in
+    emitted-roomless (s .args .at) (writtenCorner (record { v = s .args .v; vt = s .args .vt; vn = s .args .vn })) (now (s .args .out)) (c .before .before .before .corner-length .result) (e .result) (c .before .before .before .corner-length .ensures) (e .ensures) (omega arith)
+
+pub emit-corner-spec : {M : Type 1} → statement M
+emit-corner-spec =
+    tie.close
+    (tie.spec
+    corner-length-requires
+    place-after-requires
+    room-in-requires
+    write-corner-requires
+    same-length
+    returns
+    returns-2)

@@ -1,0 +1,21 @@
+-- The space, and the word.
+use Rattle.emitting.proofs.Emissions.{emitted-then}
+use borrow.Author.Needs.{needs}
+use Rattle.emitting.proofs.emit_spaced_corner.Statement.{statement}
+use Rattle.emitting.proofs.emit_spaced_corner.Tie as tie
+
+emit-byte-requires : tie.Need-emit-byte-requires
+emit-byte-requires c κs = search needs
+
+emit-corner-requires : tie.Need-emit-corner-requires
+emit-corner-requires c κs = search needs
+
+same-length : tie.Need-same-length
+same-length c = search needs
+
+returns : tie.Need-returns
+returns c = emitted-then (c .before .before .before .before .before .before .emit-byte .ensures) (c .before .before .emit-corner .ensures)
+
+pub emit-spaced-corner-spec : {M : Type 1} → statement M
+emit-spaced-corner-spec =
+    tie.close (tie.spec emit-byte-requires emit-corner-requires same-length returns)

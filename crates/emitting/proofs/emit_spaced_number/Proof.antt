@@ -1,0 +1,22 @@
+-- The space, and the word.
+use mir.Facts.{toZ-ofZ}
+use Rattle.emitting.proofs.Emissions.{emitted-then}
+use borrow.Author.Needs.{needs}
+use Rattle.emitting.proofs.emit_spaced_number.Statement.{statement}
+use Rattle.emitting.proofs.emit_spaced_number.Tie as tie
+
+emit-byte-requires : tie.Need-emit-byte-requires
+emit-byte-requires c κs = search needs
+
+emit-number-requires : tie.Need-emit-number-requires
+emit-number-requires c κs = search needs
+
+same-length : tie.Need-same-length
+same-length c = search needs
+
+returns : tie.Need-returns
+returns c = emitted-then (c .before .before .before .before .before .before .emit-byte .ensures) (rw (toZ-ofZ (c .before .before .before .before .before .before .before .before .before .fits .value)) at (c .before .before .emit-number .ensures))
+
+pub emit-spaced-number-spec : {M : Type 1} → statement M
+emit-spaced-number-spec =
+    tie.close (tie.spec emit-byte-requires emit-number-requires same-length returns)

@@ -1,0 +1,46 @@
+-- Copied where it ends within the buffer and the longest text; else only the place after it is told.
+use Prim.Native.Nat.{_-_}
+use lib.ListN.{drop}
+use native.Mathlib.Omega.{arith}
+use denote.Ref.{now}
+use Rattle.text.specs.Words.{wordOf}
+use Rattle.emitting.proofs.Emissions.{emitted-roomless}
+use borrow.Author.Needs.{needs}
+use Rattle.emitting.proofs.names.emit_word.Statement.{statement}
+use Rattle.emitting.proofs.names.emit_word.Tie as tie
+
+sub-place-after : tie.Need-sub-place-after
+sub-place-after c = search needs
+
+place-after-requires : tie.Need-place-after-requires
+place-after-requires c κs = search needs
+
+room-in-requires : tie.Need-room-in-requires
+room-in-requires c κs = search needs
+
+copy-word-requires : tie.Need-copy-word-requires
+copy-word-requires c κs = search needs
+
+same-length : tie.Need-same-length
+same-length c = search needs
+
+returns : tie.Need-returns
+returns c = search needs
+
+returns-2 : tie.Need-returns-2
+returns-2 c =
+    let s = c .before .before .before .before .before in
+    let e = c .before .before .place-after in
+    emitted-roomless (s .args .at) (wordOf (drop (s .args .from) (now (s .args .text)))) (now (s .args .out)) (s .args .to - s .args .from) (e .result) (omega arith) (e .ensures) (omega arith)
+
+pub emit-word-spec : {M : Type 1} → statement M
+emit-word-spec =
+    tie.close
+    (tie.spec
+    sub-place-after
+    place-after-requires
+    room-in-requires
+    copy-word-requires
+    same-length
+    returns
+    returns-2)

@@ -1,0 +1,142 @@
+// One word of the tidy text or one byte between words, stored where there is room. Each answers the place after what it wrote, 16,777,217 for all that are too far.
+ghost use mathlib.Core.Path.{_≡_};
+ghost use mathlib.Core.List.{[], _∷_};
+ghost use Prim.Native.Nat.{_+_, min};
+ghost use Rattle.forms.specs.Written.{writtenWhole, writtenNumber, writtenCorner};
+ghost use Rattle.keywords.specs.Keywords.{keywordTable, keywordOf};
+ghost use Rattle.keywords.specs.Arguments.{argumentTable, argumentBytes};
+ghost use Rattle.emitting.specs.Emitting.{Emitted};
+
+pub mod names;
+
+const TOO_LONG: usize = 16_777_217;
+
+// The place `length` bytes after `at`.
+pub fn place_after(at: usize, length: usize) -> usize
+    ensures { λ r. ⌜ r ≡ min (at + length) 16777217 ⌝ }
+{
+    if TOO_LONG <= at {
+        return TOO_LONG;
+    }
+    if TOO_LONG - at <= length {
+        return TOO_LONG;
+    }
+    at + length
+}
+
+// How far a text may reach in a buffer of that length.
+pub fn room_in(lent: usize) -> usize
+    ensures { λ r. ⌜ r ≡ min lent 16777216 ⌝ }
+{
+    if lent < TOO_LONG {
+        return lent;
+    }
+    TOO_LONG - 1
+}
+
+pub fn emit_byte(out: &mut [u8], at: usize, b: u8) -> usize
+    ensures { λ r. ⌜ Emitted at (b ∷ []) (now (out .entry)) (now (out .exit)) r ⌝ }
+{
+    let end = place_after(at, 1);
+    if end <= room_in(out.len()) {
+        return writing::put_byte(out, at, b);
+    }
+    end
+}
+
+pub fn emit_keyword(
+    statement: keywords::Statement,
+    table: &[u8; 528],
+    out: &mut [u8],
+    at: usize,
+) -> usize
+    requires { ⌜ now table ≡ keywordTable ⌝ }
+    ensures { λ r. ⌜ Emitted at (keywordOf statement) (now (out .entry)) (now (out .exit)) r ⌝ }
+{
+    let end = place_after(at, keywords::keyword_length(statement, table));
+    if end <= room_in(out.len()) {
+        return keywords::write_keyword(statement, table, out, at);
+    }
+    end
+}
+
+pub fn emit_argument(
+    argument: keywords::Argument,
+    table: &[u8; 108],
+    out: &mut [u8],
+    at: usize,
+) -> usize
+    requires { ⌜ now table ≡ argumentTable ⌝ }
+    ensures { λ r. ⌜ Emitted at (argumentBytes argument) (now (out .entry)) (now (out .exit)) r ⌝ }
+{
+    let end = place_after(at, keywords::argument_length(argument, table));
+    if end <= room_in(out.len()) {
+        return keywords::write_argument(argument, table, out, at);
+    }
+    end
+}
+
+pub fn emit_whole(out: &mut [u8], at: usize, n: u32) -> usize
+    ensures { λ r. ⌜ Emitted at (writtenWhole n) (now (out .entry)) (now (out .exit)) r ⌝ }
+{
+    let end = place_after(at, writing::whole_length(n));
+    if end <= room_in(out.len()) {
+        return writing::write_whole(out, at, n);
+    }
+    end
+}
+
+pub fn emit_number(out: &mut [u8], at: usize, value: i32) -> usize
+    ensures { λ r. ⌜ Emitted at (writtenNumber value) (now (out .entry)) (now (out .exit)) r ⌝ }
+{
+    let end = place_after(at, writing::number_length(value));
+    if end <= room_in(out.len()) {
+        return writing::write_number(out, at, value);
+    }
+    end
+}
+
+pub fn emit_corner(out: &mut [u8], at: usize, v: u32, vt: u32, vn: u32) -> usize
+    ensures { λ r. ⌜ Emitted at (writtenCorner (record { v = v; vt = vt; vn = vn })) (now (out .entry)) (now (out .exit)) r ⌝ }
+{
+    let end = place_after(at, writing::corner_length(v, vt, vn));
+    if end <= room_in(out.len()) {
+        return writing::write_corner(out, at, v, vt, vn);
+    }
+    end
+}
+
+// A space, and a word.
+pub fn emit_spaced_argument(
+    argument: keywords::Argument,
+    table: &[u8; 108],
+    out: &mut [u8],
+    at: usize,
+) -> usize
+    requires { ⌜ now table ≡ argumentTable ⌝ }
+    ensures { λ r. ⌜ Emitted at (32 ∷ argumentBytes argument) (now (out .entry)) (now (out .exit)) r ⌝ }
+{
+    let word = emit_byte(out, at, b' ');
+    emit_argument(argument, table, out, word)
+}
+
+pub fn emit_spaced_whole(out: &mut [u8], at: usize, n: u32) -> usize
+    ensures { λ r. ⌜ Emitted at (32 ∷ writtenWhole n) (now (out .entry)) (now (out .exit)) r ⌝ }
+{
+    let word = emit_byte(out, at, b' ');
+    emit_whole(out, word, n)
+}
+
+pub fn emit_spaced_number(out: &mut [u8], at: usize, value: i32) -> usize
+    ensures { λ r. ⌜ Emitted at (32 ∷ writtenNumber value) (now (out .entry)) (now (out .exit)) r ⌝ }
+{
+    let word = emit_byte(out, at, b' ');
+    emit_number(out, word, value)
+}
+
+pub fn emit_spaced_corner(out: &mut [u8], at: usize, v: u32, vt: u32, vn: u32) -> usize
+    ensures { λ r. ⌜ Emitted at (32 ∷ writtenCorner (record { v = v; vt = vt; vn = vn })) (now (out .entry)) (now (out .exit)) r ⌝ }
+{
+    let word = emit_byte(out, at, b' ');
+    emit_corner(out, word, v, vt, vn)
+}
