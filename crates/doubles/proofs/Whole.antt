@@ -63,24 +63,21 @@ both-minus : (f : Format) (a b : ℕ) → sum f true (suc a) true b 1 ≡ ofInt 
 unfolding sum ofInt
 both-minus f a b = ap (λ (n : ℕ). round f true n 1) (omega arith)
 
+apart : (a b : ℕ) → a < b → b - a ≡ suc (b - suc a)
+apart a b h = omega arith
+
 plus-minus : (f : Format) (a b : ℕ) → sum f false a true b 1 ≡ ofInt f (subℕ a b)
 unfolding sum ofInt
 plus-minus f a b = go (ltb a b) (ltb→lt a b)
   where
-    apart : a < b → b - a ≡ suc (b - suc a)
-    apart h = omega arith
-
     go : (x : Bool) → (T x → a < b) → cond x (round f true (b - a) 1) (round f false (a - b) 1) ≡ ofInt f (cond x (negsuc (b - suc a)) (pos (a - b)))
-    go true h = ap (λ (n : ℕ). round f true n 1) (apart (h tt))
+    go true h = ap (λ (n : ℕ). round f true n 1) (apart a b (h tt))
     go false h = refl
 
 minus-plus : (f : Format) (a b : ℕ) → sum f true a false b 1 ≡ ofInt f (subℕ b a)
 unfolding sum ofInt
 minus-plus f a b = go (ltb a b) (ltb b a) (ltb→lt a b) (ltb→lt b a) (nltb→le a b) (nltb→le b a)
   where
-    apart : b < a → a - b ≡ suc (a - suc b)
-    apart h = omega arith
-
     none : a < b → b < a → ⊥
     none h k = omega arith
 
@@ -91,7 +88,7 @@ minus-plus f a b = go (ltb a b) (ltb b a) (ltb→lt a b) (ltb→lt b a) (nltb→
         → cond x (round f false (b - a) 1) (round f y (a - b) 1) ≡ ofInt f (cond y (negsuc (a - suc b)) (pos (b - a)))
     go true true h k l m = absurd (none (h tt) (k tt))
     go true false h k l m = refl
-    go false true h k l m = ap (λ (n : ℕ). round f true n 1) (apart (k tt))
+    go false true h k l m = ap (λ (n : ℕ). round f true n 1) (apart b a (k tt))
     go false false h k l m = ap (λ (n : ℕ). round f false n 1) (same (l tt) (m tt))
 
 -- ---- sums and differences of whole numbers
@@ -156,13 +153,14 @@ anchor-in = lit≤ tt
 kept-in : (z : ℤ) → Small z → natAbs (pos anchor +ℤ z) ≤ 2 ^ 53
 kept-in z h = omega (arith, abs-+ (pos anchor) z)
 
-pub kept-above : (z : ℤ) → Small z → nonNeg (pos anchor +ℤ z) ≡ true
-kept-above (pos n) h = refl
-kept-above (negsuc n) h = ap (λ (t : Bool). nonNeg (cond t (negsuc (suc n - suc anchor)) (pos (anchor - suc n)))) (le-ltb anchor (suc n) (omega arith))
+-- what is kept lies above zero
+pub kept-place : (z : ℤ) → Small z → pos anchor +ℤ z ≡ pos (natAbs (pos anchor +ℤ z))
+kept-place (pos n) h = refl
+kept-place (negsuc n) h = rw (le-ltb anchor (suc n) (omega arith)) refl
 
 pub kept-value : (z : ℤ) → Small z → HasValue (kept z) false (natAbs (pos anchor +ℤ z)) 1
 unfolding kept
-kept-value z h = subst (λ (s : Bool). HasValue (ofInt binary64 (pos anchor +ℤ z)) (not s) (natAbs (pos anchor +ℤ z)) 1) (kept-above z h) (ofInt-value binary64 (pos anchor +ℤ z) (kept-in z h))
+kept-value z h = subst (λ (s : Bool). HasValue (ofInt binary64 (pos anchor +ℤ z)) (not s) (natAbs (pos anchor +ℤ z)) 1) (ap nonNeg (kept-place z h)) (ofInt-value binary64 (pos anchor +ℤ z) (kept-in z h))
 
 pub kept-fits : (z : ℤ) → T (fits binary64 (kept z))
 unfolding kept
@@ -172,6 +170,7 @@ pub kept-sum : (z : ℤ) → Small z → add binary64 (ofInt binary64 z) anchore
 unfolding kept
 kept-sum z h = ap (add binary64 (ofInt binary64 z)) anchored-is ∙ add-whole binary64 z (pos anchor) (small-in z h) anchor-in ∙ ap (ofInt binary64) (+ℤ-comm z (pos anchor))
 
+-- the way between two numbers is exact
 pub kept-apart : (a b : ℤ) → Small a → Small b → sub binary64 (kept b) (kept a) ≡ ofInt binary64 (b -ℤ a)
 unfolding kept
 kept-apart a b h k =
@@ -198,5 +197,6 @@ kept-back a k =
     subst (λ (x : Float). T (inSigned binary64 31 x) × (toSigned 31 x ≡ k .number)) (sym (ap (λ (x : Float). sub binary64 x anchored) (k .same) ∙ kept-less (k .number) (k .small)))
     (back (k .number) (k .small))
 
+-- no two numbers are kept alike
 pub kept-one : (y z : ℤ) → kept y ≡ kept z → Small y → Small z → y ≡ z
 kept-one y z e h k = sym (kept-back (kept y) (record { number = y; small = h; same = refl }) .1) ∙ kept-back (kept y) (record { number = z; small = k; same = e }) .1
