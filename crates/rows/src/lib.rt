@@ -26,7 +26,7 @@ pub struct Along {
 }
 
 // The parameters from which to which number j of a row of r + 1 numbers goes.
-fn low(x: &[i32], along: Along, t: i32, chosen: usize, r: usize, j: usize) -> i32
+pub fn low(x: &[i32], along: Along, t: i32, chosen: usize, r: usize, j: usize) -> i32
     requires { ⌜ On along (now x) t chosen × (r < along .degree) × (j ≤ r) ⌝ }
     ensures { λ z. ⌜ (z ≡ lowAt (direction along (now (x .entry))) t r j) × Small z ⌝ }
 {
@@ -36,7 +36,7 @@ fn low(x: &[i32], along: Along, t: i32, chosen: usize, r: usize, j: usize) -> i3
     x[chosen]
 }
 
-fn high(x: &[i32], along: Along, t: i32, chosen: usize, r: usize, j: usize) -> i32
+pub fn high(x: &[i32], along: Along, t: i32, chosen: usize, r: usize, j: usize) -> i32
     requires { ⌜ On along (now x) t chosen × (r < along .degree) × (j ≤ r) ⌝ }
     ensures { λ z. ⌜ (z ≡ highAt (direction along (now (x .entry))) t r j) × Small z ⌝ }
 {
