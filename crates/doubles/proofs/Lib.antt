@@ -1,0 +1,4 @@
+pub mod Near
+pub mod Signs
+pub mod Errors
+pub mod Certain
