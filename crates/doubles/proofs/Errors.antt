@@ -1,7 +1,7 @@
 -- What the doubles' errors add up to, in whole numbers: between the two leans' results there is room for one nearest whole number only.
 use mathlib.Core.Path.{_≡_, refl, sym, ap, _∙_, subst}
 use mathlib.Core.List.{[], _∷_}
-use Prim.Native.Nat.{ℕ, zero, suc, _+_, _-_, _*_, _≤_, _<_}
+use Prim.Native.Nat.{ℕ, suc, _+_, _-_, _*_, _^_, _≤_, _<_}
 use native.Mathlib.Nat.{mul-pos, mul-le-mul, mul-le-mul-left, mul-le-mul-right, le-of-mul-le-mul-right, lt-of-mul-lt-mul-right}
 use native.Mathlib.Omega.{arith}
 use lib.IntN.{ℤ, pos, negsuc, negℤ, natAbs, _+ℤ_, _-ℤ_, _*ℤ_, negℤ-negℤ}
@@ -30,33 +30,34 @@ parts D U p d g w m n h =
     (λ D U p d g w m n h. (D ⊗ g ⊝ p ⊗ d) ⊗ U ⊝ D ⊗ h ≐ D ⊗ (g ⊗ U ⊝ n) ⊕ D ⊗ (n ⊝ (m ⊕ h)) ⊕ D ⊗ (m ⊝ d ⊗ w) ⊕ d ⊗ (w ⊗ D ⊝ p ⊗ U)) tt) in
     omega (arith, e, abs-+ (pos D *ℤ a +ℤ pos D *ℤ b +ℤ pos D *ℤ c) (d *ℤ k), abs-+ (pos D *ℤ a +ℤ pos D *ℤ b) (pos D *ℤ c), abs-+ (pos D *ℤ a) (pos D *ℤ b), abs-* (pos D) a, abs-* (pos D) b, abs-* (pos D) c, abs-* d k)
 
--- all in steps of e: the weight is off by half of 1 / U of e, d w by 2 ^ 31, a lean by 2 ^ 32, and it leans 2 ^ 36
+-- n is m leant by h, rounded, and g is n / U, rounded to a whole number
 pub record Leaned (U e : ℕ) (g m n h : ℤ) : Type 0 where
   pub last : 2 * natAbs (g *ℤ pos U -ℤ n) ≤ U
-  pub lean : 2 * natAbs (n -ℤ (m +ℤ h)) ≤ 8589934592 * e
+  pub lean : 2 * natAbs (n -ℤ (m +ℤ h)) ≤ 2 ^ 33 * e
 
-module _ (D U e p : ℕ) (d g w m n₁ n₂ : ℤ) (some : 0 < D) (step : 0 < e) (gap : natAbs d ≤ 4294967296)
-    (weight : 2 * natAbs (w *ℤ pos D -ℤ pos p *ℤ pos U) ≤ D * e) (product : 2 * natAbs (m -ℤ d *ℤ w) ≤ 4294967296 * e) where
-  total : (n h : ℤ) → Leaned U e g m n h → 2 * natAbs ((pos D *ℤ g -ℤ pos p *ℤ d) *ℤ pos U -ℤ pos D *ℤ h) ≤ D * U + 17179869184 * (D * e)
+-- leans of 2 ^ 36 steps to either side leave more room than all errors take
+module _ (D U e p : ℕ) (d g w m n₁ n₂ : ℤ) (some : 0 < D) (step : 0 < e) (gap : natAbs d ≤ 2 ^ 32)
+    (weight : 2 * natAbs (w *ℤ pos D -ℤ pos p *ℤ pos U) ≤ D * e) (product : 2 * natAbs (m -ℤ d *ℤ w) ≤ 2 ^ 32 * e) where
+  total : (n h : ℤ) → Leaned U e g m n h → 2 * natAbs ((pos D *ℤ g -ℤ pos p *ℤ d) *ℤ pos U -ℤ pos D *ℤ h) ≤ D * U + 2 ^ 34 * (D * e)
   total n h l =
       sums (natAbs (g *ℤ pos U -ℤ n)) (natAbs (n -ℤ (m +ℤ h))) (natAbs (m -ℤ d *ℤ w)) (natAbs (w *ℤ pos D -ℤ pos p *ℤ pos U))
       (mul-le-mul-left D (l .last)) (mul-le-mul-left D (l .lean)) (mul-le-mul-left D product) (mul-le-mul gap weight) (parts D U p d g w m n h)
     where
-      sums : {x : ℕ} (a b c k : ℕ) → D * (2 * a) ≤ D * U → D * (2 * b) ≤ D * (8589934592 * e) → D * (2 * c) ≤ D * (4294967296 * e) → natAbs d * (2 * k) ≤ 4294967296 * (D * e)
-          → x ≤ D * a + D * b + D * c + natAbs d * k → 2 * x ≤ D * U + 17179869184 * (D * e)
+      sums : {x : ℕ} (a b c k : ℕ) → D * (2 * a) ≤ D * U → D * (2 * b) ≤ D * (2 ^ 33 * e) → D * (2 * c) ≤ D * (2 ^ 32 * e) → natAbs d * (2 * k) ≤ 2 ^ 32 * (D * e)
+          → x ≤ D * a + D * b + D * c + natAbs d * k → 2 * x ≤ D * U + 2 ^ 34 * (D * e)
       sums a b c k i j l o q = omega arith
 
-  pub only-one : Leaned U e g m n₁ (pos (68719476736 * e)) → Leaned U e g m n₂ (negℤ (pos (68719476736 * e))) → 2 * natAbs (pos D *ℤ g -ℤ pos p *ℤ d) < D
+  pub only-one : Leaned U e g m n₁ (pos (2 ^ 36 * e)) → Leaned U e g m n₂ (negℤ (pos (2 ^ 36 * e))) → 2 * natAbs (pos D *ℤ g -ℤ pos p *ℤ d) < D
   only-one i j =
       lt-of-mul-lt-mul-right U
       (left (natAbs (x *ℤ pos U)) (natAbs x) (abs-* x (pos U)) (mul-pos some step)
-      (two-sided (x *ℤ pos U) (D * (68719476736 * e)) (D * U + 17179869184 * (D * e)) (total n₁ (pos (68719476736 * e)) i)
-      (subst (λ z. 2 * natAbs (x *ℤ pos U -ℤ z) ≤ D * U + 17179869184 * (D * e)) (ring (pos D ∷ pos (68719476736 * e) ∷ []) (λ d h. d ⊗ ⊖ h ≐ ⊖ (d ⊗ h)) tt) (total n₂ (negℤ (pos (68719476736 * e))) j))))
+      (two-sided (x *ℤ pos U) (D * (2 ^ 36 * e)) (D * U + 2 ^ 34 * (D * e)) (total n₁ (pos (2 ^ 36 * e)) i)
+      (subst (λ z. 2 * natAbs (x *ℤ pos U -ℤ z) ≤ D * U + 2 ^ 34 * (D * e)) (ring (pos D ∷ pos (2 ^ 36 * e) ∷ []) (λ d h. d ⊗ ⊖ h ≐ ⊖ (d ⊗ h)) tt) (total n₂ (negℤ (pos (2 ^ 36 * e))) j))))
     where
       x : ℤ
       x = pos D *ℤ g -ℤ pos p *ℤ d
 
-      left : (n k : ℕ) → n ≡ k * U → 0 < D * e → 2 * (n + D * (68719476736 * e)) ≤ D * U + 17179869184 * (D * e) → 2 * k * U < D * U
+      left : (n k : ℕ) → n ≡ k * U → 0 < D * e → 2 * (n + D * (2 ^ 36 * e)) ≤ D * U + 2 ^ 34 * (D * e) → 2 * k * U < D * U
       left n k q r t = omega arith
 
 -- ---- how large each step's number is

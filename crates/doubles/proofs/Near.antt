@@ -1,12 +1,12 @@
 -- `round` by the grid that it rounds to: its result is a whole number of steps, and at most half a step from the fraction.
-use mathlib.Core.Path.{_≡_, refl, sym, ap, _∙_, subst}
-use mathlib.Core.Bool.{Bool, true, false, not}
+use mathlib.Core.Path.{_≡_, sym, ap, subst}
+use mathlib.Core.Bool.{Bool, not}
 use Prim.Native.Nat.{ℕ, zero, suc, _+_, _-_, _*_, _/_, _%_, _^_, _≤_, _<_, compare, Ordering, Ordering·lt, Ordering·eq, Ordering·gt}
-use native.Mathlib.Nat.{le-trans, le-of-eq, lt-of-le-of-lt, lt-of-lt-of-le, lt-of-not-le, not-le-of-lt, mul-one, mul-lt-mul-of-pos-right, mul-le-mul, eq-of-mul-eq-mul-right, le-antisymm, mul-pos, mul-assoc, mul-comm, mul-le-mul-left, mul-le-mul-right, le-of-mul-le-mul-right, mod-lt, div-add-mod', div-div-eq-div-mul, div-lt-iff-lt-mul, le-div-iff-mul-le}
+use native.Mathlib.Nat.{le-trans, le-of-eq, lt-of-le-of-lt, lt-of-lt-of-le, lt-of-not-le, not-le-of-lt, mul-one, mul-lt-mul-of-pos-right, mul-le-mul, eq-of-mul-eq-mul-right, le-antisymm, mul-pos, mul-le-mul-left, mul-le-mul-right, le-of-mul-le-mul-right, mod-lt, div-add-mod', div-div-eq-div-mul, div-lt-iff-lt-mul, le-div-iff-mul-le}
 use native.Mathlib.Omega.{arith}
 use lib.Dec.{T, isLe, isEq, leb→le, nleb→lt, eqb→eq, lit<}
 use lib.Pow.{pow-add, pow-pos, pow-mono, pow-lt}
-use lib.Ieee.{Float, nan, inf, fin, Format, binary32, binary64, prec, emax, low, up, down, size, nearest, units, round}
+use lib.Ieee.{Float, nan, inf, fin, Format, binary32, binary64, prec, emax, low, up, down, size, nearest, round}
 use lib.Ieee.Digits.{size-lt, size-le}
 use lib.Ieee.Fits.{kept-lt, nearest-le, round-is, two, two-le-pos}
 use lib.Ieee.Exact.{HasValue, units-val}
@@ -48,13 +48,13 @@ closest-half a b h =
     subst (λ (n : ℕ). Halfway (closest a b * b) n b) (div-add-mod' a b) (nearest-half (a / b) (a % b) b (compare (a % b * 2) b) (told (a % b * 2) b) (mod-lt a h))
 
 -- ---- the fractions that a value is
-pub same-ratio : (x w a c b d : ℕ) → 0 < c → x * c ≡ a * w → a * d ≡ b * c → x * d ≡ b * w
+same-ratio : (x w a c b d : ℕ) → 0 < c → x * c ≡ a * w → a * d ≡ b * c → x * d ≡ b * w
 same-ratio x w a c b d C h k =
     let p : x * c * d ≡ a * w * d = ap (λ (n : ℕ). n * d) h in
     let q : a * d * w ≡ b * c * w = ap (λ (n : ℕ). n * w) k in
     eq-of-mul-eq-mul-right c C (x * d) (b * w) (omega arith)
 
-pub value-same : (x : Float) (s : Bool) (a c b d : ℕ) → 0 < c → a * d ≡ b * c → HasValue x s a c → HasValue x s b d
+value-same : (x : Float) (s : Bool) (a c b d : ℕ) → 0 < c → a * d ≡ b * c → HasValue x s a c → HasValue x s b d
 value-same nan s a c b d C e v = v
 value-same (inf t) s a c b d C e v = v
 value-same (fin t m e) s a c b d C k v = (v .0, same-ratio (m * up e) (down e) a c b d C (v .1) k)

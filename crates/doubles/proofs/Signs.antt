@@ -6,7 +6,7 @@ use Prim.Native.Nat.{ℕ, zero, suc, _+_, _-_, _*_, _^_, _≤_, _<_}
 use native.Mathlib.Nat.{mul-pos, mul-one, zero-mul, le-of-lt, lt-irrefl, mul-lt-mul-of-pos-right, le-of-mul-le-mul-right}
 use native.Mathlib.Omega.{arith}
 use lib.Dec.{T, ltb, eqb, ltb→lt, nltb→le, eqb→eq}
-use lib.IntN.{ℤ, pos, negsuc, negℤ, natAbs, _+ℤ_, _-ℤ_, _*ℤ_, negℤ-+ℤ, negℤ-negℤ, pos-ne-negsuc}
+use lib.IntN.{ℤ, pos, negℤ, natAbs, _+ℤ_, _-ℤ_, _*ℤ_, negℤ-+ℤ, negℤ-negℤ, pos-ne-negsuc}
 use lib.Pow.{pow-pos}
 use lib.Ieee.{Float, nan, inf, fin, Format, prec, emax, low, up, down, unlike, level, round, neg, sum, add, sub, mul, div, eq}
 use lib.Ieee.Fits.{down-pos, and-l, and-r}
@@ -17,12 +17,12 @@ use Rattle.whole.specs.Round.{signed}
 use Rattle.whole.proofs.IntLaws.{abs-neg, abs-*, neg-*ℤ}
 use Rattle.whole.proofs.Bits.{abs-signed}
 use Rattle.whole.proofs.FracLaws.{cancel}
-use Rattle.whole.proofs.Ring.{ring, K, _⊕_, _⊝_, _⊗_, ⊖, _≐_}
+use Rattle.whole.proofs.Ring.{ring, _⊕_, _⊝_, _⊗_, ⊖, _≐_}
 use Rattle.whole.proofs.Rounding.{distance}
 use Rattle.doubles.proofs.Near.{Halfway, Rounds, round-near}
 
 -- ---- signs
-pub signed-times : (s : Bool) (m n : ℕ) → signed s (m * n) ≡ signed s m *ℤ pos n
+signed-times : (s : Bool) (m n : ℕ) → signed s (m * n) ≡ signed s m *ℤ pos n
 signed-times true m n = sym (neg-*ℤ (pos m) (pos n))
 signed-times false m n = refl
 
