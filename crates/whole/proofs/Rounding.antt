@@ -9,12 +9,13 @@ use lib.Dec.{T, ltb, ltb→lt, leb→le, le→leb}
 use lib.IntN.{ℤ, pos, negsuc, negℤ, natAbs, _+ℤ_, _-ℤ_, _*ℤ_, +ℤ-idl, +ℤ-idr, *ℤ-zero}
 use lib.Signed.{_≤ℤ_, leZ, ltZ, leZ-yes}
 use Rattle.whole.specs.Round.{nearest, rounded, between, signed}
-use Rattle.whole.proofs.IntLaws.{abs-neg, cond-ind}
+use Rattle.whole.proofs.IntLaws.{abs-neg, abs-*, abs-+, cond-ind, sub-eq}
+use Rattle.whole.proofs.FracLaws.{no-size}
 use Rattle.whole.proofs.Ring.{ring, _⊕_, _⊝_, _⊗_, ⊖, _≐_}
 use Rattle.whole.proofs.Order.{up, up-le}
 
 -- ---- at most half from the exact value
-distance : (x y k : ℕ) → 2 * x ≤ 2 * y + k → 2 * y ≤ 2 * x + k → 2 * natAbs (pos x -ℤ pos y) ≤ k
+pub distance : (x y k : ℕ) → 2 * x ≤ 2 * y + k → 2 * y ≤ 2 * x + k → 2 * natAbs (pos x -ℤ pos y) ≤ k
 distance x zero k h l = omega arith
 distance x (suc y) k h l =
     cond-ind (ltb x (suc y)) (negsuc (suc y - suc x)) (pos (x - suc y)) (λ z. 2 * natAbs z ≤ k) (λ t. low (ltb→lt x (suc y) t)) (λ t. omega arith)
@@ -45,6 +46,22 @@ pub between-near : (a b : ℤ) (p D : ℕ) → 0 < D → 2 * natAbs (pos D *ℤ 
 unfolding between
 between-near a b p D h =
     rw (ring (a ∷ b ∷ pos (D - p) ∷ pos p ∷ []) (λ a b q p. q ⊗ a ⊕ p ⊗ b ≐ a ⊗ q ⊕ b ⊗ p) tt) (rounded-near (a *ℤ pos (D - p) +ℤ b *ℤ pos p) D h)
+
+-- what is less than half from the exact value is the nearest: D times the gap of two such is below D
+no-gap : (D n x y : ℕ) → D * n ≤ x + y → 2 * x ≤ D → 2 * y < D → n ≡ 0
+no-gap D zero x y h k l = refl
+no-gap D (suc n) x y h k l = absurd (omega arith)
+
+gaps : (D : ℕ) (y z x : ℤ) → D * natAbs (y -ℤ z) ≤ natAbs (pos D *ℤ y -ℤ x) + natAbs (pos D *ℤ z -ℤ x)
+gaps D y z x =
+    let e : natAbs (pos D *ℤ (y -ℤ z)) ≡ natAbs (pos D *ℤ y -ℤ x -ℤ (pos D *ℤ z -ℤ x)) = ap natAbs (ring (pos D ∷ y ∷ z ∷ x ∷ []) (λ d y z x. d ⊗ (y ⊝ z) ≐ d ⊗ y ⊝ x ⊝ (d ⊗ z ⊝ x)) tt) in
+    omega (arith, e, abs-* (pos D) (y -ℤ z), abs-+ (pos D *ℤ y -ℤ x) (negℤ (pos D *ℤ z -ℤ x)), abs-neg (pos D *ℤ z -ℤ x))
+
+pub between-unique : (a b z : ℤ) (p D : ℕ) → 2 * natAbs (pos D *ℤ z -ℤ (pos (D - p) *ℤ a +ℤ pos p *ℤ b)) < D → between a b p D ≡ z
+between-unique a b z p D h =
+    let y = between a b p D in
+    let x = pos (D - p) *ℤ a +ℤ pos p *ℤ b in
+    sub-eq y z (no-size (y -ℤ z) (no-gap D (natAbs (y -ℤ z)) (natAbs (pos D *ℤ y -ℤ x)) (natAbs (pos D *ℤ z -ℤ x)) (gaps D y z x) (between-near a b p D (omega arith)) h))
 
 -- ---- exact at p = 0 and at p = D
 nearest-whole : (m d : ℕ) → 0 < d → nearest (m * d) d ≡ m
