@@ -2,13 +2,13 @@
 use mathlib.Core.Path.{_≡_, refl, sym, ap, ap₂, _∙_, subst}
 use mathlib.Core.List.{[], _∷_}
 use Prim.Native.Nat.{ℕ, zero, suc, _+_, _-_, _*_, _≤_, _<_}
-use native.Mathlib.Nat.{mul-div-le, lt-mul-div-succ, div-lt-iff-lt-mul, div-eq-of-lt-le}
+use native.Mathlib.Nat.{mul-le-mul-right, mul-div-le, lt-mul-div-succ, div-lt-iff-lt-mul, div-eq-of-lt-le}
 use native.Mathlib.Omega.{arith}
 use borrow.Author.Tests.{le-ltb}
 use lib.Dec.{T, ltb, ltb→lt, leb→le, le→leb}
 use lib.IntN.{ℤ, pos, negsuc, negℤ, natAbs, _+ℤ_, _-ℤ_, _*ℤ_, +ℤ-idl, +ℤ-idr, *ℤ-zero}
 use lib.Signed.{_≤ℤ_, leZ, ltZ, leZ-yes}
-use Rattle.whole.specs.Round.{nearest, rounded, between, signed}
+use Rattle.whole.specs.Round.{nearest, rounded, between, Small, signed}
 use Rattle.whole.proofs.IntLaws.{abs-neg, abs-*, abs-+, cond-ind, sub-eq}
 use Rattle.whole.proofs.FracLaws.{no-size}
 use Rattle.whole.proofs.Ring.{ring, _⊕_, _⊝_, _⊗_, ⊖, _≐_}
@@ -155,6 +155,21 @@ module _ (a b : ℤ) (p D : ℕ) (h : p ≤ D) (some : 0 < D) where
 -- ---- the size
 pub nearest-le : (m d b : ℕ) → 0 < d → m ≤ b * d → nearest m d ≤ b
 nearest-le m d b h l = omega (arith, div-lt-iff-lt-mul {k = 2 * d} {x = 2 * m + d} {y = suc b} (omega arith) .1 (omega arith))
+
+rounded-size : (z : ℤ) (d : ℕ) → natAbs (rounded z d) ≡ nearest (natAbs z) d
+unfolding rounded
+rounded-size (pos m) d = refl
+rounded-size (negsuc m) d = abs-neg (pos (nearest (suc m) d))
+
+pub between-small : (a b : ℤ) (p D : ℕ) → p ≤ D → 0 < D → Small a → Small b → Small (between a b p D)
+unfolding between
+between-small a b p D h some u v =
+    let z = a *ℤ pos (D - p) +ℤ b *ℤ pos p in
+    let e : natAbs a * (D - p) + natAbs b * p ≤ 2000000000 * D = weighted (natAbs a) (natAbs b) (D - p) u v (omega arith) in
+    rw (rounded-size z D) (nearest-le (natAbs z) D 2000000000 some (omega (arith, e, abs-+ (a *ℤ pos (D - p)) (b *ℤ pos p), abs-* a (pos (D - p)), abs-* b (pos p))))
+  where
+    weighted : (m n q : ℕ) → m ≤ 2000000000 → n ≤ 2000000000 → q + p ≡ D → m * q + n * p ≤ 2000000000 * D
+    weighted m n q u v e = omega (arith, mul-le-mul-right q u, mul-le-mul-right p v)
 
 -- rounding by the sign and the size, as the machine does it
 pub rounded-signed : (z : ℤ) (d : ℕ) → signed (ltZ z (pos 0)) (nearest (natAbs z) d) ≡ rounded z d
