@@ -67,8 +67,8 @@ pub record Descending (d : Direction) (t : ℤ) (old now : List Float) (from las
   pub controls : (i : ℕ) → 84 ≤ i → double now i ≡ double old i
   pub left : flag ≡ true → (f : ℕ → ℕ → ℤ) → Keeps old 84 (d .degree) f → Left d t now from last f
 
-pub descending-all : (d : Direction) (t : ℤ) (old : List Float) → Descending d t old old 84 (d .degree) true
-descending-all d t old = record { long = refl; controls = λ i h. refl; left = λ e f k. record { row = f; keeps = k; same = λ k. refl } }
+pub descending-all : (d : Direction) (t : ℤ) (old : List Float) (flag : Bool) → Descending d t old old 84 (d .degree) flag
+descending-all d t old flag = record { long = refl; controls = λ i h. refl; left = λ e f k. record { row = f; keeps = k; same = λ k. refl } }
 
 pub descending-more : {a : Along} {x : List ℤ} {t : ℤ} {old now next : List Float} {from last : ℕ} {flag one : Bool} → Sound a x t → 0 < last → last ≤ a .degree
     → Descending (direction a x) t old now from last flag → Levelled (direction a x) t now next from (last - 1) last one

@@ -86,6 +86,11 @@ fn level(
     sure
 }
 
+// Whether sums go to the nearest double, which beside the anchor are whole numbers: where a host has set another rounding, nothing is certain.
+fn to_nearest(a: f64) -> bool {
+    (a + 0.75 == a + 1.0) & (a + 0.25 == a)
+}
+
 // Level by level from the controls to one place; answers whether every step was certain.
 pub fn descend(rows: &mut [f64; 168], x: &[i32], along: Along, t: i32, chosen: usize) -> bool
     requires { ⌜ On along (now x) t chosen × (length (now rows) ≡ 168) ⌝ }
@@ -97,7 +102,7 @@ pub fn descend(rows: &mut [f64; 168], x: &[i32], along: Along, t: i32, chosen: u
     let first = weight_at(x, along, t, chosen, 0, 0);
     let mut from = 84;
     let mut last = along.degree;
-    let mut sure = true;
+    let mut sure = to_nearest(rows[84]);
     while 0 < last {
         let all = level(rows, from, last, x, along, t, chosen, first);
         sure = sure & all;

@@ -1,4 +1,5 @@
 -- What is left of the rows comes to what the controls come to, as long as every level was certain.
+use borrow.Author.Needs.{needs}
 use mathlib.Core.Path.{_≡_, refl, sym, _∙_, subst}
 use Prim.Native.Nat.{_≤_, _<_}
 use native.Mathlib.Omega.{arith}
@@ -25,14 +26,21 @@ returns c = record { long = refl; controls = λ i h. refl; point = λ e f k. abs
 weight-at-requires : tie.Need-weight-at-requires Inv-loop μ-loop
 weight-at-requires c κs = let s = c .before .before in rw (toZ-ofZ (s .fits .t)) (s .pre .0, omega arith, omega arith)
 
+element-copy-out-to-nearest : tie.Need-element-copy-out-to-nearest Inv-loop μ-loop
+element-copy-out-to-nearest c = search needs
+
+to-nearest-requires : tie.Need-to-nearest-requires Inv-loop μ-loop
+to-nearest-requires c κs = search needs
+
 loop-holds : tie.Need-loop-holds Inv-loop μ-loop
-loop-holds c = (omega arith, omega arith, λ h. absurd (omega arith), descending-all _ _ _)
+loop-holds c = (omega arith, omega arith, λ h. absurd (omega arith), descending-all _ _ _ _)
 
 level-requires : tie.Need-level-requires Inv-loop μ-loop
 level-requires c κs =
     let l = c .before .before .loop in
-    let w = c .before .before .before .weight-at in
-    let s = c .before .before .before .before .before .before in
+    let at = c .before .before .before .before .before in
+    let w = at .weight-at in
+    let s = at .before .before .before in
     (l .inv .3 .long ∙ s .pre .1, rw (toZ-ofZ (s .fits .t)) (s .pre .0), omega arith, l .inv .1, omega (arith, s .pre .0 .sound .few), w .ensures)
 
 sub-last : tie.Need-sub-last Inv-loop μ-loop
@@ -44,14 +52,14 @@ loop-less c = omega arith
 loop-again : tie.Need-loop-again Inv-loop μ-loop
 loop-again c =
     let l = c .before .before .before .loop in
-    let s = c .before .before .before .before .before .before .before in
+    let s = c .before .before .before .before .before .before .before .before .before in
     let sound : Sound (s .args .along) (s .args .x .now) (toZ w32 (ofZ w32 (s .args .t))) = rw (toZ-ofZ (s .fits .t)) (s .pre .0 .sound) in
     (omega arith, omega arith, λ h. refl, descending-more sound (omega arith) (l .inv .1) (l .inv .3) (c .level .ensures))
 
 returns-2 : tie.Need-returns-2 Inv-loop μ-loop
 returns-2 c =
     let l = c .before .loop in
-    let s = c .before .before .before .before .before in
+    let s = c .before .before .before .before .before .before .before in
     rw (toZ-ofZ (s .fits .t)) at (descended (l .inv .3) (l .inv .2 (omega arith)) (omega arith))
 
 pub descend-spec : {M : Type 1} → statement M
@@ -62,6 +70,8 @@ descend-spec =
     μ-loop
     returns
     weight-at-requires
+    element-copy-out-to-nearest
+    to-nearest-requires
     loop-holds
     level-requires
     sub-last
