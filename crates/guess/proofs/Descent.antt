@@ -23,39 +23,6 @@ use Rattle.guess.specs.Places.{double, Keeps, Descended}
 use Rattle.guess.specs.Steps.{weightAt, Levelled}
 use Rattle.guess.proofs.Weights.{gap-most}
 
--- ---- one level
--- the row that the rounded rule makes of g
-abbrev next-row : Direction → (t : ℤ) → ℕ → (ℕ → ℕ → ℤ) → ℕ → ℕ → ℤ
-next-row d t r g k j = between (g k j) (g k (suc j)) (partAt d t r j) (gapAt d t r j)
-
-module _ {a : Along} {x : List ℤ} {t : ℤ} (s : Sound a x t) where
-  abbrev d : Direction
-  d = direction a x
-
-  level-keeps : {old new : List Float} {from last : ℕ} {flag : Bool} {g : ℕ → ℕ → ℤ} → 0 < last → last ≤ a .degree
-      → Levelled d t old new from (last - 1) last flag → flag ≡ true → Keeps old from last g → Keeps new 0 (last - 1) (next-row d t (last - 1) g)
-  level-keeps {old} {new} {from} {last} {flag} {g} some most l sure keeps = record { each = λ j k h m. each j k (omega arith) m; small = λ j k h m. small j k (omega arith) m }
-    where
-      parts : (j : ℕ) → j < last → (partAt d t (last - 1) j ≤ gapAt d t (last - 1) j) × (0 < gapAt d t (last - 1) j)
-      parts j h = step-parts d t (s .rules) (last - 1) j (omega arith) (omega arith)
-
-      small : (j k : ℕ) → j < last → k < 4 → Small (next-row d t (last - 1) g k j)
-      small j k h m =
-          between-small (g k j) (g k (suc j)) (partAt d t (last - 1) j) (gapAt d t (last - 1) j) (parts j h .0) (parts j h .1)
-          (keeps .small j k (omega arith) m) (keeps .small (suc j) k (omega arith) m)
-
-      each : (j k : ℕ) → j < last → k < 4 → double new (0 + (4 * j + k)) ≡ kept (next-row d t (last - 1) g k j)
-      each j k h m =
-          let w = weightAt d t (last - 1) j in
-          let here : double old (from + (4 * j + k)) ≡ kept (g k j) = keeps .each j k (omega arith) m in
-          let after : double old (from + (4 * suc j + k)) ≡ kept (g k (suc j)) = keeps .each (suc j) k (omega arith) m in
-          let place : 0 + (4 * j + k) ≡ 4 * j + k = omega arith in
-          ap (double new) place ∙ l .done j k h m ∙ (λ n. leaned (here n) (after n) w above)
-          ∙ certain-between (g k j) (g k (suc j)) (partAt d t (last - 1) j) (gapAt d t (last - 1) j)
-          (keeps .small j k (omega arith) m) (keeps .small (suc j) k (omega arith) m) (parts j h .0) (parts j h .1) (gap-most s (last - 1) j)
-          ((λ n. certain (sym here n) (sym after n) w) ∙ l .sure sure j k h m)
-
--- ---- level after level
 -- a row of last + 1 places is left, and comes to what f comes to
 pub record Left (d : Direction) (t : ℤ) (now : List Float) (from last : ℕ) (f : ℕ → ℕ → ℤ) : Type 0 where
   pub row : ℕ → ℕ → ℤ
@@ -67,31 +34,64 @@ pub record Descending (d : Direction) (t : ℤ) (old now : List Float) (from las
   pub controls : (i : ℕ) → 84 ≤ i → double now i ≡ double old i
   pub left : flag ≡ true → (f : ℕ → ℕ → ℤ) → Keeps old 84 (d .degree) f → Left d t now from last f
 
+-- ---- no level yet
 pub descending-all : (d : Direction) (t : ℤ) (old : List Float) (flag : Bool) → Descending d t old old 84 (d .degree) flag
 descending-all d t old flag = record { long = refl; controls = λ i h. refl; left = λ e f k. record { row = f; keeps = k; same = λ k. refl } }
 
-pub descending-more : {a : Along} {x : List ℤ} {t : ℤ} {old now next : List Float} {from last : ℕ} {flag one : Bool} → Sound a x t → 0 < last → last ≤ a .degree
-    → Descending (direction a x) t old now from last flag → Levelled (direction a x) t now next from (last - 1) last one
-    → Descending (direction a x) t old next 0 (last - 1) (flag && one)
-descending-more {a} {x} {t} {old} {now} {next} {from} {last} {flag} {one} s some most g l = record {
-  long = l .long ∙ g .long;
-  controls = λ i h. l .rest i (omega (arith, s .few)) ∙ g .controls i h;
-  left = λ e f k. made e (g .left (and-left flag one e) f k);
-}
-  where
-    made : {f : ℕ → ℕ → ℤ} → (flag && one) ≡ true → Left (direction a x) t now from last f → Left (direction a x) t next 0 (last - 1) f
-    made e r = record {
-      row = next-row (direction a x) t (last - 1) (r .row);
-      keeps = level-keeps s some most l (and-right flag one e) (r .keeps);
-      same = λ k. lower k (r .row k) ∙ r .same k;
-    }
-      where
-        lower : (k : ℕ) (c : ℕ → ℤ) → pyramid (partAt (direction a x) t) (gapAt (direction a x) t) (last - 1) (λ j. between (c j) (c (suc j)) (partAt (direction a x) t (last - 1) j) (gapAt (direction a x) t (last - 1) j))
-            ≡ pyramid (partAt (direction a x) t) (gapAt (direction a x) t) last c
-        lower k c =
-            let n : suc (last - 1) ≡ last = omega arith in
-            pyramid-row (partAt (direction a x) t) (gapAt (direction a x) t) (last - 1) c _ (λ j h. refl) ∙ ap (λ (q : ℕ). pyramid (partAt (direction a x) t) (gapAt (direction a x) t) q c) n
+-- ---- one level more, to a row of `last` places
+module _ {a : Along} {x : List ℤ} {t : ℤ} {last : ℕ} (s : Sound a x t) (some : 0 < last) (most : last ≤ a .degree) where
+  abbrev d : Direction
+  d = direction a x
 
+  abbrev part : ℕ → ℕ
+  part = partAt d t (last - 1)
+
+  abbrev gap : ℕ → ℕ
+  gap = gapAt d t (last - 1)
+
+  -- the row that the rounded rule makes of g
+  abbrev next : (ℕ → ℕ → ℤ) → ℕ → ℕ → ℤ
+  next g k j = between (g k j) (g k (suc j)) (part j) (gap j)
+
+  next-same : (g : ℕ → ℕ → ℤ) (k : ℕ) → pyramid (partAt d t) (gapAt d t) (last - 1) (next g k) ≡ pyramid (partAt d t) (gapAt d t) last (g k)
+  next-same g k =
+      let n : suc (last - 1) ≡ last = omega arith in
+      pyramid-row (partAt d t) (gapAt d t) (last - 1) (g k) (next g k) (λ j h. refl) ∙ ap (λ (q : ℕ). pyramid (partAt d t) (gapAt d t) q (g k)) n
+
+  next-kept : {old new : List Float} {from : ℕ} {flag : Bool} {g : ℕ → ℕ → ℤ} → Levelled d t old new from (last - 1) last flag → flag ≡ true → Keeps old from last g
+      → Keeps new 0 (last - 1) (next g)
+  next-kept {old} {new} {from} {flag} {g} l sure keeps = record { each = λ j k h m. each j k (omega arith) m; small = λ j k h m. small j k (omega arith) m }
+    where
+      parts : (j : ℕ) → j < last → (part j ≤ gap j) × (0 < gap j)
+      parts j h = step-parts d t (s .rules) (last - 1) j (omega arith) (omega arith)
+
+      small : (j k : ℕ) → j < last → k < 4 → Small (next g k j)
+      small j k h m =
+          between-small (g k j) (g k (suc j)) (part j) (gap j) (parts j h .0) (parts j h .1) (keeps .small j k (omega arith) m) (keeps .small (suc j) k (omega arith) m)
+
+      each : (j k : ℕ) → j < last → k < 4 → double new (0 + (4 * j + k)) ≡ kept (next g k j)
+      each j k h m =
+          let w = weightAt d t (last - 1) j in
+          let here : double old (from + (4 * j + k)) ≡ kept (g k j) = keeps .each j k (omega arith) m in
+          let after : double old (from + (4 * suc j + k)) ≡ kept (g k (suc j)) = keeps .each (suc j) k (omega arith) m in
+          let place : 0 + (4 * j + k) ≡ 4 * j + k = omega arith in
+          ap (double new) place ∙ l .done j k h m ∙ (λ n. leaned (here n) (after n) w above)
+          ∙ certain-between (g k j) (g k (suc j)) (part j) (gap j)
+          (keeps .small j k (omega arith) m) (keeps .small (suc j) k (omega arith) m) (parts j h .0) (parts j h .1) (gap-most s (last - 1) j)
+          ((λ n. certain (sym here n) (sym after n) w) ∙ l .sure sure j k h m)
+
+  pub descending-more : {old now new : List Float} {from : ℕ} {flag one : Bool} → Descending d t old now from last flag → Levelled d t now new from (last - 1) last one
+      → Descending d t old new 0 (last - 1) (flag && one)
+  descending-more {old} {now} {new} {from} {flag} {one} g l = record {
+    long = l .long ∙ g .long;
+    controls = λ i h. l .rest i (omega (arith, s .few)) ∙ g .controls i h;
+    left = λ e f k. lower (and-right flag one e) (g .left (and-left flag one e) f k);
+  }
+    where
+      lower : {f : ℕ → ℕ → ℤ} → one ≡ true → Left d t now from last f → Left d t new 0 (last - 1) f
+      lower e r = record { row = next (r .row); keeps = next-kept l e (r .keeps); same = λ k. next-same (r .row) k ∙ r .same k }
+
+-- ---- one place left
 pub descended : {d : Direction} {t : ℤ} {old new : List Float} {from last : ℕ} {flag : Bool} → Descending d t old new from last flag → from ≡ 0 → last ≡ 0 → Descended d t old new flag
 descended {d} {t} {old} {new} {from} {last} {flag} g p q = record { long = g .long; controls = g .controls; point = λ e f k. point (g .left e f k) }
   where

@@ -1,6 +1,5 @@
 -- The weight's parts and gap are the definition's, from its two parameters; `step-parts` has that they make a weight.
-use mathlib.Core.Path.{_≡_, sym, ap₂, _∙_}
-use Prim.Native.Nat.{_≤_, _<_}
+use mathlib.Core.Path.{_≡_, ap₂, _∙_}
 use native.Mathlib.Omega.{arith}
 use mir.Facts.{toZ-ofZ}
 use Rattle.whole.proofs.Bits.{read-back-small}
