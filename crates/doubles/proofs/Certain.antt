@@ -17,6 +17,7 @@ use Rattle.whole.proofs.IntLaws.{abs-neg, abs-+}
 use Rattle.whole.proofs.Ring.{ring, _⊕_, _⊝_, _⊗_, _≐_}
 use Rattle.whole.proofs.Rounding.{distance, between-unique}
 use Rattle.doubles.specs.Doubles.{anchor, kept, weightOf, leaned, above, below, certain}
+use Rattle.doubles.proofs.Whole.{kept-value}
 use Rattle.doubles.proofs.Near.{Whole, round-whole-number}
 use Rattle.doubles.proofs.Signs.{At, at-value, at-same, Rounded, add-rounded, sub-rounded, mul-rounded, Nearby, nearby, Close, close-by, at-whole, upright, div-round, eq-at}
 use Rattle.doubles.proofs.Errors.{Leaned, only-one, size-near, weight-size, product-size, Moved, moved}
@@ -33,18 +34,8 @@ module _ (z : ℤ) (small : Small z) where
   beside : Moved anchor 2000000000 z
   beside = moved anchor 2000000000 z small (lit≤ tt)
 
-  kept-rounded : Rounded binary64 (kept z) (pos (beside .number)) 1
-  unfolding kept ofInt
-  kept-rounded = record { sign = false; size = beside .number; is = ap (ofInt binary64) (beside .same); same = refl }
-
-  in-range : beside .number ≤ 2 ^ 53
-  in-range = ok (beside .most)
-    where
-      ok : {n : ℕ} → n ≤ anchor + 2000000000 → n ≤ 2 ^ 53
-      ok h = omega arith
-
   kept-at : At (kept z) (pos (beside .number)) 1
-  kept-at = at-whole binary64 (kept z) (pos (beside .number)) in-range kept-rounded
+  kept-at = subst (λ (n : ℕ). At (kept z) (pos n) 1) (ap natAbs (beside .same)) (at-value (kept z) false (natAbs (pos anchor +ℤ z)) 1 (kept-value z small))
 
 -- ---- the difference is exact
 gap-size : (a b : ℤ) → Small a → Small b → natAbs (b -ℤ a) ≤ 4000000000
