@@ -26,7 +26,7 @@ use Rattle.model.specs.Room.{Rooms}
 use Rattle.model.specs.Layout.{freeNumber, itself, tablesOf}
 use Rattle.tidying.proofs.Rows.{Wide}
 use Rattle.tidying.proofs.SameElements.{vertices-wide}
-use Rattle.sampler.specs.Places.{direction}
+use Rattle.rows.specs.Places.{direction}
 use Rattle.sampler.specs.Points.{alongOf, directionU, directionV, controlOf}
 use Rattle.joining.specs.Files.{along, alongU, alongV, cornerOf, controlIn, axesIn}
 use Rattle.joining.proofs.Laid.{Kept}

@@ -18,10 +18,10 @@ use Rattle.tables.specs.declared.Used.{Used}
 use Rattle.tables.specs.declared.Element.{Element}
 use Rattle.curves.specs.Sampled.{firstControl}
 use Rattle.curves.proofs.Pyramid.{sampled-cong}
-use Rattle.sampler.specs.Places.{direction, Sound}
-use Rattle.sampler.specs.Controls.{controlAt, Held}
+use Rattle.rows.specs.Places.{direction, Sound}
+use Rattle.rows.specs.Controls.{controlAt, Held}
 use Rattle.sampler.specs.Runs.{Ranged}
-use Rattle.sampler.specs.declared.rows.Along.{Along}
+use Rattle.rows.specs.declared.Along.{Along}
 use Rattle.sampler.specs.Points.{alongOf, controlOf, curveAt}
 use Rattle.sampler.specs.Answers.{elementOf, bodyOf, refusalOf, inside, curvePoint, pointOnCurve}
 use Rattle.sampler.specs.Inner.{pointBy, coordinateBy}

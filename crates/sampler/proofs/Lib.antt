@@ -1,7 +1,3 @@
-pub mod Places
-pub mod Rowed
-pub mod Searched
-pub mod Grids
 pub mod Written
 pub mod Steps
 pub mod Ranges

@@ -27,8 +27,8 @@ use Rattle.rules.proofs.Facts.{Corners, corner-vertex, corner-control, Curve, S
 use Rattle.rules.proofs.Element.{Recorded, recorded, curve-of, surface-of, Obeys, obeys-facts, body-of}
 use Rattle.basis.proofs.Basis.{curve-enough, surface-enough-u, surface-enough-v}
 use Rattle.curves.specs.Directions.{at}
-use Rattle.sampler.specs.Places.{Sized}
-use Rattle.sampler.specs.Controls.{controlAt, Held}
+use Rattle.rows.specs.Places.{Sized}
+use Rattle.rows.specs.Controls.{controlAt, Held}
 use Rattle.sampler.specs.Runs.{Ranged}
 use Rattle.sampler.specs.Points.{alongOf}
 use Rattle.sampler.specs.Answers.{wanted, carried, elementOf, bodyOf, refusalOf}

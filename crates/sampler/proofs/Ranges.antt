@@ -16,7 +16,7 @@ use Rattle.whole.specs.Round.{Small}
 use Rattle.whole.proofs.Order.{yes-le, yes-lt, ≤ℤ-trans, ≤ℤ-<ℤ-trans, <ℤ→≤ℤ}
 use Rattle.tables.specs.Bodies.{Basis, bezier, bspline, enough, rising, steady, ordered, low, high, ranged, inOrder, basisOf}
 use Rattle.curves.specs.Directions.{at, BezierRules, SplineRules, Rules}
-use Rattle.sampler.specs.Places.{direction, Sound}
+use Rattle.rows.specs.Places.{direction, Sound}
 use Rattle.sampler.specs.Runs.{Ranged}
 use Rattle.sampler.specs.Points.{alongOf}
 use Rattle.sampler.proofs.Steps.{small-between}

@@ -17,13 +17,13 @@ use Rattle.tables.specs.declared.Body.{Body}
 use Rattle.tables.specs.declared.Used.{Used}
 use Rattle.tables.specs.declared.Element.{Element}
 use Rattle.curves.specs.Sampled.{curveSampled}
-use Rattle.sampler.specs.Places.{direction}
-use Rattle.sampler.specs.Controls.{controlAt, Held}
+use Rattle.rows.specs.Places.{direction}
+use Rattle.rows.specs.Controls.{controlAt, Held}
 use Rattle.sampler.specs.Runs.{joined, listed, parameterAt, pointAt, pointsUpto, Ranged}
 use Rattle.sampler.specs.Points.{alongOf, axesOf, curveAt, runNumbers}
 use Rattle.sampler.specs.Answers.{elementOf, bodyOf, refusalOf, runRefusalIn, runOnCurve, pointsAfter}
 use Rattle.sampler.specs.Inner.{runBy, axesBy}
-use Rattle.sampler.specs.declared.rows.Along.{Along}
+use Rattle.rows.specs.declared.Along.{Along}
 use Rattle.sampler.specs.declared.Ran.{Ran}
 use Rattle.sampler.specs.declared.Ran.the-variants as ran
 use Rattle.sampler.proofs.Obeyed.{Curved}

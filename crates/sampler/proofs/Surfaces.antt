@@ -13,9 +13,9 @@ use Rattle.tables.specs.declared.Body.{Body}
 use Rattle.tables.specs.declared.Used.{Used}
 use Rattle.tables.specs.declared.Element.{Element}
 use Rattle.curves.proofs.Pyramid.{surface-cong}
-use Rattle.sampler.specs.Places.{direction, Sound}
-use Rattle.sampler.specs.Controls.{controlAt, Held}
-use Rattle.sampler.specs.declared.rows.Along.{Along}
+use Rattle.rows.specs.Places.{direction, Sound}
+use Rattle.rows.specs.Controls.{controlAt, Held}
+use Rattle.rows.specs.declared.Along.{Along}
 use Rattle.sampler.specs.Points.{alongOf, gridOf, surfaceAt}
 use Rattle.sampler.specs.Answers.{elementOf, bodyOf, refusalOf, inside, surfacePoint, pointOnSurface}
 use Rattle.sampler.specs.Inner.{acrossBy, surfaceBy}

@@ -9,10 +9,10 @@ use lib.Seq.{drop-cons, set-at, append-snoc, take-at, drop-at, drop-drop, take-a
 use borrow.Rule.Slice.PartMut.{putMid}
 use lib.IntN.{ℤ, pos}
 use Rattle.curves.specs.Sampled.{curveSampled}
-use Rattle.sampler.specs.Places.{direction}
-use Rattle.sampler.specs.Controls.{controlAt}
+use Rattle.rows.specs.Places.{direction}
+use Rattle.rows.specs.Controls.{controlAt}
 use Rattle.sampler.specs.Runs.{joined, listed, parameterAt, pointAt, pointsUpto}
-use Rattle.sampler.specs.declared.rows.Along.{Along}
+use Rattle.rows.specs.declared.Along.{Along}
 
 pub joined-length : (w n : ℕ) (f : ℕ → List ℤ) → ((i : ℕ) → length (f i) ≡ w) → length (joined n f) ≡ w * n
 joined-length w zero f h = omega arith

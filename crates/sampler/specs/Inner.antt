@@ -5,10 +5,10 @@ use Prim.Native.Nat.{ℕ, _+_, _*_}
 use lib.Dec.{eqb}
 use lib.IntN.{ℤ}
 use Rattle.curves.specs.Sampled.{curveSampled, surfaceSampled}
-use Rattle.sampler.specs.Places.{direction}
-use Rattle.sampler.specs.Controls.{controlAt}
+use Rattle.rows.specs.Places.{direction}
+use Rattle.rows.specs.Controls.{controlAt}
 use Rattle.sampler.specs.Runs.{pointsUpto}
-use Rattle.sampler.specs.declared.rows.Along.{Along}
+use Rattle.rows.specs.declared.Along.{Along}
 use Rattle.sampler.specs.declared.Sampled.{Sampled}
 use Rattle.sampler.specs.declared.Sampled.the-variants as sampled
 

@@ -1,6 +1,3 @@
-pub mod Places
-pub mod Rows
-pub mod Controls
 pub mod Runs
 pub mod Points
 pub mod Answers

@@ -12,9 +12,9 @@ use Rattle.tables.specs.Bodies.{bezier, bspline, controls}
 use Rattle.tables.specs.declared.Element.{Element}
 use Rattle.curves.specs.Directions.{Direction}
 use Rattle.curves.specs.Sampled.{curveSampled, surfaceSampled}
-use Rattle.sampler.specs.Places.{direction}
+use Rattle.rows.specs.Places.{direction}
 use Rattle.sampler.specs.Runs.{joined, listed, parameterAt}
-use Rattle.sampler.specs.declared.rows.Along.{Along}
+use Rattle.rows.specs.declared.Along.{Along}
 
 -- "Controls k along one direction, from p parameters and degree n", of the two types that are sampled
 abbrev pub alongOf : (type n p : ℕ) → Along

@@ -5,9 +5,9 @@ use lib.IntN.{ℤ, pos, natAbs, _+ℤ_, _-ℤ_}
 use lib.Signed.{_≤ℤ_}
 use Rattle.whole.specs.Round.{Small}
 use Rattle.curves.specs.Sampled.{curveSampled}
-use Rattle.sampler.specs.Places.{direction, Sound}
-use Rattle.sampler.specs.Controls.{controlAt}
-use Rattle.sampler.specs.declared.rows.Along.{Along}
+use Rattle.rows.specs.Places.{direction, Sound}
+use Rattle.rows.specs.Controls.{controlAt}
+use Rattle.rows.specs.declared.Along.{Along}
 
 -- "A run of N steps samples at start + floor(j(end-start)/N), j = 0..N"
 unfoldable pub parameterAt : (start end : ℤ) (steps j : ℕ) → ℤ

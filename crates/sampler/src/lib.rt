@@ -15,12 +15,9 @@ use rules::curves_named;
 use rules::obeys;
 use tables::Used;
 
-mod controls;
 mod points;
 mod records;
-mod rows;
 mod runs;
-mod search;
 
 pub enum Sampled {
     Space { x: i32, y: i32, z: i32 },

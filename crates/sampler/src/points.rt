@@ -2,14 +2,14 @@ ghost use mathlib.Core.Path.{_≡_};
 ghost use mathlib.Core.Bool.{cond};
 ghost use Prim.Native.Nat.{_*_};
 ghost use lib.Dec.{eqb};
-ghost use Rattle.sampler.specs.Places.{Sound};
-ghost use Rattle.sampler.specs.Controls.{Held};
+ghost use Rattle.rows.specs.Places.{Sound};
+ghost use Rattle.rows.specs.Controls.{Held};
 ghost use Rattle.sampler.specs.Inner.{pointBy, surfaceBy};
 use crate::Sampled;
-use crate::controls::across;
-use crate::controls::coordinate;
-use crate::rows::Along;
-use crate::search::find;
+use rows::Along;
+use rows::controls::across;
+use rows::controls::coordinate;
+use rows::search::find;
 
 // The point at t of a curv, or of a curv2 where the kind is 5.
 pub fn curve_point(

@@ -1,10 +1,10 @@
 ghost use mathlib.Core.Path.{_≡_};
 ghost use Prim.Native.Nat.{_≤_};
-ghost use Rattle.sampler.specs.Places.{Sized};
+ghost use Rattle.rows.specs.Places.{Sized};
 ghost use Rattle.sampler.specs.Points.{alongOf};
 ghost use Rattle.sampler.specs.Answers.{wanted, carried, inside};
 ghost use Rattle.sampler.specs.Inner.{axesBy};
-use crate::rows::Along;
+use rows::Along;
 
 pub fn is_wanted(surface: bool, kind: u32) -> bool
     ensures { λ r. ⌜ r ≡ wanted surface kind ⌝ }

@@ -6,14 +6,14 @@ ghost use lib.Dec.{eqb};
 ghost use lib.ListN.{length, drop};
 ghost use lib.Signed.{_≤ℤ_};
 ghost use Rattle.whole.specs.Round.{Small};
-ghost use Rattle.sampler.specs.Places.{On};
-ghost use Rattle.sampler.specs.Controls.{Held};
+ghost use Rattle.rows.specs.Places.{On};
+ghost use Rattle.rows.specs.Controls.{Held};
 ghost use Rattle.sampler.specs.Runs.{parameterAt, pointAt, pointsUpto, Ranged};
 ghost use Rattle.sampler.specs.Inner.{runBy, axesBy};
-use crate::controls::coordinate;
-use crate::rows::Along;
-use crate::search::find;
-use crate::search::search;
+use rows::Along;
+use rows::controls::coordinate;
+use rows::search::find;
+use rows::search::search;
 use whole::apart;
 
 // The parameter of point j of a run: at most 65,536 times 4,000,000,000 is multiplied out.

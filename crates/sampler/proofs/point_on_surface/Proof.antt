@@ -13,7 +13,7 @@ use Rattle.tables.specs.Records.{bodyAt}
 use Rattle.tables.specs.declared.Body.{Body}
 use Rattle.tables.specs.declared.Element.{Element}
 use Rattle.tables.proofs.Stores.{fitted}
-use Rattle.sampler.specs.Places.{Sized}
+use Rattle.rows.specs.Places.{Sized}
 use Rattle.sampler.specs.Points.{alongOf}
 use Rattle.sampler.specs.Answers.{elementOf, bodyOf, refusalOf, inside}
 use Rattle.sampler.proofs.Obeyed.{Granted, granted, Surfaced, surfaced}

@@ -17,7 +17,7 @@ use Rattle.tables.specs.Records.{bodyAt}
 use Rattle.tables.specs.declared.Body.{Body}
 use Rattle.tables.specs.declared.Element.{Element}
 use Rattle.tables.proofs.Stores.{fitted}
-use Rattle.sampler.specs.Places.{Sized}
+use Rattle.rows.specs.Places.{Sized}
 use Rattle.sampler.specs.Points.{alongOf, axesOf, runNumbers}
 use Rattle.sampler.specs.Answers.{elementOf, bodyOf, refusalOf}
 use Rattle.sampler.specs.Inner.{axesBy}

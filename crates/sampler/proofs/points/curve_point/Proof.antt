@@ -13,13 +13,13 @@ use mir.Facts.{toZ-ofZ}
 use Rattle.whole.specs.Round.{Small}
 use Rattle.whole.proofs.Bits.{read-back-small}
 use Rattle.curves.specs.Sampled.{curveSampled}
-use Rattle.sampler.specs.Places.{direction}
-use Rattle.sampler.specs.Controls.{controlAt, Held}
+use Rattle.rows.specs.Places.{direction}
+use Rattle.rows.specs.Controls.{controlAt, Held}
 use Rattle.sampler.specs.Inner.{pointBy, coordinateBy}
 use Rattle.sampler.specs.declared.Sampled.{Sampled}
 use Rattle.sampler.specs.declared.Sampled.the-variants as sampled
 use Rattle.sampler.proofs.Entries.{space-eq}
-use Rattle.sampler.proofs.Grids.{from-first}
+use Rattle.rows.proofs.Grids.{from-first}
 use Rattle.sampler.proofs.points.curve_point.Statement.{statement}
 use Rattle.sampler.proofs.points.curve_point.Tie as tie
 

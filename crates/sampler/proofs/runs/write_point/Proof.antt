@@ -12,11 +12,11 @@ use mir.Val.{toZ, ofZ}
 use mir.Facts.{toZ-ofZ}
 use Rattle.whole.proofs.Bits.{read-back-small}
 use Rattle.curves.specs.Sampled.{curveSampled}
-use Rattle.sampler.specs.Places.{direction}
-use Rattle.sampler.specs.Controls.{controlAt}
+use Rattle.rows.specs.Places.{direction}
+use Rattle.rows.specs.Controls.{controlAt}
 use Rattle.sampler.specs.Runs.{listed, pointAt}
 use Rattle.sampler.proofs.Written.{stored}
-use Rattle.sampler.proofs.Grids.{from-first}
+use Rattle.rows.proofs.Grids.{from-first}
 use Rattle.sampler.proofs.runs.write_point.Statement.{statement}
 use Rattle.sampler.proofs.runs.write_point.Tie as tie
 

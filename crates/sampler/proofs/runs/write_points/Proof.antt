@@ -14,10 +14,10 @@ use mir.Val.{toZ, ofZ}
 use mir.Facts.{toZ-ofZ}
 use Rattle.whole.proofs.Bits.{read-back-small}
 use Rattle.curves.specs.Sampled.{curveSampled}
-use Rattle.sampler.specs.Places.{direction, Sound, On, Hint}
-use Rattle.sampler.specs.Controls.{controlAt}
+use Rattle.rows.specs.Places.{direction, Sound, On, Hint}
+use Rattle.rows.specs.Controls.{controlAt}
 use Rattle.sampler.specs.Runs.{joined, parameterAt, pointAt, pointsUpto}
-use Rattle.sampler.proofs.Searched.{followed, limit-inside}
+use Rattle.rows.proofs.Searched.{followed, limit-inside}
 use Rattle.sampler.proofs.Steps.{parameter-first, parameter-from, parameter-upto, parameter-rises, room}
 use Rattle.sampler.proofs.Written.{lent-pasted, run-length, point-length, upto-is}
 use Rattle.sampler.proofs.runs.write_points.Statement.{statement}

@@ -1,0 +1,40 @@
+-- Whole numbers as doubles, and the steps by which the number between two of them is guessed.
+use mathlib.Core.Path.{_≡_}
+use mathlib.Core.Bool.{Bool, true, false}
+use Prim.Native.Nat.{ℕ}
+use lib.IntN.{ℤ, pos, negsuc, _+ℤ_}
+use lib.Ieee.{Float, fin, binary64, add, sub, mul, div, eq, ofInt}
+use Rattle.whole.specs.Round.{Small}
+
+-- 2^52 + 2^51: doubles from 2^52 to 2^53 lie 1 apart, so a sum that ends there is rounded to a whole number
+abbrev pub anchor : ℕ
+anchor = 6755399441055744
+
+-- a whole number of millionths, as a double
+unfoldable pub kept : ℤ → Float
+kept z = ofInt binary64 (pos anchor +ℤ z)
+
+-- a double keeps a whole number in range
+pub record Kept (a : Float) : Type 0 where
+  pub number : ℤ
+  pub small : Small number
+  pub same : a ≡ kept number
+
+-- p / d, rounded to a double
+unfoldable pub weightOf : ℕ → ℕ → Float
+weightOf p d = div binary64 (ofInt binary64 (pos p)) (ofInt binary64 (pos d))
+
+-- from a towards b by the weight w, and e further
+unfoldable pub leaned : (a b w e : Float) → Float
+leaned a b w e = add binary64 a (add binary64 (mul binary64 (sub binary64 b a) w) e)
+
+-- 2^-16 to either side: far more than the doubles' errors add up to, and little beside 1 / 2
+abbrev pub above : Float
+above = fin false 1 (negsuc 15)
+
+abbrev pub below : Float
+below = fin true 1 (negsuc 15)
+
+-- both lean to the same whole number
+abbrev pub certain : (a b w : Float) → Bool
+certain a b w = eq (leaned a b w above) (leaned a b w below)

@@ -1,0 +1,4 @@
+pub mod Places
+pub mod Rowed
+pub mod Searched
+pub mod Grids

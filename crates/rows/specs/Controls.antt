@@ -1,0 +1,31 @@
+-- The controls of an element, from a table of vertices (or of parameter vertices) and its corners.
+use mathlib.Core.Bool.{true, false}
+use mathlib.Core.List.{List}
+use mathlib.Core.Path.{_≡_}
+use Prim.Native.Nat.{ℕ, _+_, _*_, _-_, _≤_, _<_}
+use lib.Dec.{eqb}
+use lib.ListN.{length}
+use lib.IntN.{ℤ}
+use Rattle.whole.specs.Round.{Small}
+use Rattle.tables.specs.Records.{valueAt, vWidth, cornersEnd, cornerIn}
+use Rattle.rows.specs.declared.Along.{Along}
+
+-- the vertex that corner i names, of the corners from the number `first` on
+abbrev pub vertexOf : List ℕ → (first i : ℕ) → ℕ
+vertexOf corners first i = cornerIn corners (cornersEnd first i) .v
+
+-- number `entry` of that vertex; v and vp both have four to a record
+unfoldable pub controlAt : List ℤ → List ℕ → (first entry i : ℕ) → ℤ
+controlAt values corners first entry i = valueAt vWidth values (vertexOf corners first i - 1) entry
+
+-- corners from to end, end not included, are lent, and each names a vertex that is lent, its numbers small
+pub record Held (values : List ℤ) (corners : List ℕ) (first from end : ℕ) : Type 0 where
+  pub within : cornersEnd first end ≤ length corners
+  pub named : (i : ℕ) → from ≤ i → i < end → 1 ≤ vertexOf corners first i
+  pub there : (i : ℕ) → from ≤ i → i < end → vWidth * (vertexOf corners first i - 1) + vWidth ≤ length values
+  pub small : (i k : ℕ) → from ≤ i → i < end → k < vWidth → Small (controlAt values corners first k i)
+
+-- the first control of the chosen segment or span is there
+pub record Reached (a : Along) (g : ℕ) : Type 0 where
+  pub spline : eqb (a .basis) 2 ≡ true → a .degree ≤ g
+  pub bezier : eqb (a .basis) 2 ≡ false → g * a .degree < a .controls
