@@ -68,19 +68,19 @@ impl Rooms {
             let end = line_end(rest);
             let line = rest[..end].strip_suffix(b"\r").unwrap_or(&rest[..end]);
             rest = &rest[rest.len().min(end + 1)..];
-            let keyword = Takes::by_keyword(first_word(line));
-            if !met.is_empty() || keyword.is_some_and(Takes::takes_words) {
+            if !met.is_empty() {
                 let count = count_words(line);
                 for takes in &met {
                     rooms.add_words(*takes, count);
                 }
-                if let Some(takes) = keyword {
-                    rooms.add_words(takes, count - 1);
-                }
             }
             let goes_on = line.ends_with(b"\\");
-            if let Some(takes) = keyword {
+            let (keyword, others) = first_word(line);
+            if let Some(takes) = Takes::by_keyword(keyword) {
                 rooms.add_line(takes);
+                if takes.takes_words() {
+                    rooms.add_words(takes, count_words(others));
+                }
                 if goes_on {
                     met.push(takes);
                 }
@@ -148,10 +148,11 @@ fn is_gap(b: u8) -> bool {
     (b == b' ') | (b == b'\t') | (b == b'\\')
 }
 
-fn first_word(line: &[u8]) -> &[u8] {
+// The first word of a physical line, and what follows it.
+fn first_word(line: &[u8]) -> (&[u8], &[u8]) {
     let start = line.iter().position(|&b| !is_gap(b)).unwrap_or(line.len());
-    let word = &line[start..];
-    &word[..word.iter().position(|&b| is_gap(b)).unwrap_or(word.len())]
+    let words = &line[start..];
+    words.split_at(words.iter().position(|&b| is_gap(b)).unwrap_or(words.len()))
 }
 
 // How many words a physical line has up to a comment: one at its front, and one after each gap.
