@@ -68,21 +68,24 @@ impl Rooms {
             let end = line_end(rest);
             let line = rest[..end].strip_suffix(b"\r").unwrap_or(&rest[..end]);
             rest = &rest[rest.len().min(end + 1)..];
-            let keyword = Takes::by_keyword(first_word(line));
-            if !met.is_empty() || keyword.is_some_and(Takes::takes_words) {
+            if !met.is_empty() {
                 let count = count_words(line);
                 for takes in &met {
                     rooms.add_words(*takes, count);
                 }
-                if let Some(takes) = keyword {
-                    rooms.add_words(takes, count - 1);
+            }
+            let goes_on = line.ends_with(b"\\");
+            let (keyword, others) = first_word(line);
+            if let Some(takes) = Takes::by_keyword(keyword) {
+                rooms.add_line(takes);
+                if takes.takes_words() {
+                    rooms.add_words(takes, count_words(others));
+                }
+                if goes_on {
+                    met.push(takes);
                 }
             }
-            if let Some(takes) = keyword {
-                rooms.add_line(takes);
-                met.push(takes);
-            }
-            if !line.ends_with(b"\\") {
+            if !goes_on {
                 met.clear();
             }
         }
@@ -142,28 +145,51 @@ fn line_end(text: &[u8]) -> usize {
 
 // A backslash within a line parts its words; the line is refused then.
 fn is_gap(b: u8) -> bool {
-    matches!(b, b' ' | b'\t' | b'\\')
+    (b == b' ') | (b == b'\t') | (b == b'\\')
 }
 
-fn first_word(line: &[u8]) -> &[u8] {
+// The first word of a physical line, and what follows it.
+fn first_word(line: &[u8]) -> (&[u8], &[u8]) {
     let start = line.iter().position(|&b| !is_gap(b)).unwrap_or(line.len());
-    let word = &line[start..];
-    &word[..word.iter().position(|&b| is_gap(b)).unwrap_or(word.len())]
+    let words = &line[start..];
+    words.split_at(words.iter().position(|&b| is_gap(b)).unwrap_or(words.len()))
 }
 
-// How many words a physical line has up to a comment.
+// How many words a physical line has up to a comment: one at its front, and one after each gap.
 fn count_words(line: &[u8]) -> usize {
-    let mut count = 0;
-    let mut in_gap = true;
-    for &b in line {
-        if in_gap && b == b'#' {
-            break;
+    if line.is_empty() || line[0] == b'#' {
+        return 0;
+    }
+    let mut count = !is_gap(line[0]) as usize;
+    let mut last = 0;
+    for (before, here) in line.chunks_exact(16).zip(line[1..].chunks_exact(16)) {
+        match count_starts(before, here) {
+            Some(starts) => count += starts,
+            None => break,
         }
-        let gap = is_gap(b);
-        count += (in_gap && !gap) as usize;
-        in_gap = gap;
+        last += 16;
+    }
+    for pair in line[last..].windows(2) {
+        if is_gap(pair[0]) && !is_gap(pair[1]) {
+            if pair[1] == b'#' {
+                break;
+            }
+            count += 1;
+        }
     }
     count
+}
+
+// How many words start among a few bytes that each come after one of `before`; None where a comment does. Without a branch, so that the bytes are
+// compared at once.
+fn count_starts(before: &[u8], here: &[u8]) -> Option<usize> {
+    let (mut starts, mut comments) = (0u8, false);
+    for (&b, &h) in before.iter().zip(here) {
+        let start = is_gap(b) & !is_gap(h);
+        starts += start as u8;
+        comments |= start & (h == b'#');
+    }
+    (!comments).then(|| starts as usize)
 }
 
 #[cfg(test)]
@@ -190,6 +216,17 @@ mod tests {
     fn a_backslash_in_a_comment_hides_no_line() {
         let rooms = Rooms::for_text(b"# a \\\nv 0 0 0\nf 1 1 1 # \\\nv 0 0 0\n");
         assert_eq!(rooms.v, 8);
+    }
+
+    #[test]
+    fn a_gap_and_a_comment_anywhere_in_a_line() {
+        for gap in 1..47 {
+            let mut line = [b'1'; 48];
+            line[gap] = b'\t';
+            assert_eq!(count_words(&line), 2);
+            line[gap + 1] = b'#';
+            assert_eq!(count_words(&line), 1);
+        }
     }
 
     #[test]

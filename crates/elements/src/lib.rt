@@ -50,7 +50,7 @@ fn corner_from(text: &[u8], at: usize, form: CornerForm, used: Used) -> CornerWo
 {
     match form {
         CornerForm::Vertex { texture, normal } => {
-            forms::corner::corner_at(text, at, used.v, used.vt, used.vn, texture, normal)
+            forms::corner::quick_corner_at(text, at, used.v, used.vt, used.vn, texture, normal)
         }
         CornerForm::Parameter => control_at(text, at, used.vp),
     }

@@ -10,6 +10,7 @@ pub mod Pieces
 pub mod References
 pub mod Corners
 pub mod Patterns
+pub mod Ahead
 pub mod Wholes
 pub mod Numerals
 pub mod NumbersBack

@@ -1,5 +1,7 @@
 -- What each answer of the code means: the value and where its word ends, or 01's number of the refusal.
 use Prim.Native.Nat.{ℕ}
+use Prim.{Unit}
+use mathlib.Core.Path.{_≡_}
 use mathlib.Core.List.{List}
 use lib.IntN.{ℤ}
 use Rattle.forms.specs.Corner.{Corner}
@@ -12,6 +14,8 @@ use Rattle.forms.specs.declared.reference.Reference.{Reference}
 use Rattle.forms.specs.declared.reference.Reference.the-variants as reference
 use Rattle.forms.specs.declared.corner.CornerWord.{CornerWord}
 use Rattle.forms.specs.declared.corner.CornerWord.the-variants as corner
+use Rattle.forms.specs.declared.corner.Ahead.{Ahead}
+use Rattle.forms.specs.declared.corner.Ahead.the-variants as ahead
 use Rattle.forms.specs.declared.whole.Whole.{Whole}
 use Rattle.forms.specs.declared.whole.Whole.the-variants as whole
 use Rattle.forms.specs.declared.whole.Row.{Row}
@@ -38,6 +42,11 @@ abbrev pub saidCorner : CornerWord → Said (Corner × ℕ)
 saidCorner (corner.Of v vt vn e) = says (record { v = v; vt = vt; vn = vn }, e)
 saidCorner corner.Malformed = wrong 6
 saidCorner corner.Missing = wrong 8
+
+-- a corner that was read straight ahead is what the word says; of any other nothing is known
+abbrev pub aheadIs : Said (Corner × ℕ) → Ahead → Type 0
+aheadIs said (ahead.Corner v vt vn e) = saidCorner (corner.Of v vt vn e) ≡ said
+aheadIs said ahead.Other = Unit {0}
 
 -- of a degree and of a smoothing number
 abbrev pub saidWhole : Whole → Said (ℕ × ℕ)

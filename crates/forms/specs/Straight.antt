@@ -1,6 +1,8 @@
 -- What the code computes on the way, from a place in the text to where its digits stop; the laws of proofs/ say that it comes to the forms of the word there.
+use Prim.{Unit}
 use Prim.Native.Nat.{ℕ, _+_, _-_, _*_, _/_, _^_, _≤_, min}
 use mathlib.Core.Path.{_≡_}
+use mathlib.Core.Logic.{_⊎_}
 use mathlib.Core.List.{List, [], _∷_}
 use mathlib.Core.Bool.{Bool, true, false, cond, _&&_, not}
 use lib.ListN.{length, take, drop}
@@ -14,6 +16,8 @@ use Rattle.forms.specs.Reference.{isReference, item, refer}
 use Rattle.forms.specs.Corner.{Corner, formed}
 use Rattle.forms.specs.declared.reference.Part.{Part}
 use Rattle.forms.specs.declared.reference.Part.the-variants.{Of, Malformed}
+use Rattle.forms.specs.declared.corner.Second.{Second}
+use Rattle.forms.specs.declared.corner.Second.the-variants as part
 use Rattle.forms.specs.Number.{before, after, decimal, inRange}
 
 -- the byte at the front; past the end of the text LF, which ends a word too
@@ -100,6 +104,22 @@ pub record PartRead (count : ℕ) (s : List ℕ) (at number end : ℕ) : Type 0 
 abbrev pub partIs : ℕ → List ℕ → ℕ → Part → Type 0
 partIs count s at (Of number end) = PartRead count s at number end
 partIs count s at Malformed = (leb 1 (length (places (drop at s))) && leb (length (places (drop at s))) 10) ≡ false
+
+-- digits at `at`, at most ten of them read, refer to one of `count`
+pub record AheadRead (count : ℕ) (s : List ℕ) (at number end : ℕ) : Type 0 where
+  pub read : FewRead 10 s at 0 end number
+  pub some : 1 ≤ number
+  pub within : number ≤ count
+
+-- a slash at `at`
+pub record NoneRead (s : List ℕ) (at number end : ℕ) : Type 0 where
+  pub number-is : number ≡ 0
+  pub end-is : end ≡ at
+  pub slash : first (drop at s) ≡ 47
+
+abbrev pub secondIs : ℕ → List ℕ → ℕ → Second → Type 0
+secondIs count s at (part.Of number end) = NoneRead s at number end ⊎ AheadRead count s at number end
+secondIs count s at part.Other = Unit {0}
 
 -- a corner from its second part on, after the vertex v; and from its third part on, `there` when all before it are
 abbrev pub third : Bool → ℕ → Bool → ℕ → ℕ → List (List ℕ) → Said Corner

@@ -1,9 +1,11 @@
 use crate::digits::byte_at;
+use crate::digits::byte_in;
+use crate::digits::few;
 use crate::digits::word_ends;
 use crate::reference::Part;
 use crate::reference::part_at;
 ghost use mathlib.Core.Path.{_≡_};
-ghost use mathlib.Core.Bool.{_&&_};
+ghost use mathlib.Core.Bool.{true, _&&_};
 ghost use Prim.Native.Nat.{ℕ, _+_, _≤_, _<_};
 ghost use lib.ListN.{length, drop};
 ghost use lib.Dec.{leb};
@@ -11,8 +13,8 @@ ghost use Rattle.text.specs.Words.{wordOf};
 ghost use Rattle.text.specs.Rest.{endOf};
 ghost use Rattle.forms.specs.Said.{says, must, ended};
 ghost use Rattle.forms.specs.Corner.{split, cornerOf};
-ghost use Rattle.forms.specs.Answers.{saidCorner};
-ghost use Rattle.forms.specs.Straight.{second, third};
+ghost use Rattle.forms.specs.Answers.{saidCorner, aheadIs};
+ghost use Rattle.forms.specs.Straight.{second, third, secondIs};
 
 pub enum CornerWord {
     Of {
@@ -138,4 +140,172 @@ pub fn corner_at(
             made(number != 0, number, 0, 0, end)
         }
     }
+}
+
+// Most corners are far from the text's end and count from the first: these are read straight ahead, and every other part by part.
+pub enum Ahead {
+    Corner {
+        v: u32,
+        vt: u32,
+        vn: u32,
+        end: usize,
+    },
+    Other,
+}
+
+// A second part, 0 where there is none.
+pub enum Second {
+    Of { number: u32, end: usize },
+    Other,
+}
+
+fn refers(number: u64, count: u32) -> bool
+    ensures { λ r. ⌜ r ≡ (leb 1 number && leb number count) ⌝ }
+{
+    if number == 0 {
+        return false;
+    }
+    number <= (count as u64)
+}
+
+fn normal_ahead(text: &[u8], at: usize, v: u32, vt: u32, nvn: u32, normal: bool) -> Ahead
+    requires { ⌜ at + 10 < length (now text) ⌝ }
+    ensures { λ r. ⌜ aheadIs (ended (third normal nvn true v vt (split (wordOf (drop at (now (text .entry)))))) (endOf (now (text .entry)) at)) r ⌝ }
+{
+    if !normal {
+        return Ahead::Other;
+    }
+    let w = few(text, at, 10, 0);
+    if !refers(w.value, nvn) {
+        return Ahead::Other;
+    }
+    let end = w.end;
+    if 32 < byte_in(text, end) {
+        return Ahead::Other;
+    }
+    Ahead::Corner {
+        v: v,
+        vt: vt,
+        vn: w.value as u32,
+        end: end,
+    }
+}
+
+fn second_ahead(text: &[u8], at: usize, nvt: u32) -> Second
+    requires { ⌜ at + 10 < length (now text) ⌝ }
+    ensures { λ r. ⌜ secondIs nvt (now (text .entry)) at r ⌝ }
+{
+    if byte_in(text, at) == 47 {
+        return Second::Of { number: 0, end: at };
+    }
+    let w = few(text, at, 10, 0);
+    if refers(w.value, nvt) {
+        return Second::Of {
+            number: w.value as u32,
+            end: w.end,
+        };
+    }
+    Second::Other
+}
+
+fn texture_ahead(
+    text: &[u8],
+    at: usize,
+    v: u32,
+    nvt: u32,
+    nvn: u32,
+    texture: bool,
+    normal: bool,
+) -> Ahead
+    requires { ⌜ (at + 21 < length (now text)) × (1 ≤ v) ⌝ }
+    ensures { λ r. ⌜ aheadIs (ended (second nvt nvn texture normal v (split (wordOf (drop at (now (text .entry)))))) (endOf (now (text .entry)) at)) r ⌝ }
+{
+    if !texture {
+        return Ahead::Other;
+    }
+    match second_ahead(text, at, nvt) {
+        Second::Other => Ahead::Other,
+        Second::Of { number, end } => {
+            let b = byte_in(text, end);
+            if b == 47 {
+                return normal_ahead(text, end + 1, v, number, nvn, normal);
+            }
+            if 32 < b {
+                return Ahead::Other;
+            }
+            Ahead::Corner {
+                v: v,
+                vt: number,
+                vn: 0,
+                end: end,
+            }
+        }
+    }
+}
+
+fn corner_ahead(
+    text: &[u8],
+    at: usize,
+    nv: u32,
+    nvt: u32,
+    nvn: u32,
+    texture: bool,
+    normal: bool,
+) -> Ahead
+    requires { ⌜ at + 32 < length (now text) ⌝ }
+    ensures { λ r. ⌜ aheadIs (ended (cornerOf (record { v = nv; vt = nvt; vn = nvn }) (record { vt = texture; vn = normal }) (wordOf (drop at (now (text .entry))))) (endOf (now (text .entry)) at)) r ⌝ }
+{
+    let w = few(text, at, 10, 0);
+    if !refers(w.value, nv) {
+        return Ahead::Other;
+    }
+    let v = w.value as u32;
+    let end = w.end;
+    let b = byte_in(text, end);
+    if b == 47 {
+        return texture_ahead(text, end + 1, v, nvt, nvn, texture, normal);
+    }
+    if 32 < b {
+        return Ahead::Other;
+    }
+    Ahead::Corner {
+        v: v,
+        vt: 0,
+        vn: 0,
+        end: end,
+    }
+}
+
+// The same as `corner_at`, quicker for most corners.
+pub fn quick_corner_at(
+    text: &[u8],
+    at: usize,
+    nv: u32,
+    nvt: u32,
+    nvn: u32,
+    texture: bool,
+    normal: bool,
+) -> CornerWord
+    requires { ⌜ at ≤ length (now text) ⌝ }
+    ensures { λ r. ⌜ saidCorner r ≡ ended (cornerOf (record { v = nv; vt = nvt; vn = nvn }) (record { vt = texture; vn = normal }) (wordOf (drop at (now (text .entry))))) (endOf (now (text .entry)) at) ⌝ }
+{
+    if 32 < text.len() - at {
+        if let Ahead::Corner { v, vt, vn, end } = corner_ahead(
+            text,
+            at,
+            nv,
+            nvt,
+            nvn,
+            texture,
+            normal,
+        ) {
+            return CornerWord::Of {
+                v: v,
+                vt: vt,
+                vn: vn,
+                end: end,
+            };
+        }
+    }
+    corner_at(text, at, nv, nvt, nvn, texture, normal)
 }

@@ -21,6 +21,14 @@ pub fn byte_at(text: &[u8], at: usize) -> u8
     10
 }
 
+// The same within the text.
+pub fn byte_in(text: &[u8], at: usize) -> u8
+    requires { ⌜ at < length (now text) ⌝ }
+    ensures { λ r. ⌜ r ≡ first (drop at (now (text .entry))) ⌝ }
+{
+    text[at]
+}
+
 // Whether the word ends at `at`; most often a blank or a line's end tells.
 pub fn word_ends(text: &[u8], at: usize) -> bool
     ensures { λ r. ⌜ r ≡ over (wordOf (drop at (now (text .entry)))) ⌝ }

@@ -6,8 +6,8 @@ use Rattle.elements.proofs.corner_from.Tie as tie
 enum-known-form : tie.Need-enum-known-form
 enum-known-form c = search needs
 
-corner-at-requires : tie.Need-corner-at-requires
-corner-at-requires c κs = search needs
+quick-corner-at-requires : tie.Need-quick-corner-at-requires
+quick-corner-at-requires c κs = search needs
 
 enum-told : tie.Need-enum-told
 enum-told c = search needs
@@ -16,7 +16,7 @@ control-at-requires : tie.Need-control-at-requires
 control-at-requires c κs = search needs
 
 returns : tie.Need-returns
-returns c = rw (c .before .before .form .given .1) (c .corner-at .ensures)
+returns c = rw (c .before .before .form .given .1) (c .quick-corner-at .ensures)
 
 returns-2 : tie.Need-returns-2
 returns-2 c = rw (c .before .enum-told .given .1) (c .control-at .ensures)
@@ -24,4 +24,4 @@ returns-2 c = rw (c .before .enum-told .given .1) (c .control-at .ensures)
 pub corner-from-spec : {M : Type 1} → statement M
 corner-from-spec =
     tie.close
-    (tie.spec enum-known-form corner-at-requires enum-told control-at-requires returns returns-2)
+    (tie.spec enum-known-form quick-corner-at-requires enum-told control-at-requires returns returns-2)
