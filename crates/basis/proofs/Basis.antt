@@ -14,6 +14,7 @@ use lib.Seq.{drop-cons}
 use lib.IntN.{ℤ, pos}
 use lib.Signed.{ltZ, leZ}
 use Rattle.lists.proofs.Tests.{test, and-left, and-right}
+use Rattle.basis.proofs.Order.{lt-le}
 use Rattle.tables.specs.Bodies.{Basis, bezier, bspline, cardinal, taylor, enough, controls, ordered, low, high, curveCount, surfaceCount, basisOf}
 
 -- what holds of the other three holds of a type that is no bspline
@@ -49,6 +50,12 @@ pub knots-enough : (type n p : ℕ) → type ≡ 2 → enough (basisOf type) n p
 knots-enough type n p e h = let k : leb (n + 1) (p - n - 1) ≡ true = rw e at h in omega (arith, leb-true (n + 1) (p - n - 1) k)
 
 -- ---- the order of parameters, two at a time
+pub follows-below : (t : Basis) (a b : ℤ) → ltZ a b ≡ true → ordered t (a ∷ b ∷ []) ≡ true
+follows-below bezier a b h = rw h
+follows-below bspline a b h = let e = lt-le a b h in rw e
+follows-below cardinal a b h = rw h
+follows-below taylor a b h = rw h
+
 ordered-two : (t : Basis) (a b : ℤ) (x : List ℤ) → ordered t (a ∷ b ∷ x) ≡ (ordered t (a ∷ b ∷ []) && ordered t (b ∷ x))
 ordered-two bezier a b x = rw (and-true (ltZ a b))
 ordered-two bspline a b x = rw (and-true (leZ a b))

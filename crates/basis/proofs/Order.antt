@@ -4,7 +4,7 @@ use native.Mathlib.Omega.{arith}
 use mathlib.Core.Path.{_≡_, refl, sym, ap, _∙_}
 use mathlib.Core.Bool.{Bool, true, false, not}
 use mathlib.Core.Logic.{⊎-elim}
-use borrow.Author.Tests.{leb-true, leb-false, le-leb, lt-ltb, le-ltb}
+use borrow.Author.Tests.{leb-true, leb-false, le-leb, ltb-true, lt-ltb, le-ltb}
 use lib.Dec.{leb, ltb}
 use lib.IntN.{ℤ, pos, negsuc}
 use lib.Signed.{ltZ, leZ}
@@ -39,6 +39,12 @@ le-no-lt a b h = lt-not-le b a ∙ ap not h
 
 pub no-le-lt : (a b : ℤ) → leZ a b ≡ false → ltZ b a ≡ true
 no-le-lt a b h = lt-not-le b a ∙ ap not h
+
+pub lt-le : (a b : ℤ) → ltZ a b ≡ true → leZ a b ≡ true
+lt-le (pos a) (pos b) h = le-leb a b (omega (arith, ltb-true a b h))
+lt-le (pos a) (negsuc b) h = h
+lt-le (negsuc a) (pos b) h = h
+lt-le (negsuc a) (negsuc b) h = le-leb b a (omega (arith, ltb-true b a h))
 
 pub least : (m n : ℕ) (g : ℤ) → m ≤ n → leZ (pos n) g ≡ true → leZ (pos m) g ≡ true
 least m n (pos a) l h = le-leb m a (omega (arith, leb-true n a h))

@@ -83,10 +83,13 @@ pub fn surface_count(basis: u32, m: u32, p: u32, n: u32, q: u32, k: u32) -> bool
 pub fn follows(basis: u32, a: i32, b: i32) -> bool
     ensures { λ r. ⌜ r ≡ ordered (basisOf basis) (a ∷ b ∷ []) ⌝ }
 {
+    if a < b {
+        return true;
+    }
     if basis == 2 {
         return a <= b;
     }
-    a < b
+    false
 }
 
 fn ordered(basis: u32, x: &[i32]) -> bool

@@ -31,6 +31,10 @@ pub below-all : (f : ℕ → Bool) (n : ℕ) → ((i : ℕ) → i < n → f i �
 below-all f zero h = refl
 below-all f (suc n) h = and-both (below-all f n (λ i l. h i (omega arith))) (h n (omega arith))
 
+pub below-same : (f g : ℕ → Bool) → ((i : ℕ) → f i ≡ g i) → (n : ℕ) → allBelow n f ≡ allBelow n g
+below-same f g h zero = refl
+below-same f g h (suc n) = rw (below-same f g h n, h n)
+
 -- a loop that has passed every index
 pub below-ends : (f : ℕ → Bool) {n i : ℕ} → allBelow i f ≡ true → i ≤ n → n ≤ i → allBelow n f ≡ true
 below-ends f {n} {i} h a b = let e : n ≡ i = omega arith in rw e h

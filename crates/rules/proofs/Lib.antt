@@ -3,6 +3,7 @@ pub mod Small
 pub mod Runs
 pub mod OneVertex
 pub mod EachCorner
+pub mod EachBare
 pub mod EachPart
 pub mod OneBody
 pub mod Facts

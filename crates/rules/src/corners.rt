@@ -1,7 +1,11 @@
 ghost use mathlib.Core.Path.{_≡_};
+ghost use mathlib.Core.Bool.{not, _&&_};
 ghost use mathlib.Core.List.{[]};
+ghost use lib.Dec.{eqb};
+ghost use Rattle.tables.specs.Records.{curve2Kind};
 ghost use Rattle.rules.specs.Corners.{leastCorners, withTexture, withNormal, attributeObeys, pointObeys, cornerObeys, eachCorner, cornersObey};
 ghost use Rattle.tables.specs.Tables.{tables};
+use crate::bare::each_bare;
 use crate::vertices::control;
 use crate::vertices::vertex;
 use tables::Corner;
@@ -119,6 +123,19 @@ fn each_corner(
     true
 }
 
+// Whether every corner is to name a v alone.
+fn is_bare(kind: u32, first: Corner) -> bool
+    ensures { λ r. ⌜ r ≡ (not (eqb kind curve2Kind) && eqb (first .vt) 0 && eqb (first .vn) 0) ⌝ }
+{
+    if kind == 5 {
+        return false;
+    }
+    if first.vt != 0 {
+        return false;
+    }
+    first.vn == 0
+}
+
 pub fn corners_obey(
     used: Used,
     v: &[i32],
@@ -141,6 +158,9 @@ pub fn corners_obey(
     }
     if count < least_corners(kind) {
         return false;
+    }
+    if is_bare(kind, tables::corner_at(corners, first, 0)) {
+        return each_bare(v, used.v, corners, first, count as usize);
     }
     each_corner(used, v, vt, vn, vp, corners, kind, first, count as usize)
 }

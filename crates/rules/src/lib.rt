@@ -11,6 +11,7 @@ use crate::corners::corners_obey;
 use tables::Element;
 use tables::Used;
 
+mod bare;
 mod bodies;
 mod corners;
 mod loops;

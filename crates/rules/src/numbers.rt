@@ -1,4 +1,5 @@
 ghost use mathlib.Core.Path.{_≡_};
+ghost use mathlib.Core.Bool.{_&&_};
 ghost use Rattle.rules.specs.Numbers.{small, smallRun, eqZ};
 
 // Whether x is at most 2,000,000,000 millionths from zero.
@@ -9,6 +10,13 @@ pub fn small(x: i32) -> bool
         return false;
     }
     x <= 2_000_000_000
+}
+
+// The same of four numbers, with no branch between them.
+pub fn small_four(a: i32, b: i32, c: i32, d: i32) -> bool
+    ensures { λ r. ⌜ r ≡ (small a && small b && small c && small d) ⌝ }
+{
+    small(a) & small(b) & small(c) & small(d)
 }
 
 pub fn same(a: i32, b: i32) -> bool

@@ -3,12 +3,12 @@ use Prim.Native.Nat.{ℕ, _+_, _*_, _-_, _^_, _≤_, _<_}
 use mathlib.Core.Path.{_≡_, refl, sym, ap, subst⁻¹, _∙_}
 use mathlib.Core.List.{List, []}
 use mathlib.Core.Bool.{Bool, true, false, _&&_}
-use native.Mathlib.Nat.{lt-of-le-of-lt, mul-le-mul-left, mul-lt-mul-of-pos-right, le-of-lt}
+use native.Mathlib.Nat.{lt-of-le-of-lt, mul-le-mul-left, mul-lt-mul-of-pos-right, le-of-lt, add-zero}
 use native.Mathlib.Omega.{arith}
 use borrow.Author.Tests.{lt-ltb, le-ltb, le-leb, lt-leb, leb-true}
 use lib.Dec.{leb}
 use lib.ListN.{length, getD, take, drop, List·getD-eq-default}
-use lib.IntN.{ℤ}
+use lib.IntN.{ℤ, pos}
 use lib.Pow.{pow-pos, pow-add}
 use Rattle.lists.proofs.Tests.{and-left, and-right}
 use Rattle.tables.specs.Records.{elementIn, bodyIn, cornerIn}
@@ -40,6 +40,10 @@ module _ (number used w lent : ℕ) where
   unfolding held
   held-first h = leb-true 1 number (and-left (leb 1 number) (leb number used) (and-left (leb 1 number && leb number used) (leb (w * number) lent) h))
 
+  pub held-whole : held number used w lent ≡ true → w * number ≤ lent
+  unfolding held
+  held-whole h = leb-true (w * number) lent (and-right (leb 1 number && leb number used) (leb (w * number) lent) h)
+
 module _ (used : Used) (elements : List ℕ) (number : ℕ) where
   pub element-held : {e : Element} {b : Bool} → b ≡ held number (used .elements) 9 (length elements) → b ≡ true → e ≡ elementIn elements (number - 1) → e ≡ elementOf used elements number
   unfolding elementOf
@@ -62,6 +66,15 @@ module _ (used : Used) (bodies : List ℕ) (ranges : List ℤ) (number : ℕ) wh
   unfolding bodyHeld
   body-first h = held-first number (used .bodies) 9 (length bodies) (and-left (held number (used .bodies) 9 (length bodies)) (leb (4 * number) (length ranges)) h)
 
+  pub body-whole : bodyHeld used bodies ranges number ≡ true → (9 * (number - 1) + 9 ≤ length bodies) × (4 * (number - 1) + 4 ≤ length ranges)
+  unfolding bodyHeld
+  body-whole h =
+      let some = body-first h in
+      let held-one = and-left (held number (used .bodies) 9 (length bodies)) (leb (4 * number) (length ranges)) h in
+      let body-lent = held-whole number (used .bodies) 9 (length bodies) held-one in
+      let range-lent = leb-true (4 * number) (length ranges) (and-right (held number (used .bodies) 9 (length bodies)) (leb (4 * number) (length ranges)) h) in
+      (omega arith, omega arith)
+
   pub body-held : {e : Body} {b : Bool} → b ≡ bodyHeld used bodies ranges number → b ≡ true → e ≡ bodyIn bodies ranges (number - 1) → e ≡ bodyOf used bodies ranges number
   unfolding bodyOf
   body-held h t p = p ∙ rw (sym h ∙ t) refl
@@ -69,6 +82,27 @@ module _ (used : Used) (bodies : List ℕ) (ranges : List ℤ) (number : ℕ) wh
   pub body-none : {b : Bool} → b ≡ bodyHeld used bodies ranges number → b ≡ false → noBody ≡ bodyOf used bodies ranges number
   unfolding bodyOf
   body-none h t = rw (sym h ∙ t) refl
+
+-- a body's numbers, each by its place
+pub body-lent : (bodies : List ℕ) (ranges : List ℤ) (i : ℕ) {p q r s : ℤ}
+    → p ≡ getD ranges (4 * i) (pos 0) → q ≡ getD ranges (4 * i + 1) (pos 0) → r ≡ getD ranges (4 * i + 2) (pos 0) → s ≡ getD ranges (4 * i + 3) (pos 0)
+    → record {
+      basis = getD bodies (9 * i) 0;
+      rational = getD bodies (9 * i + 1) 0;
+      «degree_u» = getD bodies (9 * i + 2) 0;
+      «degree_v» = getD bodies (9 * i + 3) 0;
+      «first_parameter» = getD bodies (9 * i + 4) 0;
+      «count_u» = getD bodies (9 * i + 5) 0;
+      «count_v» = getD bodies (9 * i + 6) 0;
+      «first_loop» = getD bodies (9 * i + 7) 0;
+      loops = getD bodies (9 * i + 8) 0;
+      «start_u» = p;
+      «end_u» = q;
+      «start_v» = r;
+      «end_v» = s;
+    }
+    ≡ bodyIn bodies ranges i
+body-lent bodies ranges i a b c d = rw (a, b, c, d, add-zero, add-zero) refl
 
 -- no corner begins past as many entries
 pub corner-past : (corners : List ℕ) (first k : ℕ) → length corners ≤ k → noCorner ≡ cornerIn corners (first + 3 * k)

@@ -2,9 +2,10 @@
 ghost use mathlib.Core.Path.{_≡_};
 ghost use Prim.Native.Nat.{_+_, _*_, _≤_};
 ghost use lib.IntN.{pos};
+ghost use mathlib.Core.Bool.{_&&_};
 ghost use lib.Dec.{leb};
 ghost use lib.ListN.{length, getD};
-ghost use Rattle.tables.specs.Records.{elementWidth, numberAt, elementIn, bodyIn, cornersEnd, cornerIn};
+ghost use Rattle.tables.specs.Records.{elementWidth, bodyWidth, rangeWidth, numberAt, elementIn, bodyIn, cornersEnd, cornerIn};
 ghost use Rattle.tables.specs.Asking.{held, elementOf, bodyHeld, bodyOf, cornerWith, cornerOf, partOf, groupOf, materialOf};
 
 pub mod storing;
@@ -107,10 +108,32 @@ pub fn kind_in(elements: &[u32], index: u32) -> u32
     number_in(elements, 9 * index as usize)
 }
 
+// The element at that index, counted from 0, which stands whole within the lent entries.
+pub fn lent_element(elements: &[u32], index: u32) -> Element
+    requires { ⌜ elementWidth * index + elementWidth ≤ length (now elements) ⌝ }
+    ensures { λ r. ⌜ r ≡ elementIn (now (elements .entry)) index ⌝ }
+{
+    let at = 9 * index as usize;
+    Element {
+        kind: elements[at],
+        first: elements[at + 1],
+        count: elements[at + 2],
+        body: elements[at + 3],
+        smoothing: elements[at + 4],
+        group_place: elements[at + 5],
+        group_length: elements[at + 6],
+        material_place: elements[at + 7],
+        material_length: elements[at + 8],
+    }
+}
+
 // The element at that index, counted from 0; a number past the table's end is 0.
 pub fn element_in(elements: &[u32], index: u32) -> Element
     ensures { λ r. ⌜ r ≡ elementIn (now (elements .entry)) index ⌝ }
 {
+    if element_fits(elements, index) {
+        return lent_element(elements, index);
+    }
     let at = 9 * index as usize;
     Element {
         kind: number_in(elements, at),
@@ -130,7 +153,7 @@ pub fn element_of(used: Used, elements: &[u32], element: u32) -> Element
     ensures { λ r. ⌜ r ≡ elementOf used (now (elements .entry)) element ⌝ }
 {
     if is_held(element, used.elements, 9, elements.len()) {
-        return element_in(elements, element - 1);
+        return lent_element(elements, element - 1);
     }
     Element {
         kind: 0,
@@ -145,10 +168,47 @@ pub fn element_of(used: Used, elements: &[u32], element: u32) -> Element
     }
 }
 
+// The body at that index, counted from 0, with its range; both stand whole within the lent entries.
+pub fn lent_body(bodies: &[u32], ranges: &[i32], index: u32) -> Body
+    requires { ⌜ (bodyWidth * index + bodyWidth ≤ length (now bodies)) × (rangeWidth * index + rangeWidth ≤ length (now ranges)) ⌝ }
+    ensures { λ r. ⌜ r ≡ bodyIn (now (bodies .entry)) (now (ranges .entry)) index ⌝ }
+{
+    let at = 9 * index as usize;
+    let from = 4 * index as usize;
+    Body {
+        basis: bodies[at],
+        rational: bodies[at + 1],
+        degree_u: bodies[at + 2],
+        degree_v: bodies[at + 3],
+        first_parameter: bodies[at + 4],
+        count_u: bodies[at + 5],
+        count_v: bodies[at + 6],
+        first_loop: bodies[at + 7],
+        loops: bodies[at + 8],
+        start_u: ranges[from],
+        end_u: ranges[from + 1],
+        start_v: ranges[from + 2],
+        end_v: ranges[from + 3],
+    }
+}
+
+// Whether the body at that index, counted from 0, and its range stand whole within the lent entries.
+fn body_fits(bodies: &[u32], ranges: &[i32], index: u32) -> bool
+    ensures { λ r. ⌜ r ≡ (leb (bodyWidth * index + bodyWidth) (length (now (bodies .entry))) && leb (rangeWidth * index + rangeWidth) (length (now (ranges .entry)))) ⌝ }
+{
+    if 9 * index as usize + 9 <= bodies.len() {
+        return 4 * index as usize + 4 <= ranges.len();
+    }
+    false
+}
+
 // The body at that index, counted from 0, with its range; a number past a table's end is 0.
 pub fn body_in(bodies: &[u32], ranges: &[i32], index: u32) -> Body
     ensures { λ r. ⌜ r ≡ bodyIn (now (bodies .entry)) (now (ranges .entry)) index ⌝ }
 {
+    if body_fits(bodies, ranges, index) {
+        return lent_body(bodies, ranges, index);
+    }
     let at = 9 * index as usize;
     let from = 4 * index as usize;
     Body {
@@ -183,7 +243,7 @@ pub fn body_of(used: Used, bodies: &[u32], ranges: &[i32], body: u32) -> Body
     ensures { λ r. ⌜ r ≡ bodyOf used (now (bodies .entry)) (now (ranges .entry)) body ⌝ }
 {
     if has_body(used, bodies, ranges, body) {
-        return body_in(bodies, ranges, body - 1);
+        return lent_body(bodies, ranges, body - 1);
     }
     Body {
         basis: 0,

@@ -1,16 +1,33 @@
 -- The record's numbers, and the range's, stand one after the other from its first on.
-use mathlib.Core.Path.{_≡_, refl, ap, _∙_}
+use mathlib.Core.Path.{_≡_, refl, sym, ap, _∙_}
 use Prim.Native.Nat.{ℕ, _+_, _*_}
 use native.Mathlib.Omega.{arith}
+use borrow.Author.Tests.{leb-true}
 use denote.Ref.{now}
-use lib.ListN.{getD}
+use lib.ListN.{getD, length}
+use lib.Dec.{leb}
 use lib.IntN.{pos}
 use mir.Syntax.{w32}
 use mir.Val.{toZ, ofZ}
+use Rattle.lists.proofs.Tests.{and-left, and-right}
 use Rattle.tables.proofs.Stores.{passed}
 use borrow.Author.Needs.{needs}
 use Rattle.tables.proofs.body_in.Statement.{statement}
 use Rattle.tables.proofs.body_in.Tie as tie
+
+body-fits-requires : tie.Need-body-fits-requires
+body-fits-requires c κs = search needs
+
+lent-body-requires : tie.Need-lent-body-requires
+lent-body-requires c κs =
+    let a = c .before .before .before .args in
+    let t = sym (c .before .body-fits .ensures) ∙ c .if1 .taken in
+    let b = leb (9 * a .index + 9) (length (now (a .bodies))) in
+    let r = leb (4 * a .index + 4) (length (now (a .ranges))) in
+    (leb-true _ _ (and-left b r t), leb-true _ _ (and-right b r t))
+
+returns : tie.Need-returns
+returns c = c .lent-body .ensures
 
 mul-at : tie.Need-mul-at
 mul-at c = search needs
@@ -90,9 +107,9 @@ add-value-in-3 c = search needs
 value-in-requires-4 : tie.Need-value-in-requires-4
 value-in-requires-4 c κs = search needs
 
-returns : tie.Need-returns
-returns c =
-    let a = c .before .before .before .before .before .before .before .before .before .before .before .before .before .before .args in
+returns-2 : tie.Need-returns-2
+returns-2 c =
+    let a = c .before .before .before .before .before .before .before .before .before .before .before .before .before .before .before .before .args in
     let k : 9 * a .index ≡ 9 * a .index + 0 = omega arith in
     let m : 4 * a .index ≡ 4 * a .index + 0 = omega arith in
     let e : c .before .before .before .before .before .before .before .before .before .before .before .before .number-in .result ≡ getD (now (a .bodies)) (9 * a .index + 0) 0 = c .before .before .before .before .before .before .before .before .before .before .before .before .number-in .ensures ∙ ap (λ (n : ℕ). getD (now (a .bodies)) n 0) k in
@@ -106,6 +123,9 @@ pub body-in-spec : {M : Type 1} → statement M
 body-in-spec =
     tie.close
     (tie.spec
+    body-fits-requires
+    lent-body-requires
+    returns
     mul-at
     mul-from
     number-in-requires
@@ -132,4 +152,4 @@ body-in-spec =
     value-in-requires-3
     add-value-in-3
     value-in-requires-4
-    returns)
+    returns-2)

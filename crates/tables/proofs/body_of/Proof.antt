@@ -1,7 +1,7 @@
 -- What `has_body` answers opens the definition's two cases.
 use mathlib.Core.Path.{sym, _∙_}
 use denote.Ref.{now}
-use Rattle.tables.proofs.Asked.{body-first, body-held, body-none}
+use Rattle.tables.proofs.Asked.{body-first, body-whole, body-held, body-none}
 use borrow.Author.Needs.{needs}
 use Rattle.tables.proofs.body_of.Statement.{statement}
 use Rattle.tables.proofs.body_of.Tie as tie
@@ -9,18 +9,20 @@ use Rattle.tables.proofs.body_of.Tie as tie
 has-body-requires : tie.Need-has-body-requires
 has-body-requires c κs = search needs
 
-sub-body-in : tie.Need-sub-body-in
-sub-body-in c =
+sub-lent-body : tie.Need-sub-lent-body
+sub-lent-body c =
     let a = c .before .before .before .args in
     body-first (a .used) (now (a .bodies)) (now (a .ranges)) (a .body) (sym (c .before .has-body .ensures) ∙ c .if1 .taken)
 
-body-in-requires : tie.Need-body-in-requires
-body-in-requires c κs = search needs
+lent-body-requires : tie.Need-lent-body-requires
+lent-body-requires c κs =
+    let a = c .before .before .before .args in
+    body-whole (a .used) (now (a .bodies)) (now (a .ranges)) (a .body) (sym (c .before .has-body .ensures) ∙ c .if1 .taken)
 
 returns : tie.Need-returns
 returns c =
     let a = c .before .before .before .before .args in
-    body-held (a .used) (now (a .bodies)) (now (a .ranges)) (a .body) (c .before .before .has-body .ensures) (c .before .if1 .taken) (c .body-in .ensures)
+    body-held (a .used) (now (a .bodies)) (now (a .ranges)) (a .body) (c .before .before .has-body .ensures) (c .before .if1 .taken) (c .lent-body .ensures)
 
 returns-2 : tie.Need-returns-2
 returns-2 c =
@@ -29,4 +31,4 @@ returns-2 c =
 
 pub body-of-spec : {M : Type 1} → statement M
 body-of-spec =
-    tie.close (tie.spec has-body-requires sub-body-in body-in-requires returns returns-2)
+    tie.close (tie.spec has-body-requires sub-lent-body lent-body-requires returns returns-2)
