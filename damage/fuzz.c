@@ -3,6 +3,7 @@
  * does not. With -DREPLAY it is a program that runs the target on each file that it is given.
  */
 #include "lent.h"
+#include <xmmintrin.h>
 
 #define HOLD(fact)                                                                                                                                   \
     do {                                                                                                                                             \
@@ -224,6 +225,18 @@ static void run(const struct tables *t, kuhlabires_used used, uint32_t number, u
     take_back(points);
 }
 
+/* The same points, however the caller has doubles rounded. */
+static void rounded(const struct tables *t, kuhlabires_used used, uint32_t number, int64_t u, int64_t v, kuhlabires_point curve, kuhlabires_point surface) {
+    static const unsigned other[] = {_MM_ROUND_DOWN, _MM_ROUND_UP, _MM_ROUND_TOWARD_ZERO};
+    for (size_t i = 0; i < sizeof other / sizeof *other; i++) {
+        _MM_SET_ROUNDING_MODE(other[i]);
+        kuhlabires_point on_curve = curve_at(t, used, number, u);
+        kuhlabires_point on_surface = kuhlabires_point_on_surface(used, LEND(t), number, (int32_t)u, (int32_t)v);
+        _MM_SET_ROUNDING_MODE(_MM_ROUND_NEAREST);
+        HOLD(memcmp(&on_curve, &curve, sizeof curve) == 0 && memcmp(&on_surface, &surface, sizeof surface) == 0);
+    }
+}
+
 /* Elements as read: 15 never, 17 for another kind, 19 outside; points between their controls, and a run the same points. */
 static void sampled(const struct tables *t, kuhlabires_used used, uint32_t number) {
     size_t at = KUHLABIRES_ELEMENT_WIDTH * (size_t)(number - 1);
@@ -231,10 +244,11 @@ static void sampled(const struct tables *t, kuhlabires_used used, uint32_t numbe
     uint32_t body = entry(t, ELEMENTS, at + KUHLABIRES_ELEMENT_BODY);
     int64_t limits[4] = {0};
     for (size_t i = 0; body > 0 && i < 4; i++) limits[i] = (int32_t)entry(t, RANGES, 4 * (size_t)(body - 1) + i);
-    for (int j = 0; j < 3; j++) {
-        int64_t u = limits[0] + j * (limits[1] - limits[0]) / 2, v = limits[2] + j * (limits[3] - limits[2]) / 2;
+    for (int j = 0; j < 4; j++) {
+        int64_t u = limits[0] + j * (limits[1] - limits[0]) / 3, v = limits[2] + j * (limits[3] - limits[2]) / 3;
         kuhlabires_point curve = curve_at(t, used, number, u);
         kuhlabires_point surface = kuhlabires_point_on_surface(used, LEND(t), number, (int32_t)u, (int32_t)v);
+        rounded(t, used, number, u, v, curve, surface);
         int is_curve = kind == KUHLABIRES_CURV || kind == KUHLABIRES_CURV2, is_surface = kind == KUHLABIRES_SURF;
         HOLD(is_curve ? curve.refusal == 0 || refused_point(curve, 18) : refused_point(curve, 17));
         HOLD(is_surface ? surface.refusal == 0 || refused_point(surface, 18) : refused_point(surface, 17));
