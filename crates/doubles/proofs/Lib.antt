@@ -1,1 +1,5 @@
 pub mod Whole
+pub mod Near
+pub mod Signs
+pub mod Errors
+pub mod Certain

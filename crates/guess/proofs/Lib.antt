@@ -1,0 +1,4 @@
+pub mod Weights
+pub mod Stepping
+pub mod Levels
+pub mod Descent

@@ -102,7 +102,7 @@ is-sum zero Q f z h = is-zero Q (is-whole (pos 0) 1)
 is-sum (suc m) Q f z h = is-plus (is-sum m Q f z (λ i l. h i (le-step l))) (h m (le-refl (suc m)))
 
 -- ---- equality and closeness, multiplied out
-no-size : (z : ℤ) → natAbs z ≡ 0 → z ≡ pos 0
+pub no-size : (z : ℤ) → natAbs z ≡ 0 → z ≡ pos 0
 no-size (pos n) e = ap pos e
 no-size (negsuc n) e = absurd (omega arith)
 

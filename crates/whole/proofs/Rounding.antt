@@ -2,19 +2,20 @@
 use mathlib.Core.Path.{_≡_, refl, sym, ap, ap₂, _∙_, subst}
 use mathlib.Core.List.{[], _∷_}
 use Prim.Native.Nat.{ℕ, zero, suc, _+_, _-_, _*_, _≤_, _<_}
-use native.Mathlib.Nat.{mul-div-le, lt-mul-div-succ, div-lt-iff-lt-mul, div-eq-of-lt-le}
+use native.Mathlib.Nat.{mul-le-mul-right, mul-div-le, lt-mul-div-succ, div-lt-iff-lt-mul, div-eq-of-lt-le}
 use native.Mathlib.Omega.{arith}
 use borrow.Author.Tests.{le-ltb}
 use lib.Dec.{T, ltb, ltb→lt, leb→le, le→leb}
 use lib.IntN.{ℤ, pos, negsuc, negℤ, natAbs, _+ℤ_, _-ℤ_, _*ℤ_, +ℤ-idl, +ℤ-idr, *ℤ-zero}
 use lib.Signed.{_≤ℤ_, leZ, ltZ, leZ-yes}
-use Rattle.whole.specs.Round.{nearest, rounded, between, signed}
-use Rattle.whole.proofs.IntLaws.{abs-neg, cond-ind}
+use Rattle.whole.specs.Round.{nearest, rounded, between, Small, signed}
+use Rattle.whole.proofs.IntLaws.{abs-neg, abs-*, abs-+, cond-ind, sub-eq}
+use Rattle.whole.proofs.FracLaws.{no-size}
 use Rattle.whole.proofs.Ring.{ring, _⊕_, _⊝_, _⊗_, ⊖, _≐_}
 use Rattle.whole.proofs.Order.{up, up-le}
 
 -- ---- at most half from the exact value
-distance : (x y k : ℕ) → 2 * x ≤ 2 * y + k → 2 * y ≤ 2 * x + k → 2 * natAbs (pos x -ℤ pos y) ≤ k
+pub distance : (x y k : ℕ) → 2 * x ≤ 2 * y + k → 2 * y ≤ 2 * x + k → 2 * natAbs (pos x -ℤ pos y) ≤ k
 distance x zero k h l = omega arith
 distance x (suc y) k h l =
     cond-ind (ltb x (suc y)) (negsuc (suc y - suc x)) (pos (x - suc y)) (λ z. 2 * natAbs z ≤ k) (λ t. low (ltb→lt x (suc y) t)) (λ t. omega arith)
@@ -45,6 +46,22 @@ pub between-near : (a b : ℤ) (p D : ℕ) → 0 < D → 2 * natAbs (pos D *ℤ 
 unfolding between
 between-near a b p D h =
     rw (ring (a ∷ b ∷ pos (D - p) ∷ pos p ∷ []) (λ a b q p. q ⊗ a ⊕ p ⊗ b ≐ a ⊗ q ⊕ b ⊗ p) tt) (rounded-near (a *ℤ pos (D - p) +ℤ b *ℤ pos p) D h)
+
+-- what is less than half from the exact value is the nearest: D times the gap of two such is below D
+no-gap : (D n x y : ℕ) → D * n ≤ x + y → 2 * x ≤ D → 2 * y < D → n ≡ 0
+no-gap D zero x y h k l = refl
+no-gap D (suc n) x y h k l = absurd (omega arith)
+
+gaps : (D : ℕ) (y z x : ℤ) → D * natAbs (y -ℤ z) ≤ natAbs (pos D *ℤ y -ℤ x) + natAbs (pos D *ℤ z -ℤ x)
+gaps D y z x =
+    let e : natAbs (pos D *ℤ (y -ℤ z)) ≡ natAbs (pos D *ℤ y -ℤ x -ℤ (pos D *ℤ z -ℤ x)) = ap natAbs (ring (pos D ∷ y ∷ z ∷ x ∷ []) (λ d y z x. d ⊗ (y ⊝ z) ≐ d ⊗ y ⊝ x ⊝ (d ⊗ z ⊝ x)) tt) in
+    omega (arith, e, abs-* (pos D) (y -ℤ z), abs-+ (pos D *ℤ y -ℤ x) (negℤ (pos D *ℤ z -ℤ x)), abs-neg (pos D *ℤ z -ℤ x))
+
+pub between-unique : (a b z : ℤ) (p D : ℕ) → 2 * natAbs (pos D *ℤ z -ℤ (pos (D - p) *ℤ a +ℤ pos p *ℤ b)) < D → between a b p D ≡ z
+between-unique a b z p D h =
+    let y = between a b p D in
+    let x = pos (D - p) *ℤ a +ℤ pos p *ℤ b in
+    sub-eq y z (no-size (y -ℤ z) (no-gap D (natAbs (y -ℤ z)) (natAbs (pos D *ℤ y -ℤ x)) (natAbs (pos D *ℤ z -ℤ x)) (gaps D y z x) (between-near a b p D (omega arith)) h))
 
 -- ---- exact at p = 0 and at p = D
 nearest-whole : (m d : ℕ) → 0 < d → nearest (m * d) d ≡ m
@@ -138,6 +155,21 @@ module _ (a b : ℤ) (p D : ℕ) (h : p ≤ D) (some : 0 < D) where
 -- ---- the size
 pub nearest-le : (m d b : ℕ) → 0 < d → m ≤ b * d → nearest m d ≤ b
 nearest-le m d b h l = omega (arith, div-lt-iff-lt-mul {k = 2 * d} {x = 2 * m + d} {y = suc b} (omega arith) .1 (omega arith))
+
+rounded-size : (z : ℤ) (d : ℕ) → natAbs (rounded z d) ≡ nearest (natAbs z) d
+unfolding rounded
+rounded-size (pos m) d = refl
+rounded-size (negsuc m) d = abs-neg (pos (nearest (suc m) d))
+
+pub between-small : (a b : ℤ) (p D : ℕ) → p ≤ D → 0 < D → Small a → Small b → Small (between a b p D)
+unfolding between
+between-small a b p D h some u v =
+    let z = a *ℤ pos (D - p) +ℤ b *ℤ pos p in
+    let e : natAbs a * (D - p) + natAbs b * p ≤ 2000000000 * D = weighted (natAbs a) (natAbs b) (D - p) u v (omega arith) in
+    rw (rounded-size z D) (nearest-le (natAbs z) D 2000000000 some (omega (arith, e, abs-+ (a *ℤ pos (D - p)) (b *ℤ pos p), abs-* a (pos (D - p)), abs-* b (pos p))))
+  where
+    weighted : (m n q : ℕ) → m ≤ 2000000000 → n ≤ 2000000000 → q + p ≡ D → m * q + n * p ≤ 2000000000 * D
+    weighted m n q u v e = omega (arith, mul-le-mul-right q u, mul-le-mul-right p v)
 
 -- rounding by the sign and the size, as the machine does it
 pub rounded-signed : (z : ℤ) (d : ℕ) → signed (ltZ z (pos 0)) (nearest (natAbs z) d) ≡ rounded z d
