@@ -43,7 +43,7 @@ fn gather(
 }
 
 // The first of the n + 1 controls that a point is made from.
-fn first_control(along: Along, chosen: usize) -> usize
+pub fn first_control(along: Along, chosen: usize) -> usize
     requires { ⌜ Reached along chosen ⌝ }
     ensures { λ r. ⌜ r ≡ cond (eqb (along .basis) 2) (chosen - along .degree) (chosen * along .degree) ⌝ }
 {

@@ -8,11 +8,18 @@ use lib.ListN.{length, getD, set, take, drop, length-append, length-drop}
 use lib.Seq.{drop-cons, set-at, append-snoc, take-at, drop-at, drop-drop, take-all, drop-length}
 use borrow.Rule.Slice.PartMut.{putMid}
 use lib.IntN.{ℤ, pos}
+use mir.Syntax.{w32}
+use mir.Val.{toZ, ofZ}
+use Rattle.whole.specs.Round.{Small}
+use Rattle.whole.proofs.Bits.{read-back-small}
 use Rattle.curves.specs.Sampled.{curveSampled}
 use Rattle.rows.specs.Places.{direction}
 use Rattle.rows.specs.Controls.{controlAt}
-use Rattle.sampler.specs.Runs.{joined, listed, parameterAt, pointAt, pointsUpto}
+use Rattle.sampler.specs.Runs.{joined, listed, numberOf, parameterAt, pointAt, pointsUpto}
 use Rattle.rows.specs.declared.Along.{Along}
+use Rattle.rows.proofs.Grids.{from-first}
+use Rattle.quick.specs.Points.{curveNumber, CurvePoint}
+use Rattle.quick.specs.declared.Point.{Point}
 
 pub joined-length : (w n : ℕ) (f : ℕ → List ℤ) → ((i : ℕ) → length (f i) ≡ w) → length (joined n f) ≡ w * n
 joined-length w zero f h = omega arith
@@ -26,6 +33,14 @@ pub stored : (f : ℕ → ℤ) (l : List ℤ) (k : ℕ) (z : ℤ) → k < length
 stored f l k z h e =
     rw (add-one, drop-cons l k (pos 0) h, e)
     (set-at (listed k f) (getD l k (pos 0)) (drop (suc k) l) (f k) k (listed-length k f) ∙ sym (append-snoc (listed k f) (f k) (drop (suc k) l)))
+
+-- two, and three
+module _ (l : List ℤ) (x y z : ℤ) where
+  pub two-stored : 2 ≤ length l → set (set l 0 x) 1 y ≡ listed 2 (numberOf x y z) ++ drop 2 l
+  two-stored h = ap (λ (q : List ℤ). set q 1 y) (stored (numberOf x y z) l 0 x (omega arith) refl) ∙ stored (numberOf x y z) l 1 y (omega arith) refl
+
+  pub three-stored : 3 ≤ length l → set (set (set l 0 x) 1 y) 2 z ≡ listed 3 (numberOf x y z) ++ drop 3 l
+  three-stored h = ap (λ (q : List ℤ). set q 2 z) (two-stored (omega arith)) ∙ stored (numberOf x y z) l 2 z (omega arith) refl
 
 -- one point more: what was written before, then the point, then the rest
 pub pasted : (f : ℕ → List ℤ) (l : List ℤ) (w j : ℕ) {now rest : List ℤ} → ((i : ℕ) → length (f i) ≡ w)
@@ -64,6 +79,36 @@ pub point-length : (values : List ℤ) (corners : List ℕ) (first axis axes : �
     → length (pointAt values corners first axis axes along x t) ≡ axes
 unfolding pointAt
 point-length values corners first axis axes along x t = listed-length axes (λ k. curveSampled (direction along x) t (controlAt values corners first (axis + k)))
+
+-- a point's coordinates, each as it is read back, are the definition's
+module _ (values : List ℤ) (corners : List ℕ) (first axis : ℕ) (along : Along) (x : List ℤ) (t : ℤ) {p : Point} (h : CurvePoint values corners first 0 axis (direction along x) t p) where
+  abbrev number : ℕ → ℤ
+  number k = curveSampled (direction along x) t (controlAt values corners first (axis + k))
+
+  from-axis : (z : ℤ) (k m : ℕ) → Small z → z ≡ curveNumber values corners first 0 (direction along x) t m → m ≡ axis + k → toZ w32 (ofZ w32 z) ≡ number k
+  from-axis z k m s e q =
+      read-back-small z s ∙ e ∙ from-first (direction along x) t values corners first m ∙ ap (λ (i : ℕ). curveSampled (direction along x) t (controlAt values corners first i)) q
+
+  pub point-written : (axes : ℕ) → 2 ≤ axes → axes ≤ 3
+      → listed axes (numberOf (toZ w32 (ofZ w32 (p .x))) (toZ w32 (ofZ w32 (p .y))) (toZ w32 (ofZ w32 (p .z)))) ≡ pointAt values corners first axis axes along x t
+  unfolding pointAt
+  point-written axes l m = each axes l m
+    where
+      ex : toZ w32 (ofZ w32 (p .x)) ≡ number 0
+      ex = from-axis (p .x) 0 axis (h .x-small) (h .x-is) (omega arith)
+
+      ey : toZ w32 (ofZ w32 (p .y)) ≡ number 1
+      ey = from-axis (p .y) 1 (axis + 1) (h .y-small) (h .y-is) refl
+
+      ez : toZ w32 (ofZ w32 (p .z)) ≡ number 2
+      ez = from-axis (p .z) 2 (axis + 2) (h .z-small) (h .z-is) refl
+
+      each : (n : ℕ) → 2 ≤ n → n ≤ 3 → listed n (numberOf (toZ w32 (ofZ w32 (p .x))) (toZ w32 (ofZ w32 (p .y))) (toZ w32 (ofZ w32 (p .z)))) ≡ listed n number
+      each zero l m = absurd (let b : ⊥ = omega arith in b)
+      each (suc zero) l m = absurd (let b : ⊥ = omega arith in b)
+      each (suc (suc zero)) l m = λ i. ex i ∷ ey i ∷ []
+      each (suc (suc (suc zero))) l m = λ i. ex i ∷ ey i ∷ ez i ∷ []
+      each (suc (suc (suc (suc n)))) l m = absurd (let b : ⊥ = omega arith in b)
 
 pub upto-is : (values : List ℤ) (corners : List ℕ) (first axis axes : ℕ) (along : Along) (x : List ℤ) (start end : ℤ) (steps j : ℕ)
     → pointsUpto values corners first axis axes along x start end steps j

@@ -21,6 +21,12 @@ joined (suc n) f = joined n f ++ f n
 abbrev pub listed : ℕ → (ℕ → ℤ) → List ℤ
 listed n f = joined n (λ i. f i ∷ [])
 
+-- number k of a point
+abbrev pub numberOf : (x y z : ℤ) → ℕ → ℤ
+numberOf x y z zero = x
+numberOf x y z (suc zero) = y
+numberOf x y z (suc (suc k)) = z
+
 -- the coordinates of one point, from number `axis` of each vertex on
 unfoldable pub pointAt : List ℤ → List ℕ → (first axis axes : ℕ) → Along → List ℤ → (t : ℤ) → List ℤ
 pointAt values corners first axis axes along x t = listed axes (λ k. curveSampled (direction along x) t (controlAt values corners first (axis + k)))

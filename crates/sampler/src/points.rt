@@ -6,9 +6,8 @@ ghost use Rattle.rows.specs.Places.{Sound};
 ghost use Rattle.rows.specs.Controls.{Held};
 ghost use Rattle.sampler.specs.Inner.{pointBy, surfaceBy};
 use crate::Sampled;
+use quick::across;
 use rows::Along;
-use rows::controls::across;
-use rows::controls::coordinate;
 use rows::search::find;
 
 // The point at t of a curv, or of a curv2 where the kind is 5.
@@ -26,16 +25,16 @@ pub fn curve_point(
     ensures { λ r. ⌜ r ≡ pointBy kind (now (v .entry)) (now (vp .entry)) (now (corners .entry)) first along (now (x .entry)) t ⌝ }
 {
     let chosen = find(x, along, t);
+    let mut rows = [0.0; 168];
     if kind == 5 {
-        return Sampled::Plane {
-            u: coordinate(vp, corners, first, 0, 1, x, along, t, chosen),
-            v: coordinate(vp, corners, first, 0, 2, x, along, t, chosen),
-        };
+        let p = quick::curve_point(&mut rows, vp, corners, first, 0, 1, x, along, t, chosen);
+        return Sampled::Plane { u: p.x, v: p.y };
     }
+    let p = quick::curve_point(&mut rows, v, corners, first, 0, 0, x, along, t, chosen);
     Sampled::Space {
-        x: coordinate(v, corners, first, 0, 0, x, along, t, chosen),
-        y: coordinate(v, corners, first, 0, 1, x, along, t, chosen),
-        z: coordinate(v, corners, first, 0, 2, x, along, t, chosen),
+        x: p.x,
+        y: p.y,
+        z: p.z,
     }
 }
 
@@ -56,9 +55,10 @@ pub fn surface_point(
 {
     let in_u = find(x, u, s);
     let in_v = find(y, v, t);
+    let p = across(values, corners, first, x, u, s, in_u, y, v, t, in_v);
     Sampled::Space {
-        x: across(values, corners, first, 0, x, u, s, in_u, y, v, t, in_v),
-        y: across(values, corners, first, 1, x, u, s, in_u, y, v, t, in_v),
-        z: across(values, corners, first, 2, x, u, s, in_u, y, v, t, in_v),
+        x: p.x,
+        y: p.y,
+        z: p.z,
     }
 }

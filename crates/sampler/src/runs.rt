@@ -6,12 +6,13 @@ ghost use lib.Dec.{eqb};
 ghost use lib.ListN.{length, drop};
 ghost use lib.Signed.{_≤ℤ_};
 ghost use Rattle.whole.specs.Round.{Small};
-ghost use Rattle.rows.specs.Places.{On};
 ghost use Rattle.rows.specs.Controls.{Held};
-ghost use Rattle.sampler.specs.Runs.{parameterAt, pointAt, pointsUpto, Ranged};
+ghost use Rattle.sampler.specs.Runs.{parameterAt, listed, numberOf, pointsUpto, Ranged};
 ghost use Rattle.sampler.specs.Inner.{runBy, axesBy};
+use quick::follow;
+use quick::gather;
+use quick::gathered_point;
 use rows::Along;
-use rows::controls::coordinate;
 use rows::search::find;
 use rows::search::search;
 use whole::apart;
@@ -25,30 +26,19 @@ fn parameter_at(start: i32, end: i32, steps: u32, j: u32) -> i32
     (start as i64 + part as i64) as i32
 }
 
-// The coordinates of a curve's point at t, at the front of what is lent.
-fn write_point(
-    points: &mut [i32],
-    values: &[i32],
-    corners: &[u32],
-    first: u32,
-    axis: usize,
-    axes: usize,
-    x: &[i32],
-    along: Along,
-    t: i32,
-    chosen: usize,
-)
-    requires { ⌜ Held (now values) (now corners) first 0 (along .controls) × (axis + axes ≤ 4) × On along (now x) t chosen × (axes ≤ length (now points)) ⌝ }
-    ensures { λ r. ⌜ now (points .exit) ≡ pointAt (now (values .entry)) (now (corners .entry)) first axis axes along (now (x .entry)) t ++ drop axes (now (points .entry)) ⌝ }
+// A point's two or three coordinates, at the front of what is lent.
+fn write_point(points: &mut [i32], axes: usize, x: i32, y: i32, z: i32)
+    requires { ⌜ (2 ≤ axes) × (axes ≤ 3) × (axes ≤ length (now points)) ⌝ }
+    ensures { λ r. ⌜ now (points .exit) ≡ listed axes (numberOf x y z) ++ drop axes (now (points .entry)) ⌝ }
 {
-    let mut k = 0;
-    while k < axes {
-        points[k] = coordinate(values, corners, first, 0, axis + k, x, along, t, chosen);
-        k += 1;
+    points[0] = x;
+    points[1] = y;
+    if axes == 3 {
+        points[2] = z;
     }
 }
 
-// The points of a run, at the front of what is lent; each search goes on from the segment or span before.
+// The points of a run, at the front of what is lent; each search goes on from the segment or span before, whose controls stand gathered.
 pub fn write_points(
     points: &mut [i32],
     values: &[i32],
@@ -62,27 +52,32 @@ pub fn write_points(
     end: i32,
     steps: u32,
 )
-    requires { ⌜ Held (now values) (now corners) first 0 (along .controls) × (axis + axes ≤ 4) × Ranged along (now x) start end × (0 < steps) × (steps ≤ 65536) × (axes * (steps + 1) ≤ length (now points)) ⌝ }
+    requires { ⌜ Held (now values) (now corners) first 0 (along .controls) × (axis ≤ 1) × (2 ≤ axes) × (axes ≤ 3) × Ranged along (now x) start end × (0 < steps) × (steps ≤ 65536) × (axes * (steps + 1) ≤ length (now points)) ⌝ }
     ensures { λ r. ⌜ now (points .exit) ≡ pointsUpto (now (values .entry)) (now (corners .entry)) first axis axes along (now (x .entry)) start end steps (steps + 1) ++ drop (axes * (steps + 1)) (now (points .entry)) ⌝ }
 {
     let mut chosen = find(x, along, start);
+    let mut rows = [0.0; 168];
+    gather(&mut rows, values, corners, first, 0, along, chosen);
     let mut j = 0;
     while j <= steps {
         let t = parameter_at(start, end, steps, j);
-        chosen = search(x, along, t, chosen, chosen + 1);
-        let at = axes * j as usize;
-        write_point(
-            &mut points[at..],
+        let next = search(x, along, t, chosen, chosen + 1);
+        follow(&mut rows, values, corners, first, 0, along, chosen, next);
+        chosen = next;
+        let p = gathered_point(
+            &mut rows,
             values,
             corners,
             first,
+            0,
             axis,
-            axes,
             x,
             along,
             t,
             chosen,
         );
+        let at = axes * j as usize;
+        write_point(&mut points[at..], axes, p.x, p.y, p.z);
         j += 1;
     }
 }

@@ -32,55 +32,34 @@ from-space c = rw (ne-eqb _ _ (c .if1 .left)) at (c .before .before .before .pre
 find-requires : tie.Need-find-requires
 find-requires c κs = search needs
 
-coordinate-requires : tie.Need-coordinate-requires
-coordinate-requires c κs = let k = c in (rw zero-add (from-plane k), omega arith, k .before .find .ensures)
-
-coordinate-requires-2 : tie.Need-coordinate-requires-2
-coordinate-requires-2 c κs = let k = c .before in (rw zero-add (from-plane k), omega arith, k .before .find .ensures)
+curve-point-requires : tie.Need-curve-point-requires
+curve-point-requires c κs = let k = c .before in (rw zero-add (from-plane k), omega arith, k .before .find .ensures, search needs)
 
 returns : tie.Need-returns
 unfolding pointBy
 returns c =
-    let s = c .before .before .before .before .before in
+    let s = c .before .before .before .before .before .before in
     let a = s .args in
-    let d = direction (a .along) (a .x .now) in
-    let f = toZ-ofZ (s .fits .t) in
-    let p = c .before .coordinate in
-    let q = c .coordinate2 in
-    rw (c .before .before .if1 .taken)
-    (ap₂ sampled.Plane (read-back-small (p .result) (p .ensures .1) ∙ rw f at (p .ensures .0) ∙ from-first d (a .t) (a .vp .now) (a .corners .now) (a .first) 1) (read-back-small (q .result) (q .ensures .1) ∙ rw f at (q .ensures .0) ∙ from-first d (a .t) (a .vp .now) (a .corners .now) (a .first) 2))
+    let p = c .before .curve-point .result in
+    let h = rw (toZ-ofZ (s .fits .t)) at (c .before .curve-point .ensures .0) in
+    let e = from-first (direction (a .along) (a .x .now)) (a .t) (a .vp .now) (a .corners .now) (a .first) in
+    rw (c .before .before .before .if1 .taken) (ap₂ sampled.Plane (read-back-small (p .x) (h .x-small) ∙ h .x-is ∙ e 1) (read-back-small (p .y) (h .y-small) ∙ h .y-is ∙ e 2))
 
-coordinate-requires-3 : tie.Need-coordinate-requires-3
-coordinate-requires-3 c κs = let k = c in (rw zero-add (from-space k), omega arith, k .before .find .ensures)
-
-coordinate-requires-4 : tie.Need-coordinate-requires-4
-coordinate-requires-4 c κs = let k = c .before in (rw zero-add (from-space k), omega arith, k .before .find .ensures)
-
-coordinate-requires-5 : tie.Need-coordinate-requires-5
-coordinate-requires-5 c κs = let k = c .before .before in (rw zero-add (from-space k), omega arith, k .before .find .ensures)
+curve-point-requires-2 : tie.Need-curve-point-requires-2
+curve-point-requires-2 c κs = let k = c .before in (rw zero-add (from-space k), omega arith, k .before .find .ensures, search needs)
 
 returns-2 : tie.Need-returns-2
 unfolding pointBy
 returns-2 c =
     let s = c .before .before .before .before .before .before in
     let a = s .args in
-    let d = direction (a .along) (a .x .now) in
-    let f = toZ-ofZ (s .fits .t) in
-    let p = c .before .before .coordinate3 in
-    let q = c .before .coordinate4 in
-    let r = c .coordinate5 in
+    let p = c .before .curve-point2 .result in
+    let h = rw (toZ-ofZ (s .fits .t)) at (c .before .curve-point2 .ensures .0) in
+    let e = from-first (direction (a .along) (a .x .now)) (a .t) (a .v .now) (a .corners .now) (a .first) in
     rw (ne-eqb _ _ (c .before .before .before .if1 .left))
-    (space-eq (read-back-small (p .result) (p .ensures .1) ∙ rw f at (p .ensures .0) ∙ from-first d (a .t) (a .v .now) (a .corners .now) (a .first) 0) (read-back-small (q .result) (q .ensures .1) ∙ rw f at (q .ensures .0) ∙ from-first d (a .t) (a .v .now) (a .corners .now) (a .first) 1) (read-back-small (r .result) (r .ensures .1) ∙ rw f at (r .ensures .0) ∙ from-first d (a .t) (a .v .now) (a .corners .now) (a .first) 2))
+    (space-eq (read-back-small (p .x) (h .x-small) ∙ h .x-is ∙ e 0) (read-back-small (p .y) (h .y-small) ∙ h .y-is ∙ e 1) (read-back-small (p .z) (h .z-small) ∙ h .z-is ∙ e 2))
 
 pub curve-point-spec : {M : Type 1} → statement M
 curve-point-spec =
     tie.close
-    (tie.spec
-    find-requires
-    coordinate-requires
-    coordinate-requires-2
-    returns
-    coordinate-requires-3
-    coordinate-requires-4
-    coordinate-requires-5
-    returns-2)
+    (tie.spec find-requires curve-point-requires returns curve-point-requires-2 returns-2)

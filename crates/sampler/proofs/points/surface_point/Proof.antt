@@ -17,30 +17,13 @@ find-requires-2 c κs = search needs
 across-requires : tie.Need-across-requires
 across-requires c κs = search needs
 
-across-requires-2 : tie.Need-across-requires-2
-across-requires-2 c κs = search needs
-
-across-requires-3 : tie.Need-across-requires-3
-across-requires-3 c κs = search needs
-
 returns : tie.Need-returns
 unfolding surfaceBy
 returns c =
-    let s = c .before .before .before .before .before .before in
-    let f = toZ-ofZ (s .fits .s) in
-    let g = toZ-ofZ (s .fits .t) in
-    let p = c .before .before .across in
-    let q = c .before .across2 in
-    let r = c .across3 in
-    space-eq (read-back-small (p .result) (p .ensures .1) ∙ rw (f, g) at (p .ensures .0)) (read-back-small (q .result) (q .ensures .1) ∙ rw (f, g) at (q .ensures .0)) (read-back-small (r .result) (r .ensures .1) ∙ rw (f, g) at (r .ensures .0))
+    let s = c .before .before .before .before .before in
+    let p = c .before .across .result in
+    let h = rw (toZ-ofZ (s .fits .s), toZ-ofZ (s .fits .t)) at (c .before .across .ensures) in
+    space-eq (read-back-small (p .x) (h .x-small) ∙ h .x-is) (read-back-small (p .y) (h .y-small) ∙ h .y-is) (read-back-small (p .z) (h .z-small) ∙ h .z-is)
 
 pub surface-point-spec : {M : Type 1} → statement M
-surface-point-spec =
-    tie.close
-    (tie.spec
-    find-requires
-    find-requires-2
-    across-requires
-    across-requires-2
-    across-requires-3
-    returns)
+surface-point-spec = tie.close (tie.spec find-requires find-requires-2 across-requires returns)

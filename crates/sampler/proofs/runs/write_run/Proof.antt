@@ -12,13 +12,13 @@ write-points-requires : tie.Need-write-points-requires
 write-points-requires c κs =
     let s = c .before .before .before in
     let e = eq-eqb _ _ (c .before .if1 .taken) in
-    rw (toZ-ofZ (s .fits .start), toZ-ofZ (s .fits .end)) (rw e at (s .pre .0), omega arith, s .pre .1, s .pre .2, s .pre .3, rw e at (s .pre .4))
+    rw (toZ-ofZ (s .fits .start), toZ-ofZ (s .fits .end)) (rw e at (s .pre .0), omega arith, omega arith, omega arith, s .pre .1, s .pre .2, s .pre .3, rw e at (s .pre .4))
 
 write-points-requires-2 : tie.Need-write-points-requires-2
 write-points-requires-2 c κs =
     let s = c .before .before .before in
     let e = ne-eqb _ _ (c .before .if1 .left) in
-    rw (toZ-ofZ (s .fits .start), toZ-ofZ (s .fits .end)) (rw e at (s .pre .0), omega arith, s .pre .1, s .pre .2, s .pre .3, rw e at (s .pre .4))
+    rw (toZ-ofZ (s .fits .start), toZ-ofZ (s .fits .end)) (rw e at (s .pre .0), omega arith, omega arith, omega arith, s .pre .1, s .pre .2, s .pre .3, rw e at (s .pre .4))
 
 same-length : tie.Need-same-length
 same-length c = search needs
