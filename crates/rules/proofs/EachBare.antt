@@ -1,7 +1,7 @@
 -- A v within reach is one that obeys, by the tests in turn; and where the first corner names a v alone, each corner does that obeys.
 use Prim.Native.Nat.{ℕ, _+_, _*_, _-_, _<_, _≤_}
 use native.Mathlib.Omega.{arith}
-use mathlib.Core.Path.{_≡_, refl, sym, ap, _∙_}
+use mathlib.Core.Path.{_≡_, refl, _∙_}
 use mathlib.Core.List.{List}
 use mathlib.Core.Bool.{Bool, true, false, cond, not, _&&_}
 use borrow.Author.Tests.{leb-true, leb-false, le-leb, lt-leb, not-true}
@@ -11,7 +11,6 @@ use lib.IntN.{ℤ}
 use Rattle.lists.proofs.Tests.{and-left, and-right}
 use Rattle.tables.specs.Tables.{Tables}
 use Rattle.tables.specs.Records.{cornerAt, cornerIn, cornersEnd}
-use Rattle.tables.specs.declared.Corner.{Corner}
 use Rattle.tables.specs.declared.Used.{Used}
 use Rattle.rules.specs.Numbers.{smallRun, allBelow}
 use Rattle.rules.specs.Vertices.{vertexObeys}

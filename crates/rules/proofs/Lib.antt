@@ -9,4 +9,4 @@ pub mod OneBody
 pub mod Facts
 pub mod Element
 pub mod Examples
-pub mod Named
+pub mod Bodied

@@ -19,7 +19,7 @@ use Rattle.rules.specs.Numbers.{small, smallRun}
 use Rattle.rules.specs.Corners.{cornerObeys, eachCorner, cornersObey}
 use Rattle.rules.specs.Directions.{parametersObey}
 use Rattle.rules.specs.Loops.{eachPart, loopsObey}
-use Rattle.rules.specs.Bodies.{surfaceObeys, recordObeys, bodyObeys}
+use Rattle.rules.specs.Bodies.{surfaceObeys, recordObeys}
 use Rattle.rules.specs.Rules.{curvesAmong}
 use Rattle.rules.proofs.Runs.{run-lent, run-small}
 
@@ -38,11 +38,6 @@ pub record-lent : (used : Used) (t : Tables) (curves kind count : ℕ) (b : Body
     → recordObeys used (tables [] [] [] [] [] [] [] [] (t .parameters) (t .loops) (t .spans)) curves kind count b ≡ recordObeys used t curves kind count b
 unfolding recordObeys surfaceObeys loopsObey eachPart
 record-lent used t curves kind count b = refl
-
-pub body-lent : (used : Used) (t : Tables) (curves kind count k : ℕ)
-    → bodyObeys used (tables [] [] [] [] [] [] (t .bodies) (t .ranges) (t .parameters) (t .loops) (t .spans)) curves kind count k ≡ bodyObeys used t curves kind count k
-unfolding bodyObeys recordObeys surfaceObeys loopsObey eachPart
-body-lent used t curves kind count k = refl
 
 -- ---- a body's parameters
 pub record Run (surface : Bool) (l : List ℤ) (used first p q : ℕ) : Type 0 where

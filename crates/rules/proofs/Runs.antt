@@ -2,14 +2,15 @@
 use Prim.Native.Nat.{ℕ, _+_, _<_, _≤_}
 use mathlib.Core.Path.{_≡_}
 use mathlib.Core.List.{List}
-use mathlib.Core.Bool.{true, false}
+use mathlib.Core.Bool.{Bool, true, false, _&&_}
 use lib.ListN.{length, getD}
 use lib.Dec.{leb}
 use lib.IntN.{ℤ, pos}
 use borrow.Author.Tests.{le-leb, lt-leb, leb-true}
 use Rattle.lists.proofs.Tests.{and-both, and-left, and-right, and-second}
 use Rattle.rules.specs.Numbers.{small, allBelow, smallRun}
-use Rattle.rules.proofs.Below.{below-fails, below-ends, below-at}
+use native.Mathlib.Omega.{arith}
+use Rattle.rules.proofs.Below.{below-more, below-fails, below-ends, below-at}
 
 module _ (l : List ℤ) (first count : ℕ) where
   pub run-short : length l < first + count → smallRun l first count ≡ false
@@ -31,3 +32,24 @@ module _ (l : List ℤ) (first count : ℕ) where
   pub run-small : smallRun l first count ≡ true → (k : ℕ) → k < count → small (getD l (first + k) (pos 0)) ≡ true
   unfolding smallRun
   run-small h k a = below-at (λ j. small (getD l (first + j) (pos 0))) count k (and-right (leb (first + count) (length l)) (allBelow count (λ j. small (getD l (first + j) (pos 0)))) h) a
+
+-- four numbers more
+pub four-more : (l : List ℤ) (first k : ℕ) → allBelow k (λ j. small (getD l (first + j) (pos 0))) ≡ true
+    → (small (getD l (first + k) (pos 0)) && small (getD l (first + k + 1) (pos 0)) && small (getD l (first + k + 2) (pos 0)) && small (getD l (first + k + 3) (pos 0))) ≡ true
+    → allBelow (k + 4) (λ j. small (getD l (first + j) (pos 0))) ≡ true
+four-more l first k h four =
+    let f : ℕ → Bool = λ j. small (getD l (first + j) (pos 0)) in
+    let at : ℕ → Bool = λ j. small (getD l (first + k + j) (pos 0)) in
+    let a = small (getD l (first + k) (pos 0)) in
+    let three = and-left (a && at 1 && at 2) (at 3) four in
+    let two = and-left (a && at 1) (at 2) three in
+    let e : k + 4 ≡ k + 1 + 1 + 1 + 1 = omega arith in
+    let e1 : first + k + 1 ≡ first + (k + 1) = omega arith in
+    let e2 : first + k + 2 ≡ first + (k + 1 + 1) = omega arith in
+    let e3 : first + k + 3 ≡ first + (k + 1 + 1 + 1) = omega arith in
+    rw e
+    (below-more f (k + 1 + 1 + 1)
+    (below-more f (k + 1 + 1)
+    (below-more f (k + 1) (below-more f k h (and-left a (at 1) two)) (rw e1 at (and-right a (at 1) two)))
+    (rw e2 at (and-right (a && at 1) (at 2) three)))
+    (rw e3 at (and-right (a && at 1 && at 2) (at 3) four)))

@@ -1,6 +1,5 @@
 -- The corners of an element whose first corner names a v alone: "All corners of a line share one pattern", so each names a v alone.
 use Prim.Native.Nat.{ℕ, _+_, _*_, _-_, _≤_, _<_}
-use mathlib.Core.Path.{_≡_}
 use mathlib.Core.List.{List}
 use mathlib.Core.Bool.{Bool, _&&_}
 use lib.Dec.{leb, eqb}

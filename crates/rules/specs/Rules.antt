@@ -1,11 +1,11 @@
 -- Refusal 15: "its records (names aside) or a vertex they name break a rule above or pass the used or lent entries".
-use Prim.Native.Nat.{ℕ, zero, suc, _+_, _*_, _-_}
+use Prim.Native.Nat.{ℕ, zero, suc, _+_, _*_}
 use mathlib.Core.List.{List}
 use mathlib.Core.Bool.{Bool, cond, _&&_}
 use lib.ListN.{length}
 use lib.Dec.{leb, eqb}
 use Rattle.tables.specs.Tables.{Tables}
-use Rattle.tables.specs.Records.{elementAt, bodyAt, numberAt, elementWidth, faceKind, curve2Kind, surfaceKind}
+use Rattle.tables.specs.Records.{elementAt, numberAt, elementWidth, faceKind, curve2Kind, surfaceKind}
 use Rattle.tables.specs.declared.Element.{Element}
 use Rattle.tables.specs.declared.Used.{Used}
 use Rattle.rules.specs.Corners.{cornersObey}
@@ -31,8 +31,3 @@ curvesAmong elements (suc i) = curvesAmong elements i + cond (eqb (numberAt elem
 
 abbrev pub curvesBefore : Tables → ℕ → ℕ
 curvesBefore t i = curvesAmong (t .elements) i
-
--- the same for an element that names some, a surface with loops, and 0 for others, which name none
-abbrev pub curvesNamed : Tables → Element → ℕ → ℕ
-curvesNamed t e i =
-    cond (eqb (e .kind) surfaceKind) (cond (eqb (e .body) 0) 0 (cond (eqb (bodyAt t (e .body - 1) .loops) 0) 0 (curvesBefore t i))) 0

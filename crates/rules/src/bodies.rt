@@ -3,7 +3,8 @@ ghost use mathlib.Core.List.{[]};
 ghost use Prim.Native.Nat.{_+_, _≤_};
 ghost use lib.ListN.{length};
 ghost use Rattle.rules.specs.Directions.{degreeObeys, typeObeys, parametersObey};
-ghost use Rattle.rules.specs.Bodies.{flatObeys, curveObeys, directionsObey, surfaceObeys, recordObeys, bodyObeys};
+ghost use Rattle.rules.specs.Rules.{curvesAmong};
+ghost use Rattle.rules.specs.Bodies.{flatObeys, curveObeys, directionsObey, surfaceObeys, recordObeys};
 ghost use Rattle.tables.specs.Tables.{tables};
 use crate::loops::loops_obey;
 use crate::numbers::same;
@@ -120,15 +121,16 @@ fn directions_obey(x: &[i32], y: &[i32], body: Body, count: u32) -> bool
 
 fn surface_obeys(
     used: u32,
+    elements: &[u32],
     parameters: &[i32],
     loops: &[u32],
     spans: &[i32],
-    curves: u32,
+    index: u32,
     count: u32,
     body: Body,
 ) -> bool
     requires { ⌜ (body .«first_parameter» + (body .«count_u» + body .«count_v») ≤ length (now parameters)) × (2 ≤ body .«count_u») × (2 ≤ body .«count_v») ⌝ }
-    ensures { λ r. ⌜ r ≡ surfaceObeys used (tables [] [] [] [] [] [] [] [] (now (parameters .entry)) (now (loops .entry)) (now (spans .entry))) curves count body ⌝ }
+    ensures { λ r. ⌜ r ≡ surfaceObeys used (tables [] [] [] [] [] [] [] [] (now (parameters .entry)) (now (loops .entry)) (now (spans .entry))) (curvesAmong (now (elements .entry)) index) count body ⌝ }
 {
     let start = body.first_parameter as usize;
     let middle = start + body.count_u as usize;
@@ -138,20 +140,30 @@ fn surface_obeys(
     if !directions_obey(x, y, body, count) {
         return false;
     }
-    loops_obey(used, loops, spans, curves, body.first_loop, body.loops)
+    loops_obey(
+        used,
+        elements,
+        loops,
+        spans,
+        index,
+        body.first_loop,
+        body.loops,
+    )
 }
 
-fn record_obeys(
+// The body of the element at `index`, which is of that kind and has `count` corners.
+pub fn record_obeys(
     used: Used,
+    elements: &[u32],
     parameters: &[i32],
     loops: &[u32],
     spans: &[i32],
-    curves: u32,
+    index: u32,
     kind: u32,
     count: u32,
     body: Body,
 ) -> bool
-    ensures { λ r. ⌜ r ≡ recordObeys used (tables [] [] [] [] [] [] [] [] (now (parameters .entry)) (now (loops .entry)) (now (spans .entry))) curves kind count body ⌝ }
+    ensures { λ r. ⌜ r ≡ recordObeys used (tables [] [] [] [] [] [] [] [] (now (parameters .entry)) (now (loops .entry)) (now (spans .entry))) (curvesAmong (now (elements .entry)) index) kind count body ⌝ }
 {
     let surface = kind == 6;
     if !type_obeys(
@@ -174,30 +186,18 @@ fn record_obeys(
         return false;
     }
     if surface {
-        return surface_obeys(used.loops, parameters, loops, spans, curves, count, body);
+        return surface_obeys(
+            used.loops,
+            elements,
+            parameters,
+            loops,
+            spans,
+            index,
+            count,
+            body,
+        );
     }
     let start = body.first_parameter as usize;
     let end = start + body.count_u as usize;
     curve_obeys(kind == 5, &parameters[start..end], body, count)
-}
-
-pub fn body_obeys(
-    used: Used,
-    bodies: &[u32],
-    ranges: &[i32],
-    parameters: &[i32],
-    loops: &[u32],
-    spans: &[i32],
-    curves: u32,
-    kind: u32,
-    count: u32,
-    number: u32,
-) -> bool
-    ensures { λ r. ⌜ r ≡ bodyObeys used (tables [] [] [] [] [] [] (now (bodies .entry)) (now (ranges .entry)) (now (parameters .entry)) (now (loops .entry)) (now (spans .entry))) curves kind count number ⌝ }
-{
-    if !tables::has_body(used, bodies, ranges, number) {
-        return false;
-    }
-    let body = tables::body_in(bodies, ranges, number - 1);
-    record_obeys(used, parameters, loops, spans, curves, kind, count, body)
 }

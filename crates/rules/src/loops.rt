@@ -1,8 +1,11 @@
 ghost use mathlib.Core.Path.{_≡_};
+ghost use mathlib.Core.Bool.{cond};
 ghost use mathlib.Core.List.{[]};
 ghost use Prim.Native.Nat.{_+_, _*_, _≤_};
+ghost use lib.Dec.{eqb};
 ghost use lib.ListN.{length};
 ghost use Rattle.tables.specs.Records.{partAt};
+ghost use Rattle.rules.specs.Rules.{curvesAmong};
 ghost use Rattle.rules.specs.Loops.{beginsObeys, partObeys, eachPart, loopsObey};
 ghost use Rattle.tables.specs.Tables.{tables};
 use crate::numbers::small;
@@ -55,15 +58,42 @@ fn each_part(loops: &[u32], spans: &[i32], curves: u32, first: usize, count: usi
     true
 }
 
+fn curve_or_none(kind: u32) -> u32
+    ensures { λ r. ⌜ (r ≡ cond (eqb kind 5) 1 0) × (r ≤ 1) ⌝ }
+{
+    if kind == 5 {
+        return 1;
+    }
+    0
+}
+
+// How many curv2 elements stand at indices below `index`; there are no more elements than entries.
+fn curves_before(elements: &[u32], index: u32) -> u32
+    ensures { λ r. ⌜ r ≡ curvesAmong (now (elements .entry)) index ⌝ }
+{
+    let mut before = 0;
+    let mut i = 0;
+    while i < index {
+        if elements.len() <= i as usize {
+            return before;
+        }
+        before += curve_or_none(tables::kind_in(elements, i));
+        i += 1;
+    }
+    before
+}
+
+// The `count` loop parts from `first` on of the element at `index`; curv2 elements are counted for parts alone.
 pub fn loops_obey(
     used: u32,
+    elements: &[u32],
     loops: &[u32],
     spans: &[i32],
-    curves: u32,
+    index: u32,
     first: u32,
     count: u32,
 ) -> bool
-    ensures { λ r. ⌜ r ≡ loopsObey used (tables [] [] [] [] [] [] [] [] [] (now (loops .entry)) (now (spans .entry))) curves first count ⌝ }
+    ensures { λ r. ⌜ r ≡ loopsObey used (tables [] [] [] [] [] [] [] [] [] (now (loops .entry)) (now (spans .entry))) (curvesAmong (now (elements .entry)) index) first count ⌝ }
 {
     if count == 0 {
         return first == 0;
@@ -78,5 +108,6 @@ pub fn loops_obey(
     if spans.len() < 2 * end {
         return false;
     }
+    let curves = curves_before(elements, index);
     each_part(loops, spans, curves, first as usize, count as usize)
 }

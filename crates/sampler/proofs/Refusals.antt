@@ -7,12 +7,9 @@ use borrow.Author.Tests.{le-leb, lt-leb, eqb-true}
 use lib.Dec.{leb, eqb}
 use lib.ListN.{length}
 use Rattle.tables.specs.Tables.{Tables}
-use Rattle.tables.specs.Records.{elementAt}
 use Rattle.tables.specs.declared.Used.{Used}
 use Rattle.rules.specs.Rules.{obeys, curvesBefore}
-use Rattle.rules.proofs.Element.{recorded, obeys-facts, body-of}
 use Rattle.sampler.specs.Answers.{wanted, carried, elementOf, bodyOf, refusalOf}
-use Rattle.sampler.proofs.Obeyed.{Lent, lent-of}
 
 pub kinds : (surface : Bool) (kind : ℕ) → wanted surface kind ≡ true → 4 ≤ kind
 kinds true kind h = let s = eqb-true kind 6 h in omega arith
@@ -48,13 +45,6 @@ module _ (surface : Bool) (used : Used) (t : Tables) (number : ℕ) where
           broken h = rw (le-leb 1 number some, le-leb number (used .elements) in-use, le-leb (9 * number) (length (t .elements)) lent, kind, h)
 
           module _ (obeyed : obeys used t (curvesBefore t (number - 1)) (number - 1) ≡ true) where
-            pub body-lent : Lent t (elementOf t number)
-            body-lent =
-                let i = number - 1 in
-                let e = elementOf t number in
-                let n = curvesBefore t i in
-                lent-of (recorded used t n (e .kind) (e .count) (e .body) (body-of (obeys-facts used t n i obeyed) (kinds surface (e .kind) kind)))
-
             pub not-carried : carried (bodyOf t number .rational) (bodyOf t number .basis) ≡ false → 18 ≡ refusalOf surface used t number
             unfolding refusalOf
             not-carried h = rw (le-leb 1 number some, le-leb number (used .elements) in-use, le-leb (9 * number) (length (t .elements)) lent, kind, obeyed, h)

@@ -11,8 +11,8 @@ use crate::records::is_carried;
 use crate::records::is_inside;
 use crate::records::is_wanted;
 use crate::runs::write_run;
-use rules::curves_named;
-use rules::obeys;
+use rules::bodies::record_obeys;
+use rules::element_obeys;
 use tables::Used;
 
 mod points;
@@ -60,30 +60,27 @@ fn refusal(
     if !tables::element_fits(elements, index) {
         return 15;
     }
-    let e = tables::element_in(elements, index);
+    let e = tables::lent_element(elements, index);
     if !is_wanted(surface, e.kind) {
         return 17;
     }
-    let curves = curves_named(elements, bodies, ranges, e, index);
-    if !obeys(
+    if !element_obeys(used, v, vt, vn, vp, corners, e) {
+        return 15;
+    }
+    let body = tables::body_of(used, bodies, ranges, e.body);
+    if !record_obeys(
         used,
-        v,
-        vt,
-        vn,
-        vp,
-        corners,
         elements,
-        bodies,
-        ranges,
         parameters,
         loops,
         spans,
         index,
-        curves,
+        e.kind,
+        e.count,
+        body,
     ) {
         return 15;
     }
-    let body = tables::body_in(bodies, ranges, e.body - 1);
     if !is_carried(body.rational, body.basis) {
         return 18;
     }
@@ -128,8 +125,8 @@ pub fn point_on_curve(
     if refused != 0 {
         return Sampled::Refused { number: refused };
     }
-    let e = tables::element_in(elements, element - 1);
-    let body = tables::body_in(bodies, ranges, e.body - 1);
+    let e = tables::lent_element(elements, element - 1);
+    let body = tables::lent_body(bodies, ranges, e.body - 1);
     if !is_inside(body.start_u, body.end_u, t) {
         return Sampled::Refused { number: 19 };
     }
@@ -179,8 +176,8 @@ pub fn point_on_surface(
     if refused != 0 {
         return Sampled::Refused { number: refused };
     }
-    let e = tables::element_in(elements, element - 1);
-    let body = tables::body_in(bodies, ranges, e.body - 1);
+    let e = tables::lent_element(elements, element - 1);
+    let body = tables::lent_body(bodies, ranges, e.body - 1);
     if !is_inside(body.start_u, body.end_u, s) {
         return Sampled::Refused { number: 19 };
     }
@@ -243,7 +240,7 @@ pub fn run_on_curve(
     if 65536 < steps {
         return Ran::Refused { number: 19 };
     }
-    let e = tables::element_in(elements, element - 1);
+    let e = tables::lent_element(elements, element - 1);
     let numbers = axes_of(e.kind) * (steps as usize + 1);
     if points.len() < numbers {
         return Ran::Refused { number: 16 };
@@ -251,7 +248,7 @@ pub fn run_on_curve(
     if points.len() - numbers < at {
         return Ran::Refused { number: 16 };
     }
-    let body = tables::body_in(bodies, ranges, e.body - 1);
+    let body = tables::lent_body(bodies, ranges, e.body - 1);
     let along = along_of(body.basis, body.degree_u, body.count_u);
     let from = body.first_parameter as usize;
     let to = from + body.count_u as usize;

@@ -49,29 +49,29 @@ module _ (c : tie.Else1) where
   curve = curved (s .args .used) t (s .args .element) grant
 
 -- the element and its body
-module _ (c : tie.After-body-in) where
+module _ (c : tie.After-lent-body) where
   abbrev k : tie.Else1
   k = c .before .before .before
 
-  element-is : c .before .before .element-in .result ≡ el k
-  element-is = c .before .before .element-in .ensures
+  element-is : c .before .before .lent-element .result ≡ el k
+  element-is = c .before .before .lent-element .ensures
 
-  body-is : c .body-in .result ≡ bo k
-  body-is = c .body-in .ensures ∙ ap (λ (x : Element). bodyAt (t k) (x .body - 1)) element-is
+  body-is : c .lent-body .result ≡ bo k
+  body-is = c .lent-body .ensures ∙ ap (λ (x : Element). bodyAt (t k) (x .body - 1)) element-is
 
 inside-is : (c : tie.After-is-inside) → let k = k (c .before .before .before) in c .is-inside .result ≡ inside (bo k .«start_u») (bo k .«end_u») (s k .args .t)
 inside-is c =
     let k = k (c .before .before .before) in
-    rw (fitted {z = c .before .before .before .body-in .result .«start_u»} (c .before .before .struct-told .given .1 .1 .1 .1 .1 .1 .1 .1 .1 .0 .1), fitted {z = c .before .before .before .body-in .result .«end_u»} (c .before .struct-told2 .given .1 .1 .1 .1 .1 .1 .1 .1 .1 .1 .0 .1), toZ-ofZ (s k .fits .t)) at (c .is-inside .ensures)
+    rw (fitted {z = c .before .before .before .lent-body .result .«start_u»} (c .before .before .struct-told .given .1 .1 .1 .1 .1 .1 .1 .1 .1 .0 .1), fitted {z = c .before .before .before .lent-body .result .«end_u»} (c .before .struct-told2 .given .1 .1 .1 .1 .1 .1 .1 .1 .1 .1 .0 .1), toZ-ofZ (s k .fits .t)) at (c .is-inside .ensures)
     ∙ ap (λ (x : Body). inside (x .«start_u») (x .«end_u») (s k .args .t)) (body-is (c .before .before .before))
 
 -- all that was read
 module _ (c : tie.After-along-of) where
-  abbrev m : tie.After-body-in
+  abbrev m : tie.After-lent-body
   m = c .before .before .before .before .before
 
-  read : Read (t (k m)) (el (k m)) (bo (k m)) (m .before .before .element-in .result .kind) (m .before .before .element-in .result .first)
-      (m .body-in .result .«first_parameter») (m .body-in .result .«count_u») (c .along-of .result)
+  read : Read (t (k m)) (el (k m)) (bo (k m)) (m .before .before .lent-element .result .kind) (m .before .before .lent-element .result .first)
+      (m .lent-body .result .«first_parameter») (m .lent-body .result .«count_u») (c .along-of .result)
   read = record {
     kind-is = ap (λ (x : Element). x .kind) (element-is m);
     first-is = ap (λ (x : Element). x .first) (element-is m);
@@ -89,17 +89,20 @@ refusal-requires c κs = search needs
 returns : tie.Need-returns
 returns c = let s = c .before .before .before .before .before .before in refused-curve (s .args .used) (lent-tables s) (s .args .element) (s .args .t) (c .before .refusal .ensures) (c .if1 .taken)
 
-sub-element-in : tie.Need-sub-element-in
-sub-element-in c = omega (arith, grant c .some)
+sub-lent-element : tie.Need-sub-lent-element
+sub-lent-element c = omega (arith, grant c .some)
 
-element-in-requires : tie.Need-element-in-requires
-element-in-requires c κs = search needs
+lent-element-requires : tie.Need-lent-element-requires
+lent-element-requires c κs = let g = grant c in omega (arith, g .some, g .lent)
 
-sub-body-in : tie.Need-sub-body-in
-sub-body-in c = omega (arith, ap (λ (x : Element). x .body) (c .before .element-in .ensures), curve (c .before .before) .lent .some)
+sub-lent-body : tie.Need-sub-lent-body
+sub-lent-body c = omega (arith, ap (λ (x : Element). x .body) (c .before .lent-element .ensures), curve (c .before .before) .lent .some)
 
-body-in-requires : tie.Need-body-in-requires
-body-in-requires c κs = search needs
+lent-body-requires : tie.Need-lent-body-requires
+lent-body-requires c κs =
+    let l = curve (c .before .before) .lent in
+    let b = ap (λ (x : Element). x .body) (c .before .lent-element .ensures) in
+    rw b (l .body, l .range)
 
 is-inside-requires : tie.Need-is-inside-requires
 is-inside-requires c κs = search needs
@@ -156,10 +159,10 @@ point-on-curve-spec =
     (tie.spec
     refusal-requires
     returns
-    sub-element-in
-    element-in-requires
-    sub-body-in
-    body-in-requires
+    sub-lent-element
+    lent-element-requires
+    sub-lent-body
+    lent-body-requires
     is-inside-requires
     returns-2
     along-of-requires

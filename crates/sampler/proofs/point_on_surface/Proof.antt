@@ -49,32 +49,32 @@ module _ (c : tie.Else1) where
   surface = surfaced (s .args .used) t (s .args .element) grant
 
 -- the element and its body
-module _ (c : tie.After-body-in) where
+module _ (c : tie.After-lent-body) where
   abbrev k : tie.Else1
   k = c .before .before .before
 
-  element-is : c .before .before .element-in .result ≡ el k
-  element-is = c .before .before .element-in .ensures
+  element-is : c .before .before .lent-element .result ≡ el k
+  element-is = c .before .before .lent-element .ensures
 
-  body-is : c .body-in .result ≡ bo k
-  body-is = c .body-in .ensures ∙ ap (λ (x : Element). bodyAt (t k) (x .body - 1)) element-is
+  body-is : c .lent-body .result ≡ bo k
+  body-is = c .lent-body .ensures ∙ ap (λ (x : Element). bodyAt (t k) (x .body - 1)) element-is
 
 inside-u : (c : tie.After-is-inside) → let k = k (c .before .before .before) in c .is-inside .result ≡ inside (bo k .«start_u») (bo k .«end_u») (s k .args .s)
 inside-u c =
     let k = k (c .before .before .before) in
-    rw (fitted {z = c .before .before .before .body-in .result .«start_u»} (c .before .before .struct-told .given .1 .1 .1 .1 .1 .1 .1 .1 .1 .0 .1), fitted {z = c .before .before .before .body-in .result .«end_u»} (c .before .struct-told2 .given .1 .1 .1 .1 .1 .1 .1 .1 .1 .1 .0 .1), toZ-ofZ (s k .fits .s)) at (c .is-inside .ensures)
+    rw (fitted {z = c .before .before .before .lent-body .result .«start_u»} (c .before .before .struct-told .given .1 .1 .1 .1 .1 .1 .1 .1 .1 .0 .1), fitted {z = c .before .before .before .lent-body .result .«end_u»} (c .before .struct-told2 .given .1 .1 .1 .1 .1 .1 .1 .1 .1 .1 .0 .1), toZ-ofZ (s k .fits .s)) at (c .is-inside .ensures)
     ∙ ap (λ (x : Body). inside (x .«start_u») (x .«end_u») (s k .args .s)) (body-is (c .before .before .before))
 
 inside-v : (c : tie.After-is-inside2) → let k = k (c .before .before .before .before .before .before .before) in c .is-inside2 .result ≡ inside (bo k .«start_v») (bo k .«end_v») (s k .args .t)
 inside-v c =
     let m = c .before .before .before .before .before .before .before in
     let k = k m in
-    rw (fitted {z = m .body-in .result .«start_v»} (c .before .before .struct-told3 .given .1 .1 .1 .1 .1 .1 .1 .1 .1 .1 .1 .0 .1), fitted {z = m .body-in .result .«end_v»} (c .before .struct-told4 .given .1 .1 .1 .1 .1 .1 .1 .1 .1 .1 .1 .1 .0 .1), toZ-ofZ (s k .fits .t)) at (c .is-inside2 .ensures)
+    rw (fitted {z = m .lent-body .result .«start_v»} (c .before .before .struct-told3 .given .1 .1 .1 .1 .1 .1 .1 .1 .1 .1 .1 .0 .1), fitted {z = m .lent-body .result .«end_v»} (c .before .struct-told4 .given .1 .1 .1 .1 .1 .1 .1 .1 .1 .1 .1 .1 .0 .1), toZ-ofZ (s k .fits .t)) at (c .is-inside2 .ensures)
     ∙ ap (λ (x : Body). inside (x .«start_v») (x .«end_v») (s k .args .t)) (body-is m)
 
 -- both parameters are inside
 module _ (c : tie.Else3) where
-  abbrev m : tie.After-body-in
+  abbrev m : tie.After-lent-body
   m = c .before .before .before .before .before .before .before .before
 
   in-u : inside (bo (k m) .«start_u») (bo (k m) .«end_u») (s (k m) .args .s) ≡ true
@@ -88,11 +88,11 @@ module _ (c : tie.After-along-of2) where
   abbrev both : tie.Else3
   both = c .before .before
 
-  abbrev read : tie.After-body-in
+  abbrev read : tie.After-lent-body
   read = m both
 
-  laid : Laid (t (k read)) (el (k read)) (bo (k read)) (read .before .before .element-in .result .first) (read .body-in .result .«first_parameter»)
-      (read .body-in .result .«count_u») (read .body-in .result .«count_v») (c .before .along-of .result) (c .along-of2 .result)
+  laid : Laid (t (k read)) (el (k read)) (bo (k read)) (read .before .before .lent-element .result .first) (read .lent-body .result .«first_parameter»)
+      (read .lent-body .result .«count_u») (read .lent-body .result .«count_v») (c .before .along-of .result) (c .along-of2 .result)
   laid = record {
     first-is = ap (λ (x : Element). x .first) (element-is read);
     from-is = ap (λ (x : Body). x .«first_parameter») (body-is read);
@@ -110,17 +110,20 @@ returns c =
     let s = c .before .before .before .before .before .before in
     refused-surface (s .args .used) (lent-tables s) (s .args .element) (s .args .s) (s .args .t) (c .before .refusal .ensures) (c .if1 .taken)
 
-sub-element-in : tie.Need-sub-element-in
-sub-element-in c = omega (arith, grant c .some)
+sub-lent-element : tie.Need-sub-lent-element
+sub-lent-element c = omega (arith, grant c .some)
 
-element-in-requires : tie.Need-element-in-requires
-element-in-requires c κs = search needs
+lent-element-requires : tie.Need-lent-element-requires
+lent-element-requires c κs = let g = grant c in omega (arith, g .some, g .lent)
 
-sub-body-in : tie.Need-sub-body-in
-sub-body-in c = omega (arith, ap (λ (x : Element). x .body) (c .before .element-in .ensures), surface (c .before .before) .lent .some)
+sub-lent-body : tie.Need-sub-lent-body
+sub-lent-body c = omega (arith, ap (λ (x : Element). x .body) (c .before .lent-element .ensures), surface (c .before .before) .lent .some)
 
-body-in-requires : tie.Need-body-in-requires
-body-in-requires c κs = search needs
+lent-body-requires : tie.Need-lent-body-requires
+lent-body-requires c κs =
+    let l = surface (c .before .before) .lent in
+    let b = ap (λ (x : Element). x .body) (c .before .lent-element .ensures) in
+    rw b (l .body, l .range)
 
 is-inside-requires : tie.Need-is-inside-requires
 is-inside-requires c κs = search needs
@@ -210,10 +213,10 @@ point-on-surface-spec =
     (tie.spec
     refusal-requires
     returns
-    sub-element-in
-    element-in-requires
-    sub-body-in
-    body-in-requires
+    sub-lent-element
+    lent-element-requires
+    sub-lent-body
+    lent-body-requires
     is-inside-requires
     returns-2
     is-inside-requires-2

@@ -60,8 +60,8 @@ module _ (c : tie.After-axes-of) where
   abbrev k : tie.Else1
   k = c .before .before .before .before
 
-  element-is : c .before .element-in .result ≡ el k
-  element-is = c .before .element-in .ensures
+  element-is : c .before .lent-element .result ≡ el k
+  element-is = c .before .lent-element .ensures
 
   axes-is : c .axes-of .result ≡ axesOf (el k)
   axes-is = c .axes-of .ensures .0 ∙ ap (λ (x : Element). axesBy (x .kind)) element-is
@@ -76,18 +76,18 @@ module _ (c : tie.After-axes-of) where
   most = omega (arith, c .before .before .if3 .left)
 
 -- the body
-module _ (c : tie.After-body-in) where
+module _ (c : tie.After-lent-body) where
   abbrev ax : tie.After-axes-of
   ax = c .before .before .before .before
 
-  body-is : c .body-in .result ≡ bo (k ax)
-  body-is = c .body-in .ensures ∙ ap (λ (x : Element). bodyAt (t (k ax)) (x .body - 1)) (element-is ax)
+  body-is : c .lent-body .result ≡ bo (k ax)
+  body-is = c .lent-body .ensures ∙ ap (λ (x : Element). bodyAt (t (k ax)) (x .body - 1)) (element-is ax)
 
   room : let j = k ax in s j .args .at + axesOf (el j) * (s j .args .steps + 1) ≤ length (s j .args .points .now)
   room = omega (arith, numbers-are ax, c .before .before .if5 .left, c .before .before .before .if4 .left)
 
 -- all that was read
-read : (c : tie.After-along-of) → let e = ax (c .before) .before .element-in .result in let b = c .before .body-in .result in let j = k (ax (c .before)) in
+read : (c : tie.After-along-of) → let e = ax (c .before) .before .lent-element .result in let b = c .before .lent-body .result in let j = k (ax (c .before)) in
     Read (t j) (el j) (bo j) (e .kind) (e .first) (b .«first_parameter») (b .«count_u») (c .along-of .result)
 read c =
     let w = ax (c .before) in
@@ -104,16 +104,16 @@ module _ (c : tie.After-struct-told2) where
   abbrev w : tie.After-along-of
   w = c .before .before .before .before .before .before
 
-  abbrev m : tie.After-body-in
+  abbrev m : tie.After-lent-body
   m = w .before
 
   abbrev j : tie.Else1
   j = k (ax m)
 
-  start-is : toZ w32 (ofZ w32 (m .body-in .result .«start_u»)) ≡ bo j .«start_u»
+  start-is : toZ w32 (ofZ w32 (m .lent-body .result .«start_u»)) ≡ bo j .«start_u»
   start-is = fitted (c .before .struct-told .given .1 .1 .1 .1 .1 .1 .1 .1 .1 .0 .1) ∙ ap (λ (x : Body). x .«start_u») (body-is m)
 
-  end-is : toZ w32 (ofZ w32 (m .body-in .result .«end_u»)) ≡ bo j .«end_u»
+  end-is : toZ w32 (ofZ w32 (m .lent-body .result .«end_u»)) ≡ bo j .«end_u»
   end-is = fitted (c .struct-told2 .given .1 .1 .1 .1 .1 .1 .1 .1 .1 .1 .0 .1) ∙ ap (λ (x : Body). x .«end_u») (body-is m)
 
 refusal-requires : tie.Need-refusal-requires
@@ -128,11 +128,11 @@ returns-2 c = let k = c .before in let s = s k in let a = s .args in run-none (a
 returns-3 : tie.Need-returns-3
 returns-3 c = let k = c .before .before in let s = s k in let a = s .args in run-many (a .used) (lent-tables s) (a .element) (a .steps) (a .at) (a .points .now) (given k) (c .if3 .taken)
 
-sub-element-in : tie.Need-sub-element-in
-sub-element-in c = omega (arith, grant (c .before .before) .some)
+sub-lent-element : tie.Need-sub-lent-element
+sub-lent-element c = omega (arith, grant (c .before .before) .some)
 
-element-in-requires : tie.Need-element-in-requires
-element-in-requires c κs = search needs
+lent-element-requires : tie.Need-lent-element-requires
+lent-element-requires c κs = let g = grant (c .before .before) in omega (arith, g .some, g .lent)
 
 axes-of-requires : tie.Need-axes-of-requires
 axes-of-requires c κs = search needs
@@ -160,11 +160,15 @@ returns-5 c =
     let a = s .args in
     run-room (a .used) (lent-tables s) (a .element) (a .steps) (a .at) (a .points .now) (given (k m)) (some m) (most m) (omega (arith, numbers-are m, c .before .if4 .left, c .if5 .taken))
 
-sub-body-in : tie.Need-sub-body-in
-sub-body-in c = let x = c .before .before .before in omega (arith, ap (λ (x : Element). x .body) (element-is x), curve (k x) .lent .some)
+sub-lent-body : tie.Need-sub-lent-body
+sub-lent-body c = let x = c .before .before .before in omega (arith, ap (λ (x : Element). x .body) (element-is x), curve (k x) .lent .some)
 
-body-in-requires : tie.Need-body-in-requires
-body-in-requires c κs = search needs
+lent-body-requires : tie.Need-lent-body-requires
+lent-body-requires c κs =
+    let x = c .before .before .before in
+    let l = curve (k x) .lent in
+    let b = ap (λ (x : Element). x .body) (element-is x) in
+    rw b (l .body, l .range)
 
 along-of-requires : tie.Need-along-of-requires
 along-of-requires c κs =
@@ -207,8 +211,8 @@ write-run-requires : tie.Need-write-run-requires
 write-run-requires c κs =
     let a = s (j c) .args in
     let y = ax (m c) in
-    let r = run-asked (read (w c)) (toZ w32 (ofZ w32 (m c .body-in .result .«start_u»))) (toZ w32 (ofZ w32 (m c .body-in .result .«end_u»))) (start-is c) (end-is c) (curve (j c)) in
-    let n : axesBy (y .before .element-in .result .kind) * (a .steps + 1) ≡ y .axes-of .result * (a .steps + 1) = ap (λ (q : ℕ). q * (a .steps + 1)) (sym (y .axes-of .ensures .0)) in
+    let r = run-asked (read (w c)) (toZ w32 (ofZ w32 (m c .lent-body .result .«start_u»))) (toZ w32 (ofZ w32 (m c .lent-body .result .«end_u»))) (start-is c) (end-is c) (curve (j c)) in
+    let n : axesBy (y .before .lent-element .result .kind) * (a .steps + 1) ≡ y .axes-of .result * (a .steps + 1) = ap (λ (q : ℕ). q * (a .steps + 1)) (sym (y .axes-of .ensures .0)) in
     (r .0, r .1, some y, most y, simp (length-take, length-drop) (omega (arith, n, c .before .before .before .before .before .before .before .before .before .if5 .left, c .before .before .before .before .before .before .before .before .before .before .if4 .left)))
 
 same-length : tie.Need-same-length
@@ -221,9 +225,9 @@ returns-6 c =
     let a = s d .args in
     let y = take (length (a .points .now) - a .at) (drop (a .at) (a .points .now)) in
     let x = ax (m h) in
-    let kind = x .before .element-in .result .kind in
+    let kind = x .before .lent-element .result .kind in
     let e = c .before .write-run .ensures
-    ∙ ap (λ (q : List ℤ). q ++ drop (axesBy kind * (a .steps + 1)) y) (run-read (read (w h)) (toZ w32 (ofZ w32 (m h .body-in .result .«start_u»))) (toZ w32 (ofZ w32 (m h .body-in .result .«end_u»))) (a .steps) (start-is h) (end-is h))
+    ∙ ap (λ (q : List ℤ). q ++ drop (axesBy kind * (a .steps + 1)) y) (run-read (read (w h)) (toZ w32 (ofZ w32 (m h .lent-body .result .«start_u»))) (toZ w32 (ofZ w32 (m h .lent-body .result .«end_u»))) (a .steps) (start-is h) (end-is h))
     ∙ ap (λ (q : ℕ). runNumbers (t d) (el d) (bo d) (a .steps) ++ drop (axesBy q * (a .steps + 1)) y) (read (w h) .kind-is) in
     let r = run-filled (a .used) (t d) (a .element) (a .steps) (a .at) (a .points .now) (given d) (some x) (most x) (room (m h)) e in
     subst (λ (q : ℕ). Same (a .used) (t d) (a .element) (a .steps) (a .at) (a .points .now) (ran.Filled (q * (a .steps + 1))) (putMid (a .at) (length (a .points .now) - a .at) (a .points .now) (c .before .write-run .last .0))) (sym (axes-is x)) r
@@ -236,16 +240,16 @@ run-on-curve-spec =
     returns
     returns-2
     returns-3
-    sub-element-in
-    element-in-requires
+    sub-lent-element
+    lent-element-requires
     axes-of-requires
     add-numbers
     mul-numbers
     returns-4
     sub-if5
     returns-5
-    sub-body-in
-    body-in-requires
+    sub-lent-body
+    lent-body-requires
     along-of-requires
     cast-from
     cast-to

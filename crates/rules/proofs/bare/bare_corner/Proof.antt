@@ -3,7 +3,6 @@ use Rattle.basis.proofs.Tests.{failed, passed}
 use borrow.Author.Needs.{needs}
 use Rattle.rules.proofs.bare.bare_corner.Statement.{statement}
 use Rattle.rules.proofs.bare.bare_corner.Tie as tie
-use Rattle.rules.proofs.bare.reached.Reads as reached-reads
 
 reached-requires : tie.Need-reached-requires
 reached-requires c κs = search needs

@@ -3,18 +3,13 @@ use mathlib.Core.Path.{_≡_, refl, sym}
 use mathlib.Core.Bool.{true}
 use Prim.Native.Nat.{_-_, _≤_}
 use native.Mathlib.Omega.{arith}
-use lib.ListN.{length}
-use Rattle.tables.specs.Records.{cornersEnd}
 use Rattle.rules.specs.Numbers.{allBelow}
-use Rattle.rules.specs.Bare.{Reach}
 use Rattle.basis.proofs.Tests.{failed, passed}
 use Rattle.rules.proofs.Below.{below-more}
 use Rattle.rules.proofs.EachBare.{atBare, bare-here, bare-fails, bare-holds}
 use borrow.Author.Needs.{needs}
 use Rattle.rules.proofs.bare.each_bare.Statement.{statement}
 use Rattle.rules.proofs.bare.each_bare.Tie as tie
-use Rattle.rules.proofs.bare.bare_corner.Reads as bare-corner-reads
-use Rattle.rules.proofs.bare.reach.Reads as reach-reads
 
 abbrev Inv-loop : tie.InvT-loop
 Inv-loop values used corners first count reach first' k₀ k =

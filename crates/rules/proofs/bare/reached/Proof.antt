@@ -6,7 +6,6 @@ use Rattle.rules.specs.Bare.{reachedObeys}
 use borrow.Author.Needs.{needs}
 use Rattle.rules.proofs.bare.reached.Statement.{statement}
 use Rattle.rules.proofs.bare.reached.Tie as tie
-use Rattle.rules.proofs.numbers.small_four.Reads as small-four-reads
 
 returns : tie.Need-returns
 unfolding reachedObeys

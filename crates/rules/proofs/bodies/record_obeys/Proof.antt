@@ -35,10 +35,10 @@ returns-2 c =
 
 -- past both tests: the type, and what the run of parameters gives
 module _ (c : tie.Else2) where
-  type-holds : let s = c .before .before .before .before .before .args in typeObeys (eqb (s .kind) 6) (s .body .basis) (s .body .rational) (s .body .«degree_u») (s .body .«degree_v») ≡ true
+  type-holds : let s = c .before .before .before .before .before .before .args in typeObeys (eqb (s .kind) 6) (s .body .basis) (s .body .rational) (s .body .«degree_u») (s .body .«degree_v») ≡ true
   type-holds = passed (c .before .before .before .type-obeys .ensures) (c .before .before .if1 .left)
 
-  run : let s = c .before .before .before .before .before .args in Run (eqb (s .kind) 6) (s .parameters .now) (s .used .parameters) (s .body .«first_parameter») (s .body .«count_u») (s .body .«count_v»)
+  run : let s = c .before .before .before .before .before .before .args in Run (eqb (s .kind) 6) (s .parameters .now) (s .used .parameters) (s .body .«first_parameter») (s .body .«count_u») (s .body .«count_v»)
   run = run-facts _ _ _ _ _ _ (passed (c .before .parameters-obey .ensures) (c .if2 .left))
 
 surface-obeys-requires : tie.Need-surface-obeys-requires

@@ -3,6 +3,7 @@ use mathlib.Core.Path.{_∙_}
 use mathlib.Core.List.{[]}
 use native.Mathlib.Nat.{add-sub-cancel-left}
 use Rattle.tables.specs.Tables.{tables}
+use Rattle.rules.specs.Rules.{curvesAmong}
 use Rattle.rules.specs.Bodies.{surfaceObeys}
 use Rattle.basis.proofs.Tests.{failed, passed}
 use Rattle.rules.proofs.OneBody.{loops-lent}
@@ -65,9 +66,9 @@ returns-2 : tie.Need-returns-2
 unfolding surfaceObeys
 returns-2 c =
     let e = passed (simp add-sub-cancel-left at (c .before .before .directions-obey .ensures)) (c .before .if1 .left) in
-    let s = c .before .before .before .before .before .before .before .before .before .args in
+    let s = c .before .before .before .before .before .before .before .before .before .before .args in
     let t = tables [] [] [] [] [] [] [] [] (s .parameters .now) (s .loops .now) (s .spans .now) in
-    rw e (c .loops-obey .ensures ∙ loops-lent (s .used) t (s .curves) _ _)
+    rw e (c .loops-obey .ensures ∙ loops-lent (s .used) t (curvesAmong (s .elements .now) (s .index)) _ _)
 
 pub surface-obeys-spec : {M : Type 1} → statement M
 surface-obeys-spec =

@@ -3,7 +3,6 @@ use mir.Facts.{toZ-ofZ}
 use borrow.Author.Needs.{needs}
 use Rattle.rules.proofs.numbers.small_four.Statement.{statement}
 use Rattle.rules.proofs.numbers.small_four.Tie as tie
-use Rattle.rules.proofs.numbers.small.Reads as small-reads
 
 small-requires : tie.Need-small-requires
 small-requires c κs = search needs

@@ -1,5 +1,5 @@
 -- The invariant: the run is lent, and each number passed is in range.
-use mathlib.Core.Path.{_≡_, refl, sym}
+use mathlib.Core.Path.{_≡_, sym}
 use mathlib.Core.Bool.{true}
 use Prim.Native.Nat.{_+_, _-_, _≤_}
 use lib.ListN.{length, getD}
@@ -29,8 +29,11 @@ sub-if2 c = omega arith
 returns-2 : tie.Need-returns-2 Inv-loop μ-loop
 returns-2 c = let s = c .before .before .args in sym (run-short (s .values .now) (s .first) (s .count) (omega arith))
 
+small-fours-requires : tie.Need-small-fours-requires Inv-loop μ-loop
+small-fours-requires c κs = omega arith
+
 loop-holds : tie.Need-loop-holds Inv-loop μ-loop
-loop-holds c = (omega arith, omega arith, refl)
+loop-holds c = (c .small-fours .ensures .0, omega arith, c .small-fours .ensures .1)
 
 add-small : tie.Need-add-small Inv-loop μ-loop
 add-small c = omega arith
@@ -48,7 +51,7 @@ returns-3 : tie.Need-returns-3 Inv-loop μ-loop
 returns-3 c =
     let call = c .before in
     let turn = call .before .before .before in
-    let s = turn .before .before .before .args in
+    let s = turn .before .before .before .before .args in
     sym (run-fails (s .values .now) (s .first) (s .count) (turn .loop .k) (omega arith) (failed (rw (fitted (call .before .small-arg .given)) at (call .small .ensures)) (c .if3 .taken)))
 
 add-k : tie.Need-add-k Inv-loop μ-loop
@@ -61,7 +64,7 @@ loop-again : tie.Need-loop-again Inv-loop μ-loop
 loop-again c =
     let call = c .before in
     let turn = call .before .before .before in
-    let s = turn .before .before .before .args in (
+    let s = turn .before .before .before .before .args in (
       omega arith,
       omega arith,
       below-more (λ j. small (getD (s .values .now) (s .first + j) (pos 0))) (turn .loop .k) (turn .loop .inv .2)
@@ -71,7 +74,7 @@ loop-again c =
 returns-4 : tie.Need-returns-4 Inv-loop μ-loop
 returns-4 c =
     let turn = c .before in
-    let s = turn .before .before .before .args in
+    let s = turn .before .before .before .before .args in
     sym (run-holds (s .values .now) (s .first) (s .count) (turn .loop .k) (turn .loop .inv .1) (turn .loop .inv .2) (omega arith) (omega arith))
 
 pub small-run-spec : {M : Type 1} → statement M
@@ -83,6 +86,7 @@ small-run-spec =
     returns
     sub-if2
     returns-2
+    small-fours-requires
     loop-holds
     add-small
     mul-small

@@ -5,8 +5,8 @@ use Prim.Native.Nat.{_-_, _≤_}
 use Rattle.rules.specs.Rules.{curvesAmong}
 use Rattle.rules.proofs.OneBody.{curves-more, curves-past}
 use native.Mathlib.Omega.{arith}
-use Rattle.rules.proofs.curves_before.Statement.{statement}
-use Rattle.rules.proofs.curves_before.Tie as tie
+use Rattle.rules.proofs.loops.curves_before.Statement.{statement}
+use Rattle.rules.proofs.loops.curves_before.Tie as tie
 
 abbrev Inv-loop : tie.InvT-loop
 Inv-loop elements index before₀ i₀ before i = (i ≤ index) × (before ≤ i) × (before ≡ curvesAmong elements i)

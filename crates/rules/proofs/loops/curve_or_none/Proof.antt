@@ -1,8 +1,8 @@
 -- One kind, or another.
 use borrow.Author.Tests.{eq-eqb, ne-eqb}
 use native.Mathlib.Omega.{arith}
-use Rattle.rules.proofs.curve_or_none.Statement.{statement}
-use Rattle.rules.proofs.curve_or_none.Tie as tie
+use Rattle.rules.proofs.loops.curve_or_none.Statement.{statement}
+use Rattle.rules.proofs.loops.curve_or_none.Tie as tie
 
 returns : tie.Need-returns
 returns c = (rw (eq-eqb _ _ (c .if1 .taken)), omega arith)

@@ -1,0 +1,58 @@
+-- An element of a kind that has a body, by the tests of its own numbers and corners and the test of its body: a body that is not held is all zeros, and no type is 0.
+use Prim.Native.Nat.{ℕ, _+_, _*_, _-_, _≤_}
+use mathlib.Core.Path.{_≡_, refl, _∙_}
+use mathlib.Core.Bool.{Bool, true, false, _&&_}
+use borrow.Author.Tests.{le-leb, lt-leb}
+use lib.Dec.{leb}
+use lib.ListN.{length}
+use Rattle.lists.proofs.Tests.{never}
+use Rattle.tables.specs.Tables.{Tables}
+use Rattle.tables.specs.Records.{elementAt, bodyAt}
+use Rattle.tables.specs.Asking.{bodyHeld, bodyOf}
+use Rattle.tables.specs.declared.Used.{Used}
+use Rattle.tables.specs.declared.Element.{Element}
+use Rattle.rules.specs.Corners.{cornersObey}
+use Rattle.rules.specs.Directions.{typeObeys}
+use Rattle.rules.specs.Bodies.{recordObeys, bodyObeys}
+use Rattle.rules.specs.Rules.{elementObeys, obeys}
+
+abbrev pub outline : Used → Tables → Element → Bool
+outline used t e = leb 1 (e .kind) && leb (e .kind) 6 && leb (e .smoothing) 65535 && cornersObey used t (e .kind) (e .first) (e .count)
+
+module _ (used : Used) (t : Tables) (curves : ℕ) where
+  body-is : (kind count k : ℕ) → bodyObeys used t curves kind count k ≡ recordObeys used t curves kind count (bodyOf used (t .bodies) (t .ranges) k)
+  unfolding bodyObeys recordObeys typeObeys bodyOf
+  body-is kind count k = go (bodyHeld used (t .bodies) (t .ranges) k) refl
+    where
+      go : (q : Bool) → bodyHeld used (t .bodies) (t .ranges) k ≡ q → bodyObeys used t curves kind count k ≡ recordObeys used t curves kind count (bodyOf used (t .bodies) (t .ranges) k)
+      go true h = rw h
+      go false h = rw h
+
+  -- a body that obeys is held
+  pub body-there : (kind count k : ℕ) → recordObeys used t curves kind count (bodyOf used (t .bodies) (t .ranges) k) ≡ true → bodyOf used (t .bodies) (t .ranges) k ≡ bodyAt t (k - 1)
+  unfolding recordObeys typeObeys bodyOf
+  body-there kind count k = go (bodyHeld used (t .bodies) (t .ranges) k) refl
+    where
+      go : (q : Bool) → bodyHeld used (t .bodies) (t .ranges) k ≡ q → recordObeys used t curves kind count (bodyOf used (t .bodies) (t .ranges) k) ≡ true → bodyOf used (t .bodies) (t .ranges) k ≡ bodyAt t (k - 1)
+      go true h r = rw h
+      go false h r = never (rw h at r)
+
+  -- the element's body as it is asked for
+  abbrev pub bodied : Element → Bool
+  bodied e = recordObeys used t curves (e .kind) (e .count) (bodyOf used (t .bodies) (t .ranges) (e .body))
+
+  module _ (i : ℕ) (lent : 9 * i + 9 ≤ length (t .elements)) (kind : 4 ≤ elementAt t i .kind) where
+    obeys-is : obeys used t curves i ≡ (outline used t (elementAt t i) && bodied (elementAt t i))
+    unfolding obeys elementObeys
+    obeys-is =
+        let e = elementAt t i in
+        rw (le-leb (9 * i + 9) (length (t .elements)) lent, lt-leb (e .kind) 3 kind, body-is (e .kind) (e .count) (e .body))
+
+    pub outline-fails : outline used t (elementAt t i) ≡ false → obeys used t curves i ≡ false
+    outline-fails h = obeys-is ∙ rw h
+
+    pub body-fails : outline used t (elementAt t i) ≡ true → bodied (elementAt t i) ≡ false → obeys used t curves i ≡ false
+    body-fails h k = obeys-is ∙ rw (h, k)
+
+    pub both-hold : outline used t (elementAt t i) ≡ true → bodied (elementAt t i) ≡ true → obeys used t curves i ≡ true
+    both-hold h k = obeys-is ∙ rw (h, k)
