@@ -44,7 +44,7 @@ pub read : (l : List Float) (i : ℕ) → i < length l → getD l i nan ≡ doub
 read l i h = any-filler l i nan nought h
 
 -- one of four
-four : (P : ℕ → Type 0) → P 0 → P 1 → P 2 → P 3 → (k : ℕ) → k < 4 → P k
+pub four : (P : ℕ → Type 0) → P 0 → P 1 → P 2 → P 3 → (k : ℕ) → k < 4 → P k
 four P a b c d zero h = a
 four P a b c d (suc zero) h = b
 four P a b c d (suc (suc zero)) h = c

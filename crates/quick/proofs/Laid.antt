@@ -1,16 +1,16 @@
 -- The working row of doubles is filled place by place; worked down with certainty, its first place keeps the rounded rule's numbers.
 use mathlib.Core.Path.{_≡_, refl, sym, ap, _∙_, subst}
-use mathlib.Core.Bool.{Bool, true, false, cond}
-use mathlib.Core.List.{List, [], _∷_}
-use Prim.Native.Nat.{ℕ, zero, suc, _+_, _*_, _≤_, _<_}
-use native.Mathlib.Nat.{not-suc-le-zero, le-of-suc-le-suc}
+use mathlib.Core.Bool.{Bool, true, cond}
+use mathlib.Core.Logic.{inl}
+use mathlib.Core.List.{List}
+use Prim.Native.Nat.{ℕ, suc, _+_, _*_, _≤_, _<_}
+use native.Mathlib.Nat.{not-suc-le-zero, add-zero}
 use native.Mathlib.Decide.{decLe}
 use native.Mathlib.Omega.{arith}
 use lib.Dec.{eqb}
-use lib.ListN.{length, set, getD, length-set}
-use lib.Seq.{getD-set-same, getD-set-other}
+use lib.ListN.{length}
 use lib.IntN.{ℤ, pos}
-use lib.Ieee.{Float, fin, nan}
+use lib.Ieee.{Float}
 use mir.Syntax.{w32}
 use mir.Val.{toZ, ofZ}
 use Rattle.whole.specs.Round.{Small}
@@ -24,62 +24,27 @@ use Rattle.rows.specs.Controls.{controlAt}
 use Rattle.rows.specs.declared.Along.{Along}
 use Rattle.rows.proofs.Grids.{first-is, reached, last-there, sampled-is, grid-rows}
 use Rattle.guess.specs.Places.{double, Keeps, Descended}
-use Rattle.quick.specs.Points.{four, firstOf, There, Stands, rowPoint, Has, Told, curveNumber, CurvePoint, surfaceNumber}
+use Rattle.guess.proofs.Stepping.{four, put-long, put-rest, put-0, put-1, put-2, put-3}
+use Rattle.quick.specs.Points.{placed, firstOf, There, Stands, rowPoint, Has, Told, curveNumber, CurvePoint, surfaceNumber}
 use Rattle.quick.specs.declared.Point.{Point}
-
-abbrev none : Float
-none = fin false 0 (pos 0)
-
--- a double that is read is there: no filler stands for it
-any-filler : (l : List Float) (i : ℕ) (d e : Float) → i < length l → getD l i d ≡ getD l i e
-any-filler [] i d e h = absurd (not-suc-le-zero h)
-any-filler (x ∷ l) zero d e h = refl
-any-filler (x ∷ l) (suc i) d e h = any-filler l i d e (le-of-suc-le-suc h)
-
-pub read : (l : List Float) (i : ℕ) → i < length l → getD l i nan ≡ double l i
-read l i h = any-filler l i nan none h
 
 -- ---- four numbers stored
 module _ (l : List Float) (i : ℕ) (f : ℕ → ℤ) where
-  abbrev one : List Float
-  one = set l i (kept (f 0))
+  abbrev full : List Float
+  full = placed l i (f 0) (f 1) (f 2) (f 3)
 
-  abbrev two : List Float
-  two = set one (i + 1) (kept (f 1))
+  placed-long : length full ≡ length l
+  placed-long = put-long l i (kept (f 0)) (kept (f 1)) (kept (f 2)) (kept (f 3))
 
-  abbrev three : List Float
-  three = set two (i + 2) (kept (f 2))
+  placed-before : (m : ℕ) → m < i → double full m ≡ double l m
+  placed-before m h = put-rest l i (kept (f 0)) (kept (f 1)) (kept (f 2)) (kept (f 3)) m (inl h)
 
-  four-length : length (four l i (f 0) (f 1) (f 2) (f 3)) ≡ length l
-  four-length = length-set three (i + 3) (kept (f 3)) ∙ length-set two (i + 2) (kept (f 2)) ∙ length-set one (i + 1) (kept (f 1)) ∙ length-set l i (kept (f 0))
-
-  four-before : (m : ℕ) → m < i → double (four l i (f 0) (f 1) (f 2) (f 3)) m ≡ double l m
-  four-before m h =
-      getD-set-other three (i + 3) m (kept (f 3)) none (λ q. omega arith)
-      ∙ getD-set-other two (i + 2) m (kept (f 2)) none (λ q. omega arith)
-      ∙ getD-set-other one (i + 1) m (kept (f 1)) none (λ q. omega arith)
-      ∙ getD-set-other l i m (kept (f 0)) none (λ q. omega arith)
-
-  four-at : (k m : ℕ) → i + 4 ≤ length l → k < 4 → m ≡ i + k → double (four l i (f 0) (f 1) (f 2) (f 3)) m ≡ kept (f k)
-  four-at zero m r h e =
-      let q : m ≡ i = omega arith in
-      rw q (getD-set-other three (i + 3) i (kept (f 3)) none (λ q. omega arith)
-      ∙ getD-set-other two (i + 2) i (kept (f 2)) none (λ q. omega arith)
-      ∙ getD-set-other one (i + 1) i (kept (f 1)) none (λ q. omega arith)
-      ∙ getD-set-same l i (kept (f 0)) none (omega arith))
-  four-at (suc zero) m r h e =
-      let q : m ≡ i + 1 = omega arith in
-      rw q (getD-set-other three (i + 3) (i + 1) (kept (f 3)) none (λ q. omega arith)
-      ∙ getD-set-other two (i + 2) (i + 1) (kept (f 2)) none (λ q. omega arith)
-      ∙ getD-set-same one (i + 1) (kept (f 1)) none (omega (arith, length-set l i (kept (f 0)))))
-  four-at (suc (suc zero)) m r h e =
-      let q : m ≡ i + 2 = omega arith in
-      rw q (getD-set-other three (i + 3) (i + 2) (kept (f 3)) none (λ q. omega arith)
-      ∙ getD-set-same two (i + 2) (kept (f 2)) none (omega (arith, length-set l i (kept (f 0)), length-set one (i + 1) (kept (f 1)))))
-  four-at (suc (suc (suc zero))) m r h e =
-      let q : m ≡ i + 3 = omega arith in
-      rw q (getD-set-same three (i + 3) (kept (f 3)) none (omega (arith, length-set l i (kept (f 0)), length-set one (i + 1) (kept (f 1)), length-set two (i + 2) (kept (f 2)))))
-  four-at (suc (suc (suc (suc k)))) m r h e = absurd (let b : ⊥ = omega arith in b)
+  placed-at : i + 4 ≤ length l → (k : ℕ) → k < 4 → double full (i + k) ≡ kept (f k)
+  placed-at r =
+      four (λ k. double full (i + k) ≡ kept (f k)) (ap (double full) (add-zero i) ∙ put-0 l i (kept (f 0)) (kept (f 1)) (kept (f 2)) (kept (f 3)) r)
+      (put-1 l i (kept (f 0)) (kept (f 1)) (kept (f 2)) (kept (f 3)) r)
+      (put-2 l i (kept (f 0)) (kept (f 1)) (kept (f 2)) (kept (f 3)) r)
+      (put-3 l i (kept (f 0)) (kept (f 1)) (kept (f 2)) (kept (f 3)) r)
 
 -- ---- the row filled: its first i places keep numbers of f
 pub record Laid (f : ℕ → ℕ → ℤ) (rows : List Float) (i : ℕ) : Type 0 where
@@ -90,10 +55,10 @@ pub record Laid (f : ℕ → ℕ → ℤ) (rows : List Float) (i : ℕ) : Type 0
 pub laid-none : (f : ℕ → ℕ → ℤ) (rows : List Float) → length rows ≡ 168 → Laid f rows 0
 laid-none f rows e = record { long = e; each = λ j k h. absurd (not-suc-le-zero h); small = λ j k h. absurd (not-suc-le-zero h) }
 
-pub laid-more : {f : ℕ → ℕ → ℤ} {rows new : List Float} {i : ℕ} → Laid f rows i → i < 21 → new ≡ four rows (84 + 4 * i) (f 0 i) (f 1 i) (f 2 i) (f 3 i)
+pub laid-more : {f : ℕ → ℕ → ℤ} {rows new : List Float} {i : ℕ} → Laid f rows i → i < 21 → new ≡ placed rows (84 + 4 * i) (f 0 i) (f 1 i) (f 2 i) (f 3 i)
     → ((k : ℕ) → k < 4 → Small (f k i)) → Laid f new (i + 1)
 laid-more {f} {rows} {new} {i} p r e s = record {
-  long = ap length e ∙ four-length rows (84 + 4 * i) (λ k. f k i) ∙ p .long;
+  long = ap length e ∙ placed-long rows (84 + 4 * i) (λ k. f k i) ∙ p .long;
   each = λ j k h l. pick j k (decLe (suc j) i) h l;
   small = λ j k h l. pick-small j k (decLe (suc j) i) h l;
 }
@@ -103,11 +68,12 @@ laid-more {f} {rows} {new} {i} p r e s = record {
 
     pick : (j k : ℕ) → Dec (suc j ≤ i) → j < i + 1 → k < 4 → double new (84 + (4 * j + k)) ≡ kept (f k j)
     pick j k (yes m) h l =
-        ap (λ (q : List Float). double q (84 + (4 * j + k))) e ∙ four-before rows (84 + 4 * i) (λ q. f q i) (84 + (4 * j + k)) (omega arith) ∙ p .each j k m l
+        ap (λ (q : List Float). double q (84 + (4 * j + k))) e ∙ placed-before rows (84 + 4 * i) (λ q. f q i) (84 + (4 * j + k)) (omega arith) ∙ p .each j k m l
     pick j k (no m) h l =
         let q = same-place j m h in
         ap (λ (q : List Float). double q (84 + (4 * j + k))) e
-        ∙ four-at rows (84 + 4 * i) (λ q. f q i) k (84 + (4 * j + k)) (omega (arith, p .long)) l (omega arith)
+        ∙ ap (double (full rows (84 + 4 * i) (λ q. f q i))) (let a : 84 + (4 * j + k) ≡ 84 + 4 * i + k = omega arith in a)
+        ∙ placed-at rows (84 + 4 * i) (λ q. f q i) (omega (arith, p .long)) k l
         ∙ ap (λ (n : ℕ). kept (f k n)) q
 
     pick-small : (j k : ℕ) → Dec (suc j ≤ i) → j < i + 1 → k < 4 → Small (f k j)
@@ -123,13 +89,10 @@ laid-stands n p e = record {
 -- a point's numbers laid as a place, and a nought
 module _ (g : ℕ → ℤ) {p : Point} (h : Has p (g 0) (g 1) (g 2)) where
   place-small : (k : ℕ) → k < 4 → Small (cond (eqb k 3) (pos 0) (g k))
-  place-small zero l = rw (h .x-is) at (h .x-small)
-  place-small (suc zero) l = rw (h .y-is) at (h .y-small)
-  place-small (suc (suc zero)) l = rw (h .z-is) at (h .z-small)
-  place-small (suc (suc (suc zero))) l = omega arith
-  place-small (suc (suc (suc (suc k)))) l = absurd (let b : ⊥ = omega arith in b)
+  place-small =
+      four (λ k. Small (cond (eqb k 3) (pos 0) (g k))) (rw (h .x-is) at (h .x-small)) (rw (h .y-is) at (h .y-small)) (rw (h .z-is) at (h .z-small)) (omega arith)
 
-  place-read : (rows : List Float) (i : ℕ) → four rows i (toZ w32 (ofZ w32 (p .x))) (toZ w32 (ofZ w32 (p .y))) (toZ w32 (ofZ w32 (p .z))) (pos 0) ≡ four rows i (g 0) (g 1) (g 2) (pos 0)
+  place-read : (rows : List Float) (i : ℕ) → placed rows i (toZ w32 (ofZ w32 (p .x))) (toZ w32 (ofZ w32 (p .y))) (toZ w32 (ofZ w32 (p .z))) (pos 0) ≡ placed rows i (g 0) (g 1) (g 2) (pos 0)
   place-read rows i =
       let x : toZ w32 (ofZ w32 (p .x)) ≡ g 0 = read-back-small (p .x) (h .x-small) ∙ h .x-is in
       let y : toZ w32 (ofZ w32 (p .y)) ≡ g 1 = read-back-small (p .y) (h .y-small) ∙ h .y-is in
@@ -138,7 +101,7 @@ module _ (g : ℕ → ℤ) {p : Point} (h : Has p (g 0) (g 1) (g 2)) where
 
 pub laid-point : (values : List ℤ) (corners : List ℕ) (first top : ℕ) (u : Direction) (s : ℤ) {rows new : List Float} {i : ℕ} {p : Point}
     → Laid (λ k j. rowPoint values corners first u s k (top + j)) rows i → i < 21 → CurvePoint values corners first ((top + i) * u .controls) 0 u s p
-    → new ≡ four rows (84 + 4 * i) (toZ w32 (ofZ w32 (p .x))) (toZ w32 (ofZ w32 (p .y))) (toZ w32 (ofZ w32 (p .z))) (pos 0)
+    → new ≡ placed rows (84 + 4 * i) (toZ w32 (ofZ w32 (p .x))) (toZ w32 (ofZ w32 (p .y))) (toZ w32 (ofZ w32 (p .z))) (pos 0)
     → Laid (λ k j. rowPoint values corners first u s k (top + j)) new (i + 1)
 laid-point values corners first top u s {rows} {new} {i} {p} y r h e = laid-more y r (e ∙ place-read number h rows (84 + 4 * i)) (place-small number h)
   where

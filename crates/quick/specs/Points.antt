@@ -17,8 +17,8 @@ use Rattle.guess.specs.Places.{double, Keeps}
 use Rattle.quick.specs.declared.Point.{Point}
 
 -- four numbers side by side, kept from number i on
-abbrev pub four : List Float → (i : ℕ) (a b c d : ℤ) → List Float
-four rows i a b c d = set (set (set (set rows i (kept a)) (i + 1) (kept b)) (i + 2) (kept c)) (i + 3) (kept d)
+abbrev pub placed : List Float → (i : ℕ) (a b c d : ℤ) → List Float
+placed rows i a b c d = set (set (set (set rows i (kept a)) (i + 1) (kept b)) (i + 2) (kept c)) (i + 3) (kept d)
 
 -- the first of the controls that a point in segment or span g is made from
 abbrev pub firstOf : Along → (g : ℕ) → ℕ

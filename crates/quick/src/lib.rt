@@ -7,7 +7,7 @@ ghost use Rattle.doubles.specs.Doubles.{Kept};
 ghost use Rattle.rows.specs.Places.{direction, On};
 ghost use Rattle.rows.specs.Controls.{controlAt, Held};
 ghost use Rattle.guess.specs.Places.{double};
-ghost use Rattle.quick.specs.Points.{four, There, Ready, Rowed, Told, CurvePoint, SurfacePoint};
+ghost use Rattle.quick.specs.Points.{placed, There, Ready, Rowed, Told, CurvePoint, SurfacePoint};
 use doubles::kept;
 use doubles::told;
 use guess::descend;
@@ -25,7 +25,7 @@ pub struct Point {
 // Four numbers from number `at` on.
 fn store(rows: &mut [f64; 168], at: usize, a: i32, b: i32, c: i32, d: i32)
     requires { ⌜ (at + 4 ≤ 168) × (length (now rows) ≡ 168) × Small a × Small b × Small c × Small d ⌝ }
-    ensures { λ r. ⌜ now (rows .exit) ≡ four (now (rows .entry)) at a b c d ⌝ }
+    ensures { λ r. ⌜ now (rows .exit) ≡ placed (now (rows .entry)) at a b c d ⌝ }
 {
     rows[at] = kept(a);
     rows[at + 1] = kept(b);
@@ -43,7 +43,7 @@ fn store_control(
     i: usize,
 )
     requires { ⌜ Held (now values) (now corners) first i (i + 1) × (at + 4 ≤ 168) × (length (now rows) ≡ 168) ⌝ }
-    ensures { λ r. ⌜ now (rows .exit) ≡ four (now (rows .entry)) at (controlAt (now (values .entry)) (now (corners .entry)) first 0 i) (controlAt (now (values .entry)) (now (corners .entry)) first 1 i) (controlAt (now (values .entry)) (now (corners .entry)) first 2 i) (controlAt (now (values .entry)) (now (corners .entry)) first 3 i) ⌝ }
+    ensures { λ r. ⌜ now (rows .exit) ≡ placed (now (rows .entry)) at (controlAt (now (values .entry)) (now (corners .entry)) first 0 i) (controlAt (now (values .entry)) (now (corners .entry)) first 1 i) (controlAt (now (values .entry)) (now (corners .entry)) first 2 i) (controlAt (now (values .entry)) (now (corners .entry)) first 3 i) ⌝ }
 {
     let vertex = tables::corner_at(corners, first, i).v as usize;
     let from = 4 * (vertex - 1);

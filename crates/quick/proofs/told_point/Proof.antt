@@ -4,7 +4,7 @@ use mathlib.Core.Path.{_≡_, sym, _∙_}
 use Prim.Native.Nat.{_+_}
 use native.Mathlib.Omega.{arith}
 use Rattle.whole.proofs.Bits.{read-back-small}
-use Rattle.quick.proofs.Laid.{read}
+use Rattle.guess.proofs.Stepping.{read}
 use Rattle.quick.proofs.told_point.Statement.{statement}
 use Rattle.quick.proofs.told_point.Tie as tie
 
