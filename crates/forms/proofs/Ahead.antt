@@ -4,10 +4,10 @@ use mathlib.Core.Path.{_≡_, refl, sym, ap, ap₂, _∙_}
 use mathlib.Core.List.{List, [], _∷_}
 use mathlib.Core.Bool.{Bool, true, false, cond, _&&_}
 use mathlib.Core.Logic.{_⊎_, ⊎-elim}
-use lib.ListN.{length, take, drop, length-take}
-use lib.Seq.{drop-drop, take-all}
+use lib.ListN.{length, take, drop}
+use lib.Seq.{take-all}
 use lib.Dec.{leb, eqb}
-use borrow.Author.Tests.{le-leb, leb-true, leb-false, ne-eqb}
+use borrow.Author.Tests.{le-leb, leb-true, ne-eqb}
 use native.Mathlib.Omega.{arith}
 use Rattle.lists.proofs.Tests.{and-both, and-left, and-right, test, never}
 use Rattle.text.specs.Words.{wordOf}
@@ -17,8 +17,8 @@ use Rattle.forms.specs.Digits.{isDigit, natOf, negative, unminus}
 use Rattle.forms.specs.Reference.{item}
 use Rattle.forms.specs.Corner.{Corner, Counts, Parts, split, cornerOf}
 use Rattle.forms.specs.Straight.{first, run, places, FewRead, PartRead, AheadRead, NoneRead, second, third}
-use Rattle.forms.proofs.Rows.{low-digit}
-use Rattle.forms.proofs.Fronts.{low-no-word, word-over}
+use Rattle.forms.proofs.Fronts.{low-no-word, low-stops, slash-stops, word-over}
+use Rattle.forms.proofs.Runs.{few-near, few-all}
 use Rattle.forms.proofs.Pieces.{negative-first, minus-drop}
 use Rattle.forms.proofs.Patterns.{normal-of, texture-slash, texture-normal, texture-end, corner-slash, corner-end}
 
@@ -31,20 +31,9 @@ one-digit : (l : List ℕ) → isDigit (first l) ≡ true → 1 ≤ length (run 
 one-digit [] h = never h
 one-digit (b ∷ bs) h = rw h (omega arith)
 
--- each of the digits is one
-digit-in : (n : ℕ) (l : List ℕ) → n < length (run l) → isDigit (first (drop n l)) ≡ true
-digit-in n [] h = absurd (omega arith)
-digit-in zero (b ∷ bs) h =
-    ⊎-elim (λ (t : isDigit b ≡ true). t) (λ (t : isDigit b ≡ false). let q = rw t at h in absurd (omega arith)) (test (isDigit b))
-digit-in (suc n) (b ∷ bs) h =
-    ⊎-elim
-    (λ (t : isDigit b ≡ true). let q = rw t at h in digit-in n bs (omega arith))
-    (λ (t : isDigit b ≡ false). let q = rw t at h in absurd (omega arith))
-    (test (isDigit b))
-
 module _ (count : ℕ) (s : List ℕ) (at number end : ℕ) (a : AheadRead count s at number end) where
   pub near : end ≤ at + 10
-  near = let x = a .read .end-is in let y = length-take 10 (run (drop at s)) in omega arith
+  near = few-near 10 s at 0 end number (a .read)
 
   starts : isDigit (first (drop at s)) ≡ true
   starts = starts-digit 9 (drop at s) (let x = a .read .value-is in let y = a .some in omega arith)
@@ -60,14 +49,7 @@ module _ (count : ℕ) (s : List ℕ) (at number end : ℕ) (a : AheadRead count
 
   module _ (o : isDigit (first (drop end s)) ≡ false) where
     short : length (run (drop at s)) ≤ 10
-    short =
-        ⊎-elim
-        (λ (t : leb (length (run (drop at s))) 10 ≡ true). leb-true (length (run (drop at s))) 10 t)
-        (λ (t : leb (length (run (drop at s))) 10 ≡ false).
-        let k = leb-false (length (run (drop at s))) 10 t in
-        let z : end ≡ at + 10 = (let x = a .read .end-is in let y = length-take 10 (run (drop at s)) in omega arith) in
-        never (sym o ∙ ap (λ (n : ℕ). isDigit (first (drop n s))) z ∙ ap (λ (l : List ℕ). isDigit (first l)) (sym (drop-drop 10 at s)) ∙ digit-in 10 (drop at s) k))
-        (test (leb (length (run (drop at s))) 10))
+    short = few-all 10 s at 0 end number (a .read) o
 
     all : take 10 (run (drop at s)) ≡ places (drop at s)
     all = take-all 10 (run (drop at s)) short ∙ ap run (sym same)
@@ -99,19 +81,12 @@ ahead count s at number end r f e t =
       within = leb-true number count (and-right (leb 1 number) (leb number count) q);
     }
 
--- ---- the byte after the digits
-low : (l : List ℕ) (b : ℕ) → b ≡ first l → b ≤ 32 → isDigit (first l) ≡ false
-low l b e h = ap isDigit (sym e) ∙ low-digit b (omega arith)
-
-slash : (l : List ℕ) (b : ℕ) → b ≡ first l → b ≡ 47 → isDigit (first l) ≡ false
-slash l b e h = ap isDigit (sym e ∙ h)
-
 -- ---- the third part
 pub normal-end : (normal : Bool) (nvn v vt : ℕ) (s : List ℕ) (at number end : ℕ) → AheadRead nvn s at number end → normal ≡ true → (b : ℕ) → b ≡ first (drop end s) → b ≤ 32
     → says (record { v = v; vt = vt; vn = number }, end) ≡ ended (third normal nvn true v vt (split (wordOf (drop at s)))) (endOf s at)
 normal-end normal nvn v vt s at number end a h b e l =
     let some = a .some in
-    normal-of normal nvn true v vt s at number end (part nvn s at number end a (low (drop end s) b e l)) h
+    normal-of normal nvn true v vt s at number end (part nvn s at number end a (low-stops (drop end s) b e l)) h
     (word-over (drop end s) (low-no-word (first (drop end s)) (omega arith)))
     (λ z. omega arith)
     (says (record { v = v; vt = vt; vn = number }, end)) refl
@@ -140,7 +115,7 @@ module _ (nvt : ℕ) (s : List ℕ) (at number end : ℕ) (q : NoneRead s at num
         (ended (third normal nvn true v 0 (split (wordOf (drop (at + 1) s)))) (endOf s (at + 1))) true (sym (le-leb 1 v k)) refl)
         (λ (a : AheadRead nvt s at number end).
         texture-normal nvt nvn texture normal v s at (first (drop at s)) refl (no-slash nvt s at number end a) number end
-        (part nvt s at number end a (slash (drop end s) b e g)) b e h g
+        (part nvt s at number end a (slash-stops (drop end s) b e g)) b e h g
         (ended (third normal nvn true v number (split (wordOf (drop (end + 1) s)))) (endOf s (end + 1))) true (both a) refl)
         q
 
@@ -152,7 +127,7 @@ module _ (nvt : ℕ) (s : List ℕ) (at number end : ℕ) (q : NoneRead s at num
         let z : first (drop end s) ≡ 47 = ap (λ (i : ℕ). first (drop i s)) (n .end-is) ∙ n .slash in absurd (omega arith))
         (λ (a : AheadRead nvt s at number end).
         texture-end nvt nvn texture normal v s at (first (drop at s)) refl (no-slash nvt s at number end a) number end
-        (part nvt s at number end a (low (drop end s) b e l)) b e h (low-no-word b l)
+        (part nvt s at number end a (low-stops (drop end s) b e l)) b e h (low-no-word b l)
         (says (record { v = v; vt = number; vn = 0 }, end)) true (both a) refl)
         q
 
@@ -161,10 +136,10 @@ module _ (c : Counts) (k : Parts) (s : List ℕ) (at number end : ℕ) (a : Ahea
   pub first-slash : b ≡ 47
       → ended (second (c .vt) (c .vn) (k .vt) (k .vn) number (split (wordOf (drop (end + 1) s)))) (endOf s (end + 1)) ≡ ended (cornerOf c k (wordOf (drop at s))) (endOf s at)
   first-slash g =
-      corner-slash c k s at number end (part (c .v) s at number end a (slash (drop end s) b e g)) b e g
+      corner-slash c k s at number end (part (c .v) s at number end a (slash-stops (drop end s) b e g)) b e g
       (ended (second (c .vt) (c .vn) (k .vt) (k .vn) number (split (wordOf (drop (end + 1) s)))) (endOf s (end + 1))) refl
 
   pub first-end : b ≤ 32 → says (record { v = number; vt = 0; vn = 0 }, end) ≡ ended (cornerOf c k (wordOf (drop at s))) (endOf s at)
   first-end l =
-      corner-end c k s at number end (part (c .v) s at number end a (low (drop end s) b e l)) b e (low-no-word b l)
+      corner-end c k s at number end (part (c .v) s at number end a (low-stops (drop end s) b e l)) b e (low-no-word b l)
       (says (record { v = number; vt = 0; vn = 0 }, end)) true (sym (le-leb 1 number (a .some))) refl

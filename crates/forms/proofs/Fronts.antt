@@ -14,6 +14,7 @@ use Rattle.text.specs.Bytes.{isWord}
 use Rattle.text.specs.Words.{wordOf}
 use Rattle.forms.specs.Digits.{isDigit, digits}
 use Rattle.forms.specs.Straight.{first, over, run, past, front}
+use Rattle.forms.proofs.Rows.{low-digit}
 
 pub word-on : (l : List ℕ) → isWord (first l) ≡ true → false ≡ over (wordOf l)
 word-on [] h = h
@@ -31,6 +32,13 @@ digit-word b h =
     let l = leb-true 48 b (and-left (leb 48 b) (leb b 57) h) in
     let m = leb-true b 57 (and-right (leb 48 b) (leb b 57) h) in
     rw (le-leb 33 b (omega arith), le-leb b 126 (omega arith), ne-eqb b 92 (omega arith)) refl
+
+-- at the front of what follows digits
+pub low-stops : (l : List ℕ) (b : ℕ) → b ≡ first l → b ≤ 32 → isDigit (first l) ≡ false
+low-stops l b e h = ap isDigit (sym e) ∙ low-digit b (omega arith)
+
+pub slash-stops : (l : List ℕ) (b : ℕ) → b ≡ first l → b ≡ 47 → isDigit (first l) ≡ false
+slash-stops l b e h = ap isDigit (sym e ∙ h)
 
 -- where the digits stop no digit stands
 pub past-digit : (l : List ℕ) → isDigit (first (past l)) ≡ false

@@ -11,6 +11,7 @@ pub mod References
 pub mod Corners
 pub mod Patterns
 pub mod Ahead
+pub mod Exact
 pub mod Wholes
 pub mod Numerals
 pub mod NumbersBack

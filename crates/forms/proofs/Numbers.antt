@@ -155,6 +155,10 @@ signed-at l =
     (test (eqb (first l) 45)))
     (test (eqb (first l) 43))
 
+pub sign-most : (b n : ℕ) → n ≡ cond (isSign b) 1 0 → n ≤ 1
+sign-most b n e =
+    ⊎-elim (λ (t : isSign b ≡ true). let q = rw t at e in omega arith) (λ (t : isSign b ≡ false). let q = rw t at e in omega arith) (test (isSign b))
+
 -- ---- number_at
 module _ (s : List ℕ) (at b n : ℕ) (h : at ≤ length s) (e : b ≡ first (drop at s)) (k : n ≡ cond (isSign b) 1 0) where
   signs : Signed (drop at s) n

@@ -4,7 +4,7 @@ use mathlib.Core.Path.{_≡_, refl, sym, ap, _∙_, subst}
 use mathlib.Core.List.{List, [], _∷_}
 use mathlib.Core.Bool.{Bool, true, false}
 use lib.ListN.{length, take, drop, getD, drop-of-length-le, length-take, length-drop}
-use lib.Seq.{drop-cons, take-nil, take-all}
+use lib.Seq.{drop-cons, drop-drop, take-nil, take-all}
 use lib.Dec.{leb}
 use borrow.Author.Tests.{le-leb, lt-leb}
 use native.Mathlib.Omega.{arith}
@@ -12,9 +12,9 @@ use native.Mathlib.Nat.{pow-le-pow-right, mul-le-mul-left}
 use native.Mathlib.Numerals.{add-one}
 use mathlib.Core.Logic.{⊎-elim}
 use borrow.Author.Tests.{leb-true, leb-false}
-use Rattle.lists.proofs.Tests.{test}
+use Rattle.lists.proofs.Tests.{test, never}
 use Rattle.forms.specs.Digits.{isDigit, digits, natOf}
-use Rattle.forms.specs.Straight.{digitOf, cap, run, WholeRead, FewRead}
+use Rattle.forms.specs.Straight.{first, digitOf, cap, run, WholeRead, FewRead}
 use Rattle.forms.proofs.Rows.{low-digit, high-digit, mid-digit, cap-natOf, natOf-ge, few-small, run-short}
 use Rattle.forms.proofs.Pieces.{ten-digits}
 
@@ -143,19 +143,52 @@ module _ (most : ℕ) (s : List ℕ) (at w i a room : ℕ) (g : Few most s at w 
           value-is = value;
         }
 
--- few digits, and not as many as were allowed: all of them, far below the cap
-pub few-whole : (s : List ℕ) (at end value : ℕ) → FewRead 11 s at 0 end value → end - at < 11 → WholeRead s at end value
-few-whole s at end value f h =
-    let l : List ℕ = run (drop at s) in
-    let n : length (take 11 l) < 11 = (let x = f .end-is in omega arith) in
-    let m : length l ≤ 11 = (let x = length-take 11 l in omega arith) in
-    let e : take 11 l ≡ l = take-all 11 l m in
-    let z : length l ≤ 10 = (let x = ap length e in omega arith) in
+-- each of the digits is one
+digit-in : (n : ℕ) (l : List ℕ) → n < length (run l) → isDigit (first (drop n l)) ≡ true
+digit-in n [] h = absurd (omega arith)
+digit-in zero (b ∷ bs) h =
+    ⊎-elim (λ (t : isDigit b ≡ true). t) (λ (t : isDigit b ≡ false). let q = rw t at h in absurd (omega arith)) (test (isDigit b))
+digit-in (suc n) (b ∷ bs) h =
+    ⊎-elim
+    (λ (t : isDigit b ≡ true). let q = rw t at h in digit-in n bs (omega arith))
+    (λ (t : isDigit b ≡ false). let q = rw t at h in absurd (omega arith))
+    (test (isDigit b))
+
+pub few-near : (most : ℕ) (s : List ℕ) (at a end value : ℕ) → FewRead most s at a end value → end ≤ at + most
+few-near most s at a end value f = let x = f .end-is in let y = length-take most (run (drop at s)) in omega arith
+
+-- where no digit follows them they are all there are
+pub few-all : (most : ℕ) (s : List ℕ) (at a end value : ℕ) → FewRead most s at a end value → isDigit (first (drop end s)) ≡ false → length (run (drop at s)) ≤ most
+few-all most s at a end value f o =
+    ⊎-elim
+    (λ (t : leb (length (run (drop at s))) most ≡ true). leb-true (length (run (drop at s))) most t)
+    (λ (t : leb (length (run (drop at s))) most ≡ false).
+    let k = leb-false (length (run (drop at s))) most t in
+    let z : end ≡ at + most = (let x = f .end-is in let y = length-take most (run (drop at s)) in omega arith) in
+    never
+    (sym o
+    ∙ ap (λ (n : ℕ). isDigit (first (drop n s))) z
+    ∙ ap (λ (l : List ℕ). isDigit (first l)) (sym (drop-drop most at s))
+    ∙ digit-in most (drop at s) k))
+    (test (leb (length (run (drop at s))) most))
+
+-- all of them, far below the cap
+pub all-whole : (most : ℕ) (s : List ℕ) (at end value : ℕ) → FewRead most s at 0 end value → length (run (drop at s)) ≤ most → length (run (drop at s)) ≤ 10 → WholeRead s at end value
+all-whole most s at end value f m z =
+    let e : take most (run (drop at s)) ≡ run (drop at s) = take-all most (run (drop at s)) m in
     record {
       to = f .to;
       end-is = f .end-is ∙ ap (λ (t : List ℕ). at + length t) e;
       value-is = f .value-is ∙ ap (natOf 0) e ∙ sym (ten-digits (drop at s) z);
     }
+
+-- few digits, and not as many as were allowed
+pub few-whole : (s : List ℕ) (at end value : ℕ) → FewRead 11 s at 0 end value → end - at < 11 → WholeRead s at end value
+few-whole s at end value f h =
+    let x = f .end-is in
+    let y = length-take 11 (run (drop at s)) in
+    let z : length (run (drop at s)) ≤ 10 = omega arith in
+    all-whole 11 s at end value f (omega arith) z
 
 -- fewer bytes are left than seven: their digits are all there are
 pub few-seven : (s : List ℕ) (at w left end value : ℕ) → left ≡ length s - at → left < 7 → FewRead left s at w end value → FewRead 7 s at w end value

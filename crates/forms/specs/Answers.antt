@@ -1,5 +1,5 @@
 -- What each answer of the code means: the value and where its word ends, or 01's number of the refusal.
-use Prim.Native.Nat.{ℕ}
+use Prim.Native.Nat.{ℕ, _*_, _≤_}
 use Prim.{Unit}
 use mathlib.Core.Path.{_≡_}
 use mathlib.Core.List.{List}
@@ -10,6 +10,8 @@ use Rattle.forms.specs.declared.number.Number.{Number}
 use Rattle.forms.specs.declared.number.Number.the-variants.{Value, Malformed, OutOfRange}
 use Rattle.forms.specs.declared.number.Magnitude.{Magnitude}
 use Rattle.forms.specs.declared.number.Magnitude.the-variants.{Of, Bad}
+use Rattle.forms.specs.declared.number.Exact.{Exact}
+use Rattle.forms.specs.declared.number.Exact.the-variants as exact
 use Rattle.forms.specs.declared.reference.Reference.{Reference}
 use Rattle.forms.specs.declared.reference.Reference.the-variants as reference
 use Rattle.forms.specs.declared.corner.CornerWord.{CornerWord}
@@ -32,6 +34,11 @@ saidNumber OutOfRange = wrong 7
 abbrev pub saidMagnitude : Magnitude → Said (ℕ × ℕ)
 saidMagnitude (Of m e) = says (m, e)
 saidMagnitude Bad = wrong 6
+
+-- a number that was read straight ahead is what the word says, in ten-millionths, and ends by `far`; of any other nothing is known
+abbrev pub exactIs : ℕ → Said (ℕ × ℕ) → Exact → Type 0
+exactIs far said (exact.Of m e) = (saidMagnitude (Of (10 * m) e) ≡ said) × (e ≤ far)
+exactIs far said exact.Other = Unit {0}
 
 abbrev pub saidReference : Reference → Said (ℕ × ℕ)
 saidReference (reference.Item k e) = says (k, e)

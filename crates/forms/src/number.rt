@@ -1,5 +1,6 @@
 use crate::digits::Run;
 use crate::digits::byte_at;
+use crate::digits::byte_in;
 use crate::digits::digits_end;
 use crate::digits::few;
 use crate::digits::whole_run;
@@ -12,7 +13,7 @@ ghost use Rattle.text.specs.Words.{wordOf};
 ghost use Rattle.text.specs.Rest.{endOf};
 ghost use Rattle.forms.specs.Said.{ended};
 ghost use Rattle.forms.specs.Number.{numberOf, signed, isSign};
-ghost use Rattle.forms.specs.Answers.{saidNumber, saidMagnitude};
+ghost use Rattle.forms.specs.Answers.{saidNumber, saidMagnitude, exactIs};
 ghost use Rattle.forms.specs.Straight.{WholeRead, FewRead, magnitudeOf, pointed, settleOf};
 
 pub enum Number {
@@ -158,4 +159,72 @@ pub fn number_at(text: &[u8], at: usize) -> Number
             settle(b == 45, value, end)
         }
     }
+}
+
+// Most numbers are far from the text's end and have at most four digits before the point and six after it: these are read straight ahead, in whole
+// millionths, and every other as `number_at` does.
+pub enum Exact {
+    Of { millionths: u64, end: usize },
+    Other,
+}
+
+// The same as `fraction`.
+fn decimals_ahead(text: &[u8], at: usize, count: usize, whole: u64) -> Exact
+    requires { ⌜ (at + 6 < length (now text)) × (count ≤ at) × (whole ≤ 20000000005) ⌝ }
+    ensures { λ r. ⌜ exactIs (at + 6) (ended (pointed count whole (wordOf (drop at (now (text .entry))))) (endOf (now (text .entry)) at)) r ⌝ }
+{
+    let f = few(text, at, 6, whole);
+    let end = f.end;
+    if 32 < byte_in(text, end) {
+        return Exact::Other;
+    }
+    if count + (end - at) == 0 {
+        return Exact::Other;
+    }
+    Exact::Of {
+        millionths: f.value * scale(end - at + 1),
+        end: end,
+    }
+}
+
+// The same as `measure`.
+fn measure_ahead(text: &[u8], at: usize) -> Exact
+    requires { ⌜ at + 11 < length (now text) ⌝ }
+    ensures { λ r. ⌜ exactIs (at + 11) (ended (magnitudeOf (wordOf (drop at (now (text .entry))))) (endOf (now (text .entry)) at)) r ⌝ }
+{
+    let w = few(text, at, 4, 0);
+    let end = w.end;
+    let b = byte_in(text, end);
+    if b == 46 {
+        return decimals_ahead(text, end + 1, end - at, w.value);
+    }
+    if 32 < b {
+        return Exact::Other;
+    }
+    if end == at {
+        return Exact::Other;
+    }
+    Exact::Of {
+        millionths: w.value * 1_000_000,
+        end: end,
+    }
+}
+
+// The same as `number_at`, quicker for most numbers.
+pub fn quick_number_at(text: &[u8], at: usize) -> Number
+    requires { ⌜ at ≤ length (now text) ⌝ }
+    ensures { λ r. ⌜ saidNumber r ≡ ended (numberOf (wordOf (drop at (now (text .entry))))) (endOf (now (text .entry)) at) ⌝ }
+{
+    if 12 < text.len() - at {
+        let b = byte_in(text, at);
+        if let Exact::Of { millionths, end } = measure_ahead(text, at + sign_length(b)) {
+            if millionths <= 2_000_000_000 {
+                return Number::Value {
+                    value: signed_of(b == 45, millionths),
+                    end: end,
+                };
+            }
+        }
+    }
+    number_at(text, at)
 }

@@ -27,7 +27,7 @@ pub fn numbers_into(text: &[u8], at: usize, most: usize, table: &mut [i32], firs
     let mut count: usize = 0;
     while count < most {
         match text::gap(text, i) {
-            Met::Start(p) => match forms::number::number_at(text, p) {
+            Met::Start(p) => match forms::number::quick_number_at(text, p) {
                 Number::Value { value, end } => {
                     if !tables::storing::put_i32(table, first + count, value) {
                         return Numbers::Stopped;

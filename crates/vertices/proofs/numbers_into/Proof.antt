@@ -27,8 +27,8 @@ gap-requires c κs = c .before .loop .inv .to
 enum-known-p : tie.Need-enum-known-p Inv-loop μ-loop
 enum-known-p c = search needs
 
-number-at-requires : tie.Need-number-at-requires Inv-loop μ-loop
-number-at-requires c κs =
+quick-number-at-requires : tie.Need-quick-number-at-requires Inv-loop μ-loop
+quick-number-at-requires c κs =
     let word = c .before in
     let ahead = word .before .before in
     let turn = ahead .before .before in
@@ -72,7 +72,7 @@ returns c =
     let a = start .args in
     let l = turn .loop in
     let met = W.met-word (now (a .text)) (l .i) (ahead .gap .ensures) (word .p .given .1) in
-    let value = W.is-value (now (a .text)) (word .p .given .0 .0) (read .number-at .ensures) (number .value .given .1) in
+    let value = W.is-value (now (a .text)) (word .p .given .0 .0) (read .quick-number-at .ensures) (number .value .given .1) in
     W.stop-room (a .most) (now (a .text)) (a .at) (a .first) (now (a .table)) (l .i) (l .count) (l .table) (l .inv) (test .loop-test .taken) met value (fitted (told .known-told2 .given .0 .1)) (put .put-i32 .ensures) (not-true _ (c .if1 .taken))
 
 add-count : tie.Need-add-count Inv-loop μ-loop
@@ -102,7 +102,7 @@ loop-again c =
     let a = start .args in
     let l = turn .loop in
     let met = W.met-word (now (a .text)) (l .i) (ahead .gap .ensures) (word .p .given .1) in
-    let value = W.is-value (now (a .text)) (word .p .given .0 .0) (read .number-at .ensures) (number .value .given .1) in
+    let value = W.is-value (now (a .text)) (word .p .given .0 .0) (read .quick-number-at .ensures) (number .value .given .1) in
     W.turn (a .most) (now (a .text)) (a .at) (a .first) (now (a .table)) (l .i) (l .count) (l .table) (l .inv) (test .loop-test .taken) met value (fitted (told .known-told2 .given .0 .1)) (put .put-i32 .ensures) (not-false _ (c .if1 .left))
 
 enum-told : tie.Need-enum-told Inv-loop μ-loop
@@ -122,7 +122,7 @@ returns-2 c =
     let a = start .args in
     let l = turn .loop in
     let met = W.met-word (now (a .text)) (l .i) (ahead .gap .ensures) (word .p .given .1) in
-    W.stop-wrong (a .most) (now (a .text)) (a .at) (a .first) (now (a .table)) (l .i) (l .count) (l .table) (l .inv) (test .loop-test .taken) met (W.is-malformed (now (a .text)) (word .p .given .0 .0) (read .number-at .ensures) (c .enum-told .given .1))
+    W.stop-wrong (a .most) (now (a .text)) (a .at) (a .first) (now (a .table)) (l .i) (l .count) (l .table) (l .inv) (test .loop-test .taken) met (W.is-malformed (now (a .text)) (word .p .given .0 .0) (read .quick-number-at .ensures) (c .enum-told .given .1))
 
 enum-told-2 : tie.Need-enum-told-2 Inv-loop μ-loop
 enum-told-2 c = search needs
@@ -141,7 +141,7 @@ returns-3 c =
     let a = start .args in
     let l = turn .loop in
     let met = W.met-word (now (a .text)) (l .i) (ahead .gap .ensures) (word .p .given .1) in
-    W.stop-wrong (a .most) (now (a .text)) (a .at) (a .first) (now (a .table)) (l .i) (l .count) (l .table) (l .inv) (test .loop-test .taken) met (W.is-out (now (a .text)) (word .p .given .0 .0) (read .number-at .ensures) (c .enum-told2 .given .1))
+    W.stop-wrong (a .most) (now (a .text)) (a .at) (a .first) (now (a .table)) (l .i) (l .count) (l .table) (l .inv) (test .loop-test .taken) met (W.is-out (now (a .text)) (word .p .given .0 .0) (read .quick-number-at .ensures) (c .enum-told2 .given .1))
 
 enum-known-q : tie.Need-enum-known-q Inv-loop μ-loop
 enum-known-q c = search needs
@@ -195,7 +195,7 @@ numbers-into-spec =
     loop-holds
     gap-requires
     enum-known-p
-    number-at-requires
+    quick-number-at-requires
     enum-known-value
     add-put-i32
     put-i32-requires
