@@ -8,8 +8,8 @@ ghost use Rattle.tidying.specs.Agree.{wordsAt};
 ghost use Rattle.emitting.specs.Emitting.{Emitted};
 ghost use Rattle.tidier.specs.TidyFrom.{changed, smoothed, namesLines, elementLines, elementsFrom};
 use crate::body;
-use emitting::names;
 use crate::vertices;
+use emitting::names;
 
 // The names from `place` on, where they are not those from `before` on.
 fn name_line(
