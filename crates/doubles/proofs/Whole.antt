@@ -16,6 +16,7 @@ use lib.Ieee.Back.{round-whole, positive-back, negative-back}
 use lib.Ieee.Scale.{round-same}
 use Rattle.whole.specs.Round.{Small}
 use Rattle.whole.proofs.IntLaws.{abs-+, abs-neg}
+use Rattle.whole.proofs.Order.{Up, up-abs}
 use Rattle.whole.proofs.Ring.{ring, _⊕_, _⊝_, _≐_}
 use Rattle.doubles.specs.Doubles.{anchor, kept, Kept}
 
@@ -146,6 +147,10 @@ anchored-is = refl
 
 small-in : (z : ℤ) → Small z → natAbs z ≤ 2 ^ 53
 small-in z h = omega arith
+
+-- the way up from a small number to another
+pub way-up : (a b : ℤ) → Up a b → Small a → Small b → sub binary64 (ofInt binary64 b) (ofInt binary64 a) ≡ ofInt binary64 (pos (natAbs (b -ℤ a)))
+way-up a b u h k = sub-whole binary64 b a (small-in b k) (small-in a h) ∙ ap (ofInt binary64) (up-abs u)
 
 anchor-in : anchor ≤ 2 ^ 53
 anchor-in = lit≤ tt

@@ -1,6 +1,7 @@
 // Whole numbers as doubles, and the rounding rule guessed in them: a guess is kept only where it is certain.
 ghost use mathlib.Core.Path.{_≡_};
-ghost use Prim.Native.Nat.{_≤_, _<_};
+ghost use lib.IntN.{natAbs, _-ℤ_};
+ghost use lib.Signed.{_≤ℤ_, _<ℤ_};
 ghost use Rattle.whole.specs.Round.{Small};
 ghost use Rattle.doubles.specs.Doubles.{Kept, kept, weightOf, leaned};
 
@@ -20,12 +21,12 @@ pub fn told(a: f64) -> i32
     (a - 6755399441055744.0) as i32
 }
 
-// p parts of d.
-pub fn weight(p: u64, d: u64) -> f64
-    requires { ⌜ (p ≤ d) × (0 < d) × (d ≤ 4000000000) ⌝ }
-    ensures { λ r. ⌜ r ≡ weightOf p d ⌝ }
+// How much of the way from `low` to `high` lies before t.
+pub fn weight(low: i32, high: i32, t: i32) -> f64
+    requires { ⌜ (low ≤ℤ t) × (low <ℤ high) × Small low × Small high × Small t ⌝ }
+    ensures { λ r. ⌜ r ≡ weightOf (natAbs (t -ℤ low)) (natAbs (high -ℤ low)) ⌝ }
 {
-    p as f64 / d as f64
+    (t as f64 - low as f64) / (high as f64 - low as f64)
 }
 
 // From a towards b by the weight w, and e further.

@@ -1,3 +1,4 @@
+pub mod Stored
 pub mod Weights
 pub mod Stepping
 pub mod Levels

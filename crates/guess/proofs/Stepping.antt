@@ -1,146 +1,175 @@
--- Four numbers are stored side by side, each of them guessed twice.
-use mathlib.Core.Path.{_≡_, refl, sym, ap, ap₂, _∙_}
-use mathlib.Core.Bool.{true, false, _&&_}
-use mathlib.Core.Logic.{_⊎_, inl, inr}
-use mathlib.Core.List.{List, [], _∷_}
-use Prim.Native.Nat.{ℕ, zero, suc, _+_, _≤_, _<_}
-use native.Mathlib.Nat.{add-zero, not-suc-le-zero, le-of-suc-le-suc}
+-- A place is made of two: what the doubles keep is told and kept again, or each number is guessed twice.
+use mathlib.Core.Path.{_≡_, refl, sym, ap, ap₂, _∙_, subst, subst₂}
+use mathlib.Core.Bool.{Bool, true, false, not, _&&_}
+use mathlib.Core.List.{List}
+use Prim.Native.Nat.{ℕ, _+_, _*_, _≤_, _<_}
+use native.Mathlib.Nat.{add-zero}
 use native.Mathlib.Omega.{arith}
-use lib.Dec.{lit≤}
-use lib.ListN.{length, set, getD, length-set}
-use lib.Seq.{getD-set-same, getD-set-other}
-use lib.IntN.{pos}
-use lib.Ieee.{Float, fin, nan, binary64, eq, neg, ofBits}
+use lib.ListN.{length, set, getD}
+use lib.IntN.{ℤ, negℤ, natAbs, _-ℤ_}
+use lib.Ieee.{Float, nan, binary64, eq, neg, ofBits}
+use mir.Syntax.{w32}
+use mir.Val.{toZ, ofZ}
 use Rattle.lists.proofs.Tests.{and-left, and-right}
-use Rattle.doubles.specs.Doubles.{leaned, above, below}
-use Rattle.guess.specs.Places.{double}
-use Rattle.guess.specs.Steps.{Stepped}
+use Rattle.whole.specs.Round.{Small, between}
+use Rattle.whole.proofs.Bits.{read-back-small}
+use Rattle.whole.proofs.IntLaws.{abs-neg, abs-+}
+use Rattle.doubles.specs.Doubles.{Kept, kept, weightOf, leaned, above, below}
+use Rattle.doubles.proofs.Whole.{kept-one}
+use Rattle.doubles.proofs.Certain.{certain-between}
+use Rattle.guess.specs.Places.{double, ofTwo, Standing}
+use Rattle.guess.specs.Steps.{among, Within, Fair, Between, Placed, Stepped}
+use Rattle.guess.specs.declared.Gap.{Gap}
+use Rattle.guess.proofs.Stored.{six, put-long, put-at, put-rest, read}
 
-abbrev nought : Float
-nought = fin false 0 (pos 0)
+-- ---- six numbers stored
+pub placed : (l : List Float) (n : ℕ) (a b c d e f : Float) → n + 6 ≤ length l
+    → Placed l (set (set (set (set (set (set l n a) (n + 1) b) (n + 2) c) (n + 3) d) (n + 4) e) (n + 5) f) n (among a b c d e f)
+placed l n a b c d e f h =
+    subst (λ (m : ℕ). Placed l (set (set (set (set (set (set l m a) (n + 1) b) (n + 2) c) (n + 3) d) (n + 4) e) (n + 5) f) n (among a b c d e f)) (add-zero n)
+    (record { long = put-long l n (among a b c d e f) 6; done = λ k m. put-at l n (among a b c d e f) 6 k h m; rest = put-rest l n (among a b c d e f) 6 })
+
+-- ---- one number
+-- exactly: no double keeps two numbers
+pub between-told : {a b r : Float} {m : ℤ} {P D : ℕ} (p q : ℤ) → a ≡ kept p → Small p → b ≡ kept q → Small q → m ≡ between p q P D → r ≡ kept m → Between a b P D r
+between-told {a} {b} {r} {m} {P} {D} p q a-is p-small b-is q-small m-is r-is = record {
+  is = λ y z h k e f. r-is ∙ ap kept (m-is ∙ ap₂ (λ (u v : ℤ). between u v P D) (kept-one p y (sym a-is ∙ e) p-small h) (kept-one q z (sym b-is ∙ f) q-small k));
+}
 
 -- the literal of the code, and its opposite
 abbrev pub raised : Float
 raised = ofBits binary64 4535124824762089472
 
-pub raised-is : raised ≡ above
+raised-is : raised ≡ above
 unfolding ofBits
 raised-is = refl
 
 abbrev pub lowered : Float
 lowered = neg raised
 
-pub lowered-is : lowered ≡ below
+lowered-is : lowered ≡ below
 unfolding ofBits neg
 lowered-is = refl
 
--- a double that is read is there: no filler stands for it
-any-filler : (l : List Float) (i : ℕ) (d e : Float) → i < length l → getD l i d ≡ getD l i e
-any-filler [] i d e h = absurd (not-suc-le-zero h)
-any-filler (x ∷ l) zero d e h = refl
-any-filler (x ∷ l) (suc i) d e h = any-filler l i d e (le-of-suc-le-suc h)
+-- guessed, where both leans end at one double
+pub guessed : (a b w p q : Float) {low high t : ℤ} → Within low high t → w ≡ weightOf (natAbs (t -ℤ low)) (natAbs (high -ℤ low))
+    → p ≡ leaned a b w raised → q ≡ leaned a b w lowered → eq p q ≡ true → Between a b (natAbs (t -ℤ low)) (natAbs (high -ℤ low)) p
+guessed a b w p q {low} {high} {t} i w-is p-is q-is sure = record { is = is }
+  where
+    most : natAbs (high -ℤ low) ≤ 4000000000
+    most = omega (arith, abs-+ high (negℤ low), abs-neg low, i .low-small, i .high-small)
 
-pub read : (l : List Float) (i : ℕ) → i < length l → getD l i nan ≡ double l i
-read l i h = any-filler l i nan nought h
+    is : (y z : ℤ) → Small y → Small z → a ≡ kept y → b ≡ kept z → p ≡ kept (between y z (natAbs (t -ℤ low)) (natAbs (high -ℤ low)))
+    is y z h k e f =
+        up ∙ certain-between y z (natAbs (t -ℤ low)) (natAbs (high -ℤ low)) h k (i .part) (i .wide) most (sym (ap₂ eq up down) ∙ sure)
+      where
+        up : p ≡ leaned (kept y) (kept z) (weightOf (natAbs (t -ℤ low)) (natAbs (high -ℤ low))) above
+        up = p-is ∙ λ n. leaned (e n) (f n) (w-is n) (raised-is n)
 
--- one of four
-pub four : (P : ℕ → Type 0) → P 0 → P 1 → P 2 → P 3 → (k : ℕ) → k < 4 → P k
-four P a b c d zero h = a
-four P a b c d (suc zero) h = b
-four P a b c d (suc (suc zero)) h = c
-four P a b c d (suc (suc (suc zero))) h = d
-four P a b c d (suc (suc (suc (suc k)))) h = absurd (omega arith)
+        down : q ≡ leaned (kept y) (kept z) (weightOf (natAbs (t -ℤ low)) (natAbs (high -ℤ low))) below
+        down = q-is ∙ λ n. leaned (e n) (f n) (w-is n) (lowered-is n)
 
-module _ (l : List Float) (n : ℕ) (a b c d : Float) where
-  abbrev one : List Float
-  one = set l n a
+-- ---- the parameters, read back from their bits
+module _ {low high t : ℤ} (w : Within low high t) where
+  pub within-back : Within (toZ w32 (ofZ w32 low)) (toZ w32 (ofZ w32 high)) (toZ w32 (ofZ w32 t))
+  within-back = rw (read-back-small low (w .low-small), read-back-small high (w .high-small), read-back-small t (w .here)) w
 
-  abbrev two : List Float
-  two = set one (n + 1) b
+  pub between-back : {a b c : Float} → Between a b (natAbs (toZ w32 (ofZ w32 t) -ℤ toZ w32 (ofZ w32 low))) (natAbs (toZ w32 (ofZ w32 high) -ℤ toZ w32 (ofZ w32 low))) c
+      → Between a b (natAbs (t -ℤ low)) (natAbs (high -ℤ low)) c
+  between-back m = rw (read-back-small low (w .low-small), read-back-small high (w .high-small), read-back-small t (w .here)) at m
 
-  abbrev three : List Float
-  three = set two (n + 2) c
+-- ---- the six
+pub made : {old new : List Float} {to : ℕ} {f : ℕ → Float} (a b : ℕ → Float) (low high s t : ℤ) → Placed old new to f
+    → ((k : ℕ) → k < 6 → Between (a k) (b k) (natAbs (ofTwo k s t -ℤ low)) (natAbs (high -ℤ low)) (f k)) → Stepped old new to a b low high s t
+made a b low high s t p each = record {
+  long = p .long;
+  done = λ k h. subst (λ (x : Float). Between (a k) (b k) (natAbs (ofTwo k s t -ℤ low)) (natAbs (high -ℤ low)) x) (sym (p .done k h)) (each k h);
+  rest = p .rest;
+}
 
-  abbrev pub put : List Float
-  put = set three (n + 3) d
+-- made anew over what was stored before
+pub anew : {old now new : List Float} {to : ℕ} {f a b : ℕ → Float} {low high s t : ℤ} → Placed old now to f → Stepped now new to a b low high s t → Stepped old new to a b low high s t
+anew p q = record { long = q .long ∙ p .long; done = q .done; rest = λ i h. q .rest i h ∙ p .rest i h }
 
-  pub put-long : length put ≡ length l
-  put-long = length-set three (n + 3) d ∙ length-set two (n + 2) c ∙ length-set one (n + 1) b ∙ length-set l n a
+pub stepped-back : {old new : List Float} {to : ℕ} {a b : ℕ → Float} {g : Gap} {s t : ℤ} → Fair g s t
+    → Stepped old new to a b (toZ w32 (ofZ w32 (g .low))) (toZ w32 (ofZ w32 (g .high))) (toZ w32 (ofZ w32 s)) (toZ w32 (ofZ w32 t)) → Stepped old new to a b (g .low) (g .high) s t
+stepped-back {g = g} {s} {t} f p =
+    let o = f .one in
+    rw (read-back-small (g .low) (o .low-small), read-back-small (g .high) (o .high-small), read-back-small s (o .here), read-back-small t (f .other .here)) at p
 
-  past3 : (i : ℕ) → (i ≡ n + 3 → ⊥) → double put i ≡ double three i
-  past3 i h = getD-set-other three (n + 3) i d nought h
+-- ---- as they are read
+module _ (old : List Float) (from : ℕ) where
+  -- six numbers as the code reads them, from number n on
+  abbrev at : ℕ → Float
+  at n = getD old (from + n) nan
 
-  past2 : (i : ℕ) → (i ≡ n + 2 → ⊥) → double three i ≡ double two i
-  past2 i h = getD-set-other two (n + 2) i c nought h
+  abbrev pub here : ℕ → Float
+  here = among (getD old from nan) (at 1) (at 2) (at 3) (at 4) (at 5)
 
-  past1 : (i : ℕ) → (i ≡ n + 1 → ⊥) → double two i ≡ double one i
-  past1 i h = getD-set-other one (n + 1) i b nought h
+  abbrev pub after : ℕ → Float
+  after = among (at 6) (at 7) (at 8) (at 9) (at 10) (at 11)
 
-  past0 : (i : ℕ) → (i ≡ n → ⊥) → double one i ≡ double l i
-  past0 i h = getD-set-other l n i a nought h
+  module _ (h : from + 12 ≤ length old) where
+    here-is : (k : ℕ) → k < 6 → here k ≡ double old (from + k)
+    here-is = six (λ k. here k ≡ double old (from + k)) (read old from (omega arith) ∙ sym (ap (double old) (add-zero from)))
+        (read old (from + 1) (omega arith)) (read old (from + 2) (omega arith)) (read old (from + 3) (omega arith)) (read old (from + 4) (omega arith)) (read old (from + 5) (omega arith))
 
-  pub put-rest : (i : ℕ) → (i < n) ⊎ (n + 4 ≤ i) → double put i ≡ double l i
-  put-rest i (inl h) = past3 i (λ e. omega arith) ∙ past2 i (λ e. omega arith) ∙ past1 i (λ e. omega arith) ∙ past0 i (λ e. omega arith)
-  put-rest i (inr h) = past3 i (λ e. omega arith) ∙ past2 i (λ e. omega arith) ∙ past1 i (λ e. omega arith) ∙ past0 i (λ e. omega arith)
+    after-is : (k : ℕ) → k < 6 → after k ≡ double old (from + (6 + k))
+    after-is = six (λ k. after k ≡ double old (from + (6 + k))) (read old (from + 6) (omega arith))
+        (read old (from + 7) (omega arith)) (read old (from + 8) (omega arith)) (read old (from + 9) (omega arith)) (read old (from + 10) (omega arith)) (read old (from + 11) (omega arith))
 
-  module _ (h : n + 4 ≤ length l) where
-    pub put-0 : double put n ≡ a
-    put-0 = past3 n (λ e. omega arith) ∙ past2 n (λ e. omega arith) ∙ past1 n (λ e. omega arith) ∙ getD-set-same l n a nought (omega arith)
+    pub here-kept : Standing old from 1 → (k : ℕ) → k < 6 → Kept (here k)
+    here-kept s k l = let e : from + (6 * 0 + k) ≡ from + k = omega arith in subst Kept (ap (double old) e ∙ sym (here-is k l)) (s .each 0 k (omega arith) l)
 
-    pub put-1 : double put (n + 1) ≡ b
-    put-1 = past3 (n + 1) (λ e. omega arith) ∙ past2 (n + 1) (λ e. omega arith) ∙ getD-set-same one (n + 1) b nought (omega (arith, length-set l n a))
+    pub after-kept : Standing old from 1 → (k : ℕ) → k < 6 → Kept (after k)
+    after-kept s k l = let e : from + (6 * 1 + k) ≡ from + (6 + k) = omega arith in subst Kept (ap (double old) e ∙ sym (after-is k l)) (s .each 1 k (omega arith) l)
 
-    pub put-2 : double put (n + 2) ≡ c
-    put-2 = past3 (n + 2) (λ e. omega arith) ∙ getD-set-same two (n + 2) c nought (omega (arith, length-set one (n + 1) b, length-set l n a))
+    pub as-read : {new : List Float} {to : ℕ} {low high s t : ℤ} → Stepped old new to here after low high s t
+        → Stepped old new to (λ k. double old (from + k)) (λ k. double old (from + (6 + k))) low high s t
+    as-read {new} {to} {low} {high} {s} {t} p = record {
+      long = p .long;
+      done = λ k l. subst₂ (λ (x y : Float). Between x y (natAbs (ofTwo k s t -ℤ low)) (natAbs (high -ℤ low)) (double new (to + k))) (here-is k l) (after-is k l) (p .done k l);
+      rest = p .rest;
+    }
 
-    pub put-3 : double put (n + 3) ≡ d
-    put-3 = getD-set-same three (n + 3) d nought (omega (arith, length-set two (n + 2) c, length-set one (n + 1) b, length-set l n a))
+pub not-not : (b : Bool) → not b ≡ false → b ≡ true
+not-not true h = refl
+not-not false h = sym h
 
-module _ (old : List Float) (from to : ℕ) (w : Float) (there : from + 8 ≤ length old) (room : to + 4 ≤ length old) where
-  -- number k, guessed with e further
+-- ---- the six guessed, and no doubt at any of them
+module _ (old : List Float) (from : ℕ) {gap : Gap} {s t : ℤ} (fair : Fair gap s t) where
+  -- number k, guessed with x further
   abbrev guess : Float → ℕ → Float
-  guess e k = leaned (double old (from + k)) (double old (from + (4 + k))) w e
+  guess x k = leaned (here old from k) (after old from k) (ofTwo k (gap .first) (gap .second)) x
 
-  -- the same, as it is read
-  abbrev pub guessed : (i j : ℕ) → Float → Float
-  guessed i j e = leaned (getD old i nan) (getD old j nan) w e
-
-  same : (k i j : ℕ) (e f : Float) → k < 4 → i ≡ from + k → j ≡ from + (4 + k) → e ≡ f → guessed i j e ≡ guess f k
-  same k i j e f h p q r =
-      ap₂ (λ (x y : Float). leaned x y w e) (read old i (omega arith) ∙ ap (double old) p) (read old j (omega arith) ∙ ap (double old) q)
-      ∙ ap (leaned (double old (from + k)) (double old (from + (4 + k))) w) r
-
-  pub stepped : (a b c d e f g h : Float)
-      → a ≡ guessed from (from + 4) raised → b ≡ guessed (from + 1) (from + 5) raised → c ≡ guessed (from + 2) (from + 6) raised → d ≡ guessed (from + 3) (from + 7) raised
-      → e ≡ guessed from (from + 4) lowered → f ≡ guessed (from + 1) (from + 5) lowered → g ≡ guessed (from + 2) (from + 6) lowered → h ≡ guessed (from + 3) (from + 7) lowered
-      → Stepped old (put old to a b c d) from to w ((eq a e && eq b f) && (eq c g && eq d h))
-  stepped a b c d e f g h a-is b-is c-is d-is e-is f-is g-is h-is = record {
-    long = put-long old to a b c d;
-    done = four (λ k. double (put old to a b c d) (to + k) ≡ guess above k)
-        (ap (double (put old to a b c d)) (add-zero to) ∙ put-0 old to a b c d room ∙ a-up) (put-1 old to a b c d room ∙ b-up)
-        (put-2 old to a b c d room ∙ c-up) (put-3 old to a b c d room ∙ d-up);
-    rest = put-rest old to a b c d;
-    sure = λ t. four (λ k. eq (guess above k) (guess below k) ≡ true)
-        (sym (ap₂ eq a-up (e-is ∙ same 0 _ _ lowered below (lit≤ tt) (omega arith) refl lowered-is)) ∙ and-left (eq a e) (eq b f) (front t))
-        (sym (ap₂ eq b-up (f-is ∙ same 1 _ _ lowered below (lit≤ tt) refl refl lowered-is)) ∙ and-right (eq a e) (eq b f) (front t))
-        (sym (ap₂ eq c-up (g-is ∙ same 2 _ _ lowered below (lit≤ tt) refl refl lowered-is)) ∙ and-left (eq c g) (eq d h) (back t))
-        (sym (ap₂ eq d-up (h-is ∙ same 3 _ _ lowered below (lit≤ tt) refl refl lowered-is)) ∙ and-right (eq c g) (eq d h) (back t));
-  }
+  pub sure-six : {new : List Float} {to : ℕ} (a b c d e f g h i j k l : Float) → Placed old new to (among a b c d e f)
+      → a ≡ guess raised 0 → b ≡ guess raised 1 → c ≡ guess raised 2 → d ≡ guess raised 3 → e ≡ guess raised 4 → f ≡ guess raised 5
+      → g ≡ guess lowered 0 → h ≡ guess lowered 1 → i ≡ guess lowered 2 → j ≡ guess lowered 3 → k ≡ guess lowered 4 → l ≡ guess lowered 5
+      → (((eq a g && eq b h) && (eq c i && eq d j)) && (eq e k && eq f l)) ≡ true
+      → Stepped old new to (here old from) (after old from) (gap .low) (gap .high) s t
+  sure-six a b c d e f g h i j k l p a-is b-is c-is d-is e-is f-is g-is h-is i-is j-is k-is l-is sure =
+      made (here old from) (after old from) (gap .low) (gap .high) s t p
+      (six (λ n. Between (here old from n) (after old from n) (natAbs (ofTwo n s t -ℤ gap .low)) (natAbs (gap .high -ℤ gap .low)) (among a b c d e f n))
+      (one a g a-is g-is (and-left (eq a g) (eq b h) x)) (other b h b-is h-is (and-right (eq a g) (eq b h) x))
+      (one c i c-is i-is (and-left (eq c i) (eq d j) y)) (other d j d-is j-is (and-right (eq c i) (eq d j) y))
+      (one e k e-is k-is (and-left (eq e k) (eq f l) z)) (other f l f-is l-is (and-right (eq e k) (eq f l) z)))
     where
-      a-up : a ≡ guess above 0
-      a-up = a-is ∙ same 0 from (from + 4) raised above (lit≤ tt) (omega arith) refl raised-is
+      one : {u v : Float} (m n : Float) → m ≡ leaned u v (gap .first) raised → n ≡ leaned u v (gap .first) lowered → eq m n ≡ true
+          → Between u v (natAbs (s -ℤ gap .low)) (natAbs (gap .high -ℤ gap .low)) m
+      one {u} {v} m n = guessed u v (gap .first) m n (fair .one) (fair .first)
 
-      b-up : b ≡ guess above 1
-      b-up = b-is ∙ same 1 (from + 1) (from + 5) raised above (lit≤ tt) refl refl raised-is
+      other : {u v : Float} (m n : Float) → m ≡ leaned u v (gap .second) raised → n ≡ leaned u v (gap .second) lowered → eq m n ≡ true
+          → Between u v (natAbs (t -ℤ gap .low)) (natAbs (gap .high -ℤ gap .low)) m
+      other {u} {v} m n = guessed u v (gap .second) m n (fair .other) (fair .second)
 
-      c-up : c ≡ guess above 2
-      c-up = c-is ∙ same 2 (from + 2) (from + 6) raised above (lit≤ tt) refl refl raised-is
+      xy : ((eq a g && eq b h) && (eq c i && eq d j)) ≡ true
+      xy = and-left ((eq a g && eq b h) && (eq c i && eq d j)) (eq e k && eq f l) sure
 
-      d-up : d ≡ guess above 3
-      d-up = d-is ∙ same 3 (from + 3) (from + 7) raised above (lit≤ tt) refl refl raised-is
+      x : (eq a g && eq b h) ≡ true
+      x = and-left (eq a g && eq b h) (eq c i && eq d j) xy
 
-      front : ((eq a e && eq b f) && (eq c g && eq d h)) ≡ true → (eq a e && eq b f) ≡ true
-      front t = and-left (eq a e && eq b f) (eq c g && eq d h) t
+      y : (eq c i && eq d j) ≡ true
+      y = and-right (eq a g && eq b h) (eq c i && eq d j) xy
 
-      back : ((eq a e && eq b f) && (eq c g && eq d h)) ≡ true → (eq c g && eq d h) ≡ true
-      back t = and-right (eq a e && eq b f) (eq c g && eq d h) t
+      z : (eq e k && eq f l) ≡ true
+      z = and-right ((eq a g && eq b h) && (eq c i && eq d j)) (eq e k && eq f l) sure

@@ -1,49 +1,136 @@
--- The weights of a direction: a Bezier segment has one, and every gap is in range.
-use mathlib.Core.Path.{_≡_}
-use mathlib.Core.Bool.{false}
-use mathlib.Core.List.{List}
-use Prim.Native.Nat.{ℕ, suc, _≤_, _<_}
-use native.Mathlib.Decide.{decLe}
+-- The gaps of a direction: each point lies in its gap, two points of one segment or span in the same, and a Bezier segment has one.
+use mathlib.Core.Path.{_≡_, sym, ap, ap₂, _∙_, subst₂}
+use mathlib.Core.Bool.{Bool, true, false, cond}
+use mathlib.Core.List.{List, [], _∷_}
+use mathlib.Core.Logic.{⊎-elim}
+use Prim.Native.Nat.{ℕ, suc, _+_, _-_, _≤_, _<_}
 use native.Mathlib.Omega.{arith}
 use lib.Dec.{eqb}
-use lib.ListN.{length, List·getD-eq-default}
-use lib.IntN.{ℤ, pos, negℤ}
+use lib.IntN.{ℤ, pos, natAbs, _+ℤ_, _-ℤ_}
+use lib.Signed.{_≤ℤ_, _<ℤ_}
+use lib.Ieee.{Float}
 use Rattle.whole.specs.Round.{Small}
-use Rattle.whole.proofs.IntLaws.{abs-+, abs-neg}
-use Rattle.curves.specs.Directions.{Basis, bezier, bspline, by, Direction, at}
+use Rattle.whole.proofs.Order.{up, up-le, up-abs, up-trans, lt-or-le}
+use Rattle.whole.proofs.Ring.{ring, _⊕_, _⊝_, _≐_}
+use Rattle.doubles.specs.Doubles.{weightOf}
+use Rattle.curves.specs.Directions.{Basis, bezier, bspline, by, Direction, at, span, chosen, Rules}
 use Rattle.curves.specs.Sampled.{lowAt, highAt, partAt, gapAt}
-use Rattle.rows.specs.Places.{direction, Sound}
+use Rattle.curves.proofs.Chosen.{segment-holds}
+use Rattle.curves.proofs.Samplers.{span-on, step-parts}
+use Rattle.curves.proofs.SplineScheme as spline
+use Rattle.rows.specs.Places.{direction, On}
 use Rattle.rows.specs.declared.Along.{Along}
-use Rattle.guess.specs.Steps.{weightAt}
+use Rattle.rows.proofs.Places.{part-is, gap-is}
+use Rattle.guess.specs.Places.{ofTwo, second}
+use Rattle.guess.specs.Steps.{Within, Parted}
+use Rattle.guess.specs.declared.Gap.{Gap}
 
-pub one-weight : (a : Along) (x : List ℤ) (t : ℤ) → eqb (a .basis) 2 ≡ false → (r j : ℕ) → weightAt (direction a x) t 0 0 ≡ weightAt (direction a x) t r j
-unfolding partAt gapAt lowAt highAt
-one-weight a x t e r j = rw e
+-- ---- the order, from a difference
+less-eq : (a b : ℤ) (n : ℕ) → b -ℤ a ≡ pos n → a ≤ℤ b
+less-eq a b n e = up-le (record { by = n; same = ring (a ∷ b ∷ []) (λ a b. b ≐ a ⊕ (b ⊝ a)) tt ∙ ap (λ (z : ℤ). a +ℤ z) e })
 
--- ---- the gaps: a parameter is small, and what stands for one that is not there
-small-at : (x : List ℤ) → ((i : ℕ) → i < length x → Small (at x i)) → (i : ℕ) → Small (at x i)
-small-at x h i = go (decLe (suc i) (length x))
+less : (a b : ℤ) (n : ℕ) → b -ℤ a ≡ pos n → 0 < n → a <ℤ b
+less a b n e h = ⊎-elim (λ l. l) (λ l. absurd (none (up-abs (up l)))) (lt-or-le a b)
   where
-    go : Dec (suc i ≤ length x) → Small (at x i)
-    go (yes l) = h i l
-    go (no l) = rw (List·getD-eq-default x (pos 0) {n = i} (omega arith)) (omega arith)
+    none : a -ℤ b ≡ pos (natAbs (a -ℤ b)) → ⊥
+    none f =
+        let z : pos (n + natAbs (a -ℤ b)) ≡ pos 0 = sym (ap₂ _+ℤ_ e f) ∙ ring (a ∷ b ∷ []) (λ a b. b ⊝ a ⊕ (a ⊝ b) ≐ a ⊝ a) tt ∙ ring (a ∷ pos 0 ∷ []) (λ a z. a ⊝ a ≐ z ⊝ z) tt in
+        let w : n + natAbs (a -ℤ b) ≡ 0 = ap natAbs z in
+        omega arith
 
-small-by : (b : Basis) (y z : ℤ) → Small y → Small z → Small (by b y z)
-small-by bezier y z h k = h
-small-by bspline y z h k = k
+ways-of : (b : Basis) (n k : ℕ) (x : List ℤ) (t : ℤ) → (let d : Direction = record { basis = b; degree = n; controls = k; parameters = x } in
+    Rules d t → (r j : ℕ) → r < n → j ≤ r → (t -ℤ lowAt d t r j ≡ pos (partAt d t r j)) × (highAt d t r j -ℤ lowAt d t r j ≡ pos (gapAt d t r j)))
+unfolding Rules partAt gapAt lowAt highAt chosen
+ways-of bezier n k x t o r j h l = let s = segment-holds o in (up-abs (up (s .low)), up-abs (up-trans (up (s .low)) (up (s .high))))
+ways-of bspline n k x t o r j h l = (spline.part-is (at x) t (span (at x) n k t) n (span-on o) r j h l, spline.gap-is (at x) t (span (at x) n k t) n (span-on o) r j h l)
 
-module _ (d : Direction) (t : ℤ) (h : (i : ℕ) → Small (at (d .parameters) i)) (r j : ℕ) where
-  low-small : Small (lowAt d t r j)
+module _ (d : Direction) (t : ℤ) (o : Rules d t) (r j : ℕ) (h : r < d .degree) (l : j ≤ r) where
+  ways : (t -ℤ lowAt d t r j ≡ pos (partAt d t r j)) × (highAt d t r j -ℤ lowAt d t r j ≡ pos (gapAt d t r j))
+  ways = ways-of (d .basis) (d .degree) (d .controls) (d .parameters) t o r j h l
+
+  pub low-upto : lowAt d t r j ≤ℤ t
+  low-upto = less-eq (lowAt d t r j) t (partAt d t r j) (ways .0)
+
+  pub low-below : lowAt d t r j <ℤ highAt d t r j
+  low-below = less (lowAt d t r j) (highAt d t r j) (gapAt d t r j) (ways .1) (step-parts d t o r j h l .1)
+
+  pub within : Small (lowAt d t r j) → Small (highAt d t r j) → Small t → Within (lowAt d t r j) (highAt d t r j) t
+  unfolding partAt gapAt
+  within u v w = let p = step-parts d t o r j h l in record { part = p .0; wide = p .1; low-small = u; high-small = v; here = w }
+
+-- ---- two points of one segment or span
+module _ (d : Direction) (s t : ℤ) (e : chosen d s ≡ chosen d t) (r j : ℕ) where
+  pub same-low : lowAt d s r j ≡ lowAt d t r j
   unfolding lowAt
-  low-small = small-by (d .basis) _ _ (h _) (h _)
+  same-low = ap (λ (g : ℕ). by (d .basis) (at (d .parameters) g) (at (d .parameters) (g + j - r))) e
 
-  high-small : Small (highAt d t r j)
+  pub same-high : highAt d s r j ≡ highAt d t r j
   unfolding highAt
-  high-small = small-by (d .basis) _ _ (h _) (h _)
+  same-high = ap (λ (g : ℕ). by (d .basis) (at (d .parameters) (suc g)) (at (d .parameters) (suc (g + j)))) e
 
-  gap-small : gapAt d t r j ≤ 4000000000
-  unfolding gapAt
-  gap-small = omega (arith, low-small, high-small, abs-+ (highAt d t r j) (negℤ (lowAt d t r j)), abs-neg (lowAt d t r j))
+-- ---- the gap that is made
+module _ {a : Along} {x : List ℤ} {s t : ℤ} {g : ℕ} (o : On a x s g) (q : On a x t g) (r j : ℕ) (h : r < a .degree) (l : j ≤ r) (low high : ℤ) (lows : low ≡ lowAt (direction a x) s r j) (highs : high ≡ highAt (direction a x) s r j) where
+  abbrev d : Direction
+  d = direction a x
 
-pub gap-most : {a : Along} {x : List ℤ} {t : ℤ} → Sound a x t → (r j : ℕ) → gapAt (direction a x) t r j ≤ 4000000000
-gap-most {a} {x} {t} s r j = gap-small (direction a x) t (small-at x (s .small)) r j
+  chosen-same : chosen d s ≡ chosen d t
+  chosen-same = sym (o .is) ∙ q .is
+
+  low-other : low ≡ lowAt d t r j
+  low-other = lows ∙ same-low d s t chosen-same r j
+
+  high-other : high ≡ highAt d t r j
+  high-other = highs ∙ same-high d s t chosen-same r j
+
+  pub upto : (low ≤ℤ s) × (low <ℤ high)
+  upto = rw (lows, highs) (low-upto d s (o .sound .rules) r j h l, low-below d s (o .sound .rules) r j h l)
+
+  pub other-upto : (low ≤ℤ t) × (low <ℤ high)
+  other-upto = rw (low-other, high-other) (low-upto d t (q .sound .rules) r j h l, low-below d t (q .sound .rules) r j h l)
+
+  pub parted : Small low → Small high → (v w : Float) → v ≡ weightOf (natAbs (s -ℤ low)) (natAbs (high -ℤ low)) → w ≡ weightOf (natAbs (t -ℤ low)) (natAbs (high -ℤ low))
+      → Parted d s t r j (record { low = low; high = high; first = v; second = w })
+  parted small large v w first second = record {
+    low = lows;
+    high = highs;
+    fair = record {
+      one = subst₂ (λ (a b : ℤ). Within a b s) (sym lows) (sym highs) (within d s (o .sound .rules) r j h l (rw lows at small) (rw highs at large) (o .sound .here));
+      other = subst₂ (λ (a b : ℤ). Within a b t) (sym low-other) (sym high-other) (within d t (q .sound .rules) r j h l (rw low-other at small) (rw high-other at large) (q .sound .here));
+      first = first;
+      second = second;
+    };
+  }
+
+-- a Bezier segment has one gap
+one-low : (a : Along) (x : List ℤ) (s : ℤ) → eqb (a .basis) 2 ≡ false → (r j : ℕ) → lowAt (direction a x) s 0 0 ≡ lowAt (direction a x) s r j
+unfolding lowAt
+one-low a x s e r j = rw e
+
+one-high : (a : Along) (x : List ℤ) (s : ℤ) → eqb (a .basis) 2 ≡ false → (r j : ℕ) → highAt (direction a x) s 0 0 ≡ highAt (direction a x) s r j
+unfolding highAt
+one-high a x s e r j = rw e
+
+pub one-gap : (a : Along) (x : List ℤ) (s t : ℤ) → eqb (a .basis) 2 ≡ false → (r j : ℕ) (g : Gap) → Parted (direction a x) s t 0 0 g → Parted (direction a x) s t r j g
+one-gap a x s t e r j g p = record { low = p .low ∙ one-low a x s e r j; high = p .high ∙ one-high a x s e r j; fair = p .fair }
+
+-- ---- the parts and the gap of either point, from the gap that they share
+module _ {a : Along} {x : List ℤ} {s t : ℤ} {c : ℕ} (o : On a x s c) (q : On a x t c) {r j : ℕ} {g : Gap} (p : Parted (direction a x) s t r j g) where
+  abbrev dir : Direction
+  dir = direction a x
+
+  same : chosen dir s ≡ chosen dir t
+  same = sym (o .is) ∙ q .is
+
+  pub part-of : (k : ℕ) → natAbs (ofTwo k s t -ℤ g .low) ≡ partAt dir (ofTwo k s t) r j
+  part-of k = go (second k)
+    where
+      go : (b : Bool) → natAbs (cond b t s -ℤ g .low) ≡ partAt dir (cond b t s) r j
+      go false = ap (λ (z : ℤ). natAbs (s -ℤ z)) (p .low) ∙ part-is dir s r j
+      go true = ap (λ (z : ℤ). natAbs (t -ℤ z)) (p .low ∙ same-low dir s t same r j) ∙ part-is dir t r j
+
+  pub gap-from : (k : ℕ) → natAbs (g .high -ℤ g .low) ≡ gapAt dir (ofTwo k s t) r j
+  gap-from k = go (second k)
+    where
+      go : (b : Bool) → natAbs (g .high -ℤ g .low) ≡ gapAt dir (cond b t s) r j
+      go false = ap₂ (λ (y z : ℤ). natAbs (y -ℤ z)) (p .high) (p .low) ∙ gap-is dir s r j
+      go true = ap₂ (λ (y z : ℤ). natAbs (y -ℤ z)) (p .high ∙ same-high dir s t same r j) (p .low ∙ same-low dir s t same r j) ∙ gap-is dir t r j

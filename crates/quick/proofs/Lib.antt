@@ -1,1 +1,3 @@
-pub mod Laid
+pub mod Laying
+pub mod Making
+pub mod Rowing

@@ -1,5 +1,5 @@
 -- The controls of an element, from a table of vertices (or of parameter vertices) and its corners.
-use mathlib.Core.Bool.{true, false}
+use mathlib.Core.Bool.{true, false, cond}
 use mathlib.Core.List.{List}
 use mathlib.Core.Path.{_≡_}
 use Prim.Native.Nat.{ℕ, _+_, _*_, _-_, _≤_, _<_}
@@ -24,6 +24,10 @@ pub record Held (values : List ℤ) (corners : List ℕ) (first from end : ℕ) 
   pub named : (i : ℕ) → from ≤ i → i < end → 1 ≤ vertexOf corners first i
   pub there : (i : ℕ) → from ≤ i → i < end → vWidth * (vertexOf corners first i - 1) + vWidth ≤ length values
   pub small : (i k : ℕ) → from ≤ i → i < end → k < vWidth → Small (controlAt values corners first k i)
+
+-- the first of the controls that a point in segment or span g is made from
+abbrev pub firstOf : Along → (g : ℕ) → ℕ
+firstOf a g = cond (eqb (a .basis) 2) (g - a .degree) (g * a .degree)
 
 -- the first control of the chosen segment or span is there
 pub record Reached (a : Along) (g : ℕ) : Type 0 where

@@ -1,13 +1,11 @@
 ghost use mathlib.Core.Path.{_≡_};
-ghost use mathlib.Core.Bool.{cond};
-ghost use Prim.Native.Nat.{_+_, _*_, _-_, _≤_, _<_};
-ghost use lib.Dec.{eqb};
+ghost use Prim.Native.Nat.{_+_, _*_, _≤_, _<_};
 ghost use lib.ListN.{length};
 ghost use Rattle.whole.specs.Round.{Small};
 ghost use Rattle.curves.specs.Sampled.{curveSampled, surfaceSampled};
 ghost use Rattle.rows.specs.Places.{direction, On};
 ghost use Rattle.rows.specs.Rows.{Gathered};
-ghost use Rattle.rows.specs.Controls.{controlAt, Held, Reached};
+ghost use Rattle.rows.specs.Controls.{controlAt, Held, firstOf, Reached};
 use crate::Along;
 use crate::Row;
 use crate::pyramid;
@@ -45,7 +43,7 @@ fn gather(
 // The first of the n + 1 controls that a point is made from.
 pub fn first_control(along: Along, chosen: usize) -> usize
     requires { ⌜ Reached along chosen ⌝ }
-    ensures { λ r. ⌜ r ≡ cond (eqb (along .basis) 2) (chosen - along .degree) (chosen * along .degree) ⌝ }
+    ensures { λ r. ⌜ r ≡ firstOf along chosen ⌝ }
 {
     if along.basis == 2 {
         return chosen - along.degree;

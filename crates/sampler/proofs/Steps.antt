@@ -1,16 +1,19 @@
 -- The parameters of a run: the part is at most the whole way, and never less at a later step.
 use mathlib.Core.Path.{_≡_, refl, sym, ap, _∙_}
-use mathlib.Core.List.{[], _∷_}
-use Prim.Native.Nat.{ℕ, suc, _+_, _*_, _-_, _/_, _≤_, _<_}
+use mathlib.Core.List.{List, [], _∷_}
+use Prim.Native.Nat.{ℕ, _+_, _*_, _-_, _/_, _≤_, _<_}
 use native.Mathlib.Nat.{mul-le-mul, mul-le-mul-left, mul-le-mul-right, div-le-of-le-mul, div-mul-le-self, le-div-iff-mul-le, le-trans}
 use native.Mathlib.Omega.{arith}
 use lib.Dec.{T, leb→le}
 use lib.IntN.{ℤ, pos, negsuc, natAbs, _+ℤ_, _-ℤ_, +ℤ-idr}
 use lib.Signed.{_≤ℤ_, leZ}
 use Rattle.whole.specs.Round.{Small}
-use Rattle.whole.proofs.Order.{Up, up, up-le, up-abs}
+use Rattle.whole.proofs.Order.{up, up-le, up-abs}
 use Rattle.whole.proofs.Ring.{ring, _⊕_, _⊝_, _≐_}
-use Rattle.sampler.specs.Runs.{parameterAt}
+use Rattle.rows.specs.Places.{Sound, On, Hint}
+use Rattle.rows.specs.declared.Along.{Along}
+use Rattle.rows.proofs.Searched.{followed}
+use Rattle.sampler.specs.Runs.{parameterAt, Ranged}
 
 pub part-within : (j w n : ℕ) → j ≤ n → j * w / n ≤ w
 part-within j w n h = div-le-of-le-mul n (mul-le-mul-right w h)
@@ -59,6 +62,18 @@ module _ (start end : ℤ) (o : start ≤ℤ end) (steps : ℕ) where
   unfolding parameterAt
   parameter-rises some i j h = further (part i) (part j) (le-div-iff-mul-le some .1 (le-trans (div-mul-le-self (i * way) steps) (mul-le-mul-right way h)))
 
+-- at each parameter of a run there is a segment or span, and the search for it goes on from any before
+module _ {a : Along} {x : List ℤ} {start end : ℤ} (r : Ranged a x start end) (steps : ℕ) where
+  pub run-sound : (j : ℕ) → j ≤ steps → Sound a x (parameterAt start end steps j)
+  run-sound j h = r .sound (parameterAt start end steps j) (parameter-from start end (r .ordered) steps j) (parameter-upto start end (r .ordered) steps j h)
+
+  pub run-hint : 0 < steps → {i j g : ℕ} → i ≤ j → On a x (parameterAt start end steps i) g → Hint a x (parameterAt start end steps j) g (g + 1)
+  run-hint some {i} {j} h o = followed o (parameter-rises start end (r .ordered) steps some i j h)
+
 -- the point j of a run of n steps has its place
 pub room : (w j n : ℕ) → j ≤ n → w * j + w ≤ w * (n + 1)
 room w j n h = omega (arith, mul-le-mul-left w h)
+
+-- fewer points are left
+pub nearer : (n j k : ℕ) → j ≤ k → k ≤ n → n + 1 - (k + 1) < n + 1 - j
+nearer n j k h r = omega arith

@@ -1,5 +1,6 @@
 -- What a run has written stands before what the slice held from there on.
 use mathlib.Core.Path.{_≡_, refl, sym, ap, ap₂, _∙_}
+use mathlib.Core.Logic.{_⊎_, inl, inr}
 use mathlib.Core.List.{List, [], _∷_, _++_, append-assoc, append-nil}
 use Prim.Native.Nat.{ℕ, zero, suc, _+_, _*_, _-_, _≤_, _<_}
 use native.Mathlib.Numerals.{add-one}
@@ -15,9 +16,8 @@ use Rattle.whole.proofs.Bits.{read-back-small}
 use Rattle.curves.specs.Sampled.{curveSampled}
 use Rattle.rows.specs.Places.{direction}
 use Rattle.rows.specs.Controls.{controlAt}
-use Rattle.sampler.specs.Runs.{joined, listed, numberOf, parameterAt, pointAt, pointsUpto}
+use Rattle.sampler.specs.Runs.{joined, listed, coordinateOf, pointAt}
 use Rattle.rows.specs.declared.Along.{Along}
-use Rattle.rows.proofs.Grids.{from-first}
 use Rattle.quick.specs.Points.{curveNumber, CurvePoint}
 use Rattle.quick.specs.declared.Point.{Point}
 
@@ -36,11 +36,11 @@ stored f l k z h e =
 
 -- two, and three
 module _ (l : List ℤ) (x y z : ℤ) where
-  pub two-stored : 2 ≤ length l → set (set l 0 x) 1 y ≡ listed 2 (numberOf x y z) ++ drop 2 l
-  two-stored h = ap (λ (q : List ℤ). set q 1 y) (stored (numberOf x y z) l 0 x (omega arith) refl) ∙ stored (numberOf x y z) l 1 y (omega arith) refl
+  pub two-stored : 2 ≤ length l → set (set l 0 x) 1 y ≡ listed 2 (coordinateOf x y z) ++ drop 2 l
+  two-stored h = ap (λ (q : List ℤ). set q 1 y) (stored (coordinateOf x y z) l 0 x (omega arith) refl) ∙ stored (coordinateOf x y z) l 1 y (omega arith) refl
 
-  pub three-stored : 3 ≤ length l → set (set (set l 0 x) 1 y) 2 z ≡ listed 3 (numberOf x y z) ++ drop 3 l
-  three-stored h = ap (λ (q : List ℤ). set q 2 z) (two-stored (omega arith)) ∙ stored (numberOf x y z) l 2 z (omega arith) refl
+  pub three-stored : 3 ≤ length l → set (set (set l 0 x) 1 y) 2 z ≡ listed 3 (coordinateOf x y z) ++ drop 3 l
+  three-stored h = ap (λ (q : List ℤ). set q 2 z) (two-stored (omega arith)) ∙ stored (coordinateOf x y z) l 2 z (omega arith) refl
 
 -- one point more: what was written before, then the point, then the rest
 pub pasted : (f : ℕ → List ℤ) (l : List ℤ) (w j : ℕ) {now rest : List ℤ} → ((i : ℕ) → length (f i) ≡ w)
@@ -55,12 +55,12 @@ pasted f l w j {now} {rest} h a b =
     rw (add-one, t, r) (sym (append-assoc (joined j f) (f j) (drop (w * suc j) l)))
 
 -- the same where the slice's part from there on was lent
-pub lent-pasted : (f : ℕ → List ℤ) (l : List ℤ) (w j : ℕ) {now last : List ℤ} → ((i : ℕ) → length (f i) ≡ w) → w * j ≤ length now
-    → now ≡ joined j f ++ drop (w * j) l → last ≡ f j ++ drop w (take (length now - w * j) (drop (w * j) now))
+pub lent-pasted : (f : ℕ → List ℤ) (l : List ℤ) (w j : ℕ) {now last point : List ℤ} → ((i : ℕ) → length (f i) ≡ w) → w * j ≤ length now
+    → now ≡ joined j f ++ drop (w * j) l → last ≡ point ++ drop w (take (length now - w * j) (drop (w * j) now)) → point ≡ f j
     → putMid (w * j) (length now - w * j) now last ≡ joined (j + 1) f ++ drop (w * (j + 1)) l
-lent-pasted f l w j {now} {last} h r a b =
+lent-pasted f l w j {now} {last} {point} h r a b p =
     ap (λ (q : List ℤ). take (w * j) now ++ (last ++ q)) none ∙ ap (λ (q : List ℤ). take (w * j) now ++ q) (append-nil last)
-    ∙ pasted f l w j h a (b ∙ ap (λ (q : List ℤ). f j ++ drop w q) every)
+    ∙ pasted f l w j h a (b ∙ ap₂ (λ (q r : List ℤ). q ++ drop w r) p every)
   where
     rest : length (drop (w * j) now) ≡ length now - w * j
     rest = length-drop (w * j) now
@@ -70,6 +70,21 @@ lent-pasted f l w j {now} {last} h r a b =
 
     none : drop (length now - w * j) (drop (w * j) now) ≡ []
     none = ap (λ (k : ℕ). drop k (drop (w * j) now)) (sym rest) ∙ drop-length (drop (w * j) now)
+
+-- the point after the last that was written, or that one once more
+pub lent-next : (f : ℕ → List ℤ) (l : List ℤ) (w j k : ℕ) {now last point : List ℤ} → ((i : ℕ) → length (f i) ≡ w) → (k ≡ j) ⊎ (k ≡ j + 1) → w * k ≤ length now
+    → now ≡ joined (j + 1) f ++ drop (w * (j + 1)) l → last ≡ point ++ drop w (take (length now - w * k) (drop (w * k) now)) → point ≡ f k
+    → putMid (w * k) (length now - w * k) now last ≡ joined (k + 1) f ++ drop (w * (k + 1)) l
+lent-next f l w j k {now} {last} h (inr e) r a b p = lent-pasted f l w k h r (a ∙ ap (λ (i : ℕ). joined i f ++ drop (w * i) l) (sym e)) b p
+lent-next f l w j k {now} {last} h (inl e) r a b p =
+    lent-pasted f now w k h r (apart ∙ ap (λ (q : List ℤ). joined k f ++ q) (sym (ap (drop (w * k)) apart ∙ drop-at (joined k f) _ (w * k) (joined-length w k f h)))) b p
+    ∙ ap (λ (q : List ℤ). joined (k + 1) f ++ q) (ap (drop (w * (k + 1))) upto ∙ drop-at (joined (k + 1) f) _ (w * (k + 1)) (joined-length w (k + 1) f h))
+  where
+    upto : now ≡ joined (k + 1) f ++ drop (w * (k + 1)) l
+    upto = a ∙ ap (λ (i : ℕ). joined (i + 1) f ++ drop (w * (i + 1)) l) (sym e)
+
+    apart : now ≡ joined k f ++ (f k ++ drop (w * (k + 1)) l)
+    apart = rw add-one ((rw add-one at upto) ∙ append-assoc (joined k f) (f k) (drop (w * suc k) l))
 
 pub run-length : (f : ℕ → List ℤ) (l : List ℤ) (w j : ℕ) → ((i : ℕ) → length (f i) ≡ w) → w * j ≤ length l → length (joined j f ++ drop (w * j) l) ≡ length l
 run-length f l w j h k =
@@ -81,16 +96,16 @@ unfolding pointAt
 point-length values corners first axis axes along x t = listed-length axes (λ k. curveSampled (direction along x) t (controlAt values corners first (axis + k)))
 
 -- a point's coordinates, each as it is read back, are the definition's
-module _ (values : List ℤ) (corners : List ℕ) (first axis : ℕ) (along : Along) (x : List ℤ) (t : ℤ) {p : Point} (h : CurvePoint values corners first 0 axis (direction along x) t p) where
+module _ (values : List ℤ) (corners : List ℕ) (first axis : ℕ) (along : Along) (x : List ℤ) (t : ℤ) {p : Point} (h : CurvePoint values corners first axis (direction along x) t p) where
   abbrev number : ℕ → ℤ
   number k = curveSampled (direction along x) t (controlAt values corners first (axis + k))
 
-  from-axis : (z : ℤ) (k m : ℕ) → Small z → z ≡ curveNumber values corners first 0 (direction along x) t m → m ≡ axis + k → toZ w32 (ofZ w32 z) ≡ number k
+  from-axis : (z : ℤ) (k m : ℕ) → Small z → z ≡ curveNumber values corners first (direction along x) t m → m ≡ axis + k → toZ w32 (ofZ w32 z) ≡ number k
   from-axis z k m s e q =
-      read-back-small z s ∙ e ∙ from-first (direction along x) t values corners first m ∙ ap (λ (i : ℕ). curveSampled (direction along x) t (controlAt values corners first i)) q
+      read-back-small z s ∙ e ∙ ap (λ (i : ℕ). curveSampled (direction along x) t (controlAt values corners first i)) q
 
   pub point-written : (axes : ℕ) → 2 ≤ axes → axes ≤ 3
-      → listed axes (numberOf (toZ w32 (ofZ w32 (p .x))) (toZ w32 (ofZ w32 (p .y))) (toZ w32 (ofZ w32 (p .z)))) ≡ pointAt values corners first axis axes along x t
+      → listed axes (coordinateOf (toZ w32 (ofZ w32 (p .x))) (toZ w32 (ofZ w32 (p .y))) (toZ w32 (ofZ w32 (p .z)))) ≡ pointAt values corners first axis axes along x t
   unfolding pointAt
   point-written axes l m = each axes l m
     where
@@ -103,15 +118,9 @@ module _ (values : List ℤ) (corners : List ℕ) (first axis : ℕ) (along : Al
       ez : toZ w32 (ofZ w32 (p .z)) ≡ number 2
       ez = from-axis (p .z) 2 (axis + 2) (h .z-small) (h .z-is) refl
 
-      each : (n : ℕ) → 2 ≤ n → n ≤ 3 → listed n (numberOf (toZ w32 (ofZ w32 (p .x))) (toZ w32 (ofZ w32 (p .y))) (toZ w32 (ofZ w32 (p .z)))) ≡ listed n number
+      each : (n : ℕ) → 2 ≤ n → n ≤ 3 → listed n (coordinateOf (toZ w32 (ofZ w32 (p .x))) (toZ w32 (ofZ w32 (p .y))) (toZ w32 (ofZ w32 (p .z)))) ≡ listed n number
       each zero l m = absurd (let b : ⊥ = omega arith in b)
       each (suc zero) l m = absurd (let b : ⊥ = omega arith in b)
       each (suc (suc zero)) l m = λ i. ex i ∷ ey i ∷ []
       each (suc (suc (suc zero))) l m = λ i. ex i ∷ ey i ∷ ez i ∷ []
       each (suc (suc (suc (suc n)))) l m = absurd (let b : ⊥ = omega arith in b)
-
-pub upto-is : (values : List ℤ) (corners : List ℕ) (first axis axes : ℕ) (along : Along) (x : List ℤ) (start end : ℤ) (steps j : ℕ)
-    → pointsUpto values corners first axis axes along x start end steps j
-    ≡ joined j (λ i. pointAt values corners first axis axes along x (parameterAt start end steps i))
-unfolding pointsUpto
-upto-is values corners first axis axes along x start end steps j = refl

@@ -22,10 +22,10 @@ abbrev pub listed : ℕ → (ℕ → ℤ) → List ℤ
 listed n f = joined n (λ i. f i ∷ [])
 
 -- number k of a point
-abbrev pub numberOf : (x y z : ℤ) → ℕ → ℤ
-numberOf x y z zero = x
-numberOf x y z (suc zero) = y
-numberOf x y z (suc (suc k)) = z
+abbrev pub coordinateOf : (x y z : ℤ) → ℕ → ℤ
+coordinateOf x y z zero = x
+coordinateOf x y z (suc zero) = y
+coordinateOf x y z (suc (suc k)) = z
 
 -- the coordinates of one point, from number `axis` of each vertex on
 unfoldable pub pointAt : List ℤ → List ℕ → (first axis axes : ℕ) → Along → List ℤ → (t : ℤ) → List ℤ

@@ -25,12 +25,11 @@ pub fn curve_point(
     ensures { λ r. ⌜ r ≡ pointBy kind (now (v .entry)) (now (vp .entry)) (now (corners .entry)) first along (now (x .entry)) t ⌝ }
 {
     let chosen = find(x, along, t);
-    let mut rows = [0.0; 168];
     if kind == 5 {
-        let p = quick::curve_point(&mut rows, vp, corners, first, 0, 1, x, along, t, chosen);
+        let p = quick::curve_point(vp, corners, first, 1, x, along, chosen, t);
         return Sampled::Plane { u: p.x, v: p.y };
     }
-    let p = quick::curve_point(&mut rows, v, corners, first, 0, 0, x, along, t, chosen);
+    let p = quick::curve_point(v, corners, first, 0, x, along, chosen, t);
     Sampled::Space {
         x: p.x,
         y: p.y,

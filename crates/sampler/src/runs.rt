@@ -1,17 +1,19 @@
 ghost use mathlib.Core.Path.{_≡_};
 ghost use mathlib.Core.Bool.{cond};
+ghost use mathlib.Core.Logic.{_⊎_};
 ghost use mathlib.Core.List.{_++_};
 ghost use Prim.Native.Nat.{_+_, _*_, _≤_, _<_};
 ghost use lib.Dec.{eqb};
 ghost use lib.ListN.{length, drop};
 ghost use lib.Signed.{_≤ℤ_};
 ghost use Rattle.whole.specs.Round.{Small};
+ghost use Rattle.rows.specs.Places.{On};
 ghost use Rattle.rows.specs.Controls.{Held};
-ghost use Rattle.sampler.specs.Runs.{parameterAt, listed, numberOf, pointsUpto, Ranged};
+ghost use Rattle.sampler.specs.Runs.{parameterAt, listed, coordinateOf, pointsUpto, Ranged};
 ghost use Rattle.sampler.specs.Inner.{runBy, axesBy};
 use quick::follow;
 use quick::gather;
-use quick::gathered_point;
+use quick::gathered_pair;
 use rows::Along;
 use rows::search::find;
 use rows::search::search;
@@ -26,10 +28,39 @@ fn parameter_at(start: i32, end: i32, steps: u32, j: u32) -> i32
     (start as i64 + part as i64) as i32
 }
 
+// A point of a run and its parameter.
+struct Partner {
+    j: u32,
+    t: i32,
+}
+
+// The point that is made with point j: the next where it lies in the same segment or span, else point j itself.
+fn partner_of(
+    x: &[i32],
+    along: Along,
+    start: i32,
+    end: i32,
+    steps: u32,
+    chosen: usize,
+    j: u32,
+    s: i32,
+) -> Partner
+    requires { ⌜ Ranged along (now x) start end × (0 < steps) × (steps ≤ 65536) × (j ≤ steps) × (s ≡ parameterAt start end steps j) × On along (now x) s chosen ⌝ }
+    ensures { λ r. ⌜ ((r .j ≡ j) ⊎ (r .j ≡ j + 1)) × (r .j ≤ steps) × (r .t ≡ parameterAt start end steps (r .j)) × On along (now (x .entry)) (r .t) chosen ⌝ }
+{
+    if j < steps {
+        let t = parameter_at(start, end, steps, j + 1);
+        if search(x, along, t, chosen, chosen + 1) == chosen {
+            return Partner { j: j + 1, t };
+        }
+    }
+    Partner { j, t: s }
+}
+
 // A point's two or three coordinates, at the front of what is lent.
 fn write_point(points: &mut [i32], axes: usize, x: i32, y: i32, z: i32)
     requires { ⌜ (2 ≤ axes) × (axes ≤ 3) × (axes ≤ length (now points)) ⌝ }
-    ensures { λ r. ⌜ now (points .exit) ≡ listed axes (numberOf x y z) ++ drop axes (now (points .entry)) ⌝ }
+    ensures { λ r. ⌜ now (points .exit) ≡ listed axes (coordinateOf x y z) ++ drop axes (now (points .entry)) ⌝ }
 {
     points[0] = x;
     points[1] = y;
@@ -56,29 +87,39 @@ pub fn write_points(
     ensures { λ r. ⌜ now (points .exit) ≡ pointsUpto (now (values .entry)) (now (corners .entry)) first axis axes along (now (x .entry)) start end steps (steps + 1) ++ drop (axes * (steps + 1)) (now (points .entry)) ⌝ }
 {
     let mut chosen = find(x, along, start);
-    let mut rows = [0.0; 168];
-    gather(&mut rows, values, corners, first, 0, along, chosen);
+    let mut rows = [0.0; 252];
+    gather(&mut rows, values, corners, first, axis, along, chosen);
     let mut j = 0;
     while j <= steps {
-        let t = parameter_at(start, end, steps, j);
-        let next = search(x, along, t, chosen, chosen + 1);
-        follow(&mut rows, values, corners, first, 0, along, chosen, next);
+        let s = parameter_at(start, end, steps, j);
+        let next = search(x, along, s, chosen, chosen + 1);
+        follow(&mut rows, values, corners, first, axis, along, chosen, next);
         chosen = next;
-        let p = gathered_point(
+        let with = partner_of(x, along, start, end, steps, chosen, j, s);
+        let p = gathered_pair(
             &mut rows,
             values,
             corners,
             first,
-            0,
             axis,
             x,
             along,
-            t,
             chosen,
+            s,
+            with.t,
         );
         let at = axes * j as usize;
         write_point(&mut points[at..], axes, p.x, p.y, p.z);
-        j += 1;
+        let k = with.j;
+        let next_at = axes * k as usize;
+        write_point(
+            &mut points[next_at..],
+            axes,
+            p.other_x,
+            p.other_y,
+            p.other_z,
+        );
+        j = k + 1;
     }
 }
 
