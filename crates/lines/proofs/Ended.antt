@@ -15,8 +15,8 @@ use Rattle.text.specs.Rest.{Rest, restAt, wordAt, WordMet, EndMet, BadMet, gapI
 use Rattle.text.specs.declared.Met.{Met}
 use Rattle.text.specs.declared.Met.the-variants.{Start, End, Bad}
 use Rattle.text.proofs.LineByLine.{next-to}
-use Rattle.forms.specs.Said.{Said, says, wrong}
-use Rattle.forms.specs.Number.{numberOf}
+use Rattle.digits.specs.Said.{Said, says, wrong}
+use Rattle.decimals.specs.Number.{numberOf}
 use Rattle.tables.specs.Tables.{Tables}
 use Rattle.model.specs.Model as model
 use Rattle.model.specs.Model.{Model}
