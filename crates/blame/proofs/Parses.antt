@@ -11,9 +11,9 @@ use native.Mathlib.Omega.{arith}
 use borrow.Author.Tests.{ne-eqb, leb-true}
 use Rattle.lists.proofs.Tests.{and-left, and-right}
 use Rattle.text.specs.Words.{Word}
-use Rattle.forms.specs.Said.{Said, says, wrong}
-use Rattle.forms.specs.Said as said
-use Rattle.forms.specs.Digits.{natOf, negative, unminus}
+use Rattle.digits.specs.Said.{Said, says, wrong}
+use Rattle.digits.specs.Said as said
+use Rattle.digits.specs.Digits.{natOf, negative, unminus}
 use Rattle.forms.specs.Reference.{isReference, item, refer, referenceOf}
 use Rattle.keywords.specs.declared.Statement.{Statement}
 use Rattle.tables.specs.Bodies.{Basis, bezier, bspline, cardinal, taylor}

@@ -8,12 +8,12 @@ use lib.IntN.{ℤ}
 use borrow.Author.Tests.{eq-eqb, ne-eqb}
 use Rattle.text.specs.Words.{Word, wordOf}
 use Rattle.text.specs.Rest.{restAt, wordAt, endOf}
-use Rattle.forms.specs.Said.{Said, wrong, ended}
+use Rattle.digits.specs.Said.{Said, wrong, ended}
 use Rattle.forms.specs.Corner.{Corner, cornerOf}
 use Rattle.forms.specs.Answers.{saidCorner}
 use Rattle.forms.specs.declared.corner.CornerWord.{CornerWord}
 use Rattle.forms.specs.declared.corner.CornerWord.the-variants as corner
-use Rattle.forms.proofs.Saids.{ended-says, ended-wrong}
+use Rattle.digits.proofs.Saids.{ended-says, ended-wrong}
 use Rattle.keywords.specs.Keywords.{statementOf, keywordAt}
 use Rattle.keywords.specs.declared.Keyword.{Keyword}
 use Rattle.keywords.specs.declared.Statement.{Statement}

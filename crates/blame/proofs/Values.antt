@@ -9,10 +9,10 @@ use lib.Dec.{leb, eqb}
 use lib.IntN.{ℤ}
 use native.Mathlib.Omega.{arith}
 use Rattle.text.specs.Words.{Word}
-use Rattle.forms.specs.Said.{Said, says, wrong}
+use Rattle.digits.specs.Said.{Said, says, wrong}
 use Rattle.forms.specs.Corner.{Corner, cornerOf, agree, alike}
 use Rattle.forms.specs.Reference.{referenceOf}
-use Rattle.forms.specs.Number.{numberOf}
+use Rattle.decimals.specs.Number.{numberOf}
 use Rattle.model.specs.Parse.{Parsed, fine, fault, then, placed, valuesOf, saidOf, onSaid, Value, number, corner, cornersOf, WordForm, a-number, a-corner, a-control, Seen, differing, unlike, given, narrow}
 use Rattle.blame.specs.declared.rules.WordForm.the-variants as form
 use Rattle.blame.specs.declared.rules.Forms.the-variants as forms

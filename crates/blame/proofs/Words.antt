@@ -10,14 +10,14 @@ use lib.Signed.{ltZ}
 use native.Mathlib.Omega.{arith}
 use borrow.Author.Tests.{ltb-true, ltb-false, le-leb, lt-leb}
 use Rattle.text.specs.Words.{Word, wordOf}
-use Rattle.forms.specs.Said.{Said, says, wrong, ended}
+use Rattle.digits.specs.Said.{Said, says, wrong, ended}
 use Rattle.forms.specs.Corner.{Corner, agree}
 use Rattle.forms.specs.Answers.{saidCorner, saidReference}
 use Rattle.forms.specs.declared.corner.CornerWord.{CornerWord}
 use Rattle.forms.specs.declared.corner.CornerWord.the-variants as corner
 use Rattle.forms.specs.declared.reference.Reference.{Reference}
 use Rattle.forms.specs.declared.reference.Reference.the-variants as reference
-use Rattle.forms.proofs.Saids.{ended-says, ended-wrong}
+use Rattle.digits.proofs.Saids.{ended-says, ended-wrong}
 use Rattle.keywords.specs.Arguments.{argumentOf, argumentAt}
 use Rattle.keywords.specs.declared.Argument.{Argument}
 use Rattle.model.specs.Parse as parse

@@ -7,7 +7,7 @@ use lib.Dec.{leb, eqb}
 use lib.IntN.{ℤ, pos, natAbs}
 use Rattle.text.specs.Words.{Word, wordOf}
 use Rattle.text.specs.Rest.{restAt, endOf}
-use Rattle.forms.specs.Said.{Said, says, wrong}
+use Rattle.digits.specs.Said.{Said, says, wrong}
 use Rattle.forms.specs.Corner.{Corner, Counts, cornerOf, agree}
 use Rattle.forms.specs.Reference.{referenceOf}
 use Rattle.keywords.specs.Keywords.{statementOf}

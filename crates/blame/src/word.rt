@@ -1,9 +1,9 @@
 use crate::rules::WordForm;
+use decimals::number::Number;
+use digits::name::Name;
+use digits::whole::Whole;
 use forms::corner::CornerWord;
-use forms::name::Name;
-use forms::number::Number;
 use forms::reference::Reference;
-use forms::whole::Whole;
 use keywords::Argument;
 ghost use mathlib.Core.Path.{_≡_};
 ghost use mathlib.Core.Bool.{true};
@@ -13,10 +13,10 @@ ghost use lib.Dec.{leb};
 ghost use lib.IntN.{natAbs};
 ghost use Rattle.text.specs.Words.{wordOf};
 ghost use Rattle.text.specs.Rest.{wordAt};
-ghost use Rattle.forms.specs.Number.{numberOf};
+ghost use Rattle.decimals.specs.Number.{numberOf};
 ghost use Rattle.forms.specs.Reference.{referenceOf};
 ghost use Rattle.forms.specs.Corner.{cornerOf, agree};
-ghost use Rattle.forms.specs.Degree.{degreeOf, smoothingOf, nameOf};
+ghost use Rattle.digits.specs.Degree.{degreeOf, smoothingOf, nameOf};
 ghost use Rattle.keywords.specs.Arguments.{argumentTable};
 ghost use Rattle.model.specs.Parse.{directionOf, directionSaid, typeSaid, rationalSaid};
 ghost use Rattle.blame.specs.Faults.{heard, countsBy, seenBy, alikeSaid, givenBy, wideSaid, saidBy};
@@ -39,7 +39,7 @@ fn number_fault(text: &[u8], at: usize) -> Heard
     requires { ⌜ at ≤ length (now text) ⌝ }
     ensures { λ r. ⌜ r ≡ heard (numberOf (wordOf (drop at (now (text .entry))))) ⌝ }
 {
-    match forms::number::number_at(text, at) {
+    match decimals::number::number_at(text, at) {
         Number::Value { value: _, end: _ } => Heard::Well,
         Number::Malformed => Heard::Wrong(6),
         Number::OutOfRange => Heard::Wrong(7),
@@ -77,7 +77,7 @@ fn degree_fault(text: &[u8], at: usize) -> Heard
     requires { ⌜ at ≤ length (now text) ⌝ }
     ensures { λ r. ⌜ r ≡ heard (degreeOf (wordOf (drop at (now (text .entry))))) ⌝ }
 {
-    match forms::whole::degree_at(text, at) {
+    match digits::whole::degree_at(text, at) {
         Whole::Value { value: _, end: _ } => Heard::Well,
         Whole::Malformed => Heard::Wrong(6),
         Whole::OutOfRange => Heard::Wrong(7),
@@ -88,7 +88,7 @@ fn smoothing_fault(text: &[u8], at: usize) -> Heard
     requires { ⌜ at ≤ length (now text) ⌝ }
     ensures { λ r. ⌜ r ≡ heard (smoothingOf (wordOf (drop at (now (text .entry))))) ⌝ }
 {
-    match forms::whole::smoothing_at(text, at) {
+    match digits::whole::smoothing_at(text, at) {
         Whole::Value { value: _, end: _ } => Heard::Well,
         Whole::Malformed => Heard::Wrong(6),
         Whole::OutOfRange => Heard::Wrong(7),
@@ -99,7 +99,7 @@ fn name_fault(text: &[u8], at: usize) -> Heard
     requires { ⌜ at ≤ length (now text) ⌝ }
     ensures { λ r. ⌜ r ≡ heard (nameOf (wordOf (drop at (now (text .entry))))) ⌝ }
 {
-    match forms::name::name_at(text, at) {
+    match digits::name::name_at(text, at) {
         Name::Of { end: _ } => Heard::Well,
         Name::Malformed => Heard::Wrong(6),
     }

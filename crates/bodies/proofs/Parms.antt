@@ -10,8 +10,8 @@ use lib.IntN.{ℤ}
 use Rattle.lists.proofs.Tests.{never}
 use Rattle.text.specs.Words.{Word, wordOf}
 use Rattle.text.specs.Rest.{Rest, restAt, wordAt, endOf, WordMet, EndMet}
-use Rattle.forms.specs.Said.{Said, says, wrong}
-use Rattle.forms.specs.Number.{numberOf}
+use Rattle.digits.specs.Said.{Said, says, wrong}
+use Rattle.decimals.specs.Number.{numberOf}
 use Rattle.keywords.specs.declared.Argument.{Argument}
 use Rattle.keywords.specs.declared.Argument.the-variants.{Rational, BasisMatrix, Bezier, Bspline, Cardinal, Taylor, DirectionU, DirectionV, Off, Other}
 use Rattle.keywords.specs.Arguments.{argumentOf, argumentAt}

@@ -8,8 +8,8 @@ use lib.ListN.{length, drop}
 use lib.IntN.{ℤ}
 use Rattle.text.specs.Words.{Word, wordOf}
 use Rattle.text.specs.Rest.{Rest, restAt, push, wordAt, endOf, WordMet, EndMet}
-use Rattle.forms.specs.Said.{Said, says, wrong, ended}
-use Rattle.forms.specs.Number.{numberOf}
+use Rattle.digits.specs.Said.{Said, says, wrong, ended}
+use Rattle.decimals.specs.Number.{numberOf}
 use Rattle.forms.specs.Reference.{referenceOf}
 use Rattle.forms.specs.Answers.{saidReference}
 use Rattle.forms.specs.declared.reference.Reference.{Reference}

@@ -11,11 +11,11 @@ use Rattle.text.specs.Words.{wordOf}
 use Rattle.text.specs.Rest.{Rest, restAt, push, wordAt, endOf, WordMet, EndMet, BadMet, gapIs}
 use Rattle.text.specs.declared.Met.{Met}
 use Rattle.text.specs.declared.Met.the-variants as met
-use Rattle.forms.specs.Said.{Said, says, wrong, ended}
-use Rattle.forms.specs.Number.{numberOf}
-use Rattle.forms.specs.Answers.{saidNumber}
-use Rattle.forms.specs.declared.number.Number.{Number}
-use Rattle.forms.specs.declared.number.Number.the-variants as number
+use Rattle.digits.specs.Said.{Said, says, wrong, ended}
+use Rattle.decimals.specs.Number.{numberOf}
+use Rattle.decimals.specs.Answers.{saidNumber}
+use Rattle.decimals.specs.declared.number.Number.{Number}
+use Rattle.decimals.specs.declared.number.Number.the-variants as number
 use Rattle.tables.specs.Bodies.{Basis, bezier, bspline, cardinal, taylor, ordered}
 use Rattle.bodies.specs.Numbers.{before, leading, numbersAt, NumberMet, NoNumber, stepIs, AllNumbers, NotAll, countedIs}
 use Rattle.bodies.specs.declared.numbers.Step.{Step}

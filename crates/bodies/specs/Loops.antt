@@ -12,8 +12,8 @@ use lib.IntN.{ℤ}
 use Rattle.lists.specs.Lists.{flat}
 use Rattle.text.specs.Words.{Word}
 use Rattle.text.specs.Rest.{Rest, restAt, push, EndMet}
-use Rattle.forms.specs.Said.{Said, says, wrong}
-use Rattle.forms.specs.Number.{numberOf}
+use Rattle.digits.specs.Said.{Said, says, wrong}
+use Rattle.decimals.specs.Number.{numberOf}
 use Rattle.forms.specs.Reference.{referenceOf}
 use Rattle.model.specs.Model.{Part}
 use Rattle.model.specs.Layout.{beginning, loopRow, spanRow}

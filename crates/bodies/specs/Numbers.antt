@@ -7,8 +7,8 @@ use lib.ListN.{length}
 use lib.IntN.{ℤ}
 use Rattle.text.specs.Words.{Word}
 use Rattle.text.specs.Rest.{restAt, push, EndMet}
-use Rattle.forms.specs.Said.{Said, says, wrong}
-use Rattle.forms.specs.Number.{numberOf}
+use Rattle.digits.specs.Said.{Said, says, wrong}
+use Rattle.decimals.specs.Number.{numberOf}
 use Rattle.bodies.specs.declared.numbers.Step.{Step}
 use Rattle.bodies.specs.declared.numbers.Step.the-variants as step
 use Rattle.bodies.specs.declared.numbers.Counted.{Counted}

@@ -1,7 +1,7 @@
 // The numbers of a line, gone through without storing them: those of a parm are wanted at the body's end only.
 use basis::follows;
-use forms::number::Number;
-use forms::number::number_at;
+use decimals::number::Number;
+use decimals::number::number_at;
 use text::Met;
 use text::gap;
 ghost use mathlib.Core.Path.{_≡_};

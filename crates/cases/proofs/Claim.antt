@@ -3,8 +3,8 @@ use mathlib.Core.Path.{_≡_, refl}
 use mathlib.Core.Bool.{true}
 use Rattle.lists.specs.Lists.{all}
 use Rattle.text.specs.Lines.{linesOf}
-use Rattle.forms.specs.Digits.{whole}
-use Rattle.forms.specs.Number.{decimal, numerator, denominator, nearest, numberOf}
+use Rattle.digits.specs.Digits.{whole}
+use Rattle.decimals.specs.Number.{decimal, numerator, denominator, nearest, numberOf}
 use Rattle.forms.specs.Reference.{isReference, refer, referenceOf}
 use Rattle.forms.specs.Corner.{cornerOf}
 use Rattle.keywords.specs.Keywords.{keywords, statementOf}

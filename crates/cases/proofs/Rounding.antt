@@ -3,7 +3,7 @@ use Prim.Native.Nat.{ℕ, _*_}
 use mathlib.Core.Path.{_≡_, refl}
 use mathlib.Core.Bool.{Bool, true, false}
 use lib.IntN.{ℤ}
-use Rattle.forms.specs.Number as decimals
+use Rattle.decimals.specs.Number as decimals
 use Rattle.whole.specs.Round as round
 
 pub one-rule : (n d : ℕ) → decimals.nearest n d ≡ round.nearest (1000000 * n) d

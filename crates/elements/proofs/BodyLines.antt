@@ -14,8 +14,8 @@ use native.Mathlib.Omega.{arith}
 use Rattle.lists.proofs.Tests.{and-left, and-right}
 use Rattle.text.specs.Words.{Word}
 use Rattle.text.specs.Rest.{Rest, restAt}
-use Rattle.forms.specs.Said.{Said, says, wrong}
-use Rattle.forms.specs.Number.{numberOf}
+use Rattle.digits.specs.Said.{Said, says, wrong}
+use Rattle.decimals.specs.Number.{numberOf}
 use Rattle.forms.specs.Corner.{Corner}
 use Rattle.model.specs.Model as model
 use Rattle.model.specs.Parse.{rangeWords}

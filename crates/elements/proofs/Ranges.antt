@@ -9,8 +9,8 @@ use native.Mathlib.Nat.{add-zero}
 use native.Mathlib.Omega.{arith}
 use Rattle.text.specs.Words.{Word}
 use Rattle.text.specs.Rest.{Rest}
-use Rattle.forms.specs.Said.{Said, says, wrong}
-use Rattle.forms.specs.Number.{numberOf}
+use Rattle.digits.specs.Said.{Said, says, wrong}
+use Rattle.decimals.specs.Number.{numberOf}
 use Rattle.forms.specs.Corner.{Corner}
 use Rattle.state.specs.Numbers.{Walk, ended, full, stuck, onto, onNumber, numbersFrom}
 use Rattle.model.specs.Parse.{Parsed, fine, fault, then, WordForm, a-number, Value, number, corner, onSaid, Seen, saidOf, placed, valuesOf, numbersOf, cornersOf}

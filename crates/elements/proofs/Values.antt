@@ -9,7 +9,7 @@ use native.Mathlib.Omega.{arith}
 use Rattle.lists.specs.Lists.{all}
 use Rattle.lists.proofs.Tests.{and-both}
 use Rattle.text.specs.Words.{Word}
-use Rattle.forms.specs.Said.{Said, says, wrong}
+use Rattle.digits.specs.Said.{Said, says, wrong}
 use Rattle.forms.specs.Corner.{Corner, alike}
 use Rattle.model.specs.Parse.{Parsed, fine, fault, then, WordForm, Value, number, corner, onSaid, Seen, saidOf, placed, valuesOf, differing, unlike}
 use Rattle.vertices.proofs.Closed.{nothing}

@@ -12,7 +12,7 @@ use native.Mathlib.Omega.{arith}
 use Rattle.lists.specs.Lists.{flat}
 use Rattle.text.specs.Words.{Word, wordOf}
 use Rattle.text.specs.Rest.{Rest, restAt, push, wordAt, endOf, WordMet, EndMet, BadMet}
-use Rattle.forms.specs.Said.{Said, says, wrong, ended}
+use Rattle.digits.specs.Said.{Said, says, wrong, ended}
 use Rattle.forms.specs.Corner.{Corner}
 use Rattle.forms.specs.Answers.{saidCorner, saidReference}
 use Rattle.forms.specs.declared.corner.CornerWord.{CornerWord}
@@ -20,7 +20,7 @@ use Rattle.forms.specs.declared.corner.CornerWord.the-variants.{Of, Malformed, 
 use Rattle.forms.specs.declared.reference.Reference.{Reference}
 use Rattle.forms.specs.declared.reference.Reference.the-variants as reference
 use Rattle.model.specs.Parse.{onSaid}
-use Rattle.forms.proofs.Saids.{ended-says, ended-wrong}
+use Rattle.digits.proofs.Saids.{ended-says, ended-wrong}
 use Rattle.tables.proofs.Flat.{flat-append}
 use Rattle.model.specs.Layout.{cornerRow}
 use Rattle.lists.proofs.Laws.{sets-append}

@@ -13,7 +13,7 @@ use native.Mathlib.Omega.{arith}
 use Rattle.lists.specs.Lists.{all}
 use Rattle.lists.proofs.Tests.{and-left, and-right, and-both, never}
 use Rattle.text.specs.Words.{Word}
-use Rattle.forms.specs.Said.{Said, says, wrong}
+use Rattle.digits.specs.Said.{Said, says, wrong}
 use Rattle.forms.specs.Reference.{isReference, refer, referenceOf}
 use Rattle.forms.specs.Corner.{Corner}
 use Rattle.tables.specs.Bodies.{Basis, bezier, bspline, cardinal, taylor}

@@ -10,7 +10,7 @@ use lib.Seq.{sets}
 use Rattle.lists.specs.Lists.{flat}
 use Rattle.text.specs.Words.{Word}
 use Rattle.text.specs.Rest.{Rest, restAt}
-use Rattle.forms.specs.Said.{Said, says, wrong}
+use Rattle.digits.specs.Said.{Said, says, wrong}
 use Rattle.forms.specs.Reference.{referenceOf}
 use Rattle.forms.specs.Corner.{Corner, Counts, cornerOf}
 use Rattle.tables.specs.declared.Used.{Used}

@@ -12,13 +12,14 @@ use native.Mathlib.Omega.{arith}
 use Rattle.lists.proofs.Tests.{and-both, and-left, and-right, test, never}
 use Rattle.text.specs.Words.{wordOf}
 use Rattle.text.specs.Rest.{endOf}
-use Rattle.forms.specs.Said.{Said, says, ended}
-use Rattle.forms.specs.Digits.{isDigit, natOf, negative, unminus}
+use Rattle.digits.specs.Said.{Said, says, ended}
+use Rattle.digits.specs.Digits.{isDigit, natOf, negative, unminus}
 use Rattle.forms.specs.Reference.{item}
 use Rattle.forms.specs.Corner.{Corner, Counts, Parts, split, cornerOf}
-use Rattle.forms.specs.Straight.{first, run, places, FewRead, PartRead, AheadRead, NoneRead, second, third}
-use Rattle.forms.proofs.Fronts.{low-no-word, low-stops, slash-stops, word-over}
-use Rattle.forms.proofs.Runs.{few-near, few-all}
+use Rattle.digits.specs.Straight.{first, run, FewRead}
+use Rattle.forms.specs.Straight.{places, PartRead, AheadRead, NoneRead, second, third}
+use Rattle.digits.proofs.Fronts.{low-no-word, low-stops, slash-stops, word-over}
+use Rattle.digits.proofs.Runs.{few-near, few-all}
 use Rattle.forms.proofs.Pieces.{negative-first, minus-drop}
 use Rattle.forms.proofs.Patterns.{normal-of, texture-slash, texture-normal, texture-end, corner-slash, corner-end}
 

@@ -12,12 +12,13 @@ use Rattle.lists.proofs.Tests.{and-left, and-first, and-second, and-both, test,
 use Rattle.text.specs.Bytes.{isWord}
 use Rattle.text.specs.Words.{wordOf}
 use Rattle.text.specs.Rest.{endOf}
-use Rattle.forms.specs.Digits.{isDigit, digits, negative, unminus, whole}
-use Rattle.forms.specs.Said.{Said, says, wrong, must, ended}
+use Rattle.digits.specs.Digits.{isDigit, digits, negative, unminus, whole}
+use Rattle.digits.specs.Said.{Said, says, wrong, must, ended}
 use Rattle.forms.specs.Reference.{isReference, refer}
 use Rattle.forms.specs.Corner.{Corner, Counts, Parts, onto, split, formed, patterned, cornerOf}
-use Rattle.forms.specs.Straight.{first, over, past, front, isPiece, piece, places, PartRead, second, third}
-use Rattle.forms.proofs.Fronts.{digit-word, next-at, byte-in}
+use Rattle.digits.specs.Straight.{first, over, past, front}
+use Rattle.forms.specs.Straight.{isPiece, piece, places, PartRead, second, third}
+use Rattle.digits.proofs.Fronts.{digit-word, next-at, byte-in}
 use Rattle.forms.proofs.Pieces.{refer-yes, refer-not, refer-bad, refer-is, refer-length}
 use Rattle.forms.proofs.References.{stops}
 

@@ -8,13 +8,13 @@ use lib.Dec.{leb, eqb}
 use borrow.Author.Tests.{le-leb, leb-true, ne-eqb}
 use native.Mathlib.Omega.{arith}
 use Rattle.lists.proofs.Tests.{and-left, and-right, and-both, never}
-use Rattle.forms.specs.Said.{Said, says, wrong, must}
-use Rattle.forms.specs.Digits.{isDigit, digits}
+use Rattle.digits.specs.Said.{Said, says, wrong, must}
+use Rattle.digits.specs.Digits.{isDigit, digits}
 use Rattle.forms.specs.Reference.{isReference, refer}
 use Rattle.forms.specs.Corner.{Corner, Counts, Parts, split, formed, patterned, cornerOf}
 use Rattle.forms.specs.Written.{writtenWhole, slashed, writtenCorner}
 use Rattle.forms.specs.Fits.{referenceFits, partFits, cornerFits}
-use Rattle.forms.proofs.Saids.{must-says}
+use Rattle.digits.proofs.Saids.{must-says}
 use Rattle.forms.proofs.WholesBack.{written-digits, written-some, reference-form, refer-back, refer-fits}
 
 -- ---- slashes

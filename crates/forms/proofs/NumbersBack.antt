@@ -9,15 +9,15 @@ use lib.IntN.{ℤ, pos, negsuc, negℤ, natAbs}
 use borrow.Author.Tests.{le-leb, leb-true, ne-eqb}
 use native.Mathlib.Omega.{arith}
 use Rattle.lists.proofs.Tests.{and-left, and-right}
-use Rattle.forms.specs.Said.{Said, says, wrong, must}
-use Rattle.forms.specs.Digits.{isDigit, digits, natOf, negative}
-use Rattle.forms.specs.Number.{before, after, decimal, numerator, denominator, nearest, unsigned, signed, inRange, numberOf}
+use Rattle.digits.specs.Said.{Said, says, wrong, must}
+use Rattle.digits.specs.Digits.{isDigit, digits, natOf, negative}
+use Rattle.decimals.specs.Number.{before, after, decimal, numerator, denominator, nearest, unsigned, signed, inRange, numberOf}
 use Rattle.forms.specs.Written.{short, full, writtenWhole, writtenMillionths, writtenNumber}
 use Rattle.forms.specs.Fits.{numberFits}
-use Rattle.forms.proofs.Rows.{natOf-append}
-use Rattle.forms.proofs.Decimals.{before-point, after-point}
+use Rattle.digits.proofs.Rows.{natOf-append}
+use Rattle.decimals.proofs.Decimals.{before-point, after-point}
 use Rattle.forms.proofs.Numerals.{full-digits, full-length, full-value, short-digits, short-length, short-value}
-use Rattle.forms.proofs.Saids.{must-says}
+use Rattle.digits.proofs.Saids.{must-says}
 
 -- a digit is no sign
 bare : (l t : List ℕ) → digits l ≡ true → (unsigned (l ++ 46 ∷ t) ≡ l ++ 46 ∷ t) × (negative (l ++ 46 ∷ t) ≡ false)

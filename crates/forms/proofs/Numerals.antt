@@ -10,9 +10,9 @@ use borrow.Author.Tests.{ltb-true, lt-ltb}
 use native.Mathlib.Omega.{arith}
 use native.Mathlib.Nat.{pow-suc, mul-comm, mul-assoc}
 use Rattle.lists.proofs.Tests.{and-left, and-right, test}
-use Rattle.forms.specs.Digits.{isDigit, digits, natOf}
+use Rattle.digits.specs.Digits.{isDigit, digits, natOf}
 use Rattle.forms.specs.Written.{short, full}
-use Rattle.forms.proofs.Rows.{mid-digit, natOf-append}
+use Rattle.digits.proofs.Rows.{mid-digit, natOf-append}
 
 pub digits-append : (s t : List ℕ) → digits s ≡ true → digits t ≡ true → digits (s ++ t) ≡ true
 digits-append [] t h k = k

@@ -12,12 +12,13 @@ use Rattle.lists.proofs.Tests.{and-first, and-second, test, never}
 use Rattle.text.specs.Bytes.{isWord}
 use Rattle.text.specs.Words.{wordOf}
 use Rattle.text.specs.Rest.{endOf}
-use Rattle.forms.specs.Said.{Said, says, wrong, must, ended}
-use Rattle.forms.specs.Digits.{whole}
+use Rattle.digits.specs.Said.{Said, says, wrong, must, ended}
+use Rattle.digits.specs.Digits.{whole}
 use Rattle.forms.specs.Reference.{isReference, refer}
 use Rattle.forms.specs.Corner.{Corner, Counts, Parts, split, formed, patterned, cornerOf}
-use Rattle.forms.specs.Straight.{first, over, piece, places, PartRead, second, third}
-use Rattle.forms.proofs.Fronts.{word-on, word-over, next-at, byte-in, byte-word}
+use Rattle.digits.specs.Straight.{first, over}
+use Rattle.forms.specs.Straight.{piece, places, PartRead, second, third}
+use Rattle.digits.proofs.Fronts.{word-on, word-over, next-at, byte-in, byte-word}
 use Rattle.forms.proofs.Corners.{others, split-word, Slashed, Ended, slashed, done, other, no-part}
 
 and-true : (a : Bool) → (a && true) ≡ a

@@ -13,13 +13,15 @@ use Rattle.lists.proofs.Tests.{and-first, and-second, test}
 use Rattle.text.specs.Bytes.{isWord}
 use Rattle.text.specs.Words.{wordOf}
 use Rattle.text.specs.Rest.{endOf}
-use Rattle.forms.specs.Said.{Said, says, wrong, ended}
-use Rattle.forms.specs.Digits.{natOf, negative, unminus}
+use Rattle.digits.specs.Said.{Said, says, wrong, ended}
+use Rattle.digits.specs.Digits.{natOf, negative, unminus}
 use Rattle.forms.specs.Reference.{isReference, item, refer, referenceOf}
-use Rattle.forms.specs.Straight.{first, over, run, past, cap, front, places, WholeRead, PartRead}
-use Rattle.forms.proofs.Fronts.{word-front, digit-word}
-use Rattle.forms.proofs.Pieces.{negative-first, minus-drop, ten-digits, refer-yes, refer-not, refer-bad, refer-is, refer-length, beyond}
-use Rattle.forms.proofs.Saids.{said, unsaid}
+use Rattle.digits.specs.Straight.{first, over, run, past, cap, front, WholeRead}
+use Rattle.forms.specs.Straight.{places, PartRead}
+use Rattle.digits.proofs.Fronts.{word-front, digit-word}
+use Rattle.digits.proofs.Lengths.{ten-digits}
+use Rattle.forms.proofs.Pieces.{negative-first, minus-drop, refer-yes, refer-not, refer-bad, refer-is, refer-length, beyond}
+use Rattle.digits.proofs.Saids.{said, unsaid}
 
 minus-in : (l : List ℕ) → cond (negative l) 1 0 ≤ length l
 minus-in [] = omega arith

@@ -13,10 +13,10 @@ use Rattle.lists.proofs.Tests.{and-left, and-right, and-both}
 use Rattle.lists.proofs.Laws.{all-append, all-imp}
 use Rattle.text.specs.Bytes.{isWord, startsWord}
 use Rattle.text.specs.Written.{isToken}
-use Rattle.forms.specs.Digits.{isDigit, digits}
+use Rattle.digits.specs.Digits.{isDigit, digits}
 use Rattle.forms.specs.Corner.{Corner}
 use Rattle.forms.specs.Written.{full, writtenWhole, writtenMillionths, writtenNumber, slashed, writtenCorner}
-use Rattle.forms.proofs.Fronts.{digit-word, append-nil}
+use Rattle.digits.proofs.Fronts.{digit-word, append-nil}
 use Rattle.forms.proofs.Numerals.{full-digits}
 use Rattle.forms.proofs.WholesBack.{written-digits, written-some}
 

@@ -10,14 +10,14 @@ use borrow.Author.Tests.{le-leb, leb-true, ne-eqb}
 use native.Mathlib.Omega.{arith}
 use Rattle.lists.specs.Lists.{same}
 use Rattle.lists.proofs.Tests.{and-left, and-right, and-both, test, never}
-use Rattle.forms.specs.Said.{Said, says, wrong, must}
-use Rattle.forms.specs.Digits.{isDigit, digits, natOf, whole, negative, unminus}
-use Rattle.forms.specs.Degree.{degreeOf, smoothingOf, off}
+use Rattle.digits.specs.Said.{Said, says, wrong, must}
+use Rattle.digits.specs.Digits.{isDigit, digits, natOf, whole, negative, unminus}
+use Rattle.digits.specs.Degree.{degreeOf, smoothingOf, off}
 use Rattle.forms.specs.Reference.{isReference, item, refer, referenceOf}
 use Rattle.forms.specs.Written.{short, writtenWhole}
 use Rattle.forms.specs.Fits.{degreeFits, smoothingFits, referenceFits}
 use Rattle.forms.proofs.Numerals.{short-digits, short-few, short-some, short-value}
-use Rattle.forms.proofs.Saids.{must-says}
+use Rattle.digits.proofs.Saids.{must-says}
 
 pub written-digits : (n : ℕ) → digits (writtenWhole n) ≡ true
 unfolding writtenWhole

@@ -4,7 +4,7 @@ use Prim.Native.Nat.{ℕ}
 use mathlib.Core.List.{List, [], _∷_}
 use mathlib.Core.Bool.{Bool, true, false, cond, _&&_, not}
 use lib.Dec.{leb, eqb}
-use Rattle.forms.specs.Said.{Said, says, wrong, must}
+use Rattle.digits.specs.Said.{Said, says, wrong, must}
 use Rattle.forms.specs.Reference.{isReference, refer}
 
 -- "(0 for none)"

@@ -7,12 +7,12 @@ use lib.ListN.{length, replicate}
 use lib.Dec.{T, eqb}
 use lib.IntN.{ℤ, pos, negsuc}
 use Rattle.lists.specs.Lists.{all, same}
-use Rattle.forms.specs.Said.{Said, says, wrong}
-use Rattle.forms.specs.Digits.{whole}
-use Rattle.forms.specs.Number.{decimal, numerator, denominator, nearest, numberOf}
+use Rattle.digits.specs.Said.{Said, says, wrong}
+use Rattle.digits.specs.Digits.{whole}
+use Rattle.decimals.specs.Number.{decimal, numerator, denominator, nearest, numberOf}
 use Rattle.forms.specs.Reference.{isReference, refer, referenceOf}
 use Rattle.forms.specs.Corner.{Corner, Counts, Parts, cornerOf}
-use Rattle.forms.specs.Degree.{degreeOf, smoothingOf, nameOf}
+use Rattle.digits.specs.Degree.{degreeOf, smoothingOf, nameOf}
 use Rattle.forms.specs.Written.{writtenWhole, writtenMillionths, writtenNumber, writtenCorner}
 
 -- a word, and what it says

@@ -1,9 +1,5 @@
-pub mod Said
-pub mod Digits
-pub mod Number
 pub mod Reference
 pub mod Corner
-pub mod Degree
 pub mod Written
 pub mod Fits
 pub mod Answers

@@ -3,8 +3,8 @@ use Prim.Native.Nat.{ℕ, _+_, _-_}
 use mathlib.Core.List.{List}
 use mathlib.Core.Bool.{Bool, cond, _&&_}
 use lib.Dec.{leb}
-use Rattle.forms.specs.Said.{Said, says, wrong, must}
-use Rattle.forms.specs.Digits.{natOf, whole, negative, unminus}
+use Rattle.digits.specs.Said.{Said, says, wrong, must}
+use Rattle.digits.specs.Digits.{natOf, whole, negative, unminus}
 
 -- "optional -, then 1 to 10 digits"
 unfoldable pub isReference : List ℕ → Bool

@@ -1,86 +1,22 @@
 -- What the code computes on the way, from a place in the text to where its digits stop; the laws of proofs/ say that it comes to the forms of the word there.
 use Prim.{Unit}
-use Prim.Native.Nat.{ℕ, _+_, _-_, _*_, _/_, _^_, _≤_, min}
+use Prim.Native.Nat.{ℕ, _+_, _-_, _≤_}
 use mathlib.Core.Path.{_≡_}
 use mathlib.Core.Logic.{_⊎_}
 use mathlib.Core.List.{List, [], _∷_}
-use mathlib.Core.Bool.{Bool, true, false, cond, _&&_, not}
-use lib.ListN.{length, take, drop}
+use mathlib.Core.Bool.{Bool, false, cond, _&&_, not}
+use lib.ListN.{length, drop}
 use lib.Dec.{leb, eqb}
-use lib.IntN.{ℤ}
-use Rattle.text.specs.Words.{wordOf}
-use Rattle.forms.specs.Said.{Said, says, wrong, must}
+use Rattle.digits.specs.Said.{Said, wrong, must}
 use Rattle.text.specs.Bytes.{isWord}
-use Rattle.forms.specs.Digits.{isDigit, digits, natOf, whole, negative, unminus}
+use Rattle.digits.specs.Digits.{natOf, negative, unminus}
 use Rattle.forms.specs.Reference.{isReference, item, refer}
 use Rattle.forms.specs.Corner.{Corner, formed}
 use Rattle.forms.specs.declared.reference.Part.{Part}
 use Rattle.forms.specs.declared.reference.Part.the-variants.{Of, Malformed}
 use Rattle.forms.specs.declared.corner.Second.{Second}
 use Rattle.forms.specs.declared.corner.Second.the-variants as part
-use Rattle.forms.specs.Number.{before, after, decimal, inRange}
-
--- the byte at the front; past the end of the text LF, which ends a word too
-abbrev pub first : List ℕ → ℕ
-first [] = 10
-first (b ∷ bs) = b
-
--- nothing is left
-abbrev pub over : List ℕ → Bool
-over [] = true
-over (b ∷ bs) = false
-
--- a digit's number, above 9 for every other byte: the byte less 48, in eight bits
-abbrev pub digitOf : ℕ → ℕ
-digitOf b = cond (leb 48 b) (b - 48) (b + 208)
-
--- the digits at the front, and what follows them
-abbrev pub run : List ℕ → List ℕ
-run [] = []
-run (b ∷ bs) = cond (isDigit b) (b ∷ run bs) []
-
-abbrev pub past : List ℕ → List ℕ
-past l = drop (length (run l)) l
-
--- no more than what is out of range as a number and past the end as a reference
-abbrev pub cap : ℕ → ℕ
-cap n = min 20000000005 n
-
--- the digits of s from `at` on: where they end, and their number
-pub record WholeRead (s : List ℕ) (at end value : ℕ) : Type 0 where
-  pub to : end ≤ length s
-  pub end-is : end ≡ at + length (run (drop at s))
-  pub value-is : value ≡ cap (natOf 0 (run (drop at s)))
-
--- the first `most` of the digits of s from `at` on, after the digits of a
-pub record FewRead (most : ℕ) (s : List ℕ) (at a end value : ℕ) : Type 0 where
-  pub to : end ≤ length s
-  pub end-is : end ≡ at + length (take most (run (drop at s)))
-  pub value-is : value ≡ natOf a (take most (run (drop at s)))
-
--- ten-millionths, rounded down where a seventh decimal is not the last, and too large where the whole part is
-unfoldable pub tenMillionths : List ℕ → ℕ
-tenMillionths u = natOf (cap (natOf 0 (before u))) (take 7 (after u)) * 10 ^ (7 - length (after u))
-
-unfoldable pub magnitudeOf : List ℕ → Said ℕ
-magnitudeOf u = must (decimal u) 6 (says (tenMillionths u))
-
--- the same from the point on, after n whole digits whose number is a
-unfoldable pub pointed : ℕ → ℕ → List ℕ → Said ℕ
-pointed n a u = must (digits u && leb 1 (n + length u)) 6 (says (natOf a (take 7 u) * 10 ^ (7 - length u)))
-
-abbrev pub settleOf : Bool → ℕ → Said ℤ
-settleOf minus t = inRange minus ((t + 5) / 10)
-
--- 1 to k digits
-unfoldable pub rowOf : ℕ → List ℕ → Said ℕ
-rowOf k w = must (whole k w) 6 (says (natOf 0 w))
-
--- ---- references and corners
--- the bytes at the front that pass the test
-abbrev pub front : (ℕ → Bool) → List ℕ → List ℕ
-front f [] = []
-front f (b ∷ bs) = cond (f b) (b ∷ front f bs) []
+use Rattle.digits.specs.Straight.{first, run, front, FewRead}
 
 -- a part of a corner goes to a slash or to the end of its word
 abbrev pub isPiece : ℕ → Bool

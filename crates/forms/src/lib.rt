@@ -1,6 +1,2 @@
-mod digits; // rows of digits, and where a word ends
 pub mod corner;
-pub mod number;
 pub mod reference;
-pub mod whole; // degrees and smoothing numbers
-pub mod name;

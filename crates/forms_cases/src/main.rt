@@ -1,10 +1,10 @@
 // Pairs of words from standard input: the letter of a form, and a word with what it is in that form. What is read is written, and numbers are read back.
 // n number, r reference to one of 4, R to one of 4,294,967,295, p l f corner as on such a line with 4 v, 3 vt and 2 vn, d degree, s smoothing, g name.
+use decimals::number::Number;
+use digits::name::Name;
+use digits::whole::Whole;
 use forms::corner::CornerWord;
-use forms::name::Name;
-use forms::number::Number;
 use forms::reference::Reference;
-use forms::whole::Whole;
 use libc::STDOUT_FILENO;
 use text::Met;
 ghost use Prim.Native.Nat.{_≤_, _<_};
@@ -36,7 +36,7 @@ fn put_corner(v: u32, vt: u32, vn: u32) {
 
 // Whether the word is that number.
 fn put_back(word: &[u8], value: i32) {
-    match forms::number::number_at(word, 0) {
+    match decimals::number::number_at(word, 0) {
         Number::Value {
             value: read,
             end: _,
@@ -64,7 +64,7 @@ fn put_number(value: i32) {
 fn number(text: &[u8], at: usize)
     requires { ⌜ at ≤ length (now text) ⌝ }
 {
-    match forms::number::number_at(text, at) {
+    match decimals::number::number_at(text, at) {
         Number::Value { value, end: _ } => put_number(value),
         Number::Malformed => put(b"refused 6"),
         Number::OutOfRange => put(b"refused 7"),
@@ -102,7 +102,7 @@ fn corner(text: &[u8], at: usize, texture: bool, normal: bool)
 fn degree(text: &[u8], at: usize)
     requires { ⌜ at ≤ length (now text) ⌝ }
 {
-    match forms::whole::degree_at(text, at) {
+    match digits::whole::degree_at(text, at) {
         Whole::Value { value, end: _ } => put_whole(value),
         Whole::Malformed => put(b"refused 6"),
         Whole::OutOfRange => put(b"refused 7"),
@@ -112,7 +112,7 @@ fn degree(text: &[u8], at: usize)
 fn smoothing(text: &[u8], at: usize)
     requires { ⌜ at ≤ length (now text) ⌝ }
 {
-    match forms::whole::smoothing_at(text, at) {
+    match digits::whole::smoothing_at(text, at) {
         Whole::Value { value, end: _ } => put_whole(value),
         Whole::Malformed => put(b"refused 6"),
         Whole::OutOfRange => put(b"refused 7"),
@@ -122,7 +122,7 @@ fn smoothing(text: &[u8], at: usize)
 fn name(text: &[u8], at: usize)
     requires { ⌜ at ≤ length (now text) ⌝ }
 {
-    match forms::name::name_at(text, at) {
+    match digits::name::name_at(text, at) {
         Name::Of { end: _ } => put(b"a name"),
         Name::Malformed => put(b"refused 6"),
     }

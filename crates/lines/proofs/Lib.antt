@@ -3,16 +3,3 @@ pub mod Steps
 pub mod Vertices
 pub mod Given
 pub mod Stepped
-pub mod Elements
-pub mod Bodies
-pub mod Counts
-pub mod SteppedElements
-pub mod SteppedBodies
-pub mod Settings
-pub mod Parameters
-pub mod Loops
-pub mod Quiet
-pub mod Settled
-pub mod Ends
-pub mod Inner
-pub mod Ended

@@ -1,5 +1,2 @@
 pub mod Stepping
-pub mod Counting
 pub mod Holding
-pub mod OpenBody
-pub mod InForce

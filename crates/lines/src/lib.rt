@@ -1,9 +1,5 @@
-// The lines of each statement, taken from just after the keyword on: what is in force after one, and its records in the lent tables.
-pub mod element_lines; // p, l, f
-pub mod body_lines; // curv, curv2, surf
-pub mod inner_lines; // parm, trim, hole, end
-pub mod setting_lines; // cstype, deg, g, s, usemtl and what is passed over
-
+// A line whose keyword is known, taken from just after it on: what is in force after it, and its records in the lent tables. Here are the lines of v, vt, vn and
+// vp.
 use state::State;
 use tables::Used;
 use vertices::Kind;
@@ -53,7 +49,7 @@ fn counted(kind: Kind, count: u32, used: Used) -> Used
     after
 }
 
-fn with_used(used: Used, state: State) -> State
+pub fn with_used(used: Used, state: State) -> State
     ensures { λ r. ⌜ r ≡ withUsed used state ⌝ }
 {
     let mut after = state;

@@ -4,7 +4,7 @@ use mathlib.Core.Path.{_≡_, refl, ap}
 use mathlib.Core.Bool.{Bool, true, false}
 use mathlib.Core.Option.{Option, none, some}
 use native.Mathlib.Omega.{arith}
-use Rattle.forms.specs.Said.{Said, says, wrong}
+use Rattle.digits.specs.Said.{Said, says, wrong}
 use Rattle.model.specs.Parse.{Parsed, fine, fault, then, must, unless, placed}
 
 module _ {A : Type 0} where

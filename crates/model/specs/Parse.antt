@@ -8,11 +8,11 @@ use lib.Dec.{leb, ltb, eqb}
 use lib.IntN.{ℤ, pos, natAbs}
 use lib.Signed.{ltZ}
 use Rattle.text.specs.Words.{Word}
-use Rattle.forms.specs.Said.{Said, says, wrong}
-use Rattle.forms.specs.Number.{numberOf}
+use Rattle.digits.specs.Said.{Said, says, wrong}
+use Rattle.decimals.specs.Number.{numberOf}
 use Rattle.forms.specs.Reference.{referenceOf}
 use Rattle.forms.specs.Corner.{Corner, Counts, Parts, cornerOf, alike}
-use Rattle.forms.specs.Degree.{degreeOf, smoothingOf, nameOf}
+use Rattle.digits.specs.Degree.{degreeOf, smoothingOf, nameOf}
 use Rattle.keywords.specs.declared.Argument.{Argument}
 use Rattle.keywords.specs.declared.Argument.the-variants.{Rational, BasisMatrix, Bezier, Bspline, Cardinal, Taylor, DirectionU, DirectionV, Off, Other}
 use Rattle.keywords.specs.Arguments.{argumentOf}

@@ -9,8 +9,8 @@ use native.Mathlib.Omega.{arith}
 use Rattle.lists.specs.Lists.{all}
 use Rattle.text.specs.Words.{Word, wordOf}
 use Rattle.text.specs.Rest.{Rest, restAt, push, wordAt, endOf, WordMet}
-use Rattle.forms.specs.Said.{says, wrong}
-use Rattle.forms.specs.Degree.{nameOf}
+use Rattle.digits.specs.Said.{says, wrong}
+use Rattle.digits.specs.Degree.{nameOf}
 use Rattle.model.specs.Layout.{lastEnd}
 use Rattle.state.specs.declared.Names.{Names}
 use Rattle.settings.specs.declared.TakenNames.{TakenNames}

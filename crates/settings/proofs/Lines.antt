@@ -11,14 +11,14 @@ use Rattle.text.specs.Rest.{Rest, restAt, push, wordAt, endOf, WordMet, EndMet,
 use Rattle.text.specs.declared.Met.{Met}
 use Rattle.text.specs.declared.Met.the-variants.{Start, End, Bad}
 use Rattle.text.proofs.Found.{word-found, end-found, bad-found}
-use Rattle.forms.specs.Said.{Said, says, wrong, ended}
-use Rattle.forms.specs.Degree.{degreeOf, smoothingOf, nameOf}
-use Rattle.forms.specs.Answers.{saidWhole, saidName}
-use Rattle.forms.specs.declared.whole.Whole.{Whole}
-use Rattle.forms.specs.declared.whole.Whole.the-variants as whole
-use Rattle.forms.specs.declared.name.Name.{Name}
-use Rattle.forms.specs.declared.name.Name.the-variants as name
-use Rattle.forms.proofs.Saids.{ended-says, ended-wrong}
+use Rattle.digits.specs.Said.{Said, says, wrong, ended}
+use Rattle.digits.specs.Degree.{degreeOf, smoothingOf, nameOf}
+use Rattle.digits.specs.Answers.{saidWhole, saidName}
+use Rattle.digits.specs.declared.whole.Whole.{Whole}
+use Rattle.digits.specs.declared.whole.Whole.the-variants as whole
+use Rattle.digits.specs.declared.name.Name.{Name}
+use Rattle.digits.specs.declared.name.Name.the-variants as name
+use Rattle.digits.proofs.Saids.{ended-says, ended-wrong}
 use Rattle.keywords.specs.Arguments.{argumentOf, argumentAt}
 use Rattle.keywords.specs.declared.Argument.{Argument}
 use Rattle.model.specs.Parse.{typeSaid}

@@ -13,8 +13,8 @@ use Rattle.lists.proofs.Tests.{and-left, and-right, test, never}
 use mathlib.Core.Logic.{⊎-elim}
 use Rattle.text.specs.Words.{Word}
 use Rattle.text.specs.Rest.{Rest}
-use Rattle.forms.specs.Said.{Said, says, wrong}
-use Rattle.forms.specs.Degree.{degreeOf, smoothingOf, nameOf}
+use Rattle.digits.specs.Said.{Said, says, wrong}
+use Rattle.digits.specs.Degree.{degreeOf, smoothingOf, nameOf}
 use Rattle.keywords.specs.Arguments.{argumentOf}
 use Rattle.keywords.specs.declared.Argument.{Argument}
 use Rattle.keywords.specs.declared.Argument.the-variants.{Rational, BasisMatrix, Bezier, Bspline, Cardinal, Taylor, DirectionU, DirectionV, Off, Other}

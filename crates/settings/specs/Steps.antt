@@ -8,8 +8,8 @@ use lib.ListN.{length}
 use lib.Dec.{eqb}
 use Rattle.text.specs.Words.{Word}
 use Rattle.text.specs.Rest.{Rest, restAt, wordAt, endOf}
-use Rattle.forms.specs.Said.{Said, says, wrong}
-use Rattle.forms.specs.Degree.{degreeOf, smoothingOf, nameOf}
+use Rattle.digits.specs.Said.{Said, says, wrong}
+use Rattle.digits.specs.Degree.{degreeOf, smoothingOf, nameOf}
 use Rattle.keywords.specs.declared.Argument.{Argument}
 use Rattle.keywords.specs.declared.Argument.the-variants.{Rational, BasisMatrix, Bezier, Bspline, Cardinal, Taylor, DirectionU, DirectionV, Off, Other}
 use Rattle.keywords.specs.Arguments.{argumentOf}

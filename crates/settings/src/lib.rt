@@ -1,6 +1,6 @@
 // cstype, deg, g, s and usemtl: lines that set what is in force.
-use forms::name::Name;
-use forms::whole::Whole;
+use digits::name::Name;
+use digits::whole::Whole;
 use keywords::Argument;
 use state::Form;
 use state::Names;
@@ -142,7 +142,7 @@ fn second_degree(text: &[u8], at: usize, first: u32, form: Form) -> TakenForm
 {
     match only_word(text, at) {
         Alone::No => TakenForm::GaveUp,
-        Alone::Word { place, next } => match forms::whole::degree_at(text, place) {
+        Alone::Word { place, next } => match digits::whole::degree_at(text, place) {
             Whole::Value { value, end: _ } => TakenForm::Taken {
                 form: Form {
                     basis: form.basis,
@@ -184,7 +184,7 @@ pub fn take_degree(text: &[u8], at: usize, form: Form) -> TakenForm
     ensures { λ r. ⌜ r ≡ degreeTaken form (restAt (now (text .entry)) at) ⌝ }
 {
     match text::gap(text, at) {
-        Met::Start(p) => match forms::whole::degree_at(text, p) {
+        Met::Start(p) => match digits::whole::degree_at(text, p) {
             Whole::Value { value, end } => degree_rest(text, end, value, form),
             Whole::Malformed => TakenForm::GaveUp,
             Whole::OutOfRange => TakenForm::GaveUp,
@@ -201,7 +201,7 @@ pub fn take_smoothing(text: &[u8], at: usize, names: Names) -> TakenNames
 {
     match only_word(text, at) {
         Alone::No => TakenNames::GaveUp,
-        Alone::Word { place, next } => match forms::whole::smoothing_at(text, place) {
+        Alone::Word { place, next } => match digits::whole::smoothing_at(text, place) {
             Whole::Value { value, end: _ } => TakenNames::Taken {
                 names: Names {
                     group_place: names.group_place,
@@ -225,7 +225,7 @@ pub fn take_material(text: &[u8], at: usize, names: Names) -> TakenNames
 {
     match only_word(text, at) {
         Alone::No => TakenNames::GaveUp,
-        Alone::Word { place, next } => match forms::name::name_at(text, place) {
+        Alone::Word { place, next } => match digits::name::name_at(text, place) {
             Name::Of { end } => TakenNames::Taken {
                 names: Names {
                     group_place: names.group_place,
@@ -248,7 +248,7 @@ fn group_from(text: &[u8], at: usize, names: Names) -> TakenNames
 {
     let mut place = at;
     loop {
-        match forms::name::name_at(text, place) {
+        match digits::name::name_at(text, place) {
             Name::Malformed => {
                 return TakenNames::GaveUp;
             }

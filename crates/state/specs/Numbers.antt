@@ -5,8 +5,8 @@ use mathlib.Core.Option.{Option, none, some}
 use lib.IntN.{ℤ}
 use Rattle.text.specs.Words.{Word}
 use Rattle.text.specs.Rest.{Rest}
-use Rattle.forms.specs.Said.{Said, says, wrong}
-use Rattle.forms.specs.Number.{numberOf}
+use Rattle.digits.specs.Said.{Said, says, wrong}
+use Rattle.decimals.specs.Number.{numberOf}
 
 -- the line ended after these numbers, and the next starts there; or as many as were asked for were found, and the rest of the line follows; or one word is no
 -- number, or a byte is not allowed

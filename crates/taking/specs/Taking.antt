@@ -20,8 +20,8 @@ use Rattle.elements.specs.declared.body.Free.the-variants.{Curve, Curve2, Surfa
 use Rattle.bodies.specs.Loops.{loopWord}
 use Rattle.blame.specs.declared.Refusal.{Refusal}
 use Rattle.blame.specs.declared.Refusal.the-variants as refusal
-use Rattle.lines.specs.declared.setting_lines.Setting.{Setting}
-use Rattle.lines.specs.declared.setting_lines.Setting.the-variants.{BodyType, Degree, Group, Smoothing, Material, PassedOver}
+use Rattle.outer_lines.specs.declared.setting_lines.Setting.{Setting}
+use Rattle.outer_lines.specs.declared.setting_lines.Setting.the-variants.{BodyType, Degree, Group, Smoothing, Material, PassedOver}
 use Rattle.taking.specs.declared.families.Family.{Family}
 use Rattle.taking.specs.declared.families.Family.the-variants.{Vertex, Element, Body, Parameters, Loop, End, Set, Other}
 use Rattle.taking.specs.declared.Line as lines
@@ -29,7 +29,7 @@ use Rattle.taking.specs.declared.Line.the-variants.{Next, Stopped}
 use Rattle.lines.specs.declared.Step.{Step}
 use Rattle.lines.specs.declared.Step.the-variants.{GaveUp}
 use Rattle.lines.specs.Holding.{Holds, lineSays, NextLine}
-use Rattle.lines.specs.InForce.{settingOf}
+use Rattle.outer_lines.specs.InForce.{settingOf}
 use Rattle.lines.specs.Stepping.{stepIs}
 
 -- ---- statements by the tables that their lines fill

@@ -1,13 +1,13 @@
 // A line's function by the family of its statement, lent the tables that it fills.
 use crate::families::Family;
+use inner_lines::end_line;
+use inner_lines::loop_line;
+use inner_lines::parm_line;
 use lines::Step;
-use lines::body_lines::body_line;
-use lines::element_lines::element_line;
-use lines::inner_lines::end_line;
-use lines::inner_lines::loop_line;
-use lines::inner_lines::parm_line;
-use lines::setting_lines::setting_line;
 use lines::vertex_line;
+use outer_lines::body_lines::body_line;
+use outer_lines::element_lines::element_line;
+use outer_lines::setting_lines::setting_line;
 use state::State;
 ghost use mathlib.Core.Path.{_≡_};
 ghost use Prim.Native.Nat.{_≤_};

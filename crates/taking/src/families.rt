@@ -2,7 +2,7 @@
 use elements::Shape;
 use elements::body::Free;
 use keywords::Statement;
-use lines::setting_lines::Setting;
+use outer_lines::setting_lines::Setting;
 use vertices::Kind;
 ghost use mathlib.Core.Path.{_≡_};
 ghost use Rattle.taking.specs.Taking.{familyOf};

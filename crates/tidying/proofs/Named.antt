@@ -12,7 +12,7 @@ use Rattle.lists.proofs.Tests.{never}
 use Rattle.text.specs.Lines.{Line as JoinedLine, gap, lineOf, strideOf, linesFrom, linesOf}
 use Rattle.text.specs.Words.{Word, words, wordsOf, badOf}
 use Rattle.text.specs.Written.{bytesOf}
-use Rattle.forms.specs.Degree.{nameOf}
+use Rattle.digits.specs.Degree.{nameOf}
 use Rattle.keywords.specs.Keywords.{statementOf}
 use Rattle.tables.specs.Asking.{partOf}
 use Rattle.model.specs.Model.{Names, Free, Element, Model, Open, State, start}

@@ -12,7 +12,7 @@ use Rattle.lists.specs.Lists.{all}
 use Rattle.lists.proofs.Tests.{and-right, never}
 use Rattle.text.specs.Words.{Word}
 use Rattle.text.specs.Written.{bytesOf, isToken}
-use Rattle.forms.specs.Said.{says}
+use Rattle.digits.specs.Said.{says}
 use Rattle.keywords.specs.Arguments.{argumentOf}
 use Rattle.model.specs.Model.{Vertices, Direction, Open, State, curves}
 use Rattle.model.specs.Statements.{Statement, smoothing, material, type, degree, end, passed}

@@ -13,11 +13,11 @@ use Rattle.lists.specs.Lists.{all}
 use Rattle.lists.proofs.Tests.{and-left, and-right, and-both, never}
 use Rattle.text.specs.Words.{Word}
 use Rattle.text.specs.Written.{bytesOf, isToken}
-use Rattle.forms.specs.Said.{Said, says, wrong, must}
-use Rattle.forms.specs.Number.{numberOf}
+use Rattle.digits.specs.Said.{Said, says, wrong, must}
+use Rattle.decimals.specs.Number.{numberOf}
 use Rattle.forms.specs.Reference.{referenceOf}
 use Rattle.forms.specs.Corner.{Corner, cornerOf}
-use Rattle.forms.specs.Degree.{degreeOf, smoothingOf, nameOf}
+use Rattle.digits.specs.Degree.{degreeOf, smoothingOf, nameOf}
 use Rattle.forms.specs.Written.{writtenWhole, writtenNumber, writtenCorner}
 use Rattle.forms.specs.Fits.{numberFits, referenceFits, partFits, cornerFits, degreeFits, smoothingFits}
 use Rattle.forms.proofs.NumbersBack.{number-back, number-fits}

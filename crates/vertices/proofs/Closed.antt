@@ -11,8 +11,8 @@ use borrow.Author.Tests.{leb-true, le-leb}
 use native.Mathlib.Omega.{arith}
 use Rattle.text.specs.Words.{Word}
 use Rattle.text.specs.Rest.{Rest}
-use Rattle.forms.specs.Said.{Said, says, wrong}
-use Rattle.forms.specs.Number.{numberOf}
+use Rattle.digits.specs.Said.{Said, says, wrong}
+use Rattle.decimals.specs.Number.{numberOf}
 use Rattle.model.specs.Parse.{Parsed, fine, fault, then, WordForm, a-number, Value, number, onSaid, Seen, placed, valuesOf, numbersOf}
 use Rattle.state.specs.Numbers.{Walk, ended, full, stuck, onto, onNumber, numbersFrom, numbersWalk}
 use Rattle.vertices.specs.Into.{closing, closed, atLeast, rowSaid}

@@ -5,7 +5,7 @@ use mathlib.Core.Option.{none, some}
 use lib.IntN.{ℤ, pos, negsuc}
 use Rattle.keywords.specs.Rows.{bytes}
 use Rattle.text.specs.Rest.{restAt}
-use Rattle.forms.specs.Number.{numberOf, decimal, numerator, denominator, nearest}
+use Rattle.decimals.specs.Number.{numberOf, decimal, numerator, denominator, nearest}
 use Rattle.model.specs.Model.{geometric, texture, normal, parametric}
 use Rattle.vertices.specs.Vertex.{vertexSaid}
 

@@ -19,12 +19,12 @@ use Rattle.text.specs.Words.{Word, wordOf}
 use Rattle.text.specs.Rest.{Rest, restAt, wordAt, endOf, WordMet, EndMet, BadMet, gapIs}
 use Rattle.text.specs.declared.Met.{Met}
 use Rattle.text.specs.declared.Met.the-variants.{Start, End, Bad}
-use Rattle.forms.specs.Said.{Said, says, wrong, ended as endedAt}
-use Rattle.forms.specs.Number.{numberOf}
-use Rattle.forms.specs.Answers.{saidNumber}
-use Rattle.forms.specs.declared.number.Number.{Number}
-use Rattle.forms.specs.declared.number.Number.the-variants.{Value, Malformed, OutOfRange}
-use Rattle.forms.proofs.Saids.{ended-says, ended-wrong}
+use Rattle.digits.specs.Said.{Said, says, wrong, ended as endedAt}
+use Rattle.decimals.specs.Number.{numberOf}
+use Rattle.decimals.specs.Answers.{saidNumber}
+use Rattle.decimals.specs.declared.number.Number.{Number}
+use Rattle.decimals.specs.declared.number.Number.the-variants.{Value, Malformed, OutOfRange}
+use Rattle.digits.proofs.Saids.{ended-says, ended-wrong}
 use Rattle.state.specs.Numbers.{Walk, ended, full, stuck, onto, onNumber, numbersWalk}
 use Rattle.vertices.specs.Into.{EndedAfter, FullAfter, StoppedAfter}
 use Rattle.lists.proofs.Laws.{sets-append}

@@ -1,5 +1,5 @@
 // The numbers of a line into a table, and the four kinds of vertices.
-use forms::number::Number;
+use decimals::number::Number;
 use text::Met;
 ghost use mathlib.Core.Path.{_≡_};
 ghost use mathlib.Core.Bool.{cond};
@@ -27,7 +27,7 @@ pub fn numbers_into(text: &[u8], at: usize, most: usize, table: &mut [i32], firs
     let mut count: usize = 0;
     while count < most {
         match text::gap(text, i) {
-            Met::Start(p) => match forms::number::quick_number_at(text, p) {
+            Met::Start(p) => match decimals::number::quick_number_at(text, p) {
                 Number::Value { value, end } => {
                     if !tables::storing::put_i32(table, first + count, value) {
                         return Numbers::Stopped;

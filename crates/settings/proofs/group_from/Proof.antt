@@ -8,7 +8,7 @@ use borrow.Author.Needs.{needs}
 use Rattle.text.specs.Words.{wordOf}
 use Rattle.text.specs.Rest.{endOf}
 use Rattle.text.proofs.Found as F
-use Rattle.forms.specs.Degree.{nameOf}
+use Rattle.digits.specs.Degree.{nameOf}
 use Rattle.settings.proofs.Lines as L
 use Rattle.settings.proofs.Groups as G
 use Rattle.settings.proofs.group_from.Statement.{statement}

@@ -6,7 +6,7 @@ use Rattle.text.proofs.Found as F
 use lib.ListN.{drop}
 use Rattle.text.specs.Words.{wordOf}
 use Rattle.text.specs.Rest.{restAt, endOf}
-use Rattle.forms.specs.Degree.{degreeOf}
+use Rattle.digits.specs.Degree.{degreeOf}
 use Rattle.settings.proofs.Lines as L
 use borrow.Author.Needs.{needs}
 use Rattle.settings.proofs.take_degree.Statement.{statement}

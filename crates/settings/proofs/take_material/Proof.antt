@@ -4,7 +4,7 @@ use denote.Ref.{now}
 use lib.ListN.{drop}
 use Rattle.text.specs.Words.{wordOf}
 use Rattle.text.specs.Rest.{endOf}
-use Rattle.forms.specs.Degree.{nameOf}
+use Rattle.digits.specs.Degree.{nameOf}
 use Rattle.settings.proofs.Lines as L
 use borrow.Author.Needs.{needs}
 use Rattle.settings.proofs.take_material.Statement.{statement}

@@ -3,7 +3,7 @@ use native.Mathlib.Omega.{arith}
 use borrow.Author.Tests.{not-true, not-false}
 use denote.Ref.{now}
 use Rattle.vertices.specs.Vertex.{kindOf}
-use Rattle.forms.proofs.Signs.{reads}
+use Rattle.decimals.proofs.Signs.{reads}
 use Rattle.vertices.proofs.Rows as R
 use Rattle.vertices.proofs.Taking as T
 use borrow.Author.Needs.{needs}

@@ -3,8 +3,8 @@ use denote.Ref.{now}
 use lib.ListN.{drop}
 use Rattle.text.specs.Words.{wordOf}
 use Rattle.text.specs.Rest.{endOf}
-use Rattle.forms.specs.Answers.{saidName}
-use Rattle.forms.specs.Degree.{nameOf}
+use Rattle.digits.specs.Answers.{saidName}
+use Rattle.digits.specs.Degree.{nameOf}
 use Rattle.blame.proofs.Words.{told}
 use borrow.Author.Needs.{needs}
 use Rattle.blame.proofs.word.name_fault.Statement.{statement}

@@ -3,8 +3,8 @@ use denote.Ref.{now}
 use lib.ListN.{drop}
 use Rattle.text.specs.Words.{wordOf}
 use Rattle.text.specs.Rest.{endOf}
-use Rattle.forms.specs.Answers.{saidNumber}
-use Rattle.forms.specs.Number.{numberOf}
+use Rattle.decimals.specs.Answers.{saidNumber}
+use Rattle.decimals.specs.Number.{numberOf}
 use Rattle.blame.proofs.Words.{told}
 use borrow.Author.Needs.{needs}
 use Rattle.blame.proofs.word.number_fault.Statement.{statement}

@@ -4,10 +4,10 @@ use denote.Ref.{now}
 use lib.ListN.{drop}
 use Rattle.text.specs.Words.{wordOf}
 use Rattle.text.specs.Rest.{wordAt}
-use Rattle.forms.specs.Number.{numberOf}
+use Rattle.decimals.specs.Number.{numberOf}
 use Rattle.forms.specs.Corner.{cornerOf}
 use Rattle.forms.specs.Reference.{referenceOf}
-use Rattle.forms.specs.Degree.{degreeOf, smoothingOf, nameOf}
+use Rattle.digits.specs.Degree.{degreeOf, smoothingOf, nameOf}
 use Rattle.keywords.specs.Arguments.{argumentOf}
 use Rattle.model.specs.Parse as parse
 use Rattle.blame.specs.Faults.{heard, countsBy, seenBy}

@@ -2,7 +2,7 @@
 use mathlib.Core.Path.{ap}
 use native.Mathlib.Omega.{arith}
 use denote.Ref.{now}
-use Rattle.forms.specs.Answers.{saidNumber}
+use Rattle.decimals.specs.Answers.{saidNumber}
 use Rattle.tables.proofs.Stores.{fitted}
 use Rattle.bodies.proofs.Steps as S
 use borrow.Author.Needs.{needs}

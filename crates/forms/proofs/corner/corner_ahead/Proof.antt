@@ -10,8 +10,8 @@ use Rattle.forms.proofs.corner.corner_ahead.Statement.{statement}
 use Rattle.forms.proofs.corner.corner_ahead.Tie as tie
 use Rattle.forms.proofs.corner.refers.Reads as refers-reads
 use Rattle.forms.proofs.corner.texture_ahead.Reads as texture-ahead-reads
-use Rattle.forms.proofs.digits.byte_in.Reads as byte-in-reads
-use Rattle.forms.proofs.digits.few.Reads as few-reads
+use Rattle.digits.proofs.byte_in.Reads as byte-in-reads
+use Rattle.digits.proofs.few.Reads as few-reads
 
 few-requires : tie.Need-few-requires
 few-requires c κs = search needs

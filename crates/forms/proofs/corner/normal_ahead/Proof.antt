@@ -8,8 +8,8 @@ use borrow.Author.Needs.{needs}
 use Rattle.forms.proofs.corner.normal_ahead.Statement.{statement}
 use Rattle.forms.proofs.corner.normal_ahead.Tie as tie
 use Rattle.forms.proofs.corner.refers.Reads as refers-reads
-use Rattle.forms.proofs.digits.byte_in.Reads as byte-in-reads
-use Rattle.forms.proofs.digits.few.Reads as few-reads
+use Rattle.digits.proofs.byte_in.Reads as byte-in-reads
+use Rattle.digits.proofs.few.Reads as few-reads
 
 returns : tie.Need-returns
 returns c = search needs

@@ -4,7 +4,7 @@ use denote.Ref.{now}
 use Rattle.text.specs.Words.{wordOf}
 use Rattle.text.specs.Rest.{endOf}
 use lib.ListN.{drop}
-use Rattle.forms.specs.Said.{ended}
+use Rattle.digits.specs.Said.{ended}
 use Rattle.forms.specs.Corner.{cornerOf}
 use Rattle.forms.specs.Answers.{aheadIs}
 use borrow.Author.Needs.{needs}

@@ -11,7 +11,7 @@ use Rattle.forms.proofs.corner.texture_ahead.Statement.{statement}
 use Rattle.forms.proofs.corner.texture_ahead.Tie as tie
 use Rattle.forms.proofs.corner.normal_ahead.Reads as normal-ahead-reads
 use Rattle.forms.proofs.corner.second_ahead.Reads as second-ahead-reads
-use Rattle.forms.proofs.digits.byte_in.Reads as byte-in-reads
+use Rattle.digits.proofs.byte_in.Reads as byte-in-reads
 
 returns : tie.Need-returns
 returns c = search needs

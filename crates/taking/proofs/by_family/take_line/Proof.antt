@@ -11,12 +11,12 @@ use Rattle.taking.proofs.by_family.take_line.Statement.{statement}
 use Rattle.taking.proofs.by_family.take_line.Tie as tie
 use Rattle.taking.proofs.by_family.take_line.Reads as reads
 use Rattle.taking.proofs.by_family.take_line.Lts as lts
-use Rattle.lines.proofs.body_lines.body_line.Reads as body-line-reads
-use Rattle.lines.proofs.element_lines.element_line.Reads as element-line-reads
-use Rattle.lines.proofs.inner_lines.end_line.Reads as end-line-reads
-use Rattle.lines.proofs.inner_lines.loop_line.Reads as loop-line-reads
-use Rattle.lines.proofs.inner_lines.parm_line.Reads as parm-line-reads
-use Rattle.lines.proofs.setting_lines.setting_line.Reads as setting-line-reads
+use Rattle.outer_lines.proofs.body_lines.body_line.Reads as body-line-reads
+use Rattle.outer_lines.proofs.element_lines.element_line.Reads as element-line-reads
+use Rattle.inner_lines.proofs.end_line.Reads as end-line-reads
+use Rattle.inner_lines.proofs.loop_line.Reads as loop-line-reads
+use Rattle.inner_lines.proofs.parm_line.Reads as parm-line-reads
+use Rattle.outer_lines.proofs.setting_lines.setting_line.Reads as setting-line-reads
 use Rattle.lines.proofs.vertex_line.Reads as vertex-line-reads
 
 enum-known-family : tie.Need-enum-known-family

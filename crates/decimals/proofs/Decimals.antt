@@ -1,0 +1,150 @@
+-- What the code finds is what the word says as a number: by where the digits stop, at the point, at the word's end or at another byte.
+use Prim.Native.Nat.{ℕ, zero, suc, _+_, _-_, _*_, _/_, _^_, _≤_, _<_}
+use mathlib.Core.Path.{_≡_, refl, sym, ap, ap₂, _∙_}
+use mathlib.Core.List.{List, [], _∷_, _++_}
+use mathlib.Core.Bool.{Bool, true, false, _&&_}
+use mathlib.Core.Logic.{⊎-elim}
+use lib.ListN.{length, take, drop, length-append}
+use lib.IntN.{ℤ}
+use lib.Dec.{leb, eqb}
+use borrow.Author.Tests.{le-leb, lt-leb, leb-true, ne-eqb, eqb-false}
+use native.Mathlib.Omega.{arith}
+use Rattle.lists.proofs.Tests.{and-left, and-right, and-second, test}
+use Rattle.text.specs.Words.{wordOf}
+use Rattle.digits.specs.Said.{Said, says, wrong, must}
+use Rattle.digits.specs.Digits.{isDigit, digits, natOf, negative}
+use Rattle.decimals.specs.Number.{before, after, decimal, numerator, denominator, nearest, unsigned, inRange, numberOf}
+use Rattle.decimals.specs.Straight.{tenMillionths, magnitudeOf, pointed, settleOf}
+use Rattle.digits.specs.Straight.{first, over, run, past, cap}
+use Rattle.digits.proofs.Rows.{run-digits, natOf-append}
+use Rattle.decimals.proofs.Rounding.{settles}
+use Rattle.digits.proofs.Fronts.{word-run, word-all, word-not, past-digit, past-word, on-word}
+
+-- a digit is no point
+digit-no-point : (b : ℕ) → isDigit b ≡ true → eqb b 46 ≡ false
+digit-no-point b h = ne-eqb b 46 (omega (arith, leb-true 48 b (and-left (leb 48 b) (leb b 57) h)))
+
+pub before-point : (s t : List ℕ) → digits s ≡ true → before (s ++ 46 ∷ t) ≡ s
+before-point [] t h = refl
+before-point (b ∷ bs) t h =
+    rw (digit-no-point b (and-left (isDigit b) (digits bs) h))
+    (ap (λ (r : List ℕ). b ∷ r) (before-point bs t (and-right (isDigit b) (digits bs) h)))
+
+pub after-point : (s t : List ℕ) → digits s ≡ true → after (s ++ 46 ∷ t) ≡ t
+after-point [] t h = refl
+after-point (b ∷ bs) t h =
+    rw (digit-no-point b (and-left (isDigit b) (digits bs) h))
+    (after-point bs t (and-right (isDigit b) (digits bs) h))
+
+pub before-none : (s : List ℕ) → digits s ≡ true → before s ≡ s
+before-none [] h = refl
+before-none (b ∷ bs) h =
+    rw (digit-no-point b (and-left (isDigit b) (digits bs) h))
+    (ap (λ (r : List ℕ). b ∷ r) (before-none bs (and-right (isDigit b) (digits bs) h)))
+
+pub after-none : (s : List ℕ) → digits s ≡ true → after s ≡ []
+after-none [] h = refl
+after-none (b ∷ bs) h =
+    rw (digit-no-point b (and-left (isDigit b) (digits bs) h))
+    (after-none bs (and-right (isDigit b) (digits bs) h))
+
+-- another byte than a digit or a point, after digits
+pub before-other : (s : List ℕ) (c : ℕ) (t : List ℕ) → digits s ≡ true → isDigit c ≡ false → eqb c 46 ≡ false → digits (before (s ++ c ∷ t)) ≡ false
+before-other [] c t h e₁ e₂ = rw e₂ (rw e₁)
+before-other (b ∷ bs) c t h e₁ e₂ =
+    rw (digit-no-point b (and-left (isDigit b) (digits bs) h))
+    (rw (and-left (isDigit b) (digits bs) h) (before-other bs c t (and-right (isDigit b) (digits bs) h) e₁ e₂))
+
+length-zero : (l : List ℕ) → length l ≡ 0 → l ≡ []
+length-zero [] h = refl
+length-zero (b ∷ bs) h = absurd (omega arith)
+
+-- ---- the cases of a word of digits
+pub at-point : (d u : List ℕ) → digits d ≡ true → magnitudeOf (d ++ 46 ∷ u) ≡ pointed (length d) (cap (natOf 0 d)) u
+unfolding magnitudeOf decimal tenMillionths pointed
+at-point d u h = rw (before-point d u h, after-point d u h, h) refl
+
+pub no-point : (d : List ℕ) → digits d ≡ true → 1 ≤ length d → magnitudeOf d ≡ says (cap (natOf 0 d) * 10 ^ 7)
+unfolding magnitudeOf decimal tenMillionths
+no-point d h k = rw (before-none d h, after-none d h, h, le-leb 1 (length d + 0) (omega arith)) refl
+
+pub other-byte : (d : List ℕ) (c : ℕ) (u : List ℕ) → digits d ≡ true → isDigit c ≡ false → eqb c 46 ≡ false → magnitudeOf (d ++ c ∷ u) ≡ wrong 6
+unfolding magnitudeOf decimal
+other-byte d c u h e₁ e₂ = rw (before-other d c u h e₁ e₂) refl
+
+pub no-byte : magnitudeOf [] ≡ wrong 6
+unfolding magnitudeOf decimal
+no-byte = refl
+
+-- ---- the same at a place
+module _ (l : List ℕ) where
+  pub point-at : first (past l) ≡ 46 → magnitudeOf (wordOf l) ≡ pointed (length (run l)) (cap (natOf 0 (run l))) (wordOf (drop 1 (past l)))
+  point-at e = ap magnitudeOf (word-run l ∙ ap (λ (r : List ℕ). run l ++ r) (past-word l 46 e refl refl)) ∙ at-point (run l) (wordOf (drop 1 (past l))) (run-digits l)
+
+  pub bare-at : over (wordOf (past l)) ≡ true → 1 ≤ length (run l) → magnitudeOf (wordOf l) ≡ says (cap (natOf 0 (run l)) * 10 ^ 7)
+  bare-at o k = ap magnitudeOf (word-all l o) ∙ no-point (run l) (run-digits l) k
+
+  pub other-at : (first (past l) ≡ 46 → ⊥) → over (wordOf (past l)) ≡ false → magnitudeOf (wordOf l) ≡ wrong 6
+  other-at f o =
+      ap magnitudeOf (word-run l ∙ ap (λ (r : List ℕ). run l ++ r) (on-word (past l) o))
+      ∙ other-byte (run l) (first (past l)) (wordOf (drop 1 (past l))) (run-digits l) (past-digit l) (ne-eqb (first (past l)) 46 f)
+
+  pub none-at : (first (past l) ≡ 46 → ⊥) → length (run l) ≡ 0 → magnitudeOf (wordOf l) ≡ wrong 6
+  none-at f z =
+      ⊎-elim
+      (λ (o : over (wordOf (past l)) ≡ true). ap magnitudeOf (word-all l o ∙ length-zero (run l) z) ∙ no-byte)
+      (λ (o : over (wordOf (past l)) ≡ false). other-at f o)
+      (test (over (wordOf (past l))))
+
+-- ---- after the point
+module _ (n a : ℕ) (l : List ℕ) where
+  pub pointed-not : over (wordOf (past l)) ≡ false → pointed n a (wordOf l) ≡ wrong 6
+  unfolding pointed
+  pointed-not o = rw (word-not l o) refl
+
+  pub pointed-none : n + length (run l) ≡ 0 → pointed n a (wordOf l) ≡ wrong 6
+  pointed-none z =
+      ⊎-elim
+      (λ (o : over (wordOf (past l)) ≡ true). ap (pointed n a) (word-all l o) ∙ nothing)
+      (λ (o : over (wordOf (past l)) ≡ false). pointed-not o)
+      (test (over (wordOf (past l))))
+    where
+      nothing : pointed n a (run l) ≡ wrong 6
+      nothing = unfold pointed in rw (run-digits l, lt-leb 1 (n + length (run l)) (omega arith)) refl
+
+  pub pointed-of : over (wordOf (past l)) ≡ true → 1 ≤ n + length (run l)
+      → pointed n a (wordOf l) ≡ says (natOf a (take 7 (run l)) * 10 ^ (7 - length (run l)))
+  unfolding pointed
+  pointed-of o k = rw (word-all l o, run-digits l, le-leb 1 (n + length (run l)) k) refl
+
+-- ---- the number
+module _ (w : List ℕ) where
+  pub number-long : 64 < length w → numberOf w ≡ wrong 6
+  unfolding numberOf
+  number-long h = rw (lt-leb (length w) 64 h) refl
+
+  pub number-bad : magnitudeOf (unsigned w) ≡ wrong 6 → numberOf w ≡ wrong 6
+  unfolding numberOf magnitudeOf
+  number-bad h =
+      ⊎-elim
+      (λ (t : decimal (unsigned w) ≡ true). let z : _≡_ {A = ℕ} 0 1 = (let y = rw t at h in cc) in absurd (omega arith))
+      (λ (t : decimal (unsigned w) ≡ false). rw (and-second (leb (length w) 64) t) refl)
+      (test (decimal (unsigned w)))
+
+  exact : decimal (unsigned w) ≡ true → (minus : Bool) → settleOf minus (tenMillionths (unsigned w)) ≡ inRange minus (nearest (numerator (unsigned w)) (denominator (unsigned w)))
+  unfolding decimal tenMillionths numerator denominator
+  exact t minus =
+      let u : List ℕ = unsigned w in
+      let d = and-right (digits (before u)) (digits (after u)) (and-left (digits (before u) && digits (after u)) (leb 1 (length (before u) + length (after u))) t) in
+      settles minus (natOf 0 (before u)) (after u) d
+      ∙ ap (λ (n : ℕ). inRange minus (nearest n (10 ^ length (after u)))) (sym (natOf-append 0 (before u) (after u)))
+
+  pub number-of : (m : ℕ) → magnitudeOf (unsigned w) ≡ says m → length w ≤ 64 → numberOf w ≡ settleOf (negative w) m
+  unfolding numberOf magnitudeOf
+  number-of m h k =
+      ⊎-elim
+      (λ (t : decimal (unsigned w) ≡ true).
+      let y : tenMillionths (unsigned w) ≡ m = (let x = rw t at h in cc) in
+      rw (le-leb (length w) 64 k, t) (sym (exact t (negative w)) ∙ ap (settleOf (negative w)) y))
+      (λ (t : decimal (unsigned w) ≡ false). let z : _≡_ {A = ℕ} 0 1 = (let y = rw t at h in cc) in absurd (omega arith))
+      (test (decimal (unsigned w)))

@@ -1,0 +1,73 @@
+-- Six decimals and no digit after them are whole millionths.
+use native.Mathlib.Omega.{arith}
+use denote.Ref.{now}
+use Rattle.digits.proofs.Runs.{few-near}
+use Rattle.decimals.proofs.Exact.{decimals-fit, decimals-of}
+use borrow.Author.Needs.{needs}
+use Rattle.decimals.proofs.number.decimals_ahead.Statement.{statement}
+use Rattle.decimals.proofs.number.decimals_ahead.Tie as tie
+use Rattle.digits.proofs.byte_in.Reads as byte-in-reads
+use Rattle.digits.proofs.few.Reads as few-reads
+use Rattle.decimals.proofs.number.scale.Reads as scale-reads
+
+few-requires : tie.Need-few-requires
+few-requires c κs = search needs
+
+byte-in-requires : tie.Need-byte-in-requires
+byte-in-requires c κs =
+    let a = c .before .before in
+    let n = few-near 6 (now (a .args .text)) (a .args .at) (a .args .whole) (c .few .result .end) (c .few .result .value) (c .few .ensures) in
+    let p = a .pre .0 in
+    omega arith
+
+returns : tie.Need-returns
+returns c = search needs
+
+sub-if2 : tie.Need-sub-if2
+sub-if2 c = search needs
+
+add-if2 : tie.Need-add-if2
+add-if2 c = search needs
+
+returns-2 : tie.Need-returns-2
+returns-2 c = search needs
+
+sub-scale : tie.Need-sub-scale
+sub-scale c = search needs
+
+add-scale : tie.Need-add-scale
+add-scale c = search needs
+
+scale-requires : tie.Need-scale-requires
+scale-requires c κs = search needs
+
+mul-t12 : tie.Need-mul-t12
+mul-t12 c =
+    let a = c .before .before .before .before .before .before .before in
+    let w = c .before .before .before .before .before in
+    let q = decimals-fit (now (a .args .text)) (a .args .at) (a .args .whole) (w .few .result .end) (w .few .result .value) (w .few .ensures) (c .before .before .before .before .byte-in .result) (c .before .before .before .before .byte-in .ensures) (c .before .before .before .if1 .left) (c .before .scale .result) (c .before .scale .ensures) (a .pre .2) in
+    omega arith
+
+returns-3 : tie.Need-returns-3
+returns-3 c =
+    let a = c .before .before .before .before .before .before .before in
+    let w = c .before .before .before .before .before in (
+      decimals-of (now (a .args .text)) (a .args .at) (a .args .whole) (w .few .result .end) (w .few .result .value) (w .few .ensures) (c .before .before .before .before .byte-in .result) (c .before .before .before .before .byte-in .ensures) (c .before .before .before .if1 .left) (c .before .scale .result) (c .before .scale .ensures) (a .args .count) (c .before .before .if2 .left),
+      few-near 6 (now (a .args .text)) (a .args .at) (a .args .whole) (w .few .result .end) (w .few .result .value) (w .few .ensures),
+    )
+
+pub decimals-ahead-spec : {M : Type 1} → statement M
+decimals-ahead-spec =
+    tie.close
+    (tie.spec
+    few-requires
+    byte-in-requires
+    returns
+    sub-if2
+    add-if2
+    returns-2
+    sub-scale
+    add-scale
+    scale-requires
+    mul-t12
+    returns-3)

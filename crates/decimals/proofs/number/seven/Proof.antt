@@ -1,0 +1,33 @@
+-- Near the text's end its digits are all there are.
+use Prim.Native.Nat.{_-_, _≤_}
+use mathlib.Core.Path.{refl}
+use native.Mathlib.Omega.{arith}
+use lib.ListN.{length}
+use denote.Ref.{now}
+use Rattle.digits.proofs.Runs.{few-seven, left-small}
+use borrow.Author.Needs.{needs}
+use Rattle.decimals.proofs.number.seven.Statement.{statement}
+use Rattle.decimals.proofs.number.seven.Tie as tie
+
+sub-left : tie.Need-sub-left
+sub-left c = search needs
+
+few-requires : tie.Need-few-requires
+few-requires c κs =
+    let a = c .before .before in
+    let left = length (now (a .args .text)) - a .args .at in
+    (let x = a .pre .0 in omega arith, left-small (a .args .whole) left (a .pre .1) (let x = c .if1 .taken in let y : left ≤ 7 = omega arith in y))
+
+returns : tie.Need-returns
+returns c =
+    let a = c .before .before .before .args in
+    few-seven (now (a .text)) (a .at) (a .whole) (length (now (a .text)) - a .at) (c .few .result .end) (c .few .result .value) refl (c .before .if1 .taken) (c .few .ensures)
+
+few-requires-2 : tie.Need-few-requires-2
+few-requires-2 c κs = search needs
+
+returns-2 : tie.Need-returns-2
+returns-2 c = search needs
+
+pub seven-spec : {M : Type 1} → statement M
+seven-spec = tie.close (tie.spec sub-left few-requires returns few-requires-2 returns-2)

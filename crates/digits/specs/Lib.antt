@@ -1,0 +1,5 @@
+pub mod Said
+pub mod Digits
+pub mod Degree
+pub mod Answers
+pub mod Straight

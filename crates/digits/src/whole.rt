@@ -1,0 +1,110 @@
+use crate::byte_at;
+use crate::whole_run;
+use crate::word_ends;
+ghost use mathlib.Core.Path.{_≡_};
+ghost use Prim.Native.Nat.{ℕ, _+_, _≤_, _<_};
+ghost use lib.ListN.{length, drop};
+ghost use Rattle.lists.specs.Lists.{same};
+ghost use Rattle.text.specs.Words.{wordOf};
+ghost use Rattle.text.specs.Rest.{endOf};
+ghost use Rattle.digits.specs.Said.{ended};
+ghost use Rattle.digits.specs.Degree.{degreeOf, smoothingOf, off};
+ghost use Rattle.digits.specs.Answers.{saidWhole, saidRow};
+ghost use Rattle.digits.specs.Straight.{rowOf};
+
+pub enum Whole {
+    Value { value: u32, end: usize },
+    Malformed,
+    OutOfRange,
+}
+
+pub enum Row {
+    Of { value: u64, end: usize },
+    Malformed,
+}
+
+// The number of a word of 1 to `most` digits.
+fn row_at(text: &[u8], at: usize, most: usize) -> Row
+    requires { ⌜ (at ≤ length (now text)) × (most ≤ 10) ⌝ }
+    ensures { λ r. ⌜ saidRow r ≡ ended (rowOf most (wordOf (drop at (now (text .entry))))) (endOf (now (text .entry)) at) ⌝ }
+{
+    let w = whole_run(text, at);
+    let end = w.end;
+    if end == at {
+        return Row::Malformed;
+    }
+    if most < end - at {
+        return Row::Malformed;
+    }
+    if word_ends(text, end) {
+        return Row::Of {
+            value: w.value,
+            end: end,
+        };
+    }
+    Row::Malformed
+}
+
+// The degree that the word at `at` is.
+pub fn degree_at(text: &[u8], at: usize) -> Whole
+    requires { ⌜ at ≤ length (now text) ⌝ }
+    ensures { λ r. ⌜ saidWhole r ≡ ended (degreeOf (wordOf (drop at (now (text .entry))))) (endOf (now (text .entry)) at) ⌝ }
+{
+    match row_at(text, at, 3) {
+        Row::Malformed => Whole::Malformed,
+        Row::Of { value, end } => {
+            if value == 0 {
+                return Whole::OutOfRange;
+            }
+            if 20 < value {
+                return Whole::OutOfRange;
+            }
+            Whole::Value {
+                value: value as u32,
+                end: end,
+            }
+        }
+    }
+}
+
+// Whether the word at `at` is off.
+fn off_at(text: &[u8], at: usize) -> bool
+    requires { ⌜ at ≤ length (now text) ⌝ }
+    ensures { λ r. ⌜ r ≡ same (wordOf (drop at (now (text .entry)))) off ⌝ }
+{
+    if byte_at(text, at) != 111 {
+        return false;
+    }
+    if byte_at(text, at + 1) != 102 {
+        return false;
+    }
+    if byte_at(text, at + 2) != 102 {
+        return false;
+    }
+    word_ends(text, at + 3)
+}
+
+// The smoothing number that the word at `at` is.
+pub fn smoothing_at(text: &[u8], at: usize) -> Whole
+    requires { ⌜ at ≤ length (now text) ⌝ }
+    ensures { λ r. ⌜ saidWhole r ≡ ended (smoothingOf (wordOf (drop at (now (text .entry))))) (endOf (now (text .entry)) at) ⌝ }
+{
+    if off_at(text, at) {
+        return Whole::Value {
+            value: 0,
+            end: at + 3,
+        };
+    }
+    match row_at(text, at, 5) {
+        Row::Malformed => Whole::Malformed,
+        Row::Of { value, end } => {
+            if 65_535 < value {
+                return Whole::OutOfRange;
+            }
+            Whole::Value {
+                value: value as u32,
+                end: end,
+            }
+        }
+    }
+}

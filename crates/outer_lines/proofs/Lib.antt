@@ -1,0 +1,7 @@
+pub mod Elements
+pub mod Bodies
+pub mod Counts
+pub mod SteppedElements
+pub mod SteppedBodies
+pub mod Settings
+pub mod Quiet

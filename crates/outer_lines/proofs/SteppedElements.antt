@@ -1,0 +1,77 @@
+-- From what `take_element` answers to the step of its line: laws over plain variables, one for each way out.
+use Prim.Native.Nat.{ℕ, _≤_, _<_}
+use mathlib.Core.Path.{_≡_, refl, sym, _∙_, subst}
+use mathlib.Core.List.{List}
+use mathlib.Core.Bool.{false}
+use mathlib.Core.Option.{Option, none, some}
+use native.Mathlib.Omega.{arith}
+use lib.ListN.{length}
+use Rattle.lists.proofs.Tests.{never}
+use Rattle.text.specs.Words.{Word}
+use Rattle.text.specs.Rest.{restAt}
+use Rattle.tables.specs.Tables.{Tables}
+use Rattle.model.specs.Model as model
+use Rattle.model.specs.Model.{Shape, Model, Open}
+use Rattle.model.specs.Parse.{an-element}
+use Rattle.model.specs.Room.{Rooms}
+use Rattle.state.specs.declared.State.{State}
+use Rattle.state.specs.Changed.{state, withElement}
+use Rattle.elements.specs.Elements.{ruleOf, TakenElement, NoElement, elementIs}
+use Rattle.vertices.proofs.Closed.{nothing}
+use Rattle.elements.specs.declared.Element.{Element}
+use Rattle.elements.specs.declared.Element.the-variants as element
+use Rattle.lines.specs.Holding.{NextLine}
+use Rattle.outer_lines.specs.Counting.{countable, oneElement}
+use Rattle.lines.specs.Stepping.{withUsed, Began, Left, elementStep}
+use Rattle.lines.specs.declared.Step.the-variants.{Taken, GaveUp}
+use Rattle.outer_lines.proofs.Counts.{counts-small, corners-within}
+use Rattle.lines.proofs.Opened.{no-body, before-parse, left-in-body}
+use Rattle.lines.proofs.Given.{given-in}
+use Rattle.outer_lines.proofs.Elements.{element-next, element-roomless}
+
+module _ (k : Shape) (s : List ℕ) (at : ℕ) (c : State) (l m e f : List ℕ) where
+  pub element-inside : (c .«open» .kind ≡ 0 → ⊥) → elementStep k s at c l m e f GaveUp
+  element-inside o t i j R p x w b =
+      left-in-body R s p at x c t (withElement m f t) w (an-element k) b (given-in R s x c t p (b .holds)) o (λ o. refl)
+
+  pub element-full : countable (c .used) ≡ false → elementStep k s at c l m e f GaveUp
+  element-full n t i j R p x w b = never (sym n ∙ counts-small b)
+
+  module _ (out : c .«open» .kind ≡ 0) where
+    gave : NoElement (ruleOf k) (c .used) s at l m e f → (t : Tables) → t .corners ≡ l → t .elements ≡ e
+        → (R : Rooms) (p : ℕ) (mo : Model) (n : model.Names) (fo : model.Form) (o : Option Open) (w : Word) → Began R s p at (state mo n fo o) c t w (an-element k)
+        → Left R s p at (state mo n fo o) (withElement m f t) w (an-element k)
+    gave v t i j R p mo n fo (some o) w b = nothing (sym (no-body s (c .«open») (some o) (b .holds .state .open-body) out))
+    gave v t i j R p mo n fo none w b =
+        let v′ : NoElement (ruleOf k) (c .used) s at (t .corners) m (t .elements) f = rw (i, j) v in
+        record {
+          given = given-in R s (state mo n fo none) c t p (b .holds);
+          roomless = λ g y h. element-roomless R s p at mo n fo c t (b .holds) w k (b .begins) (b .keyword) m f v′ g y (sym (before-parse (state mo n fo none) (w .place) ((restAt s at) .words) (an-element k) refl) ∙ h);
+        }
+
+    pub element-gave : (r : Element) → elementIs (ruleOf k) 0 (c .used) (c .names) s at l m e f r → r ≡ element.GaveUp → elementStep k s at c l m e f GaveUp
+    element-gave r v g t i j R p x w b =
+        gave (subst (elementIs (ruleOf k) 0 (c .used) (c .names) s at l m e f) g v) t i j R p (x .model) (x .names) (x .form) (x .open-body) w b
+
+    module _ (count q : ℕ) where
+      took : TakenElement (ruleOf k) 0 (c .used) (c .names) s at l m e f count q → (t : Tables) → t .corners ≡ l → t .elements ≡ e
+          → (R : Rooms) (p : ℕ) (mo : Model) (n : model.Names) (fo : model.Form) (o : Option Open) (w : Word) → Began R s p at (state mo n fo o) c t w (an-element k)
+          → NextLine R s p (state mo n fo o) (withUsed (oneElement count (c .used)) c) (withElement m f t) q × (q ≡ (restAt s p) .next)
+      took v t i j R p mo n fo (some o) w b = nothing (sym (no-body s (c .«open») (some o) (b .holds .state .open-body) out))
+      took v t i j R p mo n fo none w b =
+          let v′ : TakenElement (ruleOf k) 0 (c .used) (c .names) s at (t .corners) m (t .elements) f count q = rw (i, j) v in
+          element-next R s p at mo n fo c t (b .holds) w k (b .begins) (b .keyword) m f count q v′
+
+      module _ (r : Element) (v : elementIs (ruleOf k) 0 (c .used) (c .names) s at l m e f r) (g : r ≡ element.Taken count q) where
+        taken : TakenElement (ruleOf k) 0 (c .used) (c .names) s at l m e f count q
+        taken = subst (elementIs (ruleOf k) 0 (c .used) (c .names) s at l m e f) g v
+
+        -- a text has not so many corners
+        pub element-long : at ≤ length s → length s ≤ 16777216 → 16777216 < count → elementStep k s at c l m e f GaveUp
+        element-long a z n t i j R p x w b =
+            absurd (let u = corners-within b a z (took taken t i j R p (x .model) (x .names) (x .form) (x .open-body) w b) in omega arith)
+
+        pub element-took : (d : State) → d ≡ withUsed (oneElement count (c .used)) c → elementStep k s at c l m e f (Taken d q)
+        element-took d h t i j R p x w b =
+            subst (λ (a : State). NextLine R s p x a (withElement m f t) q × (q ≡ (restAt s p) .next)) (sym h)
+            (took taken t i j R p (x .model) (x .names) (x .form) (x .open-body) w b)
