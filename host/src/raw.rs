@@ -1,4 +1,4 @@
-//! The boundary as the archive has it: `crates/boundary/src/lib.rt` and `include/kuhlabires.h` say the same. A slice is a pointer, then a length.
+//! The boundary as the archive has it: `src/lib.rt` of `crates/boundary` and `crates/answers`, and `include/kuhlabires.h`, say the same. A slice is a pointer, then a length.
 use crate::{Corner, Tables, Used};
 
 #[repr(C)]

@@ -1,5 +1,3 @@
-pub mod Words
-pub mod Walks
 pub mod Values
 pub mod Steps
 pub mod Parses

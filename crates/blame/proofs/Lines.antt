@@ -28,13 +28,14 @@ use Rattle.state.specs.State.{formIn, openIs, StateIs}
 use Rattle.state.specs.declared.Open.{Open}
 use Rattle.state.specs.declared.State.{State}
 use Rattle.state.specs.declared.Form.{Form}
-use Rattle.blame.specs.declared.rules.WordForm.the-variants as form
-use Rattle.blame.specs.declared.rules.Rules.{Rules}
-use Rattle.blame.specs.declared.word.Seen.{Seen}
-use Rattle.blame.specs.declared.Refusal.{Refusal}
-use Rattle.blame.specs.declared.Refusal.the-variants.{Refused, Nothing}
-use Rattle.blame.specs.Rules.{formBy, allowedBy, countedBy, rulesOf}
-use Rattle.blame.specs.Faults.{seenBy, saidBy, faultIn, patternFault, inForceBy, owed, orElse, bodyFault, heldFault, wordsFault, lineBy, lineFault, unknownBy, knownFault, statementFault}
+use Rattle.faults.specs.declared.rules.WordForm.the-variants as form
+use Rattle.faults.specs.declared.rules.Rules.{Rules}
+use Rattle.faults.specs.declared.word.Seen.{Seen}
+use Rattle.faults.specs.declared.Refusal.{Refusal}
+use Rattle.faults.specs.declared.Refusal.the-variants.{Refused, Nothing}
+use Rattle.faults.specs.Rules.{formBy, allowedBy, countedBy, rulesOf}
+use Rattle.faults.specs.Faults.{seenBy, saidBy, faultIn, patternFault, inForceBy, owed, orElse, bodyFault, heldFault}
+use Rattle.blame.specs.Lines.{wordsFault, lineBy, lineFault, unknownBy, knownFault, statementFault}
 use Rattle.blame.specs.Blame.{blameOf, checkedBefore, parseBefore, faultBefore, GivenIn}
 use Rattle.blame.proofs.Values.{blameAt, skip-values, pattern-walk, bare-unlike, narrow-walk}
 use Rattle.blame.proofs.Parses.{must-blame, then-blame, unless-blame, last-blame, words-blame, by-cond, outside-is, inside-is, body-kind, surface-kind, parm-kind, curve-force, curve2-force, surface-force, given-same}
@@ -79,12 +80,12 @@ module _ (text : List ℕ) (t : List ℤ) (key : ℕ) (x : model.State) (c : Ope
 
   -- 11 and 12 of curv2
   curve2-blame : (xs : List Value) (y : statements.Statement) → valuesOf (parse.seenIn x) (λ i. cond (ltb i 0) parse.a-number parse.a-control) 0 ws ≡ fine xs
-      → owed (inForceBy false (formIn (x .form))) 11 key (faultIn (parse.seenIn x) t (Rattle.blame.specs.declared.rules.Forms.the-variants.All form.Wide) 0 0 ws)
+      → owed (inForceBy false (formIn (x .form))) 11 key (faultIn (parse.seenIn x) t (Rattle.faults.specs.declared.rules.Forms.the-variants.All form.Wide) 0 0 ws)
       ≡ blameOf (unless (unlike ws (cornersOf xs)) 9 (must (parse.inForce curve2 (x .form) (x .form .basis)) 11 key (unless (parse.narrow (x .model .vertices .vp) ws (cornersOf xs)) 12 (fine y))))
   curve2-blame xs y e =
       let f : ℕ → parse.WordForm = λ i. cond (ltb i 0) parse.a-number parse.a-control in
       let h : (k : ℕ) → f k ≡ parse.a-control = λ k. let l : 0 ≤ k = omega arith in rw (le-ltb k 0 l) refl in
-      ap (λ (z : Bool). owed z 11 key (faultIn (parse.seenIn x) t (Rattle.blame.specs.declared.rules.Forms.the-variants.All form.Wide) 0 0 ws)) (curve2-force (x .form) (x .form .basis) refl)
+      ap (λ (z : Bool). owed z 11 key (faultIn (parse.seenIn x) t (Rattle.faults.specs.declared.rules.Forms.the-variants.All form.Wide) 0 0 ws)) (curve2-force (x .form) (x .form .basis) refl)
       ∙ must-blame (parse.inForce curve2 (x .form) (x .form .basis)) 11 key _
       (narrow-walk (parse.seenIn x) f h t (x .model .vertices .vp) (given-same t (x .model .vertices .vp) (length (x .model .vertices .vp)) refl given-in) 0 0 ws xs e
       ∙ last-blame (parse.narrow (x .model .vertices .vp) ws (cornersOf xs)) 12 y)

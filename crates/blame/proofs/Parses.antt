@@ -24,11 +24,11 @@ use Rattle.model.specs.Parse as parse
 use Rattle.model.specs.Parse.{Parsed, fine, fault, then, must, unless, valuesOf, Value}
 use Rattle.state.specs.State.{formIn, openIs}
 use Rattle.state.specs.declared.Open.{Open}
-use Rattle.blame.specs.declared.rules.WordForm.{WordForm}
-use Rattle.blame.specs.declared.rules.Rules.{Rules}
-use Rattle.blame.specs.declared.Refusal.{Refusal}
-use Rattle.blame.specs.Rules.{formBy}
-use Rattle.blame.specs.Faults.{heard, onHeard, saidBy, givenBy, faultIn, inForceBy, owed, orElse}
+use Rattle.faults.specs.declared.rules.WordForm.{WordForm}
+use Rattle.faults.specs.declared.rules.Rules.{Rules}
+use Rattle.faults.specs.declared.Refusal.{Refusal}
+use Rattle.faults.specs.Rules.{formBy}
+use Rattle.faults.specs.Faults.{heard, onHeard, saidBy, givenBy, faultIn, inForceBy, owed, orElse}
 use Rattle.blame.specs.Blame.{blameOf, GivenIn}
 use Rattle.blame.proofs.Values.{blameAt}
 

@@ -14,11 +14,11 @@ use Rattle.forms.specs.Corner.{Corner, cornerOf, agree, alike}
 use Rattle.forms.specs.Reference.{referenceOf}
 use Rattle.decimals.specs.Number.{numberOf}
 use Rattle.model.specs.Parse.{Parsed, fine, fault, then, placed, valuesOf, saidOf, onSaid, Value, number, corner, cornersOf, WordForm, a-number, a-corner, a-control, Seen, differing, unlike, given, narrow}
-use Rattle.blame.specs.declared.rules.WordForm.the-variants as form
-use Rattle.blame.specs.declared.rules.Forms.the-variants as forms
-use Rattle.blame.specs.declared.Refusal.{Refusal}
-use Rattle.blame.specs.declared.Refusal.the-variants.{Refused, Nothing}
-use Rattle.blame.specs.Faults.{heard, onHeard, faultIn, alikeSaid, alikeForms, onFirst, patternFault, wideSaid, givenBy}
+use Rattle.faults.specs.declared.rules.WordForm.the-variants as form
+use Rattle.faults.specs.declared.rules.Forms.the-variants as forms
+use Rattle.faults.specs.declared.Refusal.{Refusal}
+use Rattle.faults.specs.declared.Refusal.the-variants.{Refused, Nothing}
+use Rattle.faults.specs.Faults.{heard, onHeard, faultIn, alikeSaid, alikeForms, onFirst, patternFault, wideSaid, givenBy}
 
 -- a word that must not be there
 abbrev pub blameAt : ℕ → Option ℕ → Refusal

@@ -13,8 +13,8 @@ use Rattle.model.specs.Parse.{Parsed, fine, fault, then, must, unless, Keyword,
 use Rattle.model.specs.Read.{keywordOf}
 use Rattle.state.specs.State.{StateIs}
 use Rattle.state.specs.declared.State.{State}
-use Rattle.blame.specs.declared.Refusal.{Refusal}
-use Rattle.blame.specs.declared.Refusal.the-variants.{Refused, Nothing}
+use Rattle.faults.specs.declared.Refusal.{Refusal}
+use Rattle.faults.specs.declared.Refusal.the-variants.{Refused, Nothing}
 
 -- the number and the place of a refusal
 abbrev pub blameOf : {A : Type 0} → Parsed A → Refusal

@@ -1,3 +1,2 @@
-pub mod Rules
-pub mod Faults
+pub mod Lines
 pub mod Blame

@@ -1,17 +1,13 @@
 // The refusal of a line that was given up, found by walking 01's order; once a file.
-mod rules; // what each statement asks of its words
-mod word; // what is wrong with a word
-mod walk; // the first word at fault
-mod held; // what is held against a line whose words have their forms
-
-use crate::held::held_fault;
-use crate::rules::Forms;
-use crate::rules::Held;
-use crate::rules::allowed;
-use crate::rules::counted;
-use crate::rules::rules_of;
-use crate::walk::first_fault;
-use crate::word::Seen;
+use faults::Refusal;
+use faults::held::held_fault;
+use faults::rules::Forms;
+use faults::rules::Held;
+use faults::rules::allowed;
+use faults::rules::counted;
+use faults::rules::rules_of;
+use faults::walk::first_fault;
+use faults::word::Seen;
 use keywords::Argument;
 use keywords::Statement;
 use state::Form;
@@ -25,13 +21,9 @@ ghost use Rattle.text.specs.Rest.{restAt};
 ghost use Rattle.keywords.specs.Keywords.{keywordTable};
 ghost use Rattle.keywords.specs.Arguments.{argumentTable};
 ghost use Rattle.model.specs.Parse.{isV, directionOf, saysV};
-ghost use Rattle.blame.specs.Faults.{seenBy, wordsFault, lineFault, unknownBy, statementFault};
+ghost use Rattle.faults.specs.Faults.{seenBy};
+ghost use Rattle.blame.specs.Lines.{wordsFault, lineFault, unknownBy, statementFault};
 ghost use Rattle.blame.specs.Blame.{BlameIs};
-
-pub enum Refusal {
-    Refused { number: u32, place: usize },
-    Nothing,
-}
 
 // The words of a line from the left, and then what is held against the line.
 fn words_fault(

@@ -124,7 +124,7 @@ pub fn corners_into(
                     if !may_follow(line_pattern, here) {
                         return Corners::Stopped;
                     }
-                    if !tables::storing::put3_u32(corners, n, v, vt, vn) {
+                    if !storing::put3_u32(corners, n, v, vt, vn) {
                         return Corners::Stopped;
                     }
                     line_pattern = here;
@@ -193,7 +193,7 @@ fn put_element(
     ensures { λ r. ⌜ r ≡ leb (9 * used + 9) (length (now (elements .entry))) ⌝ }
     ensures { λ r. ⌜ now (elements .exit) ≡ cond r (sets (now (elements .entry)) (9 * used) (elementNumbers kind first count body names)) (now (elements .entry)) ⌝ }
 {
-    tables::storing::put9_u32(
+    storing::put9_u32(
         elements,
         9 * (used as usize),
         kind,

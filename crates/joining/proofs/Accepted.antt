@@ -20,7 +20,7 @@ use Rattle.model.specs.Model.{Vertices, Free, curve, curve2, surface, Body, Mod
 use Rattle.model.specs.Room.{Rooms, summed, partCount}
 use Rattle.model.specs.Read.{read, readOf}
 use Rattle.model.specs.Layout.{freeNumber, bodiesOf, flag, tablesOf, usedOf}
-use Rattle.sampler.specs.Runs.{parameterAt}
+use Rattle.runs.specs.Runs.{parameterAt}
 use Rattle.sampler.specs.Points.{directionU, directionV, controlOf, gridOf, axesOf}
 use Rattle.sampler.specs.Answers.{elementOf, bodyOf, coordinatesIn, pointOnSurface, pointsAfter}
 use Rattle.sampler.specs.Demand3.{Curve, OnCurve, RunAnswer, Surface, OnSurface}

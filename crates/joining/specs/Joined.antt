@@ -19,7 +19,7 @@ use Rattle.model.specs.Read.{read, readOf}
 use Rattle.model.specs.Layout.{tablesOf, usedOf}
 use Rattle.tidying.specs.Printed.{tidyText}
 use Rattle.rules.specs.Rules.{obeys, curvesBefore}
-use Rattle.sampler.specs.Runs.{parameterAt}
+use Rattle.runs.specs.Runs.{parameterAt}
 use Rattle.sampler.specs.Answers.{refusalOf, refusalIn, coordinatesIn, runRefusalIn, pointOnCurve, pointOnSurface, runOnCurve, pointsAfter}
 use Rattle.joining.specs.Files.{alongU, alongV, controlIn, axesIn, gridIn}
 

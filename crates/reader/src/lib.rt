@@ -1,18 +1,13 @@
 // Reading a text into lent tables.
-mod line_by_line; // the loop over lines
+mod line_by_line; // all lines, with the tables cleared after a refusal
 
 use crate::line_by_line::read_lines;
-use tables::Used;
-use tables::storing::clear;
+pub use all_lines::Reading;
+use storing::clear;
 ghost use mathlib.Core.Path.{_≡_};
 ghost use Rattle.tables.specs.Tables.{tables};
-ghost use Rattle.reader.specs.Reading.{result, readInto};
-
-// What a text comes to: how many records of each kind were read, or a refusal.
-pub enum Reading {
-    Read(Used),
-    Refused { number: u32, place: usize },
-}
+ghost use Rattle.all_lines.specs.Answered.{result};
+ghost use Rattle.reader.specs.Reading.{readInto};
 
 // Reads a text into the lent tables: 01's rules decide what they hold and what is refused.
 pub fn read(

@@ -23,15 +23,15 @@ use Rattle.rules.specs.Rules.{obeys, curvesBefore}
 use Rattle.rules.proofs.Element.{obeys-facts}
 use Rattle.curves.specs.Exact.{curveExact}
 use Rattle.curves.proofs.CurveNear.{curve-near}
-use Rattle.sampler.specs.Runs.{joined, listed, parameterAt}
+use Rattle.runs.specs.Runs.{joined, listed, parameterAt}
 use Rattle.sampler.specs.Points.{directionU, controlOf, axesOf, curveAt, runNumbers}
 use Rattle.sampler.specs.Answers.{wanted, carried, elementOf, bodyOf, refusalOf, coordinatesIn, refusalIn, runRefusalIn, curvePoint, pointOnCurve, runOnCurve, pointsAfter}
 use Rattle.sampler.specs.Demand3.{Curve, OnCurve, CurveAnswer, PointsOnCurves, RunAnswer, RunsOnCurves}
 use Rattle.sampler.specs.declared.Ran.the-variants as ran
 use Rattle.sampler.proofs.Obeyed.{granted, curved}
 use Rattle.sampler.proofs.Refusals.{none-given}
-use Rattle.sampler.proofs.Steps.{parameter-from, parameter-upto}
-use Rattle.sampler.proofs.Written.{joined-length, listed-length}
+use Rattle.runs.proofs.Steps.{parameter-from, parameter-upto}
+use Rattle.runs.proofs.Written.{joined-length, listed-length}
 
 curve-wanted : (kind : ℕ) → (kind ≡ 4) ⊎ (kind ≡ 5) → wanted false kind ≡ true
 curve-wanted kind (inl e) = rw e

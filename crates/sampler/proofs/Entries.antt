@@ -20,7 +20,7 @@ use Rattle.curves.specs.Sampled.{firstControl}
 use Rattle.curves.proofs.Pyramid.{sampled-cong}
 use Rattle.rows.specs.Places.{direction, Sound}
 use Rattle.rows.specs.Controls.{controlAt, Held}
-use Rattle.sampler.specs.Runs.{Ranged}
+use Rattle.runs.specs.Runs.{Ranged}
 use Rattle.rows.specs.declared.Along.{Along}
 use Rattle.sampler.specs.Points.{alongOf, controlOf, curveAt}
 use Rattle.sampler.specs.Answers.{elementOf, bodyOf, refusalOf, inside, curvePoint, pointOnCurve}

@@ -1,5 +1,3 @@
-pub mod Written
-pub mod Steps
 pub mod Ranges
 pub mod Obeyed
 pub mod Refusals

@@ -29,7 +29,7 @@ use Rattle.basis.proofs.Basis.{curve-enough, surface-enough-u, surface-enough-v
 use Rattle.curves.specs.Directions.{at}
 use Rattle.rows.specs.Places.{Sized}
 use Rattle.rows.specs.Controls.{controlAt, Held}
-use Rattle.sampler.specs.Runs.{Ranged}
+use Rattle.runs.specs.Runs.{Ranged}
 use Rattle.sampler.specs.Points.{alongOf}
 use Rattle.sampler.specs.Answers.{wanted, carried, elementOf, bodyOf, refusalOf}
 use Rattle.sampler.proofs.Ranges.{ranged-of}

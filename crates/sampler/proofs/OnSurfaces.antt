@@ -13,12 +13,12 @@ use Rattle.tables.specs.declared.Body.{Body}
 use Rattle.tables.specs.declared.Used.{Used}
 use Rattle.tables.specs.declared.Element.{Element}
 use Rattle.curves.proofs.SurfaceNear.{surface-near}
-use Rattle.sampler.specs.Runs.{listed}
+use Rattle.runs.specs.Runs.{listed}
 use Rattle.sampler.specs.Points.{directionU, directionV, gridOf, surfaceAt}
 use Rattle.sampler.specs.Answers.{elementOf, bodyOf, refusalOf, coordinatesIn, refusalIn, surfacePoint, pointOnSurface}
 use Rattle.sampler.specs.Demand3.{Surface, OnSurface, SurfaceAnswer, PointsOnSurfaces}
 use Rattle.sampler.proofs.Obeyed.{granted, Surfaced, surfaced}
-use Rattle.sampler.proofs.Written.{listed-length}
+use Rattle.runs.proofs.Written.{listed-length}
 use Rattle.sampler.proofs.Demanded.{all-passed, listed-at}
 
 module _ {used : Used} {t : Tables} {number : ℕ} (c : Surface used t number) where

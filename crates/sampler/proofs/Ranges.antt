@@ -17,9 +17,9 @@ use Rattle.whole.proofs.Order.{yes-le, yes-lt, ≤ℤ-trans, ≤ℤ-<ℤ-trans,
 use Rattle.tables.specs.Bodies.{Basis, bezier, bspline, enough, rising, steady, ordered, low, high, ranged, inOrder, basisOf}
 use Rattle.curves.specs.Directions.{at, BezierRules, SplineRules, Rules}
 use Rattle.rows.specs.Places.{direction, Sound}
-use Rattle.sampler.specs.Runs.{Ranged}
+use Rattle.runs.specs.Runs.{Ranged}
 use Rattle.sampler.specs.Points.{alongOf}
-use Rattle.sampler.proofs.Steps.{small-between}
+use Rattle.runs.proofs.Steps.{small-between}
 
 rising-at : (x : List ℤ) → rising x ≡ true → (i : ℕ) → suc i < length x → at x i <ℤ at x (suc i)
 rising-at [] h i l = absurd (not-suc-le-zero l)

@@ -19,10 +19,10 @@ use Rattle.tables.specs.declared.Element.{Element}
 use Rattle.curves.specs.Sampled.{curveSampled}
 use Rattle.rows.specs.Places.{direction}
 use Rattle.rows.specs.Controls.{controlAt, Held}
-use Rattle.sampler.specs.Runs.{joined, listed, parameterAt, pointAt, pointsUpto, Ranged}
+use Rattle.runs.specs.Runs.{joined, listed, parameterAt, pointAt, pointsUpto, Ranged}
 use Rattle.sampler.specs.Points.{alongOf, axesOf, curveAt, runNumbers}
 use Rattle.sampler.specs.Answers.{elementOf, bodyOf, refusalOf, runRefusalIn, runOnCurve, pointsAfter}
-use Rattle.sampler.specs.Inner.{runBy, axesBy}
+use Rattle.runs.specs.Runs.{runBy, axesBy}
 use Rattle.rows.specs.declared.Along.{Along}
 use Rattle.sampler.specs.declared.Ran.{Ran}
 use Rattle.sampler.specs.declared.Ran.the-variants as ran

@@ -14,7 +14,7 @@ use Rattle.tables.specs.Records.{curveKind, curve2Kind, surfaceKind}
 use Rattle.tables.specs.declared.Used.{Used}
 use Rattle.rules.specs.Rules.{obeys, curvesBefore}
 use Rattle.curves.specs.Exact.{curveExact, surfaceExact}
-use Rattle.sampler.specs.Runs.{parameterAt}
+use Rattle.runs.specs.Runs.{parameterAt}
 use Rattle.sampler.specs.Points.{directionU, directionV, controlOf, gridOf, axesOf}
 use Rattle.sampler.specs.Answers.{elementOf, bodyOf, refusalIn, coordinatesIn, runRefusalIn, pointOnCurve, pointOnSurface, runOnCurve, pointsAfter}
 

@@ -7,7 +7,6 @@ use lib.IntN.{ℤ}
 use Rattle.curves.specs.Sampled.{curveSampled, surfaceSampled}
 use Rattle.rows.specs.Places.{direction}
 use Rattle.rows.specs.Controls.{controlAt}
-use Rattle.sampler.specs.Runs.{pointsUpto}
 use Rattle.rows.specs.declared.Along.{Along}
 use Rattle.sampler.specs.declared.Sampled.{Sampled}
 use Rattle.sampler.specs.declared.Sampled.the-variants as sampled
@@ -28,12 +27,3 @@ acrossBy values corners first u v x y s t axis =
 unfoldable pub surfaceBy : List ℤ → List ℕ → (first : ℕ) (u v : Along) (x y : List ℤ) (s t : ℤ) → Sampled
 surfaceBy values corners first u v x y s t =
     sampled.Space (acrossBy values corners first u v x y s t 0) (acrossBy values corners first u v x y s t 1) (acrossBy values corners first u v x y s t 2)
-
-abbrev pub axesBy : (kind : ℕ) → ℕ
-axesBy kind = cond (eqb kind 5) 2 3
-
-unfoldable pub runBy : (kind : ℕ) → List ℤ → List ℤ → List ℕ → (first : ℕ) → Along → List ℤ → (start end : ℤ) (steps : ℕ) → List ℤ
-runBy kind v vp corners first along x start end steps =
-    cond (eqb kind 5)
-    (pointsUpto vp corners first 1 2 along x start end steps (steps + 1))
-    (pointsUpto v corners first 0 3 along x start end steps (steps + 1))

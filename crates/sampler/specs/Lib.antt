@@ -1,4 +1,3 @@
-pub mod Runs
 pub mod Points
 pub mod Answers
 pub mod Inner

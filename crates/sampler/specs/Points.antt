@@ -13,7 +13,7 @@ use Rattle.tables.specs.declared.Element.{Element}
 use Rattle.curves.specs.Directions.{Direction}
 use Rattle.curves.specs.Sampled.{curveSampled, surfaceSampled}
 use Rattle.rows.specs.Places.{direction}
-use Rattle.sampler.specs.Runs.{joined, listed, parameterAt}
+use Rattle.runs.specs.Runs.{joined, listed, parameterAt}
 use Rattle.rows.specs.declared.Along.{Along}
 
 -- "Controls k along one direction, from p parameters and degree n", of the two types that are sampled

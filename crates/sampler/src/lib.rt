@@ -10,14 +10,13 @@ use crate::records::axes_of;
 use crate::records::is_carried;
 use crate::records::is_inside;
 use crate::records::is_wanted;
-use crate::runs::write_run;
 use rules::bodies::record_obeys;
 use rules::element_obeys;
+use runs::write_run;
 use tables::Used;
 
 mod points;
 mod records;
-mod runs;
 
 pub enum Sampled {
     Space { x: i32, y: i32, z: i32 },

@@ -3,7 +3,7 @@ ghost use Prim.Native.Nat.{_≤_};
 ghost use Rattle.rows.specs.Places.{Sized};
 ghost use Rattle.sampler.specs.Points.{alongOf};
 ghost use Rattle.sampler.specs.Answers.{wanted, carried, inside};
-ghost use Rattle.sampler.specs.Inner.{axesBy};
+ghost use Rattle.runs.specs.Runs.{axesBy};
 use rows::Along;
 
 pub fn is_wanted(surface: bool, kind: u32) -> bool

@@ -1,5 +1,4 @@
-pub mod Clearing
-pub mod Stores
+pub mod Bits
 pub mod Asked
 pub mod Filled
 pub mod Flat

@@ -8,8 +8,6 @@ ghost use lib.ListN.{length, getD};
 ghost use Rattle.tables.specs.Records.{elementWidth, bodyWidth, rangeWidth, numberAt, elementIn, bodyIn, cornersEnd, cornerIn};
 ghost use Rattle.tables.specs.Asking.{held, elementOf, bodyHeld, bodyOf, cornerWith, cornerOf, partOf, groupOf, materialOf};
 
-pub mod storing;
-
 // Records, but for the corners, which count numbers.
 #[repr(C)]
 pub struct Used {

@@ -3,7 +3,6 @@ use libc::STDOUT_FILENO;
 use tables::Body;
 use tables::Corner;
 use tables::Used;
-use tables::storing;
 
 fn put(bytes: &[u8]) {
     io::write_all(STDOUT_FILENO, bytes);

@@ -15,8 +15,8 @@ use Rattle.model.specs.Room.{Rooms, fits}
 use Rattle.model.specs.Read.{keywordOf, statement, step}
 use Rattle.model.proofs.Parsed.{fine-fault}
 use Rattle.state.specs.declared.State.{State}
-use Rattle.blame.specs.declared.Refusal.{Refusal}
-use Rattle.blame.specs.declared.Refusal.the-variants.{Refused, Nothing}
+use Rattle.faults.specs.declared.Refusal.{Refusal}
+use Rattle.faults.specs.declared.Refusal.the-variants.{Refused, Nothing}
 use Rattle.blame.specs.Blame.{blameOf, parseBefore, faultBefore, GivenIn, BlameIs}
 use Rattle.blame.proofs.Before.{before-fault}
 use Rattle.taking.specs.declared.Line.{Line}

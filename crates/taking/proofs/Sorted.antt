@@ -22,8 +22,8 @@ use Rattle.model.specs.Room.{Rooms}
 use Rattle.model.specs.Read.{keywordOf, step}
 use Rattle.state.specs.declared.State.{State}
 use Rattle.state.proofs.Bounds.{later}
-use Rattle.blame.specs.declared.Refusal.{Refusal}
-use Rattle.blame.specs.declared.Refusal.the-variants as refusal
+use Rattle.faults.specs.declared.Refusal.{Refusal}
+use Rattle.faults.specs.declared.Refusal.the-variants as refusal
 use Rattle.blame.specs.Blame.{BlameIs}
 use Rattle.taking.specs.declared.families.Family.{Family}
 use Rattle.taking.specs.declared.Line as lines

@@ -18,8 +18,8 @@ use Rattle.elements.specs.declared.Shape.the-variants.{Point, Line, Face}
 use Rattle.elements.specs.Bodies.{freeOf}
 use Rattle.elements.specs.declared.body.Free.the-variants.{Curve, Curve2, Surface}
 use Rattle.bodies.specs.Loops.{loopWord}
-use Rattle.blame.specs.declared.Refusal.{Refusal}
-use Rattle.blame.specs.declared.Refusal.the-variants as refusal
+use Rattle.faults.specs.declared.Refusal.{Refusal}
+use Rattle.faults.specs.declared.Refusal.the-variants as refusal
 use Rattle.outer_lines.specs.declared.setting_lines.Setting.{Setting}
 use Rattle.outer_lines.specs.declared.setting_lines.Setting.the-variants.{BodyType, Degree, Group, Smoothing, Material, PassedOver}
 use Rattle.taking.specs.declared.families.Family.{Family}

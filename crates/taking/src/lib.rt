@@ -4,7 +4,7 @@ mod by_family; // a line's function by its family
 
 use crate::by_family::take_line;
 use crate::families::family_of;
-use blame::Refusal;
+use faults::Refusal;
 use lines::Step;
 use state::State;
 use text::Met;

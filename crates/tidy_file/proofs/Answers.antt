@@ -18,8 +18,8 @@ use Rattle.tidier.specs.TidyFrom.{tidyFrom}
 use Rattle.tidied.proofs.TidyFrom.{tidy-from}
 use Rattle.reader.specs.Reading.{Result, result, roomsOf, readInto}
 use Rattle.reader.specs.Reading as reader
-use Rattle.reader.specs.declared.Reading.{Reading}
-use Rattle.reader.specs.declared.Reading.the-variants as reading
+use Rattle.all_lines.specs.declared.Reading.{Reading}
+use Rattle.all_lines.specs.declared.Reading.the-variants as reading
 use Rattle.tidy_file.specs.declared.Tidied.{Tidied}
 use Rattle.tidy_file.specs.declared.Tidied.the-variants.{Written, TooLong, Refused}
 use Rattle.tidy_file.specs.Tidying.{TidyResult, tidyResult, hasRoom, written, answered, tidyInto}

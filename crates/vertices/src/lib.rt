@@ -29,7 +29,7 @@ pub fn numbers_into(text: &[u8], at: usize, most: usize, table: &mut [i32], firs
         match text::gap(text, i) {
             Met::Start(p) => match decimals::number::quick_number_at(text, p) {
                 Number::Value { value, end } => {
-                    if !tables::storing::put_i32(table, first + count, value) {
+                    if !storing::put_i32(table, first + count, value) {
                         return Numbers::Stopped;
                     }
                     count += 1;
@@ -154,9 +154,9 @@ fn put_blank(table: &mut [i32], at: usize, width: usize) -> bool
     ensures { λ r. ⌜ now (table .exit) ≡ cond r (sets (now (table .entry)) at (blank width)) (now (table .entry)) ⌝ }
 {
     if width == 4 {
-        return tables::storing::put4_i32(table, at, 0, 0, 0, 1_000_000);
+        return storing::put4_i32(table, at, 0, 0, 0, 1_000_000);
     }
-    tables::storing::put3_i32(table, at, 0, 0, 0)
+    storing::put3_i32(table, at, 0, 0, 0)
 }
 
 pub enum Vertex {

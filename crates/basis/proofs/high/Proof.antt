@@ -2,7 +2,7 @@
 use borrow.Author.Needs.{needs}
 use mathlib.Core.Path.{sym}
 use lib.ListN.{length}
-use Rattle.tables.proofs.Stores.{fitted}
+use Rattle.tables.proofs.Bits.{fitted}
 use Rattle.basis.proofs.Basis.{knots-enough, high-other}
 use native.Mathlib.Omega.{arith}
 use Rattle.basis.proofs.high.Statement.{statement}

@@ -2,7 +2,7 @@
 use borrow.Author.Needs.{needs}
 use mir.Facts.{toZ-ofZ}
 use Rattle.tables.specs.Bodies.{inOrder}
-use Rattle.tables.proofs.Stores.{fitted}
+use Rattle.tables.proofs.Bits.{fitted}
 use Rattle.basis.proofs.Tests.{failed, passed}
 use Rattle.basis.proofs.Order.{lt-no-le, no-lt-le, le-no-lt, no-le-lt}
 use Rattle.basis.proofs.in_order.Statement.{statement}

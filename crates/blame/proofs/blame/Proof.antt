@@ -2,7 +2,7 @@
 use native.Mathlib.Omega.{arith}
 use denote.Ref.{now}
 use Rattle.text.proofs.Found as F
-use Rattle.blame.proofs.Walks as W
+use Rattle.faults.proofs.Walks as W
 use Rattle.blame.proofs.Lines as L
 use borrow.Author.Needs.{needs}
 use Rattle.blame.proofs.blame.Statement.{statement}

@@ -1,6 +1,6 @@
 -- 10, 5, and then the words.
 use denote.Ref.{now}
-use Rattle.blame.specs.Faults.{seenBy}
+use Rattle.faults.specs.Faults.{seenBy}
 use Rattle.text.specs.Rest.{restAt}
 use Rattle.blame.proofs.Steps as S
 use borrow.Author.Needs.{needs}

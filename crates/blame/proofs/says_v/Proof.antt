@@ -2,7 +2,7 @@
 use mathlib.Core.Path.{sym, ap, _∙_}
 use denote.Ref.{now}
 use Rattle.model.specs.Parse.{isV, directionOf, saysV}
-use Rattle.blame.proofs.Walks as W
+use Rattle.faults.proofs.Walks as W
 use borrow.Author.Needs.{needs}
 use Rattle.blame.proofs.says_v.Statement.{statement}
 use Rattle.blame.proofs.says_v.Tie as tie

@@ -1,6 +1,6 @@
 -- 3 and 4, and then the line.
 use denote.Ref.{now}
-use Rattle.blame.specs.Faults.{seenBy}
+use Rattle.faults.specs.Faults.{seenBy}
 use Rattle.blame.proofs.Steps as S
 use borrow.Author.Needs.{needs}
 use Rattle.blame.proofs.statement_fault.Statement.{statement}

@@ -1,10 +1,10 @@
 -- The words, and then what is held against them.
 use mathlib.Core.Path.{sym, _∙_}
 use denote.Ref.{now}
-use Rattle.blame.specs.Faults.{seenBy}
+use Rattle.faults.specs.Faults.{seenBy}
 use Rattle.text.specs.Rest.{restAt}
-use Rattle.blame.specs.Faults.{heldFault}
-use Rattle.blame.proofs.Steps as S
+use Rattle.faults.specs.Faults.{heldFault}
+use Rattle.faults.proofs.Steps as S
 use borrow.Author.Needs.{needs}
 use Rattle.blame.proofs.words_fault.Statement.{statement}
 use Rattle.blame.proofs.words_fault.Tie as tie

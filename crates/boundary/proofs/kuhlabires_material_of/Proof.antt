@@ -1,6 +1,6 @@
 -- The element's record, and then the part that it names: the definition's own two steps.
 use denote.Ref.{now}
-use Rattle.boundary.proofs.Parts.{material-placed}
+use Rattle.answers.proofs.Parts.{material-placed}
 use borrow.Author.Needs.{needs}
 use Rattle.boundary.proofs.kuhlabires_material_of.Statement.{statement}
 use Rattle.boundary.proofs.kuhlabires_material_of.Tie as tie

@@ -3,7 +3,7 @@ use mir.Syntax.{w32}
 use mir.Val.{toZ, ofZ}
 use mir.Facts.{toZ-ofZ}
 use Rattle.tables.specs.Tables.{tables}
-use Rattle.boundary.proofs.Points.{on-curve}
+use Rattle.answers.proofs.Points.{on-curve}
 use borrow.Author.Needs.{needs}
 use Rattle.boundary.proofs.kuhlabires_point_on_curve.Statement.{statement}
 use Rattle.boundary.proofs.kuhlabires_point_on_curve.Tie as tie

@@ -3,7 +3,7 @@ use mir.Syntax.{w32}
 use mir.Val.{toZ, ofZ}
 use mir.Facts.{toZ-ofZ}
 use Rattle.tables.specs.Tables.{tables}
-use Rattle.boundary.proofs.Points.{on-surface}
+use Rattle.answers.proofs.Points.{on-surface}
 use borrow.Author.Needs.{needs}
 use Rattle.boundary.proofs.kuhlabires_point_on_surface.Statement.{statement}
 use Rattle.boundary.proofs.kuhlabires_point_on_surface.Tie as tie

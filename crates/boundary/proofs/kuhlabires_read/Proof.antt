@@ -1,5 +1,5 @@
 -- The reader's answer, as a record, and the tables that it left.
-use Rattle.boundary.proofs.Readings.{halves}
+use Rattle.answers.proofs.Readings.{halves}
 use borrow.Author.Needs.{needs}
 use Rattle.boundary.proofs.kuhlabires_read.Statement.{statement}
 use Rattle.boundary.proofs.kuhlabires_read.Tie as tie

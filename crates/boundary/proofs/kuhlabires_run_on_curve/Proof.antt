@@ -1,7 +1,7 @@
 -- The sampler's answer, as a record, and the point table that it left.
 use mathlib.Core.Path.{ap, _∙_}
 use Rattle.sampler.specs.declared.Ran.{Ran}
-use Rattle.boundary.specs.Answers.{runIn}
+use Rattle.answers.specs.Answers.{runIn}
 use borrow.Author.Needs.{needs}
 use Rattle.boundary.proofs.kuhlabires_run_on_curve.Statement.{statement}
 use Rattle.boundary.proofs.kuhlabires_run_on_curve.Tie as tie

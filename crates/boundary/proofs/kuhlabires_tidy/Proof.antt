@@ -1,5 +1,5 @@
 -- The tidier's answer, as a record, and the tables and the buffer that it left.
-use Rattle.boundary.proofs.Tidyings.{thirds}
+use Rattle.answers.proofs.Tidyings.{thirds}
 use borrow.Author.Needs.{needs}
 use Rattle.boundary.proofs.kuhlabires_tidy.Statement.{statement}
 use Rattle.boundary.proofs.kuhlabires_tidy.Tie as tie

@@ -11,7 +11,7 @@ use Rattle.reader.proofs.read.Lts as lts
 use Rattle.keywords.proofs.argument_table.Reads as argument-table-reads
 use Rattle.keywords.proofs.keyword_table.Reads as keyword-table-reads
 use Rattle.reader.proofs.line_by_line.read_lines.Reads as read-lines-reads
-use Rattle.tables.proofs.storing.clear.Reads as clear-reads
+use Rattle.storing.proofs.clear.Reads as clear-reads
 
 clear-requires : tie.Need-clear-requires
 clear-requires c κs = search needs

@@ -16,11 +16,11 @@ use Rattle.tables.specs.Tables.{Tables, tables}
 use Rattle.tables.specs.Records.{bodyAt}
 use Rattle.tables.specs.declared.Body.{Body}
 use Rattle.tables.specs.declared.Element.{Element}
-use Rattle.tables.proofs.Stores.{fitted}
+use Rattle.tables.proofs.Bits.{fitted}
 use Rattle.rows.specs.Places.{Sized}
 use Rattle.sampler.specs.Points.{alongOf, axesOf, runNumbers}
 use Rattle.sampler.specs.Answers.{elementOf, bodyOf, refusalOf}
-use Rattle.sampler.specs.Inner.{axesBy}
+use Rattle.runs.specs.Runs.{axesBy}
 use Rattle.sampler.specs.declared.Ran.the-variants as ran
 use Rattle.sampler.proofs.Obeyed.{Granted, granted, Curved, curved}
 use Rattle.sampler.proofs.Entries.{Read}

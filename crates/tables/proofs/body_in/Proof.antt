@@ -10,7 +10,7 @@ use lib.IntN.{pos}
 use mir.Syntax.{w32}
 use mir.Val.{toZ, ofZ}
 use Rattle.lists.proofs.Tests.{and-left, and-right}
-use Rattle.tables.proofs.Stores.{passed}
+use Rattle.tables.proofs.Bits.{passed}
 use borrow.Author.Needs.{needs}
 use Rattle.tables.proofs.body_in.Statement.{statement}
 use Rattle.tables.proofs.body_in.Tie as tie

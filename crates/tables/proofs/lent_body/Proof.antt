@@ -1,7 +1,7 @@
 -- The record's numbers, and the range's, stand one after the other from its first on.
 use denote.Ref.{now}
 use Rattle.tables.proofs.Asked.{body-lent}
-use Rattle.tables.proofs.Stores.{fitted}
+use Rattle.tables.proofs.Bits.{fitted}
 use borrow.Author.Needs.{needs}
 use Rattle.tables.proofs.lent_body.Statement.{statement}
 use Rattle.tables.proofs.lent_body.Tie as tie

@@ -5,7 +5,7 @@ use native.Mathlib.Omega.{arith}
 use borrow.Author.Needs.{needs}
 use borrow.Author.Tests.{not-true, not-false}
 use denote.Ref.{now}
-use Rattle.tables.proofs.Stores.{fitted}
+use Rattle.tables.proofs.Bits.{fitted}
 use Rattle.vertices.proofs.Walking as W
 use Rattle.vertices.proofs.numbers_into.Statement.{statement}
 use Rattle.vertices.proofs.numbers_into.Tie as tie

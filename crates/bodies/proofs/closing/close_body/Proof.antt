@@ -3,7 +3,7 @@ use mathlib.Core.Path.{refl}
 use denote.Ref.{now}
 use borrow.Author.Needs.{needs}
 use Rattle.bodies.specs.Closing.{parmOf, bodyIn}
-use Rattle.tables.proofs.Stores.{fitted}
+use Rattle.tables.proofs.Bits.{fitted}
 use Rattle.bodies.proofs.Keeping as K
 use borrow.Author.Tests.{not-true, not-false}
 use Rattle.bodies.proofs.closing.close_body.Statement.{statement}

@@ -5,7 +5,7 @@ use borrow.Author.Needs.{needs}
 use Rattle.bodies.proofs.Steps as S
 use Rattle.bodies.proofs.Closings as C
 use Prim.Native.Nat.{_-_}
-use Rattle.tables.proofs.Stores.{fitted}
+use Rattle.tables.proofs.Bits.{fitted}
 use Rattle.bodies.proofs.closing.store.Statement.{statement}
 use Rattle.bodies.proofs.closing.store.Tie as tie
 

@@ -10,7 +10,7 @@ use mir.Syntax.{w32}
 use mir.Val.{toZ, ofZ}
 use mir.Facts.{toZ-ofZ}
 use borrow.Author.Needs.{needs}
-use Rattle.tables.proofs.Stores.{fitted}
+use Rattle.tables.proofs.Bits.{fitted}
 use Rattle.bodies.proofs.Keeping as K
 use Rattle.bodies.proofs.closing.store_range.Statement.{statement}
 use Rattle.bodies.proofs.closing.store_range.Tie as tie

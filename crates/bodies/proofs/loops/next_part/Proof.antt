@@ -3,7 +3,7 @@ use denote.Ref.{now}
 use borrow.Author.Needs.{needs}
 use Rattle.bodies.proofs.Steps as S
 use Rattle.bodies.proofs.Parts as L
-use Rattle.tables.proofs.Stores.{fitted}
+use Rattle.tables.proofs.Bits.{fitted}
 use Rattle.bodies.proofs.loops.next_part.Statement.{statement}
 use Rattle.bodies.proofs.loops.next_part.Tie as tie
 

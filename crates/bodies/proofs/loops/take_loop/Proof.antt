@@ -11,7 +11,7 @@ use mathlib.Core.List.{[], _∷_}
 use mir.Syntax.{w32}
 use mir.Val.{toZ, ofZ}
 use borrow.Author.Tests.{not-true, not-false}
-use Rattle.tables.proofs.Stores.{fitted}
+use Rattle.tables.proofs.Bits.{fitted}
 use Rattle.bodies.proofs.loops.take_loop.Statement.{statement}
 use Rattle.bodies.proofs.loops.take_loop.Tie as tie
 

@@ -4,7 +4,7 @@ use denote.Ref.{now}
 use borrow.Author.Needs.{needs}
 use Rattle.bodies.proofs.Steps as S
 use Rattle.tables.specs.Bodies.{ordered, basisOf}
-use Rattle.tables.proofs.Stores.{fitted}
+use Rattle.tables.proofs.Bits.{fitted}
 use Rattle.bodies.proofs.numbers.in_order.Statement.{statement}
 use Rattle.bodies.proofs.numbers.in_order.Tie as tie
 

@@ -3,7 +3,7 @@ use mathlib.Core.Path.{ap}
 use native.Mathlib.Omega.{arith}
 use denote.Ref.{now}
 use Rattle.decimals.specs.Answers.{saidNumber}
-use Rattle.tables.proofs.Stores.{fitted}
+use Rattle.tables.proofs.Bits.{fitted}
 use Rattle.bodies.proofs.Steps as S
 use borrow.Author.Needs.{needs}
 use Rattle.bodies.proofs.numbers.next_number.Statement.{statement}

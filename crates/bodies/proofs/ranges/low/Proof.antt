@@ -4,7 +4,7 @@ use denote.Ref.{now}
 use borrow.Author.Needs.{needs}
 use Rattle.bodies.specs.Numbers.{numbersAt}
 use Rattle.basis.proofs.Basis.{low-other}
-use Rattle.tables.proofs.Stores.{fitted}
+use Rattle.tables.proofs.Bits.{fitted}
 use Rattle.bodies.proofs.ranges.low.Statement.{statement}
 use Rattle.bodies.proofs.ranges.low.Tie as tie
 

@@ -2,14 +2,15 @@
 use mathlib.Core.Path.{_∙_}
 use denote.Ref.{now}
 use Rattle.tables.specs.Tables.{tables}
-use Rattle.reader.proofs.Whole.{all-read, all-refused, rooms-eq}
+use Rattle.all_lines.proofs.Loop.{rooms-eq}
+use Rattle.reader.proofs.Whole.{all-read, all-refused}
 use borrow.Author.Needs.{needs}
 use Rattle.reader.proofs.line_by_line.read_lines.Statement.{statement}
 use Rattle.reader.proofs.line_by_line.read_lines.Tie as tie
 use Rattle.reader.proofs.line_by_line.read_lines.Reads as reads
 use Rattle.reader.proofs.line_by_line.read_lines.Lts as lts
-use Rattle.reader.proofs.line_by_line.lines_of.Reads as lines-of-reads
-use Rattle.tables.proofs.storing.clear.Reads as clear-reads
+use Rattle.all_lines.proofs.lines_of.Reads as lines-of-reads
+use Rattle.storing.proofs.clear.Reads as clear-reads
 
 lines-of-requires : tie.Need-lines-of-requires
 lines-of-requires c κs = search needs

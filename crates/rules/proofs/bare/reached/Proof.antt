@@ -1,7 +1,7 @@
 -- Each test in turn; the four numbers are the callee's.
 use borrow.Author.Tests.{le-leb, lt-leb}
 use native.Mathlib.Nat.{add-zero}
-use Rattle.tables.proofs.Stores.{fitted}
+use Rattle.tables.proofs.Bits.{fitted}
 use Rattle.rules.specs.Bare.{reachedObeys}
 use borrow.Author.Needs.{needs}
 use Rattle.rules.proofs.bare.reached.Statement.{statement}

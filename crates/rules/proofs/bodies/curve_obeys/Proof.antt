@@ -1,6 +1,6 @@
 -- The controls, the order, the range and the entries that a curve lacks, each by its own test.
 use Rattle.rules.specs.Bodies.{curveObeys}
-use Rattle.tables.proofs.Stores.{fitted}
+use Rattle.tables.proofs.Bits.{fitted}
 use Rattle.basis.proofs.Tests.{failed, passed}
 use Rattle.basis.proofs.Basis.{curve-enough}
 use borrow.Author.Needs.{needs}

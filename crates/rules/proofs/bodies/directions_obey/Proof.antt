@@ -1,6 +1,6 @@
 -- The controls, then the order along u and along v.
 use Rattle.rules.specs.Bodies.{directionsObey}
-use Rattle.tables.proofs.Stores.{fitted}
+use Rattle.tables.proofs.Bits.{fitted}
 use Rattle.basis.proofs.Tests.{failed, passed}
 use Rattle.basis.proofs.Basis.{surface-enough-u, surface-enough-v}
 use borrow.Author.Needs.{needs}

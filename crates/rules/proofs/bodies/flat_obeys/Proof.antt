@@ -1,7 +1,7 @@
 -- Each of the four entries by its own test.
 use borrow.Author.Tests.{eq-eqb, ne-eqb}
 use Rattle.rules.specs.Bodies.{flatObeys}
-use Rattle.tables.proofs.Stores.{fitted}
+use Rattle.tables.proofs.Bits.{fitted}
 use Rattle.basis.proofs.Tests.{failed, passed}
 use borrow.Author.Needs.{needs}
 use Rattle.rules.proofs.bodies.flat_obeys.Statement.{statement}

@@ -5,7 +5,7 @@ use Prim.Native.Nat.{_+_, _-_, _≤_}
 use lib.ListN.{getD}
 use lib.IntN.{pos}
 use Rattle.rules.specs.Numbers.{small, allBelow}
-use Rattle.tables.proofs.Stores.{fitted}
+use Rattle.tables.proofs.Bits.{fitted}
 use Rattle.basis.proofs.Tests.{passed}
 use Rattle.rules.proofs.Runs.{four-more}
 use native.Mathlib.Omega.{arith}

@@ -5,7 +5,7 @@ use Prim.Native.Nat.{_+_, _-_, _≤_}
 use lib.ListN.{length, getD}
 use lib.IntN.{pos}
 use Rattle.rules.specs.Numbers.{small, allBelow}
-use Rattle.tables.proofs.Stores.{fitted}
+use Rattle.tables.proofs.Bits.{fitted}
 use Rattle.basis.proofs.Tests.{failed, passed}
 use Rattle.rules.proofs.Below.{below-more}
 use Rattle.rules.proofs.Runs.{run-short, run-fails, run-holds}

@@ -2,7 +2,7 @@
 use borrow.Author.Needs.{needs}
 use native.Mathlib.Nat.{add-zero}
 use Rattle.rules.specs.Vertices.{parameterVertexObeys}
-use Rattle.tables.proofs.Stores.{fitted}
+use Rattle.tables.proofs.Bits.{fitted}
 use Rattle.basis.proofs.Tests.{failed, passed}
 use Rattle.rules.proofs.OneVertex.{Vertex, vertex-facts}
 use native.Mathlib.Omega.{arith}

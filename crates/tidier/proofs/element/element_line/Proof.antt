@@ -6,7 +6,7 @@ use lib.ListN.{take, drop}
 use Rattle.forms.specs.Written.{writtenNumber, writtenCorner}
 use Rattle.keywords.specs.Keywords.{keywordOf}
 use Rattle.tidier.specs.Rows.{kindKeyword, rangeCount, rangeNumbers, cornersFrom}
-use Rattle.tables.proofs.Stores.{fitted}
+use Rattle.tables.proofs.Bits.{fitted}
 use Rattle.emitting.proofs.Emissions.{emitted-then, emitted-is}
 use Rattle.tidier.proofs.Turns.{emitted-line, spaced-append}
 use borrow.Author.Needs.{needs}

@@ -1,0 +1,168 @@
+// The answers as C and Rust get them: each case of an answer as a record of numbers.
+ghost use mathlib.Core.Path.{_≡_};
+ghost use Rattle.model.specs.Layout.{noneUsed};
+ghost use Rattle.answers.specs.Answers.{readIn, tidyIn, pointIn, runIn, partIn};
+use reader::Reading;
+use sampler::Ran;
+use sampler::Sampled;
+use tables::Used;
+use tidy_file::Tidied;
+
+// What reading comes to: the used counts, or a refusal at a place where `refusal` is not 0.
+#[repr(C)]
+pub struct ReadAnswer {
+    pub refusal: u32,
+    pub place: usize,
+    pub used: Used,
+}
+
+// What tidying comes to: the tidy text's length and the used counts, or a refusal at a place; the counts stay with 16.
+#[repr(C)]
+pub struct TidyAnswer {
+    pub refusal: u32,
+    pub place: usize,
+    pub length: usize,
+    pub used: Used,
+}
+
+// Three axes are x, y, z; two are u, v, in x and y. Refused where `refusal` is not 0.
+#[repr(C)]
+pub struct Point {
+    pub refusal: u32,
+    pub axes: u32,
+    pub x: i32,
+    pub y: i32,
+    pub z: i32,
+}
+
+// How many numbers a run wrote. Refused where `refusal` is not 0.
+#[repr(C)]
+pub struct Run {
+    pub refusal: u32,
+    pub numbers: usize,
+}
+
+// A part of the caller's text; its length is 0 for none.
+#[repr(C)]
+pub struct Part {
+    pub place: usize,
+    pub length: usize,
+}
+
+fn nothing_used() -> Used
+    ensures { λ r. ⌜ r ≡ noneUsed ⌝ }
+{
+    Used {
+        v: 0,
+        vt: 0,
+        vn: 0,
+        vp: 0,
+        corners: 0,
+        elements: 0,
+        bodies: 0,
+        parameters: 0,
+        loops: 0,
+    }
+}
+
+pub fn read_of(answer: Reading) -> ReadAnswer
+    ensures { λ r. ⌜ r ≡ readIn answer ⌝ }
+{
+    match answer {
+        Reading::Read(used) => ReadAnswer {
+            refusal: 0,
+            place: 0,
+            used: used,
+        },
+        Reading::Refused { number, place } => ReadAnswer {
+            refusal: number,
+            place: place,
+            used: nothing_used(),
+        },
+    }
+}
+
+pub fn tidy_of(answer: Tidied) -> TidyAnswer
+    ensures { λ r. ⌜ r ≡ tidyIn answer ⌝ }
+{
+    match answer {
+        Tidied::Written { length, used } => TidyAnswer {
+            refusal: 0,
+            place: 0,
+            length: length,
+            used: used,
+        },
+        Tidied::TooLong { used } => TidyAnswer {
+            refusal: 16,
+            place: 0,
+            length: 0,
+            used: used,
+        },
+        Tidied::Refused { number, place } => TidyAnswer {
+            refusal: number,
+            place: place,
+            length: 0,
+            used: nothing_used(),
+        },
+    }
+}
+
+pub fn point_of(answer: Sampled) -> Point
+    ensures { λ r. ⌜ r ≡ pointIn answer ⌝ }
+{
+    match answer {
+        Sampled::Space { x, y, z } => Point {
+            refusal: 0,
+            axes: 3,
+            x: x,
+            y: y,
+            z: z,
+        },
+        Sampled::Plane { u, v } => Point {
+            refusal: 0,
+            axes: 2,
+            x: u,
+            y: v,
+            z: 0,
+        },
+        Sampled::Refused { number } => Point {
+            refusal: number,
+            axes: 0,
+            x: 0,
+            y: 0,
+            z: 0,
+        },
+    }
+}
+
+pub fn run_of(answer: Ran) -> Run
+    ensures { λ r. ⌜ r ≡ runIn answer ⌝ }
+{
+    match answer {
+        Ran::Filled { numbers } => Run {
+            refusal: 0,
+            numbers: numbers,
+        },
+        Ran::Refused { number } => Run {
+            refusal: number,
+            numbers: 0,
+        },
+    }
+}
+
+pub fn part_of(text: &[u8], place: u32, count: u32) -> Part
+    ensures { λ r. ⌜ r ≡ partIn (now (text .entry)) place count ⌝ }
+{
+    let from = place as usize;
+    let many = count as usize;
+    if from + many <= text.len() {
+        return Part {
+            place: from,
+            length: many,
+        };
+    }
+    Part {
+        place: 0,
+        length: 0,
+    }
+}

@@ -1,0 +1,112 @@
+-- What the code finds wrong with a line's words, from the numbers that it holds and in its own order.
+use Prim.Native.Nat.{ℕ, suc, _-_, _*_}
+use mathlib.Core.List.{List, [], _∷_}
+use mathlib.Core.Bool.{Bool, true, false, cond, _&&_, _||_, not}
+use lib.ListN.{drop, getD}
+use lib.Dec.{leb, eqb}
+use lib.IntN.{ℤ, pos, natAbs}
+use Rattle.text.specs.Words.{Word}
+use Rattle.digits.specs.Said.{Said, says, wrong}
+use Rattle.forms.specs.Corner.{Corner, Counts, cornerOf, agree}
+use Rattle.forms.specs.Reference.{referenceOf}
+use Rattle.model.specs.Parse as parse
+use Rattle.state.specs.declared.Form.{Form}
+use Rattle.faults.specs.declared.word.Heard.{Heard}
+use Rattle.faults.specs.declared.word.Heard.the-variants.{Well, Wrong}
+use Rattle.faults.specs.declared.word.Seen.{Seen}
+use Rattle.faults.specs.declared.rules.WordForm.{WordForm}
+use Rattle.faults.specs.declared.rules.WordForm.the-variants as form
+use Rattle.faults.specs.declared.rules.Forms.{Forms}
+use Rattle.faults.specs.declared.rules.Forms.the-variants as forms
+use Rattle.faults.specs.declared.rules.Held.{Held}
+use Rattle.faults.specs.declared.rules.Held.the-variants as held
+use Rattle.faults.specs.declared.Refusal.{Refusal}
+use Rattle.faults.specs.declared.Refusal.the-variants.{Refused, Nothing}
+use Rattle.faults.specs.Rules.{formBy}
+
+-- ---- one word
+abbrev pub heard : {A : Type 0} → Said A → Heard
+heard (says a) = Well
+heard (wrong n) = Wrong n
+
+abbrev pub countsBy : Seen → Counts
+countsBy n = record { v = n .v; vt = n .vt; vn = n .vn }
+
+abbrev pub seenBy : Seen → parse.Seen
+seenBy n = record { counts = countsBy n; vp = n .vp; curves = n .curves }
+
+-- 9: a corner has no vt where the first has none, and so with its vn
+abbrev pub alikeSaid : Bool → Bool → Said Corner → Said parse.Value
+alikeSaid bare flat (says c) = cond (agree bare (eqb (c .vt) 0)) (cond (agree flat (eqb (c .vn) 0)) (says (parse.corner c)) (wrong 9)) (wrong 9)
+alikeSaid bare flat (wrong m) = wrong m
+
+-- 12: whether the k-th record of the vp table t begins with a count of two or more
+abbrev pub givenBy : List ℤ → ℕ → Bool
+givenBy t k = cond (eqb k 0) false (leb 2 (natAbs (getD t (4 * (k - 1)) (pos 0))))
+
+abbrev pub wideSaid : List ℤ → Said ℕ → Said parse.Value
+wideSaid t (says k) = cond (givenBy t k) (says (parse.whole k)) (wrong 12)
+wideSaid t (wrong m) = wrong m
+
+-- the word w as one of the form
+abbrev pub saidBy : parse.Seen → List ℤ → WordForm → Word → Said parse.Value
+saidBy n t form.Number w = parse.saidOf n parse.a-number w
+saidBy n t (form.Corner a b) w = parse.saidOf n (parse.a-corner (record { vt = a; vn = b })) w
+saidBy n t form.Control w = parse.saidOf n parse.a-control w
+saidBy n t form.Curve w = parse.saidOf n parse.a-curve w
+saidBy n t form.Direction w = parse.saidOf n parse.a-direction w
+saidBy n t form.Type w = parse.saidOf n parse.a-type w
+saidBy n t form.Rational w = parse.saidOf n parse.a-rational w
+saidBy n t form.Degree w = parse.saidOf n parse.a-degree w
+saidBy n t form.Smoothing w = parse.saidOf n parse.a-smoothing w
+saidBy n t form.Name w = parse.saidOf n parse.a-name w
+saidBy n t form.Anything w = parse.saidOf n parse.anything w
+saidBy n t (form.Alike a b bare flat) w = alikeSaid bare flat (cornerOf (n .counts) (record { vt = a; vn = b }) (w .bytes))
+saidBy n t form.Wide w = wideSaid t (referenceOf (n .vp) (w .bytes))
+
+-- ---- the words of a line
+abbrev pub onHeard : Heard → ℕ → Refusal → Refusal
+onHeard Well p b = b
+onHeard (Wrong n) p b = Refused n p
+
+-- the first of the words, from the i-th of m on, that is not of its form
+abbrev pub faultIn : parse.Seen → List ℤ → Forms → ℕ → ℕ → List Word → Refusal
+faultIn n t f m i [] = Nothing
+faultIn n t f m i (w ∷ ws) = onHeard (heard (saidBy n t (formBy f m i) w)) (w .place) (faultIn n t f m (suc i) ws)
+
+-- 9, of words that are corners
+abbrev pub alikeForms : Bool → Bool → Corner → Forms
+alikeForms a b c = forms.All (form.Alike a b (eqb (c .vt) 0) (eqb (c .vn) 0))
+
+abbrev pub onFirst : Said Corner → (Corner → Refusal) → Refusal
+onFirst (says c) f = f c
+onFirst (wrong m) f = Nothing
+
+abbrev pub patternFault : parse.Seen → List ℤ → Bool → Bool → List Word → Refusal
+patternFault n t a b [] = Nothing
+patternFault n t a b (w ∷ ws) = onFirst (cornerOf (n .counts) (record { vt = a; vn = b }) (w .bytes)) (λ c. faultIn n t (alikeForms a b c) 0 0 ws)
+
+-- ---- what is held against a line whose words have their forms
+-- 11, by a type's number: "Cardinal needs no deg"
+abbrev pub inForceBy : Bool → Form → Bool
+inForceBy surface f =
+    not (eqb (f .basis) 0)
+    && (eqb (f .basis) 3 || cond surface (leb 1 (f .«degree_u») && leb 1 (f .«degree_v»)) (leb 1 (f .«degree_u»)))
+
+abbrev pub owed : Bool → ℕ → ℕ → Refusal → Refusal
+owed true n p b = b
+owed false n p b = Refused n p
+
+abbrev pub orElse : Refusal → Refusal → Refusal
+orElse Nothing b = b
+orElse (Refused n p) b = Refused n p
+
+abbrev pub bodyFault : parse.Seen → List ℤ → Form → ℕ → Bool → List Word → Refusal
+bodyFault n t f key surface ws = orElse (patternFault n t surface surface ws) (owed (inForceBy surface f) 11 key Nothing)
+
+abbrev pub heldFault : parse.Seen → List ℤ → Form → ℕ → Held → List Word → Refusal
+heldFault n t f key held.Nothing ws = Nothing
+heldFault n t f key (held.Corners a b) ws = patternFault n t a b ws
+heldFault n t f key held.Curve ws = bodyFault n t f key false (drop 2 ws)
+heldFault n t f key held.Surface ws = bodyFault n t f key true (drop 4 ws)
+heldFault n t f key held.Curve2 ws = owed (inForceBy false f) 11 key (faultIn n t (forms.All form.Wide) 0 0 ws)

@@ -1,0 +1,80 @@
+use crate::Refusal;
+use crate::rules::Forms;
+use crate::rules::form_at;
+use crate::word::Heard;
+use crate::word::Seen;
+use crate::word::word_fault;
+use text::Met;
+ghost use mathlib.Core.Path.{_≡_};
+ghost use Prim.Native.Nat.{_≤_};
+ghost use lib.ListN.{length, drop};
+ghost use Rattle.text.specs.Rest.{restAt};
+ghost use Rattle.keywords.specs.Arguments.{argumentTable};
+ghost use Rattle.faults.specs.Faults.{seenBy, faultIn};
+
+// The first word from `at` on that is not of its form, the forms being those of a line of `words` words.
+pub fn first_fault(
+    text: &[u8],
+    at: usize,
+    forms: Forms,
+    words: usize,
+    seen: Seen,
+    vp: &[i32],
+    argument_table: &[u8; 108],
+) -> Refusal
+    requires { ⌜ at ≤ length (now text) ⌝ }
+    requires { ⌜ now «argument_table» ≡ argumentTable ⌝ }
+    ensures { λ r. ⌜ r ≡ faultIn (seenBy seen) (now (vp .entry)) forms words 0 ((restAt (now (text .entry)) at) .words) ⌝ }
+{
+    let mut i = at;
+    let mut index: usize = 0;
+    loop {
+        match text::gap(text, i) {
+            Met::Start(p) => {
+                let form = form_at(forms, words, index);
+                match word_fault(text, p, form, seen, vp, argument_table) {
+                    Heard::Wrong(number) => {
+                        return Refusal::Refused {
+                            number: number,
+                            place: p,
+                        };
+                    }
+                    Heard::Well => {
+                        i = text::word_end(text, p);
+                        index += 1;
+                    }
+                }
+            }
+            Met::End(_) => {
+                return Refusal::Nothing;
+            }
+            Met::Bad(_) => {
+                return Refusal::Nothing;
+            }
+        }
+    }
+}
+
+// The place after the first `count` words, where the line has so many.
+pub fn skip(text: &[u8], at: usize, count: usize) -> usize
+    requires { ⌜ at ≤ length (now text) ⌝ }
+    ensures { λ r. ⌜ (r ≤ length (now (text .entry))) × ((restAt (now (text .entry)) r) .words ≡ drop count ((restAt (now (text .entry)) at) .words)) ⌝ }
+{
+    let mut i = at;
+    let mut left = count;
+    while 0 < left {
+        match text::gap(text, i) {
+            Met::Start(p) => {
+                i = text::word_end(text, p);
+                left -= 1;
+            }
+            Met::End(_) => {
+                return i;
+            }
+            Met::Bad(_) => {
+                return i;
+            }
+        }
+    }
+    i
+}

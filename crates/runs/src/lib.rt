@@ -1,0 +1,160 @@
+// Runs on curves: the parameters that a run samples at, and its points, two at a time.
+ghost use mathlib.Core.Path.{_≡_};
+ghost use mathlib.Core.Bool.{cond};
+ghost use mathlib.Core.Logic.{_⊎_};
+ghost use mathlib.Core.List.{_++_};
+ghost use Prim.Native.Nat.{_+_, _*_, _≤_, _<_};
+ghost use lib.Dec.{eqb};
+ghost use lib.ListN.{length, drop};
+ghost use lib.Signed.{_≤ℤ_};
+ghost use Rattle.whole.specs.Round.{Small};
+ghost use Rattle.rows.specs.Places.{On};
+ghost use Rattle.rows.specs.Controls.{Held};
+ghost use Rattle.runs.specs.Runs.{parameterAt, listed, coordinateOf, pointsUpto, Ranged, runBy, axesBy};
+use quick::follow;
+use quick::gather;
+use quick::gathered_pair;
+use rows::Along;
+use rows::search::find;
+use rows::search::search;
+use whole::apart;
+
+// The parameter of point j of a run: at most 65,536 times 4,000,000,000 is multiplied out.
+fn parameter_at(start: i32, end: i32, steps: u32, j: u32) -> i32
+    requires { ⌜ (start ≤ℤ end) × Small start × Small end × (0 < steps) × (steps ≤ 65536) × (j ≤ steps) ⌝ }
+    ensures { λ t. ⌜ (t ≡ parameterAt start end steps j) × Small t ⌝ }
+{
+    let part = j as u64 * apart(start, end) / steps as u64;
+    (start as i64 + part as i64) as i32
+}
+
+// A point of a run and its parameter.
+struct Partner {
+    j: u32,
+    t: i32,
+}
+
+// The point that is made with point j: the next where it lies in the same segment or span, else point j itself.
+fn partner_of(
+    x: &[i32],
+    along: Along,
+    start: i32,
+    end: i32,
+    steps: u32,
+    chosen: usize,
+    j: u32,
+    s: i32,
+) -> Partner
+    requires { ⌜ Ranged along (now x) start end × (0 < steps) × (steps ≤ 65536) × (j ≤ steps) × (s ≡ parameterAt start end steps j) × On along (now x) s chosen ⌝ }
+    ensures { λ r. ⌜ ((r .j ≡ j) ⊎ (r .j ≡ j + 1)) × (r .j ≤ steps) × (r .t ≡ parameterAt start end steps (r .j)) × On along (now (x .entry)) (r .t) chosen ⌝ }
+{
+    if j < steps {
+        let t = parameter_at(start, end, steps, j + 1);
+        if search(x, along, t, chosen, chosen + 1) == chosen {
+            return Partner { j: j + 1, t };
+        }
+    }
+    Partner { j, t: s }
+}
+
+// A point's two or three coordinates, at the front of what is lent.
+fn write_point(points: &mut [i32], axes: usize, x: i32, y: i32, z: i32)
+    requires { ⌜ (2 ≤ axes) × (axes ≤ 3) × (axes ≤ length (now points)) ⌝ }
+    ensures { λ r. ⌜ now (points .exit) ≡ listed axes (coordinateOf x y z) ++ drop axes (now (points .entry)) ⌝ }
+{
+    points[0] = x;
+    points[1] = y;
+    if axes == 3 {
+        points[2] = z;
+    }
+}
+
+// The points of a run, at the front of what is lent; each search goes on from the segment or span before, whose controls stand gathered.
+pub fn write_points(
+    points: &mut [i32],
+    values: &[i32],
+    corners: &[u32],
+    first: u32,
+    axis: usize,
+    axes: usize,
+    x: &[i32],
+    along: Along,
+    start: i32,
+    end: i32,
+    steps: u32,
+)
+    requires { ⌜ Held (now values) (now corners) first 0 (along .controls) × (axis ≤ 1) × (2 ≤ axes) × (axes ≤ 3) × Ranged along (now x) start end × (0 < steps) × (steps ≤ 65536) × (axes * (steps + 1) ≤ length (now points)) ⌝ }
+    ensures { λ r. ⌜ now (points .exit) ≡ pointsUpto (now (values .entry)) (now (corners .entry)) first axis axes along (now (x .entry)) start end steps (steps + 1) ++ drop (axes * (steps + 1)) (now (points .entry)) ⌝ }
+{
+    let mut chosen = find(x, along, start);
+    let mut rows = [0.0; 252];
+    gather(&mut rows, values, corners, first, axis, along, chosen);
+    let mut j = 0;
+    while j <= steps {
+        let s = parameter_at(start, end, steps, j);
+        let next = search(x, along, s, chosen, chosen + 1);
+        follow(&mut rows, values, corners, first, axis, along, chosen, next);
+        chosen = next;
+        let with = partner_of(x, along, start, end, steps, chosen, j, s);
+        let p = gathered_pair(
+            &mut rows,
+            values,
+            corners,
+            first,
+            axis,
+            x,
+            along,
+            chosen,
+            s,
+            with.t,
+        );
+        let at = axes * j as usize;
+        write_point(&mut points[at..], axes, p.x, p.y, p.z);
+        let k = with.j;
+        let next_at = axes * k as usize;
+        write_point(
+            &mut points[next_at..],
+            axes,
+            p.other_x,
+            p.other_y,
+            p.other_z,
+        );
+        j = k + 1;
+    }
+}
+
+// The points of a run on a curv, or on a curv2 where the kind is 5.
+pub fn write_run(
+    points: &mut [i32],
+    kind: u32,
+    v: &[i32],
+    vp: &[i32],
+    corners: &[u32],
+    first: u32,
+    x: &[i32],
+    along: Along,
+    start: i32,
+    end: i32,
+    steps: u32,
+)
+    requires { ⌜ Held (cond (eqb kind 5) (now vp) (now v)) (now corners) first 0 (along .controls) × Ranged along (now x) start end × (0 < steps) × (steps ≤ 65536) × (axesBy kind * (steps + 1) ≤ length (now points)) ⌝ }
+    ensures { λ r. ⌜ now (points .exit) ≡ runBy kind (now (v .entry)) (now (vp .entry)) (now (corners .entry)) first along (now (x .entry)) start end steps ++ drop (axesBy kind * (steps + 1)) (now (points .entry)) ⌝ }
+{
+    if kind == 5 {
+        write_points(
+            points,
+            vp,
+            corners,
+            first,
+            1,
+            2,
+            x,
+            along,
+            start,
+            end,
+            steps,
+        );
+    } else {
+        write_points(points, v, corners, first, 0, 3, x, along, start, end, steps);
+    }
+}
