@@ -6,7 +6,7 @@ ghost use lib.ListN.{length};
 ghost use Rattle.whole.specs.Round.{Small};
 ghost use Rattle.doubles.specs.Doubles.{kept};
 ghost use Rattle.rows.specs.Places.{direction, On};
-ghost use Rattle.rows.specs.Controls.{Held};
+ghost use Rattle.rows.specs.Controls.{Held, firstOf};
 ghost use Rattle.guess.specs.Places.{double, Keeps, Standing};
 ghost use Rattle.quick.specs.Points.{placed, placedAll, ofControls, beside, Laid, There, Ready, Told, one, other, CurvePoint, RowPoints, columnNumber, SurfacePoint};
 use doubles::kept;
@@ -252,8 +252,8 @@ pub fn gathered_pair(
     exact_pair(values, corners, first, axis, x, along, chosen, s, t)
 }
 
-// A curve's point at t, by a row that is lent.
-fn lone_point(
+// A curve's point at t, whose controls are laid at 0.
+fn made_point(
     rows: &mut [f64],
     values: &[i32],
     corners: &[u32],
@@ -264,21 +264,9 @@ fn lone_point(
     chosen: usize,
     t: i32,
 ) -> Point
-    requires { ⌜ Held (now values) (now corners) first 0 (along .controls) × (axis ≤ 1) × On along (now x) t chosen × (6 * (along .degree + 1) ≤ length (now rows)) ⌝ }
+    requires { ⌜ Held (now values) (now corners) first 0 (along .controls) × (axis ≤ 1) × On along (now x) t chosen × (6 * (along .degree + 1) ≤ length (now rows)) × Keeps (now rows) 0 (along .degree) (beside (now values) (now corners) first axis (firstOf along chosen) (firstOf along chosen)) ⌝ }
     ensures { λ p. ⌜ CurvePoint (now (values .entry)) (now (corners .entry)) first axis (direction along (now (x .entry))) t p ⌝ }
 {
-    let from = first_control(along, chosen);
-    lay(
-        rows,
-        0,
-        values,
-        corners,
-        first,
-        axis,
-        from,
-        from,
-        along.degree,
-    );
     if descend(rows, 0, x, along, chosen, t, t) {
         return told_point(rows, 0);
     }
@@ -299,12 +287,16 @@ pub fn curve_point(
     requires { ⌜ Held (now values) (now corners) first 0 (along .controls) × (axis ≤ 1) × On along (now x) t chosen ⌝ }
     ensures { λ p. ⌜ CurvePoint (now (values .entry)) (now (corners .entry)) first axis (direction along (now (x .entry))) t p ⌝ }
 {
-    if along.degree <= 3 {
+    let from = first_control(along, chosen);
+    let n = along.degree;
+    if n <= 3 {
         let mut rows = [0.0; 24];
-        return lone_point(&mut rows, values, corners, first, axis, x, along, chosen, t);
+        lay(&mut rows, 0, values, corners, first, axis, from, from, n);
+        return made_point(&mut rows, values, corners, first, axis, x, along, chosen, t);
     }
     let mut rows = [0.0; 126];
-    lone_point(&mut rows, values, corners, first, axis, x, along, chosen, t)
+    lay(&mut rows, 0, values, corners, first, axis, from, from, n);
+    made_point(&mut rows, values, corners, first, axis, x, along, chosen, t)
 }
 
 // The row beside row j of n + 1: the next, or the last itself.
