@@ -202,26 +202,46 @@ def points_words(folder, sampler, basis, surface, segments, mode, count):
     return [folder / "points", sampler, basis, surface, segments, mode, count]
 
 
+SHAPES = ((0, 1, ["alone", "run"]), (0, 16, ["alone", "run"]), (1, 1, ["alone", "grid"]), (1, 4, ["alone", "grid"]))
+
+
+def shape_name(basis, surface, segments):
+    side = 3 * segments + 1
+    return f"{basis} {'surface' if surface else 'curve'}, {f'{side} x {side}' if surface else side} controls"
+
+
+def seconds_a_point(folder, sampler, basis, surface, segments, mode):
+    said = answer(points_words(folder, sampler, basis, surface, segments, mode, 200_000))
+    return said["seconds"] / said["points"]
+
+
 def points_rows(folder, rounds):
     head("cubic", "asked for", "this, million points/s", "SISL", "GSL", "times SISL, median (worst)", "times GSL", "instructions a point: this", "SISL", "GSL",
          "apart at most, millionths")
-    for surface, segments, modes in ((0, 1, ["alone", "run"]), (0, 16, ["alone", "run"]), (1, 1, ["alone", "grid"]), (1, 4, ["alone", "grid"])):
+    for surface, segments, modes in SHAPES:
         for basis in ("bezier", "bspline"):
             for mode in modes:
                 times, cost = {s: [] for s in SAMPLERS}, {}
                 for _ in range(rounds):
                     for sampler in SAMPLERS:
-                        said = answer(points_words(folder, sampler, basis, surface, segments, mode, 200_000))
-                        times[sampler].append(said["seconds"] / said["points"])
+                        times[sampler].append(seconds_a_point(folder, sampler, basis, surface, segments, mode))
                 for sampler in SAMPLERS:
                     none, some = (instructions(points_words(folder, sampler, basis, surface, segments, mode, n)) for n in (0, 2 * BATCH[mode]))
                     cost[sampler] = f"{(some - none) / (2 * BATCH[mode]):.0f}"
                 speed = {s: f"{1e-6 / statistics.median(t):.2f}" for s, t in times.items()}
                 apart = answer(points_words(folder, "difference", basis, surface, segments, mode, 0))["difference"]
-                side = 3 * segments + 1
-                name = f"{basis} {'surface' if surface else 'curve'}, {f'{side} x {side}' if surface else side} controls"
-                row(name, mode, *(speed[s] for s in SAMPLERS), ratios(times["kuhlabires"], times["sisl"]), ratios(times["kuhlabires"], times["gsl"]),
+                row(shape_name(basis, surface, segments), mode, *(speed[s] for s in SAMPLERS), ratios(times["kuhlabires"], times["sisl"]), ratios(times["kuhlabires"], times["gsl"]),
                     *(cost[s] for s in SAMPLERS), f"{apart * 1e6:.2f}")
+
+
+def rules_rows(folder, rounds):
+    """What of a point alone is the call and the element held against the rules: a parameter before the range is refused right after that."""
+    head("cubic, alone", "rules and call, ns", "the point, ns", "SISL", "GSL")
+    asked = [("kuhlabires", "outside"), *((sampler, "alone") for sampler in SAMPLERS)]
+    for surface, segments, _ in SHAPES:
+        for basis in ("bezier", "bspline"):
+            times = [[seconds_a_point(folder, sampler, basis, surface, segments, mode) for sampler, mode in asked] for _ in range(rounds)]
+            row(shape_name(basis, surface, segments), *(f"{1e9 * statistics.median(each):.0f}" for each in zip(*times)))
 
 
 def function_rows(folder, counted):
@@ -260,6 +280,8 @@ def main():
         refusal_rows(folder)
         print("\n### Points\n")
         points_rows(folder, rounds)
+        print("\n### Points alone: the rules and the call\n")
+        rules_rows(folder, rounds)
         print("\n### Where the instructions go\n")
         function_rows(folder, counted)
         print("\n### Allocation\n")

@@ -5,7 +5,8 @@
  *
  * LIBRARY is kuhlabires, sisl or gsl, BASIS bezier or bspline, SURFACE 0 or 1. The curve is cubic, the surface bicubic, with 3 SEGMENTS + 1
  * controls along each direction: so many Bezier segments, or a B-spline with clamped whole knots. MODE alone asks for each point by a call of its
- * own, in no order; run for 1,001 points in one call, grid for 101 times 101, by what the library has for it.
+ * own, in no order; run for 1,001 points in one call, grid for 101 times 101, by what the library has for it. MODE outside is of kuhlabires alone:
+ * each call asks before the range, so that it is refused as soon as the element is held against the rules.
  * `points difference BASIS SURFACE SEGMENTS MODE 0` prints how far the answers of the libraries lie apart at most.
  */
 #include <gsl/gsl_bspline.h>
@@ -24,7 +25,7 @@
 #define STEPS 1000
 #define SIDE 101
 
-static int surface, segments, bspline;
+static int surface, segments, bspline, outside;
 static int side, controls, parameters, knots, end; /* along one direction; controls of all */
 static double knot[MOST_SIDE + 4], control[3 * MOST_CONTROLS];
 static int32_t spread[SPREAD];     /* parameters in no order .. */
@@ -77,9 +78,11 @@ static void keep(int j, kuhlabires_point point)
 
 static void alone_kuhlabires(int n)
 {
-    for (int j = 0; j < n; j++)
-        keep(j, surface ? kuhlabires_point_on_surface(used, KUHLABIRES_LEND(&tables), 1, spread[j], spread[SPREAD - 1 - j])
-                        : kuhlabires_point_on_curve(used, KUHLABIRES_LEND(&tables), 1, spread[j]));
+    for (int j = 0; j < n; j++) {
+        int32_t t = outside ? -1 : spread[j];
+        keep(j, surface ? kuhlabires_point_on_surface(used, KUHLABIRES_LEND(&tables), 1, t, spread[SPREAD - 1 - j])
+                        : kuhlabires_point_on_curve(used, KUHLABIRES_LEND(&tables), 1, t));
+    }
 }
 
 static void run_kuhlabires(void)
@@ -245,7 +248,8 @@ static void make_shape(void)
 /* One batch of points; answers how many. */
 static int batch(int which, const char *mode)
 {
-    if (!strcmp(mode, "alone")) {
+    outside = !strcmp(mode, "outside");
+    if (outside || !strcmp(mode, "alone")) {
         library[which].alone(SPREAD);
         return SPREAD;
     }
