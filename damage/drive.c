@@ -2,6 +2,7 @@
  * The library behind a stream of requests: a request on standard input, its answer on standard output, one after the other.
  * A request is a letter, its numbers (64 bits each, least byte first), and bytes:
  *     R read      text length, eleven table lengths; the text
+ *     O rooms     text length; the text. It is read into tables of the lengths that kuhlabires_rooms gives
  *     T tidy      text length, eleven table lengths, buffer length; the text
  *     S set       text length, nine used counts, eleven table lengths; the text, the tables' bytes. No answer
  * and of the text, the tables and the used counts that one of these left:
@@ -12,7 +13,8 @@
  *     G group     element
  *     M material  element
  * An answer is the letter, a byte (0 where all canaries stand and nothing lent to be read has changed), the numbers of the C struct, and the bytes
- * of everything that was lent to be written; of a group or material its length and, where that is not 0, its place and its bytes.
+ * of everything that was lent to be written; of a group or material its length and, where that is not 0, its place and its bytes. That of O is
+ * reading's, each table as far as it is used; its byte is 1, too, where the lengths are more than is promised or what is not used is not 0.
  */
 #include "lent.h"
 
@@ -124,6 +126,25 @@ static void read_text(void) {
     keep_tables();
 }
 
+static void read_in_rooms(void) {
+    size_t length = number(), lengths[TABLES];
+    forget();
+    take_text(length);
+    int few = rooms_of(text, lengths);
+    tables = lend_tables(lengths);
+    for (int i = 0; i < TABLES; i++) not_to_be_looked_at(tables.of[i]);
+    kuhlabires_reading r = kuhlabires_read(text.data, text.size, LEND(&tables));
+    used = r.used;
+    entries_of(used, lengths);
+    for (int i = 0; i < TABLES; i++) few = few && 4 * lengths[i] <= tables.of[i].size && all_from(tables.of[i], 4 * lengths[i], 0);
+    say_head('O', few && unchanged(text, text_before) && tables_intact(&tables));
+    say_number(r.refusal);
+    say_number(r.place);
+    say_used();
+    for (int i = 0; i < TABLES; i++) say(tables.of[i].data, 4 * lengths[i]);
+    keep_tables();
+}
+
 static void tidy_text(void) {
     size_t length = number(), lengths[TABLES];
     take_lengths(lengths);
@@ -221,6 +242,7 @@ int main(void) {
     while (take(&letter, 1)) {
         switch (letter) {
         case 'R': read_text(); break;
+        case 'O': read_in_rooms(); break;
         case 'T': tidy_text(); break;
         case 'S': set(); break;
         case 'C':

@@ -19,13 +19,6 @@ static int same_used(kuhlabires_used a, kuhlabires_used b) {
     return memcmp(&a, &b, sizeof a) == 0;
 }
 
-static void entries_of(kuhlabires_used used, size_t lengths[TABLES]) {
-    const size_t entries[TABLES] = {4 * (size_t)used.v,        3 * (size_t)used.vt,      3 * (size_t)used.vn,     4 * (size_t)used.vp,
-                                    used.corners,              9 * (size_t)used.elements, 9 * (size_t)used.bodies, 4 * (size_t)used.bodies,
-                                    used.parameters,           2 * (size_t)used.loops,   2 * (size_t)used.loops};
-    memcpy(lengths, entries, sizeof entries);
-}
-
 static uint32_t entry(const struct tables *t, int table, size_t at) {
     uint32_t number;
     memcpy(&number, t->of[table].data + 4 * at, 4);
@@ -317,9 +310,7 @@ int LLVMFuzzerTestOneInput(const uint8_t *data, size_t size) {
     set_guard();
     struct block text = lend_copy(data, size);
     size_t lengths[TABLES];
-    for (int i = 0; i < TABLES; i++) lengths[i] = KUHLABIRES_OTHER_ROOM(size) + (size_t)i % 5;
-    lengths[CORNERS] = KUHLABIRES_CORNER_ROOM(size);
-    lengths[ELEMENTS] = KUHLABIRES_ELEMENT_ROOM(size);
+    HOLD(rooms_of(text, lengths));
     struct tables whole = lend_tables(lengths);
     kuhlabires_reading r = read_into(text, &whole);
     HOLD(r.refusal != 14);

@@ -95,6 +95,24 @@ static inline void take_tables_back(const struct tables *lent) {
     for (int i = 0; i < TABLES; i++) take_back(lent->of[i]);
 }
 
+/* The lengths in which a text finds room, and whether they are as few as is promised. */
+static inline int rooms_of(struct block text, size_t lengths[TABLES]) {
+    const kuhlabires_room room = kuhlabires_rooms(text.data, text.size);
+    const size_t entries[TABLES] = {room.v,      room.vt,     room.vn,         room.vp,    room.corners, room.elements,
+                                    room.bodies, room.ranges, room.parameters, room.loops, room.spans};
+    size_t all = 0;
+    for (int i = 0; i < TABLES; i++) all += lengths[i] = entries[i];
+    return all <= 11 * (text.size + 1);
+}
+
+/* How many entries of each table are used. */
+static inline void entries_of(kuhlabires_used used, size_t lengths[TABLES]) {
+    const size_t entries[TABLES] = {4 * (size_t)used.v,        3 * (size_t)used.vt,      3 * (size_t)used.vn,     4 * (size_t)used.vp,
+                                    used.corners,              9 * (size_t)used.elements, 9 * (size_t)used.bodies, 4 * (size_t)used.bodies,
+                                    used.parameters,           2 * (size_t)used.loops,   2 * (size_t)used.loops};
+    memcpy(lengths, entries, sizeof entries);
+}
+
 /* Whether every byte from one on is that one. */
 static inline int all_from(struct block lent, size_t from, uint8_t byte) {
     for (size_t at = from; at < lent.size; at++)

@@ -80,6 +80,7 @@ def shaken(rng, used, tables):
 
 def one(rng, stream, data):
     needs = needed(data)
+    stream.in_rooms(data, needs)
     stream.read(data, rooms(rng, needs))
     if stream.used.elements:
         ask(rng, stream, 3)

@@ -3,7 +3,8 @@
     rt staticlib boundary && python3 damage/run.py SEED COUNT [LONG]
 
 The stored calls on points; then every stored case and example, and COUNT seeded
-texts, damaged in the ways of kinds.py, are read, tidied and asked after as questions.py says. Then texts of
+texts, damaged in the ways of kinds.py, are read, in the rooms that the library finds for
+them too, tidied and asked after as questions.py says. Then texts of
 16,777,216 bytes and about; LONG adds those that take second/ seconds each, and
 some that are held against themselves alone, by the fuzz target.
 
@@ -27,7 +28,7 @@ import subprocess
 import sys
 import tempfile
 
-from kinds import FILES, alike, big, damaged, long
+from kinds import FILES, alike, big, damaged, long, needed
 from questions import ask, one, stored_calls
 from stream import Stream
 
@@ -132,6 +133,7 @@ def large(seed, makers, commands, totals):
         for kind, data, lent, room in maker(rng):
             stream = Stream()
             stream.label = kind
+            stream.in_rooms(data, needed(data))
             stream.read(data, lent)
             stream.tidy(data, lent, room)
             ask(rng, stream, 2)
@@ -162,7 +164,7 @@ def counted(stream, totals):
 
 
 LETTERS = {
-    "R": "read", "T": "tidy", "C": "point_on_curve", "F": "point_on_surface", "N": "run_on_curve",
+    "R": "read", "O": "rooms and read", "T": "tidy", "C": "point_on_curve", "F": "point_on_surface", "N": "run_on_curve",
     "K": "corner_of", "G": "group_of", "M": "material_of",
 }
 

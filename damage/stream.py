@@ -58,6 +58,17 @@ class Stream:
             numbers(number, place, *self.used), entries(self.tables),
         )
 
+    def in_rooms(self, text, needs):
+        """Reading in the rooms that the library finds is reading in ample ones: what is used is what the text needs."""
+        answer = read(text, needs)
+        number, place = answer if isinstance(answer, Refused) else (0, 0)
+        self.text = text
+        self.used, self.tables = (NONE, zeros([0] * len(TABLES))) if number else answer
+        self.ask(
+            "O", number, (numbers(len(text)), text),
+            numbers(number, place, *self.used), entries(self.tables),
+        )
+
     def tidy(self, text, rooms, room):
         answer = tidy(text, rooms, room)
         written, number, place = b"", 0, 0

@@ -38,13 +38,15 @@ static void *table_of(size_t entries)
     return table;
 }
 
-static kuhlabires_tables tables_for(size_t n)
+/* Tables in which the text finds room, whatever it says. */
+static kuhlabires_tables tables_for(const uint8_t *text, size_t length)
 {
-    const size_t other = KUHLABIRES_OTHER_ROOM(n), corners = KUHLABIRES_CORNER_ROOM(n), elements = KUHLABIRES_ELEMENT_ROOM(n);
+    const kuhlabires_room room = kuhlabires_rooms(text, length);
     kuhlabires_tables t = {
-        table_of(other), other, table_of(other), other, table_of(other), other, table_of(other), other,
-        table_of(corners), corners, table_of(elements), elements,
-        table_of(other), other, table_of(other), other, table_of(other), other, table_of(other), other, table_of(other), other,
+        table_of(room.v), room.v, table_of(room.vt), room.vt, table_of(room.vn), room.vn, table_of(room.vp), room.vp,
+        table_of(room.corners), room.corners, table_of(room.elements), room.elements, table_of(room.bodies), room.bodies,
+        table_of(room.ranges), room.ranges, table_of(room.parameters), room.parameters, table_of(room.loops), room.loops,
+        table_of(room.spans), room.spans,
     };
     return t;
 }
@@ -99,7 +101,7 @@ int main(int count, char **words)
         perror(words[1]);
         return 2;
     }
-    kuhlabires_tables t = tables_for(length);
+    kuhlabires_tables t = tables_for(text, length);
     const kuhlabires_reading reading = kuhlabires_read(text, length, KUHLABIRES_LEND(&t));
     int failed = reading.refusal != 0;
     if (failed)

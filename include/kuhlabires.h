@@ -31,14 +31,6 @@ extern "C" {
 /* The most steps of a run. */
 #define KUHLABIRES_MOST_STEPS 65536u
 
-/*
- * Room that no text of n bytes passes, in entries: with these lengths refusal 14 cannot come. A program that counts the lines of its file by
- * keyword needs far less.
- */
-#define KUHLABIRES_ELEMENT_ROOM(n) (3 * (size_t)(n))
-#define KUHLABIRES_CORNER_ROOM(n) (2 * (size_t)(n))
-#define KUHLABIRES_OTHER_ROOM(n) ((size_t)(n))
-
 /* ---- The eleven tables: how many entries one record has, and where each of its numbers stands in it ---- */
 
 /* v, int32_t: x, y, z, w (w is 1000000 where the file gives none). */
@@ -140,6 +132,11 @@ typedef struct kuhlabires_used {
     uint32_t v, vt, vn, vp, corners, elements, bodies, parameters, loops;
 } kuhlabires_used;
 
+/* How many entries of each table a text can need. */
+typedef struct kuhlabires_room {
+    size_t v, vt, vn, vp, corners, elements, bodies, ranges, parameters, loops, spans;
+} kuhlabires_room;
+
 /* The answer of reading. Where refusal is 0, place is 0; else every count of used is 0. */
 typedef struct kuhlabires_reading {
     uint32_t refusal;
@@ -192,6 +189,12 @@ typedef struct kuhlabires_part {
         size_t vp_length, const uint32_t *corners, size_t corners_length, const uint32_t *elements, size_t elements_length, const uint32_t *bodies,  \
         size_t bodies_length, const int32_t *ranges, size_t ranges_length, const int32_t *parameters, size_t parameters_length,                      \
         const uint32_t *loops, size_t loops_length, const int32_t *spans, size_t spans_length
+
+/*
+ * How many entries of each table the text can need: with at least these lengths lent, refusal 14 never comes, whatever the text. All eleven together
+ * are at most 22 for each word of the text, and so at most 11 * (text_length + 1). All 0 for a text over KUHLABIRES_MOST_BYTES, which is refused.
+ */
+kuhlabires_room kuhlabires_rooms(const uint8_t *text, size_t text_length);
 
 /*
  * Reads a text into the tables. Every entry of every table is written: records, and 0 after the used ones. After a refusal all are 0.

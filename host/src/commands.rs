@@ -1,50 +1,86 @@
 //! What each command does.
 use crate::show;
-use crate::Failure;
+use crate::{tell, Failure};
 use kuhlabires::{
     group_of, material_of, point_on_surface, read, run_on_curve, tidy_text, Body, Decimal, Element, Kind, Refusal,
     Tables, MOST_BYTES, MOST_STEPS,
 };
+use std::ffi::OsStr;
 use std::fs::File;
 use std::io::{self, Read, Write};
+use std::path::Path;
 use std::time::Instant;
 
-// Files over this many bytes are told of on standard error while they are worked on.
+// Files over this many bytes are told of on a terminal while they are worked on.
 const LARGE: usize = 1_000_000;
 
-struct Input {
+pub struct Input {
     name: String,
     text: Vec<u8>,
+    // Of a text that is cut off, the file's size where the system knows it.
+    size: Option<u64>,
+    told: bool,
 }
 
-// At most a byte more than is ever read: what is longer is refused whatever it says.
-fn open(file: &str) -> Result<Input, Failure> {
-    let name = if file == "-" { "standard input" } else { file };
+impl Input {
+    // How many bytes there are, as a person is told.
+    fn bytes(&self) -> String {
+        match self.size {
+            Some(size) => format!("{} bytes", show::thousands(size as usize)),
+            None if MOST_BYTES < self.text.len() => format!("over {} bytes", show::thousands(MOST_BYTES)),
+            None => format!("{} bytes", show::thousands(self.text.len())),
+        }
+    }
+}
+
+/// The text of a file, or of standard input for -: at most a byte more than is ever read, since what is longer is refused whatever it says.
+/// Where `told`, work on it is told of on a terminal.
+pub fn open(file: &OsStr, told: bool) -> Result<Input, Failure> {
     let most = MOST_BYTES as u64 + 1;
-    let mut text = Vec::new();
-    let taken = if file == "-" {
-        io::stdin().lock().take(most).read_to_end(&mut text)
+    let (mut text, mut size) = (Vec::new(), None);
+    let (name, taken) = if file == "-" {
+        ("standard input".into(), io::stdin().lock().take(most).read_to_end(&mut text))
     } else {
-        File::open(file).and_then(|opened| opened.take(most).read_to_end(&mut text))
+        let taken = File::open(file).and_then(|opened| {
+            size =
+                opened.metadata().ok().filter(|about| about.is_file() && most <= about.len()).map(|about| about.len());
+            opened.take(most).read_to_end(&mut text)
+        });
+        (Path::new(file).display().to_string(), taken)
     };
-    taken.map_err(|error| Failure::Io(format!("{name}: {error}")))?;
-    Ok(Input { name: name.into(), text })
+    match taken {
+        Ok(_) => Ok(Input { name, text, size, told: told && is_terminal() }),
+        Err(error) => Err(Failure::Io(format!("{name}: {error}"))),
+    }
 }
 
-// Works on a text, and says so on standard error where that may take a while.
+// Whether standard error is a terminal.
+fn is_terminal() -> bool {
+    extern "C" {
+        fn isatty(descriptor: std::os::raw::c_int) -> std::os::raw::c_int;
+    }
+    // SAFETY: the C library's isatty takes any number and keeps nothing.
+    unsafe { isatty(2) == 1 }
+}
+
+// Works on a text, and says so on a terminal where that may take a while.
 fn told<T>(input: &Input, doing: &str, work: impl FnOnce() -> T) -> T {
-    if input.text.len() <= LARGE {
+    if !input.told || input.text.len() <= LARGE {
         return work();
     }
-    eprintln!("{doing} {}, {} bytes ..", input.name, show::thousands(input.text.len()));
+    tell(format_args!("{doing} {}, {} ..\n", input.name, input.bytes()));
     let start = Instant::now();
     let answer = work();
-    eprintln!("{doing} took {:.2} s", start.elapsed().as_secs_f64());
+    tell(format_args!("{doing} took {:.2} s\n", start.elapsed().as_secs_f64()));
     answer
 }
 
 fn refused(input: &Input, refusal: Refusal) -> Failure {
-    eprint!("{}", show::refusal(&input.name, &input.text, refusal));
+    let shown = show::refusal(&input.name, &input.text, refusal);
+    match (refusal.number, input.size) {
+        (1, Some(_)) => tell(format_args!("{}: {}\n", shown.trim_end(), input.bytes())),
+        _ => tell(shown),
+    }
     Failure::Refused
 }
 
@@ -56,11 +92,10 @@ fn tables_of(input: &Input) -> Result<Tables, Failure> {
     .map_err(|refusal| refused(input, refusal))
 }
 
-pub fn check(file: &str, out: &mut dyn Write) -> Result<(), Failure> {
-    let input = open(file)?;
+pub fn check(input: Input, out: &mut dyn Write) -> Result<(), Failure> {
     let tables = tables_of(&input)?;
     let used = tables.used;
-    writeln!(out, "{}: read, {} bytes", input.name, show::thousands(input.text.len()))?;
+    writeln!(out, "{}: read, {}", input.name, input.bytes())?;
     let vertices = [("v", used.v), ("vt", used.vt), ("vn", used.vn), ("vp", used.vp)];
     let elements = Kind::ALL.map(|kind| {
         let many = tables.elements().filter(|(_, element)| element.kind == Some(kind)).count();
@@ -74,14 +109,12 @@ pub fn check(file: &str, out: &mut dyn Write) -> Result<(), Failure> {
     Ok(())
 }
 
-pub fn tidy(file: &str, out: &mut dyn Write) -> Result<(), Failure> {
-    let input = open(file)?;
+pub fn tidy(input: Input, out: &mut dyn Write) -> Result<(), Failure> {
     let tidied = told(&input, "tidying", || tidy_text(&input.text)).map_err(|refusal| refused(&input, refusal))?;
     Ok(out.write_all(&tidied)?)
 }
 
-pub fn elements(file: &str, out: &mut dyn Write) -> Result<(), Failure> {
-    let input = open(file)?;
+pub fn elements(input: Input, out: &mut dyn Write) -> Result<(), Failure> {
     let tables = tables_of(&input)?;
     for (number, element) in tables.elements() {
         let keyword = element.kind.map_or("?", Kind::keyword);
@@ -127,8 +160,7 @@ fn body_of(element: Element, body: Body) -> String {
     shown
 }
 
-pub fn points(file: &str, element: u32, steps: u32, out: &mut dyn Write) -> Result<(), Failure> {
-    let input = open(file)?;
+pub fn points(input: Input, element: u32, steps: u32, out: &mut dyn Write) -> Result<(), Failure> {
     let tables = tables_of(&input)?;
     let asked = tables.element(element);
     let written = match asked {
@@ -136,7 +168,8 @@ pub fn points(file: &str, element: u32, steps: u32, out: &mut dyn Write) -> Resu
         _ => run(&tables, element, steps, out),
     };
     written?.map_err(|refusal| {
-        eprintln!("{}: element {element}, {steps} steps: refused {}: {}", input.name, refusal.number, refusal.words());
+        let (name, number, words) = (&input.name, refusal.number, refusal.words());
+        tell(format_args!("{name}: element {element}, {steps} steps: refused {number}: {words}\n"));
         Failure::Refused
     })
 }

@@ -21,16 +21,23 @@
 mod raw;
 mod records;
 mod refusal;
-mod rooms;
 mod tables;
 
 pub use records::*;
 pub use refusal::{position, Position, Refusal};
-pub use rooms::{Rooms, MOST_BYTES};
 pub use tables::Tables;
+
+/// The longest text that is read, and the longest tidy text, in bytes.
+pub const MOST_BYTES: usize = 16_777_216;
 
 /// The most steps of a run.
 pub const MOST_STEPS: u32 = 65_536;
+
+/// How many entries of each table the text can need: reading it into tables of at least these lengths never gives 14. All together are at
+/// most 22 for each word of the text, so at most 11 for each byte and 11 more. A text over [`MOST_BYTES`] needs none: it is refused.
+pub fn rooms_of(text: &[u8]) -> Rooms {
+    raw::rooms(text)
+}
 
 /// Reads a text into the tables and sets their used counts. After a refusal every entry and every count is 0.
 pub fn read(text: &[u8], tables: &mut Tables) -> Result<(), Refusal> {

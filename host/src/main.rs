@@ -3,7 +3,10 @@ mod commands;
 mod show;
 
 use std::env;
+use std::ffi::OsString;
+use std::fmt::Display;
 use std::io::{self, BufWriter, Write};
+use std::num::IntErrorKind;
 use std::process::ExitCode;
 
 const HELP: &str = "\
@@ -18,6 +21,7 @@ kuhlabires: reads, tidies and samples Wavefront .obj files
 
 FILE is a path, or - for standard input. ELEMENT is a number as `elements` lists it. STEPS is 1 to 65536.
 Points are written one a line, x y z, for a curv2 u v; those of a surf row by row, u varying fastest.
+Where standard error is a terminal, it is told there that a large file is worked on; with --quiet it is not.
 The exit status is 0; 1 where the file or the call is refused; 2 for bad usage or a file that cannot be opened.
 ";
 
@@ -40,15 +44,26 @@ impl From<io::Error> for Failure {
     }
 }
 
-fn run(arguments: &[String], out: &mut dyn Write) -> Result<(), Failure> {
-    let words: Vec<&str> = arguments.iter().map(String::as_str).collect();
+/// Writes to standard error. Where that cannot be written nobody can be told, and the exit status alone says how it went.
+pub fn tell(message: impl Display) {
+    let _ = write!(io::stderr(), "{message}");
+}
+
+// A path is any bytes that the system takes, so FILE goes as it came; the other words are compared as text.
+fn run(arguments: &[OsString], out: &mut dyn Write) -> Result<(), Failure> {
+    let told = !arguments.iter().any(|word| word == "--quiet");
+    let arguments: Vec<&OsString> = arguments.iter().filter(|word| *word != "--quiet").collect();
+    let texts: Vec<String> = arguments.iter().map(|word| word.to_string_lossy().into_owned()).collect();
+    let words: Vec<&str> = texts.iter().map(String::as_str).collect();
+    let open = || commands::open(arguments[1], told);
     match words[..] {
         ["--help" | "-h" | "help"] => Ok(out.write_all(HELP.as_bytes())?),
-        ["check", file] => commands::check(file, out),
-        ["tidy", file] => commands::tidy(file, out),
-        ["elements", file] => commands::elements(file, out),
-        ["points", file, element, steps] => {
-            commands::points(file, number("ELEMENT", element)?, number("STEPS", steps)?, out)
+        ["check", _] => commands::check(open()?, out),
+        ["tidy", _] => commands::tidy(open()?, out),
+        ["elements", _] => commands::elements(open()?, out),
+        ["points", _, element, steps] => {
+            let (element, steps) = (number("ELEMENT", element)?, number("STEPS", steps)?);
+            commands::points(open()?, element, steps, out)
         }
         [] => Err(Failure::Usage("no command".into())),
         [command @ ("check" | "tidy" | "elements"), ..] => Err(Failure::Usage(format!("{command} takes a FILE"))),
@@ -58,25 +73,31 @@ fn run(arguments: &[String], out: &mut dyn Write) -> Result<(), Failure> {
 }
 
 fn number(name: &str, word: &str) -> Result<u32, Failure> {
-    word.parse().map_err(|_| Failure::Usage(format!("{name} is a whole number, and not {word}")))
+    word.parse().map_err(|error: std::num::ParseIntError| {
+        Failure::Usage(match error.kind() {
+            IntErrorKind::PosOverflow => format!("{name} is too large: {word} is over {}", u32::MAX),
+            _ => format!("{name} is a whole number, and not {word}"),
+        })
+    })
 }
 
 fn main() -> ExitCode {
-    let arguments: Vec<String> = env::args_os().skip(1).map(|word| word.to_string_lossy().into_owned()).collect();
+    let arguments: Vec<OsString> = env::args_os().skip(1).collect();
     let mut out = BufWriter::new(io::stdout().lock());
-    let ended = run(&arguments, &mut out).and_then(|()| Ok(out.flush()?));
-    match ended {
+    let ended = run(&arguments, &mut out);
+    let flushed = out.flush().map_err(Failure::from);
+    if let (Err(Failure::Refused), Err(Failure::Io(message))) = (&ended, &flushed) {
+        tell(format_args!("kuhlabires: {message}\n"));
+    }
+    match ended.and(flushed) {
         Ok(()) | Err(Failure::Closed) => ExitCode::SUCCESS,
-        Err(Failure::Refused) => {
-            let _ = out.flush();
-            ExitCode::from(1)
-        }
+        Err(Failure::Refused) => ExitCode::from(1),
         Err(Failure::Usage(message)) => {
-            eprintln!("kuhlabires: {message}; see kuhlabires --help");
+            tell(format_args!("kuhlabires: {message}; see kuhlabires --help\n"));
             ExitCode::from(2)
         }
         Err(Failure::Io(message)) => {
-            eprintln!("kuhlabires: {message}");
+            tell(format_args!("kuhlabires: {message}\n"));
             ExitCode::from(2)
         }
     }

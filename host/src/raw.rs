@@ -1,5 +1,5 @@
-//! The boundary as the archive has it: `src/lib.rt` of `crates/boundary` and `crates/answers`, and `include/kuhlabires.h`, say the same. A slice is a pointer, then a length.
-use crate::{Corner, Tables, Used};
+//! The boundary as the archive has it: `src/lib.rt` of `crates/boundary`, `crates/answers` and `crates/rooms`, and `include/kuhlabires.h`, say the same. A slice is a pointer, then a length.
+use crate::{Corner, Rooms, Tables, Used};
 
 #[repr(C)]
 pub struct Reading {
@@ -72,6 +72,8 @@ boundary! {
 }
 
 extern "C" {
+    pub fn kuhlabires_rooms(text: *const u8, text_length: usize) -> Rooms;
+
     pub fn kuhlabires_corner_of(
         used: Used,
         elements: *const u32,
@@ -126,6 +128,11 @@ macro_rules! with_tables {
             )
         }
     }};
+}
+
+pub fn rooms(text: &[u8]) -> Rooms {
+    // SAFETY: as in `with_tables`.
+    unsafe { kuhlabires_rooms(text.as_ptr(), text.len()) }
 }
 
 pub fn read(text: &[u8], tables: &mut Tables) -> Reading {

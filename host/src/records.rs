@@ -16,6 +16,23 @@ pub struct Used {
     pub loops: u32,
 }
 
+/// The lengths of the eleven tables, in entries: 4,096 entries hold 1,024 `v`.
+#[repr(C)]
+#[derive(Clone, Copy, Debug, Default, PartialEq, Eq)]
+pub struct Rooms {
+    pub v: usize,
+    pub vt: usize,
+    pub vn: usize,
+    pub vp: usize,
+    pub corners: usize,
+    pub elements: usize,
+    pub bodies: usize,
+    pub ranges: usize,
+    pub parameters: usize,
+    pub loops: usize,
+    pub spans: usize,
+}
+
 /// A corner's references, each counted from 1; 0 for none. Of a `curv2` control `v` is its vp number.
 #[repr(C)]
 #[derive(Clone, Copy, Debug, Default, PartialEq, Eq)]

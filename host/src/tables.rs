@@ -1,6 +1,6 @@
 //! The eleven tables, in memory of the caller's own size.
 use crate::records::*;
-use crate::rooms::Rooms;
+use crate::rooms_of;
 
 /// The eleven tables and how many of their records are used. Reading fills them; all else only looks.
 ///
@@ -42,7 +42,7 @@ impl Tables {
 
     /// Tables with room for everything that the text can hold: reading it into them never gives 14.
     pub fn for_text(text: &[u8]) -> Tables {
-        Tables::with_rooms(&Rooms::for_text(text))
+        Tables::with_rooms(&rooms_of(text))
     }
 
     /// The vertex of that number, from 1.

@@ -80,6 +80,42 @@ fn room_is_counted_in_entries() {
     assert_eq!(read(b"v 1 2 3\nv 1 2 3\n", &mut tables), Err(Refusal { number: 14, place: 8 }));
 }
 
+fn total(rooms: Rooms) -> usize {
+    let Rooms { v, vt, vn, vp, corners, elements, bodies, ranges, parameters, loops, spans } = rooms;
+    v + vt + vn + vp + corners + elements + bodies + ranges + parameters + loops + spans
+}
+
+#[test]
+fn room_is_counted_by_lines() {
+    let mesh = b"v 0 0 0\r\n  vt 1\n# v 1 2 3\nvn 0 0 1\nf 1/1/1 1/1/1 1/1/1 # and no more\nvx 1\n# a \\\nvp 1\n";
+    let wanted = Rooms { v: 4, vt: 3, vn: 3, vp: 4, elements: 9, corners: 9, ..Rooms::default() };
+    assert_eq!(rooms_of(mesh), wanted);
+    let joined =
+        b"\\\nf 1 2 \\\n 3 \\\r\n 4\ncurv 0 1 1 2\nparm \\\n u 0 1 \\\n 2 3\nend\ntrim 0 1 1 1 2 1\nhole 0 1 1\n";
+    let wanted = Rooms {
+        elements: 18,
+        corners: 18,
+        bodies: 9,
+        ranges: 4,
+        parameters: 4,
+        loops: 6,
+        spans: 6,
+        ..Rooms::default()
+    };
+    assert_eq!(rooms_of(joined), wanted);
+    assert_eq!(rooms_of(b"v 1 2 3\nv 1\x7f\nv 1 2 3\n"), Rooms { v: 4, ..Rooms::default() });
+    assert_eq!(rooms_of(&vec![b'v'; MOST_BYTES + 1]), Rooms::default());
+}
+
+#[test]
+fn no_text_asks_for_much() {
+    for block in ["f\\\n", "surf\n", "p\n", "f 1 1 1\n", "curv2 1 1\n", "p 1 1 1 1 1 1 1 1\n"] {
+        let text = block.repeat(200_000);
+        assert!(total(rooms_of(text.as_bytes())) <= 11 * (text.len() + 1), "{block}");
+    }
+    assert_eq!(total(rooms_of(&b"f\\\n".repeat(200_000))), 9 + 3 * 199_999);
+}
+
 #[test]
 fn the_empty_text_is_read() {
     assert_eq!(read_whole(b""), Tables::default());

@@ -1,6 +1,6 @@
 //! The cases of `second/cases`, answers worked out by hand, through the static library: reading with the rooms that a case names, and with the
 //! rooms that the text is found to need; tidying against the texts beside.
-use kuhlabires::{read, tidy_text, Rooms, Tables, Used};
+use kuhlabires::{read, rooms_of, tidy_text, Rooms, Tables, Used};
 use std::fs;
 use std::path::{Path, PathBuf};
 
@@ -11,7 +11,7 @@ fn cases() -> PathBuf {
     Path::new(env!("CARGO_MANIFEST_DIR")).join("../second/cases")
 }
 
-fn rooms_of(column: &str) -> Rooms {
+fn rooms_in(column: &str) -> Rooms {
     let named = |table: &str| {
         let parts = column.split(',').map(str::trim);
         let room = parts.filter_map(|part| part.strip_prefix(table)?.strip_prefix(' ')).next();
@@ -66,11 +66,11 @@ fn every_case_is_answered_as_listed() {
     let mut held = 0;
     for row in listed.lines().filter(|line| !line.is_empty() && !line.starts_with('#')) {
         let columns: Vec<&str> = row.split(" | ").map(str::trim).collect();
-        let (name, rooms, wanted) = (columns[0], rooms_of(columns[1]), columns[2]);
+        let (name, rooms, wanted) = (columns[0], rooms_in(columns[1]), columns[2]);
         let text = fs::read(cases().join(name)).unwrap();
         assert_eq!(answer(&text, &rooms), wanted, "{name}");
         if !wanted.starts_with("refused 14") {
-            assert_eq!(answer(&text, &Rooms::for_text(&text)), wanted, "{name}, in room that was counted");
+            assert_eq!(answer(&text, &rooms_of(&text)), wanted, "{name}, in room that was counted");
         }
         held += 1;
     }
@@ -97,6 +97,6 @@ fn every_tidy_text_is_the_one_beside() {
 #[test]
 fn a_text_over_the_limit_is_refused() {
     let text = vec![b'\n'; kuhlabires::MOST_BYTES + 1];
-    assert_eq!(answer(&text, &Rooms::for_text(&text)), "refused 1 at 0");
-    assert_eq!(answer(&text[1..], &Rooms::for_text(&text[1..])), "read");
+    assert_eq!(answer(&text, &rooms_of(&text)), "refused 1 at 0");
+    assert_eq!(answer(&text[1..], &rooms_of(&text[1..])), "read");
 }

@@ -4,6 +4,7 @@ ghost use lib.ListN.{length};
 ghost use Rattle.tables.specs.Tables.{tables};
 ghost use Rattle.tables.specs.Asking.{cornerOf, groupOf, materialOf};
 ghost use Rattle.sampler.specs.Answers.{pointOnCurve, pointOnSurface, runOnCurve, pointsAfter};
+ghost use Rattle.rooms.specs.Rooms.{roomsOfText};
 ghost use Rattle.reader.specs.Reading.{readInto};
 ghost use Rattle.tidy_file.specs.Tidying.{tidyInto};
 ghost use Rattle.answers.specs.Answers.{readIn, tidyIn, pointIn, runIn, groupIn, materialIn, bytesIn};
@@ -12,8 +13,17 @@ use answers::Point;
 use answers::ReadAnswer;
 use answers::Run;
 use answers::TidyAnswer;
+use rooms::Rooms;
 use tables::Corner;
 use tables::Used;
+
+// How many entries of each table the text can need: lent at least these, `kuhlabires_read` never answers 14.
+#[no_mangle]
+pub extern "C" fn kuhlabires_rooms(text: &[u8]) -> Rooms
+    ensures { λ r. ⌜ r ≡ roomsOfText (now (text .entry)) ⌝ }
+{
+    rooms::rooms_of(text)
+}
 
 // Reads a text into the lent tables.
 #[no_mangle]

@@ -1,0 +1,9 @@
+pub mod Sums
+pub mod Words
+pub mod Few
+pub mod Going
+pub mod Values
+pub mod Refusals
+pub mod Held
+pub mod Taken
+pub mod NeverLacks
