@@ -1,9 +1,11 @@
 -- An answer and what every lent table holds with it.
+use Prim.Native.Nat.{ℕ}
 use lib.ListN.{length}
 use Rattle.tables.specs.Tables.{Tables}
+use Rattle.tables.specs.declared.Used.{Used}
 use Rattle.model.specs.Room.{Rooms}
 use Rattle.model.specs.Read.{Answer, read, refused}
-use Rattle.model.specs.Layout.{tablesOf, usedOf, nothing}
+use Rattle.model.specs.Layout.{tablesOf, usedOf, noneUsed, nothing}
 use Rattle.all_lines.specs.declared.Reading.{Reading}
 use Rattle.all_lines.specs.declared.Reading.the-variants.{Read, Refused}
 
@@ -24,15 +26,27 @@ roomsOf t =
       spans = length (t .spans);
     }
 
--- the answer with the tables' final contents
+-- "Any answer that is an enum has a definition that gives this paper's number and values for each of the enum's cases": the number of refusal, 0 where
+-- the text is read, its place, and the counts
+pub record ReadOutcome : Type 0 where
+  pub number : ℕ
+  pub place : ℕ
+  pub used : Used
+
+abbrev pub readOutcome : Reading → ReadOutcome
+readOutcome (Read used) = record { number = 0; place = 0; used = used }
+readOutcome (Refused n p) = record { number = n; place = p; used = noneUsed }
+
+-- the answer, its number and values, and the tables' final contents
 pub record Result : Type 0 where
   pub answer : Reading
+  pub outcome : ReadOutcome
   pub tables : Tables
 
 abbrev pub result : Reading → Tables → Result
-result r t = record { answer = r; tables = t }
+result r t = record { answer = r; outcome = readOutcome r; tables = t }
 
 -- "Then the tables hold what those rules say"; "A refusal zeroes every lent table and every count."
 abbrev pub answered : Rooms → Answer → Result
-answered R (read m) = result (Read (usedOf m)) (tablesOf R m)
-answered R (refused n p) = result (Refused n p) (tablesOf R nothing)
+answered R (read m) = record { answer = Read (usedOf m); outcome = record { number = 0; place = 0; used = usedOf m }; tables = tablesOf R m }
+answered R (refused n p) = record { answer = Refused n p; outcome = record { number = n; place = p; used = noneUsed }; tables = tablesOf R nothing }

@@ -1,6 +1,9 @@
 // The answers as C and Rust get them: each case of an answer as a record of numbers.
 ghost use mathlib.Core.Path.{_≡_};
 ghost use Rattle.model.specs.Layout.{noneUsed};
+ghost use Rattle.reader.specs.Reading.{readOutcome};
+ghost use Rattle.tidy_file.specs.Tidying.{tidyOutcome};
+ghost use Rattle.sampler.specs.Answers.{pointOutcome, runOutcome};
 ghost use Rattle.answers.specs.Answers.{readIn, tidyIn, pointIn, runIn, partIn};
 use reader::Reading;
 use sampler::Ran;
@@ -66,7 +69,7 @@ fn nothing_used() -> Used
 }
 
 pub fn read_of(answer: Reading) -> ReadAnswer
-    ensures { λ r. ⌜ r ≡ readIn answer ⌝ }
+    ensures { λ r. ⌜ r ≡ readIn (readOutcome answer) ⌝ }
 {
     match answer {
         Reading::Read(used) => ReadAnswer {
@@ -74,16 +77,16 @@ pub fn read_of(answer: Reading) -> ReadAnswer
             place: 0,
             used: used,
         },
-        Reading::Refused { number, place } => ReadAnswer {
+        Reading::Refused { number, place: at } => ReadAnswer {
             refusal: number,
-            place: place,
+            place: at,
             used: nothing_used(),
         },
     }
 }
 
 pub fn tidy_of(answer: Tidied) -> TidyAnswer
-    ensures { λ r. ⌜ r ≡ tidyIn answer ⌝ }
+    ensures { λ r. ⌜ r ≡ tidyIn (tidyOutcome answer) ⌝ }
 {
     match answer {
         Tidied::Written { length, used } => TidyAnswer {
@@ -108,7 +111,7 @@ pub fn tidy_of(answer: Tidied) -> TidyAnswer
 }
 
 pub fn point_of(answer: Sampled) -> Point
-    ensures { λ r. ⌜ r ≡ pointIn answer ⌝ }
+    ensures { λ r. ⌜ r ≡ pointIn (pointOutcome answer) ⌝ }
 {
     match answer {
         Sampled::Space { x, y, z } => Point {
@@ -136,7 +139,7 @@ pub fn point_of(answer: Sampled) -> Point
 }
 
 pub fn run_of(answer: Ran) -> Run
-    ensures { λ r. ⌜ r ≡ runIn answer ⌝ }
+    ensures { λ r. ⌜ r ≡ runIn (runOutcome answer) ⌝ }
 {
     match answer {
         Ran::Filled { numbers } => Run {

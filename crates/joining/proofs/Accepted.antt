@@ -22,7 +22,7 @@ use Rattle.model.specs.Read.{read, readOf}
 use Rattle.model.specs.Layout.{freeNumber, bodiesOf, flag, tablesOf, usedOf}
 use Rattle.runs.specs.Runs.{parameterAt}
 use Rattle.sampler.specs.Points.{directionU, directionV, controlOf, gridOf, axesOf}
-use Rattle.sampler.specs.Answers.{elementOf, bodyOf, coordinatesIn, pointOnSurface, pointsAfter}
+use Rattle.sampler.specs.Answers.{elementOf, bodyOf, pointOnCurve, pointOnSurface, runInto}
 use Rattle.sampler.specs.Demand3.{Curve, OnCurve, RunAnswer, Surface, OnSurface}
 use Rattle.sampler.proofs.Demanded.{points-on-curves, runs-on-curves}
 use Rattle.sampler.proofs.OnSurfaces.{points-on-surfaces}
@@ -106,7 +106,7 @@ module _ (R : Rooms) (s : List ℕ) (m : Model) (h : readOf R s ≡ read m) (num
         subst (λ (n : ℕ). Close z (curveExact (alongU b) p (controlIn x (b .free) cs axis)) n) (ap (λ (y : records.Body). y .«degree_u») body-is)
         (subst (λ (f : Frac). Close z f (bodyOf t number .«degree_u»)) (exact p axis a) q)
 
-    curve-point : (p : ℤ) → b .start-u ≤ℤ p → p ≤ℤ b .end-u → PointOnCurve R m number b cs p
+    curve-point : (p : ℤ) → b .start-u ≤ℤ p → p ≤ℤ b .end-u → PointOnCurve m b cs p (pointOnCurve (usedOf m) t number p)
     curve-point p f g =
         let a = points-on-curves (usedOf m) t number p its-curve (its-start p f) (its-end p g) in
         record {
@@ -115,25 +115,26 @@ module _ (R : Rooms) (s : List ℕ) (m : Model) (h : readOf R s ≡ read m) (num
           near = λ axis l. close p axis _ l (a .near axis (let e = axes-are in omega arith));
         }
 
-    run-points : (steps at : ℕ) (points : List ℤ) → 1 ≤ steps → steps ≤ 65536 → at + axesIn (b .free) * (steps + 1) ≤ length points → PointsOfRun R m number b cs steps at points
+    run-points : (steps at : ℕ) (points : List ℤ) → 1 ≤ steps → steps ≤ 65536 → at + axesIn (b .free) * (steps + 1) ≤ length points → PointsOfRun m b cs steps at (runInto (usedOf m) t number steps at points)
     run-points steps at points f g l =
         let room : at + axesOf (elementOf t number) * (steps + 1) ≤ length points = subst (λ (n : ℕ). at + n * (steps + 1) ≤ length points) (sym axes-are) l in
         let a = runs-on-curves (usedOf m) t number steps at points its-curve f g room in
         record {
           given = a .given;
+          count = a .count ∙ ap (λ (n : ℕ). n * (steps + 1)) axes-are;
           near = λ j axis d e. point a j axis d e;
         }
       where
-        point : RunAnswer (usedOf m) t number steps at points → (j axis : ℕ) → j ≤ steps → axis < axesIn (b .free)
-            → Close (getD (pointsAfter (usedOf m) t number steps at points) (at + (axesIn (b .free) * j + axis)) (pos 0))
+        point : RunAnswer t number steps at (runInto (usedOf m) t number steps at points) → (j axis : ℕ) → j ≤ steps → axis < axesIn (b .free)
+            → Close (getD (runInto (usedOf m) t number steps at points .points) (at + (axesIn (b .free) * j + axis)) (pos 0))
             (curveExact (alongU b) (parameterAt (b .start-u) (b .end-u) steps j) (controlIn x (b .free) cs axis)) (b .degree-u)
         point a j axis d e =
             let q = a .near j axis d (let w = axes-are in omega arith) in
             let q' =
-            subst (λ (n : ℕ). OnCurve t number (parameterAt (bodyOf t number .«start_u») (bodyOf t number .«end_u») steps j) axis (getD (pointsAfter (usedOf m) t number steps at points) (at + (n * j + axis)) (pos 0)))
+            subst (λ (n : ℕ). OnCurve t number (parameterAt (bodyOf t number .«start_u») (bodyOf t number .«end_u») steps j) axis (getD (runInto (usedOf m) t number steps at points .points) (at + (n * j + axis)) (pos 0)))
             axes-are q in
-            close (parameterAt (b .start-u) (b .end-u) steps j) axis (getD (pointsAfter (usedOf m) t number steps at points) (at + (axesIn (b .free) * j + axis)) (pos 0)) e
-            (subst (λ (y : records.Body). OnCurve t number (parameterAt (y .«start_u») (y .«end_u») steps j) axis (getD (pointsAfter (usedOf m) t number steps at points) (at + (axesIn (b .free) * j + axis)) (pos 0)))
+            close (parameterAt (b .start-u) (b .end-u) steps j) axis (getD (runInto (usedOf m) t number steps at points .points) (at + (axesIn (b .free) * j + axis)) (pos 0)) e
+            (subst (λ (y : records.Body). OnCurve t number (parameterAt (y .«start_u») (y .«end_u») steps j) axis (getD (runInto (usedOf m) t number steps at points .points) (at + (axesIn (b .free) * j + axis)) (pos 0)))
             body-is q')
 
   -- ---- surfaces
@@ -162,7 +163,7 @@ module _ (R : Rooms) (s : List ℕ) (m : Model) (h : readOf R s ≡ read m) (num
         (λ i j l d. its-control R s m h number b o axis (j * alongU b .controls + i) (let w = in-grid (alongU b .controls) (alongV b .controls) i j l d in let n = grid-many in omega arith) (subst (λ (f : Free). axis < axesIn f) (sym k) a)
         ∙ ap (λ (f : Free). controlIn x f cs axis (j * alongU b .controls + i)) k)
 
-    surface-point : (p q : ℤ) → b .start-u ≤ℤ p → p ≤ℤ b .end-u → b .start-v ≤ℤ q → q ≤ℤ b .end-v → PointOnSurface R m number b cs p q
+    surface-point : (p q : ℤ) → b .start-u ≤ℤ p → p ≤ℤ b .end-u → b .start-v ≤ℤ q → q ≤ℤ b .end-v → PointOnSurface m b cs p q (pointOnSurface (usedOf m) t number p q)
     surface-point p q f g d e =
         let a =
         points-on-surfaces (usedOf m) t number p q its-surface (its-start p f) (its-end p g) (subst (λ (z : ℤ). z ≤ℤ q) (sym (ap (λ (y : records.Body). y .«start_v») body-is)) d)
@@ -170,7 +171,7 @@ module _ (R : Rooms) (s : List ℕ) (m : Model) (h : readOf R s ≡ read m) (num
         record {
           given = a .given;
           axes = a .axes;
-          near = λ axis l. near axis (getD (coordinatesIn (pointOnSurface (usedOf m) t number p q)) axis (pos 0)) l (a .near axis l);
+          near = λ axis l. near axis (getD (pointOnSurface (usedOf m) t number p q .outcome .coordinates) axis (pos 0)) l (a .near axis l);
         }
       where
         near : (axis : ℕ) (z : ℤ) → axis < 3 → OnSurface t number p q axis z → Close z (surfaceExact (alongU b) (alongV b) p q (gridIn x b cs axis)) (b .degree-u + b .degree-v)

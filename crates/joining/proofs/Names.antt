@@ -17,9 +17,7 @@ use Rattle.rules.specs.Loops.{eachPart, loopsObey}
 use Rattle.rules.specs.Bodies.{surfaceObeys, recordObeys, bodyObeys}
 use Rattle.rules.specs.Rules.{elementObeys, obeys, curvesAmong}
 use Rattle.sampler.specs.Points.{axesOf, controlOf, curveAt, surfaceAt, runNumbers}
-use Rattle.sampler.specs.Answers.{wanted, carried, elementOf, bodyOf, refusalOf, inside, curvePoint, pointOnCurve, surfacePoint, pointOnSurface, runOnCurve, pointsAfter}
-use Rattle.sampler.specs.declared.Sampled.{Sampled}
-use Rattle.sampler.specs.declared.Sampled.the-variants as sampled
+use Rattle.sampler.specs.Answers.{SampledResult, wanted, carried, elementOf, bodyOf, refusalOf, inside, refusedPoint, curvePoint, pointOnCurve, surfacePoint, pointOnSurface, runInto}
 use Rattle.joining.specs.Joined.{SampledAlike}
 
 -- the same tables with another table of elements
@@ -115,32 +113,27 @@ module _ (u : Used) (t : Tables) (k l : List ℕ) (same : (i j : ℕ) → j < 5 
     answer-curve : (p : ℤ) → pointOnCurve u T number p ≡ pointOnCurve u W number p
     unfolding pointOnCurve
     answer-curve p =
-        let answer : ℕ → Body → Sampled → Sampled =
-        λ r b c. cond (eqb r 0) (cond (inside (b .«start_u») (b .«end_u») p) c (sampled.Refused 19)) (sampled.Refused r) in
+        let answer : ℕ → Body → SampledResult → SampledResult =
+        λ r b c. cond (eqb r 0) (cond (inside (b .«start_u») (b .«end_u») p) c (refusedPoint 19)) (refusedPoint r) in
         ap₂ (λ (r : ℕ) (b : Body). answer r b (curvePoint T (elementOf T number) (bodyOf T number) p)) (refusal-same false) body-same
         ∙ ap (answer (refusalOf false u W number) (bodyOf W number)) (curve-same p)
 
     answer-surface : (p q : ℤ) → pointOnSurface u T number p q ≡ pointOnSurface u W number p q
     unfolding pointOnSurface
     answer-surface p q =
-        let answer : ℕ → Body → Sampled → Sampled =
-        λ r b c. cond (eqb r 0) (cond (inside (b .«start_u») (b .«end_u») p && inside (b .«start_v») (b .«end_v») q) c (sampled.Refused 19)) (sampled.Refused r) in
+        let answer : ℕ → Body → SampledResult → SampledResult =
+        λ r b c. cond (eqb r 0) (cond (inside (b .«start_u») (b .«end_u») p && inside (b .«start_v») (b .«end_v») q) c (refusedPoint 19)) (refusedPoint r) in
         ap₂ (λ (r : ℕ) (b : Body). answer r b (surfacePoint T (elementOf T number) (bodyOf T number) p q)) (refusal-same true) body-same
         ∙ ap (answer (refusalOf true u W number) (bodyOf W number)) (surface-same p q)
 
-    answer-run : (steps at lent : ℕ) → runOnCurve u T number steps at lent ≡ runOnCurve u W number steps at lent
-    unfolding runOnCurve
-    answer-run steps at lent = rw (refusal-same false, axes-same) refl
-
-    answer-points : (steps at : ℕ) (points : List ℤ) → pointsAfter u T number steps at points ≡ pointsAfter u W number steps at points
-    unfolding pointsAfter
-    answer-points steps at points = rw (answer-run steps at (length points), run-same steps, axes-same) refl
+    answer-run : (steps at : ℕ) (points : List ℤ) → runInto u T number steps at points ≡ runInto u W number steps at points
+    unfolding runInto
+    answer-run steps at points = rw (refusal-same false, run-same steps, axes-same) refl
 
   pub names-aside : SampledAlike u T u W
   names-aside =
       record {
         curves = λ number p. answer-curve number p;
         surfaces = λ number p q. answer-surface number p q;
-        runs = λ number steps at lent. answer-run number steps at lent;
-        points = λ number steps at points. answer-points number steps at points;
+        runs = λ number steps at points. answer-run number steps at points;
       }

@@ -20,7 +20,7 @@ use Rattle.model.specs.Layout.{tablesOf, usedOf}
 use Rattle.tidying.specs.Printed.{tidyText}
 use Rattle.rules.specs.Rules.{obeys, curvesBefore}
 use Rattle.runs.specs.Runs.{parameterAt}
-use Rattle.sampler.specs.Answers.{refusalOf, refusalIn, coordinatesIn, runRefusalIn, pointOnCurve, pointOnSurface, runOnCurve, pointsAfter}
+use Rattle.sampler.specs.Answers.{SampledResult, RanResult, refusalOf, pointOnCurve, pointOnSurface, runInto}
 use Rattle.joining.specs.Files.{alongU, alongV, controlIn, axesIn, gridIn}
 
 -- every element of the tables of an accepted text obeys the rules that 15 names
@@ -53,23 +53,24 @@ pub record Carried (b : Body) : Type 0 where
 
 -- "Take as parameter any whole number of millionths inside its stated range": a point of each such curve of an accepted text is handed out, and lies at
 -- most n/2 millionths from the exact value that the file's own numbers give
-pub record PointOnCurve (R : Rooms) (m : Model) (number : ℕ) (b : Body) (cs : List Corner) (p : ℤ) : Type 0 where
-  pub given : refusalIn (pointOnCurve (usedOf m) (tablesOf R m) number p) ≡ 0
-  pub axes : length (coordinatesIn (pointOnCurve (usedOf m) (tablesOf R m) number p)) ≡ axesIn (b .free)
+pub record PointOnCurve (m : Model) (b : Body) (cs : List Corner) (p : ℤ) (r : SampledResult) : Type 0 where
+  pub given : r .outcome .number ≡ 0
+  pub axes : length (r .outcome .coordinates) ≡ axesIn (b .free)
   pub near : (axis : ℕ) → axis < axesIn (b .free)
-      → Close (getD (coordinatesIn (pointOnCurve (usedOf m) (tablesOf R m) number p)) axis (pos 0)) (curveExact (alongU b) p (controlIn (m .vertices) (b .free) cs axis)) (b .degree-u)
+      → Close (getD (r .outcome .coordinates) axis (pos 0)) (curveExact (alongU b) p (controlIn (m .vertices) (b .free) cs axis)) (b .degree-u)
 
 abbrev pub AcceptedCurves : Type 0
 AcceptedCurves =
     (R : Rooms) (s : List ℕ) (m : Model) → readOf R s ≡ read m
     → (number : ℕ) (b : Body) (o : Holds m number b) → Carried b → (b .free ≡ curve) ⊎ (b .free ≡ curve2)
-    → (p : ℤ) → b .start-u ≤ℤ p → p ≤ℤ b .end-u → PointOnCurve R m number b (o .one .corners) p
+    → (p : ℤ) → b .start-u ≤ℤ p → p ≤ℤ b .end-u → PointOnCurve m b (o .one .corners) p (pointOnCurve (usedOf m) (tablesOf R m) number p)
 
 -- "In a run of 1 to 65,536 steps the demand holds at every j = 0..N, each point held against the exact value at its own parameter."
-pub record PointsOfRun (R : Rooms) (m : Model) (number : ℕ) (b : Body) (cs : List Corner) (steps at : ℕ) (points : List ℤ) : Type 0 where
-  pub given : runRefusalIn (runOnCurve (usedOf m) (tablesOf R m) number steps at (length points)) ≡ 0
+pub record PointsOfRun (m : Model) (b : Body) (cs : List Corner) (steps at : ℕ) (r : RanResult) : Type 0 where
+  pub given : r .outcome .number ≡ 0
+  pub count : r .outcome .count ≡ axesIn (b .free) * (steps + 1)
   pub near : (j axis : ℕ) → j ≤ steps → axis < axesIn (b .free)
-      → Close (getD (pointsAfter (usedOf m) (tablesOf R m) number steps at points) (at + (axesIn (b .free) * j + axis)) (pos 0))
+      → Close (getD (r .points) (at + (axesIn (b .free) * j + axis)) (pos 0))
       (curveExact (alongU b) (parameterAt (b .start-u) (b .end-u) steps j) (controlIn (m .vertices) (b .free) cs axis)) (b .degree-u)
 
 abbrev pub AcceptedRuns : Type 0
@@ -77,21 +78,21 @@ AcceptedRuns =
     (R : Rooms) (s : List ℕ) (m : Model) → readOf R s ≡ read m
     → (number : ℕ) (b : Body) (o : Holds m number b) → Carried b → (b .free ≡ curve) ⊎ (b .free ≡ curve2)
     → (steps at : ℕ) (points : List ℤ) → 1 ≤ steps → steps ≤ 65536 → at + axesIn (b .free) * (steps + 1) ≤ length points
-    → PointsOfRun R m number b (o .one .corners) steps at points
+    → PointsOfRun m b (o .one .corners) steps at (runInto (usedOf m) (tablesOf R m) number steps at points)
 
 -- "on a surface any two": at most (m+n)/2 from the exact value
-pub record PointOnSurface (R : Rooms) (m : Model) (number : ℕ) (b : Body) (cs : List Corner) (p q : ℤ) : Type 0 where
-  pub given : refusalIn (pointOnSurface (usedOf m) (tablesOf R m) number p q) ≡ 0
-  pub axes : length (coordinatesIn (pointOnSurface (usedOf m) (tablesOf R m) number p q)) ≡ 3
+pub record PointOnSurface (m : Model) (b : Body) (cs : List Corner) (p q : ℤ) (r : SampledResult) : Type 0 where
+  pub given : r .outcome .number ≡ 0
+  pub axes : length (r .outcome .coordinates) ≡ 3
   pub near : (axis : ℕ) → axis < 3
-      → Close (getD (coordinatesIn (pointOnSurface (usedOf m) (tablesOf R m) number p q)) axis (pos 0)) (surfaceExact (alongU b) (alongV b) p q (gridIn (m .vertices) b cs axis))
+      → Close (getD (r .outcome .coordinates) axis (pos 0)) (surfaceExact (alongU b) (alongV b) p q (gridIn (m .vertices) b cs axis))
       (b .degree-u + b .degree-v)
 
 abbrev pub AcceptedSurfaces : Type 0
 AcceptedSurfaces =
     (R : Rooms) (s : List ℕ) (m : Model) → readOf R s ≡ read m
     → (number : ℕ) (b : Body) (o : Holds m number b) → Carried b → b .free ≡ surface
-    → (p q : ℤ) → b .start-u ≤ℤ p → p ≤ℤ b .end-u → b .start-v ≤ℤ q → q ≤ℤ b .end-v → PointOnSurface R m number b (o .one .corners) p q
+    → (p q : ℤ) → b .start-u ≤ℤ p → p ≤ℤ b .end-u → b .start-v ≤ℤ q → q ≤ℤ b .end-v → PointOnSurface m b (o .one .corners) p q (pointOnSurface (usedOf m) (tablesOf R m) number p q)
 
 -- ---- a text and its tidy text are sampled alike
 
@@ -99,8 +100,7 @@ AcceptedSurfaces =
 pub record SampledAlike (u : Used) (t : Tables) (v : Used) (w : Tables) : Type 0 where
   pub curves : (number : ℕ) (p : ℤ) → pointOnCurve u t number p ≡ pointOnCurve v w number p
   pub surfaces : (number : ℕ) (p q : ℤ) → pointOnSurface u t number p q ≡ pointOnSurface v w number p q
-  pub runs : (number steps at lent : ℕ) → runOnCurve u t number steps at lent ≡ runOnCurve v w number steps at lent
-  pub points : (number steps at : ℕ) (points : List ℤ) → pointsAfter u t number steps at points ≡ pointsAfter v w number steps at points
+  pub runs : (number steps at : ℕ) (points : List ℤ) → runInto u t number steps at points ≡ runInto v w number steps at points
 
 -- the tidy text of an accepted text, where it is no longer than a text may be, is read, and sampled alike
 abbrev pub TidiedSamplesAlike : Type 0

@@ -25,11 +25,11 @@ use Rattle.curves.specs.Exact.{curveExact}
 use Rattle.curves.proofs.CurveNear.{curve-near}
 use Rattle.runs.specs.Runs.{joined, listed, parameterAt}
 use Rattle.sampler.specs.Points.{directionU, controlOf, axesOf, curveAt, runNumbers}
-use Rattle.sampler.specs.Answers.{wanted, carried, elementOf, bodyOf, refusalOf, coordinatesIn, refusalIn, runRefusalIn, curvePoint, pointOnCurve, runOnCurve, pointsAfter}
-use Rattle.sampler.specs.Demand3.{Curve, OnCurve, CurveAnswer, PointsOnCurves, RunAnswer, RunsOnCurves}
-use Rattle.sampler.specs.declared.Ran.the-variants as ran
+use Rattle.sampler.specs.Answers.{SampledResult, RanResult, wanted, carried, elementOf, bodyOf, refusalOf, filledRun, curvePoint, pointOnCurve, runInto}
+use Rattle.sampler.specs.Demand3.{sampling, Curve, OnCurve, CurveAnswer, PointsOnCurves, RunAnswer, RunsOnCurves}
 use Rattle.sampler.proofs.Obeyed.{granted, curved}
 use Rattle.sampler.proofs.Refusals.{none-given}
+use Rattle.sampler.proofs.Runners.{filled-is}
 use Rattle.runs.proofs.Steps.{parameter-from, parameter-upto}
 use Rattle.runs.proofs.Written.{joined-length, listed-length}
 
@@ -86,7 +86,7 @@ listed-at n k f h =
 
 -- ---- a point alone
 coordinates-are : (t : Tables) (e : Element) (b : Body) (p : ℤ) (q : Bool) → eqb (e .kind) 5 ≡ q
-    → (coordinatesIn (curvePoint t e b p) ≡ listed (axesOf e) (curveAt t e b p)) × (refusalIn (curvePoint t e b p) ≡ 0)
+    → (curvePoint t e b p .outcome .coordinates ≡ listed (axesOf e) (curveAt t e b p)) × (curvePoint t e b p .outcome .number ≡ 0)
 unfolding curvePoint
 coordinates-are t e b p true h = simp h (refl, refl)
 coordinates-are t e b p false h = simp h (refl, refl)
@@ -96,15 +96,19 @@ answer-is : {used : Used} {t : Tables} {number : ℕ} → Curve used t number �
 unfolding pointOnCurve
 answer-is {used} {t} {number} c p a b = rw (curve-given c, le-yes (bodyOf t number .«start_u») p a, le-yes p (bodyOf t number .«end_u») b)
 
-pub points-on-curves : PointsOnCurves
+pub curve-coordinates : {used : Used} {t : Tables} {number : ℕ} → Curve used t number → (p : ℤ) → bodyOf t number .«start_u» ≤ℤ p → p ≤ℤ bodyOf t number .«end_u»
+    → pointOnCurve used t number p .outcome .coordinates ≡ listed (axesOf (elementOf t number)) (curveAt t (elementOf t number) (bodyOf t number) p)
+curve-coordinates {used} {t} {number} c p a b =
+    ap (λ (r : SampledResult). r .outcome .coordinates) (answer-is c p a b) ∙ coordinates-are t (elementOf t number) (bodyOf t number) p (eqb (elementOf t number .kind) 5) refl .0
+
+pub points-on-curves : PointsOnCurves sampling
 points-on-curves used t number p c a b =
     let e = elementOf t number in
     let m = bodyOf t number in
     let s = answer-is c p a b in
-    let k = coordinates-are t e m p (eqb (e .kind) 5) refl in
-    let l = ap coordinatesIn s ∙ k .0 in
+    let l = curve-coordinates c p a b in
     record {
-      given = ap refusalIn s ∙ k .1;
+      given = ap (λ (r : SampledResult). r .outcome .number) s ∙ coordinates-are t e m p (eqb (e .kind) 5) refl .1;
       axes = ap length l ∙ listed-length (axesOf e) (curveAt t e m p);
       near = λ axis h. subst (OnCurve t number p axis) (sym (ap (λ (q : List ℤ). getD q axis (pos 0)) l ∙ listed-at (axesOf e) axis (curveAt t e m p) h)) (curve-close c p a b axis);
     }
@@ -118,13 +122,8 @@ module _ {used : Used} {t : Tables} {number : ℕ} (c : Curve used t number) (st
   abbrev m : Body
   m = bodyOf t number
 
-  filled : runOnCurve used t number steps at (length points) ≡ ran.Filled (axesOf e * (steps + 1))
-  unfolding runOnCurve
-  filled = rw (curve-given c, le-leb 1 steps some, le-leb steps 65536 most, le-leb (at + axesOf e * (steps + 1)) (length points) room)
-
-  after : pointsAfter used t number steps at points ≡ take at points ++ (runNumbers t e m steps ++ drop (axesOf e * (steps + 1)) (drop at points))
-  unfolding pointsAfter
-  after = rw filled
+  pub filled : runInto used t number steps at points ≡ filledRun (axesOf e * (steps + 1)) at (runNumbers t e m steps) points
+  filled = sym (filled-is used t number steps at points (curve-given c) some most room)
 
   abbrev f : ℕ → List ℤ
   f j = listed (axesOf e) (curveAt t e m (parameterAt (m .«start_u») (m .«end_u») steps j))
@@ -141,23 +140,24 @@ module _ {used : Used} {t : Tables} {number : ℕ} (c : Curve used t number) (st
   numbers-long = joined-length (axesOf e) (steps + 1) f long
 
   there : (j axis : ℕ) → j ≤ steps → axis < axesOf e
-      → getD (pointsAfter used t number steps at points) (at + (axesOf e * j + axis)) (pos 0) ≡ curveAt t e m (parameterAt (m .«start_u») (m .«end_u») steps j) axis
+      → getD (runInto used t number steps at points .points) (at + (axesOf e * j + axis)) (pos 0) ≡ curveAt t e m (parameterAt (m .«start_u») (m .«end_u») steps j) axis
   there j axis h k =
       let rest = drop (axesOf e * (steps + 1)) (drop at points) in
       let i = axesOf e * j + axis in
       let front : length (take at points) ≡ at = length-take-le at points (omega arith) in
       let l : i < length (runNumbers t e m steps) = omega (arith, numbers-long, mul-le-mul-left (axesOf e) h) in
-      ap (λ (q : List ℤ). getD q (at + i) (pos 0)) after
+      ap (λ (r : RanResult). getD (r .points) (at + i) (pos 0)) filled
       ∙ ap (λ (q : ℕ). getD (take at points ++ (runNumbers t e m steps ++ rest)) (q + i) (pos 0)) (sym front)
       ∙ getD-append-add (take at points) (runNumbers t e m steps ++ rest) i (pos 0)
       ∙ List·getD-append (runNumbers t e m steps) rest (pos 0) i l
       ∙ number-is j axis h k
 
-pub runs-on-curves : RunsOnCurves
+pub runs-on-curves : RunsOnCurves sampling
 runs-on-curves used t number steps at points c some most room =
     let m = bodyOf t number in
     record {
-      given = ap runRefusalIn (filled c steps at points some most room);
+      given = ap (λ (r : RanResult). r .outcome .number) (filled c steps at points some most room);
+      count = ap (λ (r : RanResult). r .outcome .count) (filled c steps at points some most room);
       near = λ j axis h k. subst (OnCurve t number (parameterAt (m .«start_u») (m .«end_u») steps j) axis) (sym (there c steps at points some most room j axis h k))
           (curve-close c (parameterAt (m .«start_u») (m .«end_u») steps j) (parameter-from (m .«start_u») (m .«end_u») (ordered c) steps j)
           (parameter-upto (m .«start_u») (m .«end_u») (ordered c) steps j h) axis);

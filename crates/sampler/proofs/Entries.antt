@@ -23,7 +23,7 @@ use Rattle.rows.specs.Controls.{controlAt, Held}
 use Rattle.runs.specs.Runs.{Ranged}
 use Rattle.rows.specs.declared.Along.{Along}
 use Rattle.sampler.specs.Points.{alongOf, controlOf, curveAt}
-use Rattle.sampler.specs.Answers.{elementOf, bodyOf, refusalOf, inside, curvePoint, pointOnCurve}
+use Rattle.sampler.specs.Answers.{elementOf, bodyOf, sampledResult, refusalOf, inside, curvePoint, pointOnCurve}
 use Rattle.sampler.specs.Inner.{pointBy, coordinateBy}
 use Rattle.sampler.specs.declared.Sampled.the-variants as sampled
 use Rattle.sampler.proofs.Obeyed.{Curved}
@@ -57,24 +57,24 @@ pub space-eq : {a b c d e f : ℤ} → a ≡ d → b ≡ e → c ≡ f → sampl
 space-eq p q r = cc
 
 point-is : (t : Tables) (e : Element) (b : Body) (p : ℤ) (q : Bool) → eqb (e .kind) 5 ≡ q
-    → pointBy (e .kind) (t .v) (t .vp) (t .corners) (e .first) (alongOf (b .basis) (b .«degree_u») (b .«count_u»)) (parametersU t b) p ≡ curvePoint t e b p
+    → sampledResult (pointBy (e .kind) (t .v) (t .vp) (t .corners) (e .first) (alongOf (b .basis) (b .«degree_u») (b .«count_u»)) (parametersU t b) p) ≡ curvePoint t e b p
 unfolding pointBy curvePoint
-point-is t e b p true h = rw h (ap₂ sampled.Plane (plane-coordinate t e b p 0 h) (plane-coordinate t e b p 1 h))
-point-is t e b p false h = rw h (space-eq (space-coordinate t e b p 0 h) (space-coordinate t e b p 1 h) (space-coordinate t e b p 2 h))
+point-is t e b p true h = rw h (ap sampledResult (ap₂ sampled.Plane (plane-coordinate t e b p 0 h) (plane-coordinate t e b p 1 h)))
+point-is t e b p false h = rw h (ap sampledResult (space-eq (space-coordinate t e b p 0 h) (space-coordinate t e b p 1 h) (space-coordinate t e b p 2 h)))
 
 module _ (used : Used) (t : Tables) (number : ℕ) (p : ℤ) where
-  pub refused-curve : {r : ℕ} → r ≡ refusalOf false used t number → (r ≡ 0 → ⊥) → sampled.Refused r ≡ pointOnCurve used t number p
+  pub refused-curve : {r : ℕ} → r ≡ refusalOf false used t number → (r ≡ 0 → ⊥) → sampledResult (sampled.Refused r) ≡ pointOnCurve used t number p
   unfolding pointOnCurve
   refused-curve {r} e h = rw (sym e, ne-eqb r 0 h)
 
   module _ (granted : refusalOf false used t number ≡ 0) where
-    pub curve-outside : inside (bodyOf t number .«start_u») (bodyOf t number .«end_u») p ≡ false → sampled.Refused 19 ≡ pointOnCurve used t number p
+    pub curve-outside : inside (bodyOf t number .«start_u») (bodyOf t number .«end_u») p ≡ false → sampledResult (sampled.Refused 19) ≡ pointOnCurve used t number p
     unfolding pointOnCurve
     curve-outside h = rw (granted, h)
 
     pub curve-there : inside (bodyOf t number .«start_u») (bodyOf t number .«end_u») p ≡ true
-        → pointBy (elementOf t number .kind) (t .v) (t .vp) (t .corners) (elementOf t number .first)
-        (alongOf (bodyOf t number .basis) (bodyOf t number .«degree_u») (bodyOf t number .«count_u»)) (parametersU t (bodyOf t number)) p
+        → sampledResult (pointBy (elementOf t number .kind) (t .v) (t .vp) (t .corners) (elementOf t number .first)
+        (alongOf (bodyOf t number .basis) (bodyOf t number .«degree_u») (bodyOf t number .«count_u»)) (parametersU t (bodyOf t number)) p)
         ≡ pointOnCurve used t number p
     unfolding pointOnCurve
     curve-there h = rw (granted, h) (point-is t (elementOf t number) (bodyOf t number) p (eqb (elementOf t number .kind) 5) refl)

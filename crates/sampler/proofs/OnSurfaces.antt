@@ -15,8 +15,8 @@ use Rattle.tables.specs.declared.Element.{Element}
 use Rattle.curves.proofs.SurfaceNear.{surface-near}
 use Rattle.runs.specs.Runs.{listed}
 use Rattle.sampler.specs.Points.{directionU, directionV, gridOf, surfaceAt}
-use Rattle.sampler.specs.Answers.{elementOf, bodyOf, refusalOf, coordinatesIn, refusalIn, surfacePoint, pointOnSurface}
-use Rattle.sampler.specs.Demand3.{Surface, OnSurface, SurfaceAnswer, PointsOnSurfaces}
+use Rattle.sampler.specs.Answers.{SampledResult, elementOf, bodyOf, refusalOf, surfacePoint, pointOnSurface}
+use Rattle.sampler.specs.Demand3.{sampling, Surface, OnSurface, SurfaceAnswer, PointsOnSurfaces}
 use Rattle.sampler.proofs.Obeyed.{granted, Surfaced, surfaced}
 use Rattle.runs.proofs.Written.{listed-length}
 use Rattle.sampler.proofs.Demanded.{all-passed, listed-at}
@@ -45,21 +45,27 @@ module _ {used : Used} {t : Tables} {number : ℕ} (c : Surface used t number) w
     unfolding pointOnSurface
     answer-is = rw (surface-given, le-yes (b .«start_u») p p-from, le-yes p (b .«end_u») p-upto, le-yes (b .«start_v») q q-from, le-yes q (b .«end_v») q-upto)
 
-coordinates-are : (t : Tables) (e : Element) (b : Body) (p q : ℤ) → coordinatesIn (surfacePoint t e b p q) ≡ listed 3 (surfaceAt t e b p q)
+coordinates-are : (t : Tables) (e : Element) (b : Body) (p q : ℤ) → surfacePoint t e b p q .outcome .coordinates ≡ listed 3 (surfaceAt t e b p q)
 unfolding surfacePoint
 coordinates-are t e b p q = refl
 
-not-refused : (t : Tables) (e : Element) (b : Body) (p q : ℤ) → refusalIn (surfacePoint t e b p q) ≡ 0
+pub surface-coordinates : {used : Used} {t : Tables} {number : ℕ} → Surface used t number → (p q : ℤ) → bodyOf t number .«start_u» ≤ℤ p → p ≤ℤ bodyOf t number .«end_u»
+    → bodyOf t number .«start_v» ≤ℤ q → q ≤ℤ bodyOf t number .«end_v»
+    → pointOnSurface used t number p q .outcome .coordinates ≡ listed 3 (surfaceAt t (elementOf t number) (bodyOf t number) p q)
+surface-coordinates {used} {t} {number} c p q f g h k =
+    ap (λ (r : SampledResult). r .outcome .coordinates) (answer-is c p q f g h k) ∙ coordinates-are t (elementOf t number) (bodyOf t number) p q
+
+not-refused : (t : Tables) (e : Element) (b : Body) (p q : ℤ) → surfacePoint t e b p q .outcome .number ≡ 0
 unfolding surfacePoint
 not-refused t e b p q = refl
 
-pub points-on-surfaces : PointsOnSurfaces
+pub points-on-surfaces : PointsOnSurfaces sampling
 points-on-surfaces used t number p q c f g h k =
     let s = answer-is c p q f g h k in
-    let l = ap coordinatesIn s ∙ coordinates-are t (elementOf t number) (bodyOf t number) p q in
+    let l = surface-coordinates c p q f g h k in
     let z : ℕ → ℤ = surfaceAt t (elementOf t number) (bodyOf t number) p q in
     record {
-      given = ap refusalIn s ∙ not-refused t (elementOf t number) (bodyOf t number) p q;
+      given = ap (λ (r : SampledResult). r .outcome .number) s ∙ not-refused t (elementOf t number) (bodyOf t number) p q;
       axes = ap length l ∙ listed-length 3 z;
       near = λ axis m. subst (OnSurface t number p q axis) (sym (ap (λ (i : List ℤ). getD i axis (pos 0)) l ∙ listed-at 3 axis z m)) (surface-close c p q f g h k axis);
     }

@@ -21,7 +21,7 @@ use Rattle.rows.specs.Places.{direction}
 use Rattle.rows.specs.Controls.{controlAt, Held}
 use Rattle.runs.specs.Runs.{joined, listed, parameterAt, pointAt, pointsUpto, Ranged}
 use Rattle.sampler.specs.Points.{alongOf, axesOf, curveAt, runNumbers}
-use Rattle.sampler.specs.Answers.{elementOf, bodyOf, refusalOf, runRefusalIn, runOnCurve, pointsAfter}
+use Rattle.sampler.specs.Answers.{ranResult, elementOf, bodyOf, refusalOf, filledRun, runInto}
 use Rattle.runs.specs.Runs.{runBy, axesBy}
 use Rattle.rows.specs.declared.Along.{Along}
 use Rattle.sampler.specs.declared.Ran.{Ran}
@@ -44,32 +44,18 @@ run-numbers t e b steps true h =
 run-numbers t e b steps false h =
     rw h (joined-cong (steps + 1) _ _ (λ j. listed-cong 3 _ _ (λ k. space-coordinate t e b (parameterAt (b .«start_u») (b .«end_u») steps j) k h)))
 
-after-refused : (used : Used) (t : Tables) (number steps at : ℕ) (points : List ℤ) (r : ℕ) → (r ≡ 0 → ⊥)
-    → ran.Refused r ≡ runOnCurve used t number steps at (length points) → points ≡ pointsAfter used t number steps at points
-unfolding pointsAfter
-after-refused used t number steps at points r h e = rw (sym e, ne-eqb r 0 h)
-
 module _ (used : Used) (t : Tables) (number steps at : ℕ) (points : List ℤ) where
   abbrev pub Same : Ran → List ℤ → Type 0
-  Same r last = (r ≡ runOnCurve used t number steps at (length points)) × (last ≡ pointsAfter used t number steps at points)
-
-  both : (r : ℕ) → (r ≡ 0 → ⊥) → ran.Refused r ≡ runOnCurve used t number steps at (length points) → Same (ran.Refused r) points
-  both r h e = (e, after-refused used t number steps at points r h e)
-
-  refused-is : {r : ℕ} → r ≡ refusalOf false used t number → (r ≡ 0 → ⊥) → ran.Refused r ≡ runOnCurve used t number steps at (length points)
-  unfolding runOnCurve
-  refused-is {r} e h = rw (sym e, ne-eqb r 0 h)
+  Same r last = ranResult r last ≡ runInto used t number steps at points
 
   pub run-refused : {r : ℕ} → r ≡ refusalOf false used t number → (r ≡ 0 → ⊥) → Same (ran.Refused r) points
-  run-refused {r} e h = both r h (refused-is e h)
+  unfolding runInto
+  run-refused {r} e h = rw (sym e, ne-eqb r 0 h)
 
   module _ (granted : refusalOf false used t number ≡ 0) where
-    steps-is : (leb 1 steps && leb steps 65536) ≡ false → ran.Refused 19 ≡ runOnCurve used t number steps at (length points)
-    unfolding runOnCurve
-    steps-is h = rw (granted, h)
-
-    pub run-steps : (leb 1 steps && leb steps 65536) ≡ false → Same (ran.Refused 19) points
-    run-steps h = both 19 (λ e. omega arith) (steps-is h)
+    run-steps : (leb 1 steps && leb steps 65536) ≡ false → Same (ran.Refused 19) points
+    unfolding runInto
+    run-steps h = rw (granted, h)
 
     pub run-none : steps < 1 → Same (ran.Refused 19) points
     run-none h = run-steps (and-first (leb steps 65536) (lt-leb 1 steps h))
@@ -78,29 +64,23 @@ module _ (used : Used) (t : Tables) (number steps at : ℕ) (points : List ℤ) 
     run-many h = run-steps (and-second (leb 1 steps) (lt-leb steps 65536 h))
 
     module _ (some : 1 ≤ steps) (most : steps ≤ 65536) where
-      room-is : length points < at + axesOf (elementOf t number) * (steps + 1) → ran.Refused 16 ≡ runOnCurve used t number steps at (length points)
-      unfolding runOnCurve
-      room-is h = rw (granted, le-leb 1 steps some, le-leb steps 65536 most, lt-leb (at + axesOf (elementOf t number) * (steps + 1)) (length points) h)
-
       pub run-room : length points < at + axesOf (elementOf t number) * (steps + 1) → Same (ran.Refused 16) points
-      run-room h = both 16 (λ e. omega arith) (room-is h)
+      unfolding runInto
+      run-room h = rw (granted, le-leb 1 steps some, le-leb steps 65536 most, lt-leb (at + axesOf (elementOf t number) * (steps + 1)) (length points) h)
 
       module _ (room : at + axesOf (elementOf t number) * (steps + 1) ≤ length points) where
-        filled-is : ran.Filled (axesOf (elementOf t number) * (steps + 1)) ≡ runOnCurve used t number steps at (length points)
-        unfolding runOnCurve
+        pub filled-is : filledRun (axesOf (elementOf t number) * (steps + 1)) at (runNumbers t (elementOf t number) (bodyOf t number) steps) points ≡ runInto used t number steps at points
+        unfolding runInto
         filled-is = rw (granted, le-leb 1 steps some, le-leb steps 65536 most, le-leb (at + axesOf (elementOf t number) * (steps + 1)) (length points) room)
-
-        after-filled : take at points ++ (runNumbers t (elementOf t number) (bodyOf t number) steps ++ drop (axesOf (elementOf t number) * (steps + 1)) (drop at points))
-            ≡ pointsAfter used t number steps at points
-        unfolding pointsAfter
-        after-filled = rw (sym filled-is)
 
         -- the part from `at` on was lent
         pub run-filled : {last : List ℤ} → last ≡ runNumbers t (elementOf t number) (bodyOf t number) steps
             ++ drop (axesOf (elementOf t number) * (steps + 1)) (take (length points - at) (drop at points))
             → Same (ran.Filled (axesOf (elementOf t number) * (steps + 1))) (putMid at (length points - at) points last)
         run-filled {last} e =
-            (filled-is, ap (λ (q : List ℤ). take at points ++ (last ++ q)) none ∙ ap (λ (q : List ℤ). take at points ++ q) (append-nil last ∙ e ∙ ap (λ (q : List ℤ). runNumbers t (elementOf t number) (bodyOf t number) steps ++ drop (axesOf (elementOf t number) * (steps + 1)) q) every) ∙ after-filled)
+            ap (ranResult (ran.Filled (axesOf (elementOf t number) * (steps + 1))))
+            (ap (λ (q : List ℤ). take at points ++ (last ++ q)) none ∙ ap (λ (q : List ℤ). take at points ++ q) (append-nil last ∙ e ∙ ap (λ (q : List ℤ). runNumbers t (elementOf t number) (bodyOf t number) steps ++ drop (axesOf (elementOf t number) * (steps + 1)) q) every))
+            ∙ filled-is
           where
             rest : length (drop at points) ≡ length points - at
             rest = length-drop at points

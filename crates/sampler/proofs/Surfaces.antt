@@ -1,5 +1,5 @@
 -- A surface's answers by the tests that lead to each, and its points of the parts that are lent as those of the tables.
-use mathlib.Core.Path.{_≡_, refl, sym, _∙_}
+use mathlib.Core.Path.{_≡_, refl, sym, ap, _∙_}
 use mathlib.Core.Bool.{true, false}
 use Prim.Native.Nat.{ℕ, _+_, _*_, _-_}
 use native.Mathlib.Omega.{arith}
@@ -17,7 +17,7 @@ use Rattle.rows.specs.Places.{direction, Sound}
 use Rattle.rows.specs.Controls.{controlAt, Held}
 use Rattle.rows.specs.declared.Along.{Along}
 use Rattle.sampler.specs.Points.{alongOf, gridOf, surfaceAt}
-use Rattle.sampler.specs.Answers.{elementOf, bodyOf, refusalOf, inside, surfacePoint, pointOnSurface}
+use Rattle.sampler.specs.Answers.{elementOf, bodyOf, sampledResult, refusalOf, inside, surfacePoint, pointOnSurface}
 use Rattle.sampler.specs.Inner.{acrossBy, surfaceBy}
 use Rattle.sampler.specs.declared.Sampled.the-variants as sampled
 use Rattle.sampler.proofs.Obeyed.{Surfaced, granted}
@@ -37,31 +37,31 @@ module _ (t : Tables) (e : Element) (b : Body) (p q : ℤ) (other : eqb (e .kind
       (λ i j. controlAt (t .v) (t .corners) (e .first) axis (j * along-u .controls + i)) (gridOf t e b axis)
       (λ i j. space-control t e b p axis other (j * along-u .controls + i))
 
-  surface-is : surfaceBy (t .v) (t .corners) (e .first) along-u along-v (parametersU t b) (parametersV t b) p q ≡ surfacePoint t e b p q
+  surface-is : sampledResult (surfaceBy (t .v) (t .corners) (e .first) along-u along-v (parametersU t b) (parametersV t b) p q) ≡ surfacePoint t e b p q
   unfolding surfaceBy surfacePoint
-  surface-is = space-eq (across-is 0) (across-is 1) (across-is 2)
+  surface-is = ap sampledResult (space-eq (across-is 0) (across-is 1) (across-is 2))
 
 no-curve2 : (kind : ℕ) → eqb kind 6 ≡ true → eqb kind 5 ≡ false
 no-curve2 kind h = let s = eqb-true kind 6 h in ne-eqb kind 5 (λ k. omega (arith, s))
 
 module _ (used : Used) (t : Tables) (number : ℕ) (p q : ℤ) where
-  pub refused-surface : {r : ℕ} → r ≡ refusalOf true used t number → (r ≡ 0 → ⊥) → sampled.Refused r ≡ pointOnSurface used t number p q
+  pub refused-surface : {r : ℕ} → r ≡ refusalOf true used t number → (r ≡ 0 → ⊥) → sampledResult (sampled.Refused r) ≡ pointOnSurface used t number p q
   unfolding pointOnSurface
   refused-surface {r} e h = rw (sym e, ne-eqb r 0 h)
 
   module _ (given : refusalOf true used t number ≡ 0) where
-    pub outside-u : inside (bodyOf t number .«start_u») (bodyOf t number .«end_u») p ≡ false → sampled.Refused 19 ≡ pointOnSurface used t number p q
+    pub outside-u : inside (bodyOf t number .«start_u») (bodyOf t number .«end_u») p ≡ false → sampledResult (sampled.Refused 19) ≡ pointOnSurface used t number p q
     unfolding pointOnSurface
     outside-u h = rw (given, h)
 
     module _ (in-u : inside (bodyOf t number .«start_u») (bodyOf t number .«end_u») p ≡ true) where
-      pub outside-v : inside (bodyOf t number .«start_v») (bodyOf t number .«end_v») q ≡ false → sampled.Refused 19 ≡ pointOnSurface used t number p q
+      pub outside-v : inside (bodyOf t number .«start_v») (bodyOf t number .«end_v») q ≡ false → sampledResult (sampled.Refused 19) ≡ pointOnSurface used t number p q
       unfolding pointOnSurface
       outside-v h = rw (given, in-u, h)
 
       pub surface-there : inside (bodyOf t number .«start_v») (bodyOf t number .«end_v») q ≡ true
-          → surfaceBy (t .v) (t .corners) (elementOf t number .first) (alongOf (bodyOf t number .basis) (bodyOf t number .«degree_u») (bodyOf t number .«count_u»))
-          (alongOf (bodyOf t number .basis) (bodyOf t number .«degree_v») (bodyOf t number .«count_v»)) (parametersU t (bodyOf t number)) (parametersV t (bodyOf t number)) p q
+          → sampledResult (surfaceBy (t .v) (t .corners) (elementOf t number .first) (alongOf (bodyOf t number .basis) (bodyOf t number .«degree_u») (bodyOf t number .«count_u»))
+          (alongOf (bodyOf t number .basis) (bodyOf t number .«degree_v») (bodyOf t number .«count_v»)) (parametersU t (bodyOf t number)) (parametersV t (bodyOf t number)) p q)
           ≡ pointOnSurface used t number p q
       unfolding pointOnSurface
       surface-there h = rw (given, in-u, h) (surface-is t (elementOf t number) (bodyOf t number) p q (no-curve2 (elementOf t number .kind) (granted true used t number given .kind)))

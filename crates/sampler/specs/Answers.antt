@@ -18,25 +18,42 @@ use Rattle.sampler.specs.declared.Sampled.the-variants as sampled
 use Rattle.sampler.specs.declared.Ran.{Ran}
 use Rattle.sampler.specs.declared.Ran.the-variants as ran
 
--- the number of refusal of each answer, 0 for a point, and its coordinates
-abbrev pub refusalIn : Sampled → ℕ
-refusalIn (sampled.Space x y z) = 0
-refusalIn (sampled.Plane u v) = 0
-refusalIn (sampled.Refused n) = n
+-- "Any answer that is an enum has a definition that gives this paper's number and values for each of the enum's cases".
+-- A point: the number of refusal, 0 where it is handed out, and its coordinates, "surf and curv give x y z, curv2 u v".
+pub record PointOutcome : Type 0 where
+  pub number : ℕ
+  pub coordinates : List ℤ
 
-abbrev pub coordinatesIn : Sampled → List ℤ
-coordinatesIn (sampled.Space x y z) = x ∷ y ∷ z ∷ []
-coordinatesIn (sampled.Plane u v) = u ∷ v ∷ []
-coordinatesIn (sampled.Refused n) = []
+abbrev pub pointOutcome : Sampled → PointOutcome
+pointOutcome (sampled.Space x y z) = record { number = 0; coordinates = x ∷ y ∷ z ∷ [] }
+pointOutcome (sampled.Plane u v) = record { number = 0; coordinates = u ∷ v ∷ [] }
+pointOutcome (sampled.Refused n) = record { number = n; coordinates = [] }
 
--- the number of refusal of a run, 0 where it was filled, and how many numbers were
-abbrev pub runRefusalIn : Ran → ℕ
-runRefusalIn (ran.Filled n) = 0
-runRefusalIn (ran.Refused n) = n
+-- A run: the number of refusal, 0 where it is filled, and how many numbers were written.
+pub record RunOutcome : Type 0 where
+  pub number : ℕ
+  pub count : ℕ
 
-abbrev pub filledIn : Ran → ℕ
-filledIn (ran.Filled n) = n
-filledIn (ran.Refused n) = 0
+abbrev pub runOutcome : Ran → RunOutcome
+runOutcome (ran.Filled n) = record { number = 0; count = n }
+runOutcome (ran.Refused n) = record { number = n; count = 0 }
+
+-- the answer to a point, with its number and coordinates
+pub record SampledResult : Type 0 where
+  pub answer : Sampled
+  pub outcome : PointOutcome
+
+abbrev pub sampledResult : Sampled → SampledResult
+sampledResult r = record { answer = r; outcome = pointOutcome r }
+
+-- the answer to a run, with its number and count, and the final contents of the point table
+pub record RanResult : Type 0 where
+  pub answer : Ran
+  pub outcome : RunOutcome
+  pub points : List ℤ
+
+abbrev pub ranResult : Ran → List ℤ → RanResult
+ranResult r points = record { answer = r; outcome = runOutcome r; points = points }
 
 -- "runs are for curves"; a curve's point is one of a curv or a curv2
 abbrev pub wanted : (surface : Bool) (kind : ℕ) → Bool
@@ -70,49 +87,62 @@ refusalOf surface used t number =
 abbrev pub inside : (start end p : ℤ) → Bool
 inside start end p = leZ start p && leZ p end
 
+abbrev pub refusedPoint : ℕ → SampledResult
+refusedPoint n = record { answer = sampled.Refused n; outcome = record { number = n; coordinates = [] } }
+
+abbrev pub spacePoint : (x y z : ℤ) → SampledResult
+spacePoint x y z = record { answer = sampled.Space x y z; outcome = record { number = 0; coordinates = x ∷ y ∷ z ∷ [] } }
+
+abbrev pub planePoint : (u v : ℤ) → SampledResult
+planePoint u v = record { answer = sampled.Plane u v; outcome = record { number = 0; coordinates = u ∷ v ∷ [] } }
+
 -- "surf and curv give x y z, curv2 u v"
-unfoldable pub curvePoint : Tables → Element → Body → (p : ℤ) → Sampled
+unfoldable pub curvePoint : Tables → Element → Body → (p : ℤ) → SampledResult
 curvePoint t e b p =
     cond (eqb (e .kind) curve2Kind)
-    (sampled.Plane (curveAt t e b p 0) (curveAt t e b p 1))
-    (sampled.Space (curveAt t e b p 0) (curveAt t e b p 1) (curveAt t e b p 2))
+    (planePoint (curveAt t e b p 0) (curveAt t e b p 1))
+    (spacePoint (curveAt t e b p 0) (curveAt t e b p 1) (curveAt t e b p 2))
 
-unfoldable pub pointOnCurve : Used → Tables → (number : ℕ) (p : ℤ) → Sampled
+unfoldable pub pointOnCurve : Used → Tables → (number : ℕ) (p : ℤ) → SampledResult
 pointOnCurve used t number p =
     cond (eqb (refusalOf false used t number) 0)
     (cond (inside (bodyOf t number .«start_u») (bodyOf t number .«end_u») p)
     (curvePoint t (elementOf t number) (bodyOf t number) p)
-    (sampled.Refused 19))
-    (sampled.Refused (refusalOf false used t number))
+    (refusedPoint 19))
+    (refusedPoint (refusalOf false used t number))
 
-unfoldable pub surfacePoint : Tables → Element → Body → (p q : ℤ) → Sampled
-surfacePoint t e b p q = sampled.Space (surfaceAt t e b p q 0) (surfaceAt t e b p q 1) (surfaceAt t e b p q 2)
+unfoldable pub surfacePoint : Tables → Element → Body → (p q : ℤ) → SampledResult
+surfacePoint t e b p q = spacePoint (surfaceAt t e b p q 0) (surfaceAt t e b p q 1) (surfaceAt t e b p q 2)
 
-unfoldable pub pointOnSurface : Used → Tables → (number : ℕ) (p q : ℤ) → Sampled
+unfoldable pub pointOnSurface : Used → Tables → (number : ℕ) (p q : ℤ) → SampledResult
 pointOnSurface used t number p q =
     cond (eqb (refusalOf true used t number) 0)
     (cond
     (inside (bodyOf t number .«start_u») (bodyOf t number .«end_u») p
     && inside (bodyOf t number .«start_v») (bodyOf t number .«end_v») q)
     (surfacePoint t (elementOf t number) (bodyOf t number) p q)
-    (sampled.Refused 19))
-    (sampled.Refused (refusalOf true used t number))
-
--- "or a run of 0 or over 65,536 steps; 16 no room for the run"
-unfoldable pub runOnCurve : Used → Tables → (number steps at lent : ℕ) → Ran
-runOnCurve used t number steps at lent =
-    cond (eqb (refusalOf false used t number) 0)
-    (cond (leb 1 steps && leb steps 65536)
-    (cond (leb (at + axesOf (elementOf t number) * (steps + 1)) lent)
-    (ran.Filled (axesOf (elementOf t number) * (steps + 1)))
-    (ran.Refused 16))
-    (ran.Refused 19))
-    (ran.Refused (refusalOf false used t number))
+    (refusedPoint 19))
+    (refusedPoint (refusalOf true used t number))
 
 -- "A refused .. sampling leaves the output as it was; success writes only .. the named part"
-unfoldable pub pointsAfter : Used → Tables → (number steps at : ℕ) → List ℤ → List ℤ
-pointsAfter used t number steps at points =
-    cond (eqb (runRefusalIn (runOnCurve used t number steps at (length points))) 0)
-    (take at points
-    ++ (runNumbers t (elementOf t number) (bodyOf t number) steps ++ drop (axesOf (elementOf t number) * (steps + 1)) (drop at points)))
-    points
+abbrev pub refusedRun : ℕ → List ℤ → RanResult
+refusedRun n points = record { answer = ran.Refused n; outcome = record { number = n; count = 0 }; points = points }
+
+abbrev pub filledRun : (count at : ℕ) → List ℤ → List ℤ → RanResult
+filledRun count at numbers points =
+    record {
+      answer = ran.Filled count;
+      outcome = record { number = 0; count = count };
+      points = take at points ++ (numbers ++ drop count (drop at points));
+    }
+
+-- "or a run of 0 or over 65,536 steps; 16 no room for the run"; it "fills the caller's point table from a chosen place onward, counted in numbers"
+unfoldable pub runInto : Used → Tables → (number steps at : ℕ) → List ℤ → RanResult
+runInto used t number steps at points =
+    cond (eqb (refusalOf false used t number) 0)
+    (cond (leb 1 steps && leb steps 65536)
+    (cond (leb (at + axesOf (elementOf t number) * (steps + 1)) (length points))
+    (filledRun (axesOf (elementOf t number) * (steps + 1)) at (runNumbers t (elementOf t number) (bodyOf t number) steps) points)
+    (refusedRun 16 points))
+    (refusedRun 19 points))
+    (refusedRun (refusalOf false used t number) points)

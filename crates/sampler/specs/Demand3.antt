@@ -16,7 +16,16 @@ use Rattle.rules.specs.Rules.{obeys, curvesBefore}
 use Rattle.curves.specs.Exact.{curveExact, surfaceExact}
 use Rattle.runs.specs.Runs.{parameterAt}
 use Rattle.sampler.specs.Points.{directionU, directionV, controlOf, gridOf, axesOf}
-use Rattle.sampler.specs.Answers.{elementOf, bodyOf, refusalIn, coordinatesIn, runRefusalIn, pointOnCurve, pointOnSurface, runOnCurve, pointsAfter}
+use Rattle.sampler.specs.Answers.{SampledResult, RanResult, elementOf, bodyOf, pointOnCurve, pointOnSurface, runInto}
+
+-- any sampler: what it gives for every request, and the one that the entry points `point_on_curve`, `point_on_surface` and `run_on_curve` are equal to
+pub record Sampler : Type 0 where
+  pub curve : Used → Tables → (number : ℕ) (p : ℤ) → SampledResult
+  pub surface : Used → Tables → (number : ℕ) (p q : ℤ) → SampledResult
+  pub run : Used → Tables → (number steps at : ℕ) → List ℤ → RanResult
+
+abbrev pub sampling : Sampler
+sampling = record { curve = pointOnCurve; surface = pointOnSurface; run = runInto }
 
 -- "any non-rational Bezier or B-spline curve .. in tables that obey the rules": "tables obey the rules where nothing that 15 names is wrong for that element"
 pub record Curve (used : Used) (t : Tables) (number : ℕ) : Type 0 where
@@ -31,28 +40,30 @@ pub record Curve (used : Used) (t : Tables) (number : ℕ) : Type 0 where
 abbrev pub OnCurve : Tables → (number : ℕ) (p : ℤ) (axis : ℕ) → ℤ → Type 0
 OnCurve t number p axis z = Close z (curveExact (directionU t (bodyOf t number)) p (controlOf t (elementOf t number) axis)) (bodyOf t number .«degree_u»)
 
-pub record CurveAnswer (used : Used) (t : Tables) (number : ℕ) (p : ℤ) : Type 0 where
-  pub given : refusalIn (pointOnCurve used t number p) ≡ 0
-  pub axes : length (coordinatesIn (pointOnCurve used t number p)) ≡ axesOf (elementOf t number)
-  pub near : (axis : ℕ) → axis < axesOf (elementOf t number) → OnCurve t number p axis (getD (coordinatesIn (pointOnCurve used t number p)) axis (pos 0))
+-- what r, the answer to the point at p, has to be
+pub record CurveAnswer (t : Tables) (number : ℕ) (p : ℤ) (r : SampledResult) : Type 0 where
+  pub given : r .outcome .number ≡ 0
+  pub axes : length (r .outcome .coordinates) ≡ axesOf (elementOf t number)
+  pub near : (axis : ℕ) → axis < axesOf (elementOf t number) → OnCurve t number p axis (getD (r .outcome .coordinates) axis (pos 0))
 
 -- "Take as parameter any whole number of millionths inside its stated range": "start to end, both included"
-abbrev pub PointsOnCurves : Type 0
-PointsOnCurves =
+abbrev pub PointsOnCurves : Sampler → Type 0
+PointsOnCurves samples =
     (used : Used) (t : Tables) (number : ℕ) (p : ℤ) → Curve used t number → bodyOf t number .«start_u» ≤ℤ p → p ≤ℤ bodyOf t number .«end_u»
-    → CurveAnswer used t number p
+    → CurveAnswer t number p (samples .curve used t number p)
 
-pub record RunAnswer (used : Used) (t : Tables) (number steps at : ℕ) (points : List ℤ) : Type 0 where
-  pub given : runRefusalIn (runOnCurve used t number steps at (length points)) ≡ 0
+pub record RunAnswer (t : Tables) (number steps at : ℕ) (r : RanResult) : Type 0 where
+  pub given : r .outcome .number ≡ 0
+  pub count : r .outcome .count ≡ axesOf (elementOf t number) * (steps + 1)
   pub near : (j axis : ℕ) → j ≤ steps → axis < axesOf (elementOf t number)
       → OnCurve t number (parameterAt (bodyOf t number .«start_u») (bodyOf t number .«end_u») steps j) axis
-      (getD (pointsAfter used t number steps at points) (at + (axesOf (elementOf t number) * j + axis)) (pos 0))
+      (getD (r .points) (at + (axesOf (elementOf t number) * j + axis)) (pos 0))
 
 -- "In a run of 1 to 65,536 steps the demand holds at every j = 0..N, each point held against the exact value at its own parameter."
-abbrev pub RunsOnCurves : Type 0
-RunsOnCurves =
+abbrev pub RunsOnCurves : Sampler → Type 0
+RunsOnCurves samples =
     (used : Used) (t : Tables) (number steps at : ℕ) (points : List ℤ) → Curve used t number → 1 ≤ steps → steps ≤ 65536
-    → at + axesOf (elementOf t number) * (steps + 1) ≤ length points → RunAnswer used t number steps at points
+    → at + axesOf (elementOf t number) * (steps + 1) ≤ length points → RunAnswer t number steps at (samples .run used t number steps at points)
 
 -- "any non-rational Bezier or B-spline .. surface in tables that obey the rules"
 pub record Surface (used : Used) (t : Tables) (number : ℕ) : Type 0 where
@@ -70,14 +81,14 @@ OnSurface t number p q axis z =
     (surfaceExact (directionU t (bodyOf t number)) (directionV t (bodyOf t number)) p q (gridOf t (elementOf t number) (bodyOf t number) axis))
     (bodyOf t number .«degree_u» + bodyOf t number .«degree_v»)
 
-pub record SurfaceAnswer (used : Used) (t : Tables) (number : ℕ) (p q : ℤ) : Type 0 where
-  pub given : refusalIn (pointOnSurface used t number p q) ≡ 0
-  pub axes : length (coordinatesIn (pointOnSurface used t number p q)) ≡ 3
-  pub near : (axis : ℕ) → axis < 3 → OnSurface t number p q axis (getD (coordinatesIn (pointOnSurface used t number p q)) axis (pos 0))
+pub record SurfaceAnswer (t : Tables) (number : ℕ) (p q : ℤ) (r : SampledResult) : Type 0 where
+  pub given : r .outcome .number ≡ 0
+  pub axes : length (r .outcome .coordinates) ≡ 3
+  pub near : (axis : ℕ) → axis < 3 → OnSurface t number p q axis (getD (r .outcome .coordinates) axis (pos 0))
 
 -- "on a surface any two" parameters, each in its own direction's range, both ends included
-abbrev pub PointsOnSurfaces : Type 0
-PointsOnSurfaces =
+abbrev pub PointsOnSurfaces : Sampler → Type 0
+PointsOnSurfaces samples =
     (used : Used) (t : Tables) (number : ℕ) (p q : ℤ) → Surface used t number
     → bodyOf t number .«start_u» ≤ℤ p → p ≤ℤ bodyOf t number .«end_u» → bodyOf t number .«start_v» ≤ℤ q → q ≤ℤ bodyOf t number .«end_v»
-    → SurfaceAnswer used t number p q
+    → SurfaceAnswer t number p q (samples .surface used t number p q)

@@ -1,8 +1,7 @@
 // Points on curves and surfaces, alone and in runs.
 ghost use mathlib.Core.Path.{_≡_};
 ghost use Rattle.tables.specs.Tables.{tables};
-ghost use Rattle.sampler.specs.Answers.{refusalOf, pointOnCurve, pointOnSurface, runOnCurve, pointsAfter};
-ghost use lib.ListN.{length};
+ghost use Rattle.sampler.specs.Answers.{refusalOf, sampledResult, pointOnCurve, pointOnSurface, ranResult, runInto};
 use crate::points::curve_point;
 use crate::points::surface_point;
 use crate::records::along_of;
@@ -103,7 +102,7 @@ pub fn point_on_curve(
     element: u32,
     t: i32,
 ) -> Sampled
-    ensures { λ r. ⌜ r ≡ pointOnCurve used (tables (now (v .entry)) (now (vt .entry)) (now (vn .entry)) (now (vp .entry)) (now (corners .entry)) (now (elements .entry)) (now (bodies .entry)) (now (ranges .entry)) (now (parameters .entry)) (now (loops .entry)) (now (spans .entry))) element t ⌝ }
+    ensures { λ r. ⌜ sampledResult r ≡ pointOnCurve used (tables (now (v .entry)) (now (vt .entry)) (now (vn .entry)) (now (vp .entry)) (now (corners .entry)) (now (elements .entry)) (now (bodies .entry)) (now (ranges .entry)) (now (parameters .entry)) (now (loops .entry)) (now (spans .entry))) element t ⌝ }
 {
     let refused = refusal(
         false,
@@ -154,7 +153,7 @@ pub fn point_on_surface(
     s: i32,
     t: i32,
 ) -> Sampled
-    ensures { λ r. ⌜ r ≡ pointOnSurface used (tables (now (v .entry)) (now (vt .entry)) (now (vn .entry)) (now (vp .entry)) (now (corners .entry)) (now (elements .entry)) (now (bodies .entry)) (now (ranges .entry)) (now (parameters .entry)) (now (loops .entry)) (now (spans .entry))) element s t ⌝ }
+    ensures { λ r. ⌜ sampledResult r ≡ pointOnSurface used (tables (now (v .entry)) (now (vt .entry)) (now (vn .entry)) (now (vp .entry)) (now (corners .entry)) (now (elements .entry)) (now (bodies .entry)) (now (ranges .entry)) (now (parameters .entry)) (now (loops .entry)) (now (spans .entry))) element s t ⌝ }
 {
     let refused = refusal(
         true,
@@ -212,7 +211,7 @@ pub fn run_on_curve(
     points: &mut [i32],
     at: usize,
 ) -> Ran
-    ensures { λ r. ⌜ (r ≡ runOnCurve used (tables (now (v .entry)) (now (vt .entry)) (now (vn .entry)) (now (vp .entry)) (now (corners .entry)) (now (elements .entry)) (now (bodies .entry)) (now (ranges .entry)) (now (parameters .entry)) (now (loops .entry)) (now (spans .entry))) element steps at (length (now (points .entry)))) × (now (points .exit) ≡ pointsAfter used (tables (now (v .entry)) (now (vt .entry)) (now (vn .entry)) (now (vp .entry)) (now (corners .entry)) (now (elements .entry)) (now (bodies .entry)) (now (ranges .entry)) (now (parameters .entry)) (now (loops .entry)) (now (spans .entry))) element steps at (now (points .entry))) ⌝ }
+    ensures { λ r. ⌜ ranResult r (now (points .exit)) ≡ runInto used (tables (now (v .entry)) (now (vt .entry)) (now (vn .entry)) (now (vp .entry)) (now (corners .entry)) (now (elements .entry)) (now (bodies .entry)) (now (ranges .entry)) (now (parameters .entry)) (now (loops .entry)) (now (spans .entry))) element steps at (now (points .entry)) ⌝ }
 {
     let refused = refusal(
         false,

@@ -14,36 +14,28 @@ use Rattle.reader.specs.Reading.{roomsOf}
 use Rattle.tidy_file.specs.declared.Tidied.{Tidied}
 use Rattle.tidy_file.specs.declared.Tidied.the-variants.{Written, TooLong, Refused}
 
--- "Tidying gives the reader's refusals, or 16 at place 0": the number of refusal of each answer, 0 where the text was written, and its place
-abbrev pub numberOf : Tidied → ℕ
-numberOf (Written n u) = 0
-numberOf (TooLong u) = 16
-numberOf (Refused n p) = n
+-- "Any answer that is an enum has a definition that gives this paper's number and values for each of the enum's cases"; "Tidying gives the reader's refusals,
+-- or 16 at place 0": the number of refusal, 0 where the text was written, its place, the length of the text written, and the counts
+pub record TidyOutcome : Type 0 where
+  pub number : ℕ
+  pub place : ℕ
+  pub length : ℕ
+  pub used : Used
 
-abbrev pub placeOf : Tidied → ℕ
-placeOf (Written n u) = 0
-placeOf (TooLong u) = 0
-placeOf (Refused n p) = p
+abbrev pub tidyOutcome : Tidied → TidyOutcome
+tidyOutcome (Written n u) = record { number = 0; place = 0; length = n; used = u }
+tidyOutcome (TooLong u) = record { number = 16; place = 0; length = 0; used = u }
+tidyOutcome (Refused n p) = record { number = n; place = p; length = 0; used = noneUsed }
 
--- the length of the text written, and the counts: "the tables then filled" where only the buffer was short
-abbrev pub lengthOf : Tidied → ℕ
-lengthOf (Written n u) = n
-lengthOf (TooLong u) = 0
-lengthOf (Refused n p) = 0
-
-abbrev pub countsOf : Tidied → Used
-countsOf (Written n u) = u
-countsOf (TooLong u) = u
-countsOf (Refused n p) = noneUsed
-
--- the answer with the final contents of the tables and of the lent buffer
+-- the answer, its number and values, and the final contents of the tables and of the lent buffer
 pub record TidyResult : Type 0 where
   pub answer : Tidied
+  pub outcome : TidyOutcome
   pub tables : Tables
   pub out : List ℕ
 
 abbrev pub tidyResult : Tidied → Tables → List ℕ → TidyResult
-tidyResult r t out = record { answer = r; tables = t; out = out }
+tidyResult r t out = record { answer = r; outcome = tidyOutcome r; tables = t; out = out }
 
 -- "if its text passes the lent buffer or 16,777,216 bytes": where w does neither
 abbrev pub hasRoom : List ℕ → List ℕ → Bool
@@ -51,12 +43,15 @@ hasRoom w out = leb (length w) (length out) && leb (length w) 16777216
 
 -- "16 at place 0, the tables then filled"; "A refused tidying or sampling leaves the output as it was; success writes only the text"
 abbrev pub written : List ℕ → Used → Tables → List ℕ → TidyResult
-written w used t out = cond (hasRoom w out) (tidyResult (Written (length w) used) t (w ++ drop (length w) out)) (tidyResult (TooLong used) t out)
+written w used t out =
+    cond (hasRoom w out)
+    (record { answer = Written (length w) used; outcome = record { number = 0; place = 0; length = length w; used = used }; tables = t; out = w ++ drop (length w) out })
+    (record { answer = TooLong used; outcome = record { number = 16; place = 0; length = 0; used = used }; tables = t; out = out })
 
 -- "A refusal zeroes every lent table and every count."
 abbrev pub answered : Rooms → Answer → List ℕ → TidyResult
 answered R (read m) out = written (tidyText m) (usedOf m) (tablesOf R m) out
-answered R (refused n p) out = tidyResult (Refused n p) (tablesOf R nothing) out
+answered R (refused n p) out = record { answer = Refused n p; outcome = record { number = n; place = p; length = 0; used = noneUsed }; tables = tablesOf R nothing; out = out }
 
 -- what tidying the text s comes to, with the tables t and the buffer out lent
 unfoldable pub tidyInto : List ℕ → Tables → List ℕ → TidyResult

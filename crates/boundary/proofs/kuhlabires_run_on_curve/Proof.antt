@@ -1,7 +1,5 @@
 -- The sampler's answer, as a record, and the point table that it left.
-use mathlib.Core.Path.{ap, _∙_}
-use Rattle.sampler.specs.declared.Ran.{Ran}
-use Rattle.answers.specs.Answers.{runIn}
+use Rattle.answers.proofs.Points.{run-halves}
 use borrow.Author.Needs.{needs}
 use Rattle.boundary.proofs.kuhlabires_run_on_curve.Statement.{statement}
 use Rattle.boundary.proofs.kuhlabires_run_on_curve.Tie as tie
@@ -16,9 +14,7 @@ same-length : tie.Need-same-length
 same-length c = search needs
 
 returns : tie.Need-returns
-returns c =
-    let ran = c .before .before .run-on-curve .ensures in
-    (c .run-of .ensures ∙ ap (λ (r : Ran). runIn r) (ran .0), ran .1)
+returns c = run-halves (c .before .before .run-on-curve .ensures) (c .run-of .ensures)
 
 pub kuhlabires-run-on-curve-spec : {M : Type 1} → statement M
 kuhlabires-run-on-curve-spec =

@@ -15,7 +15,7 @@ use Rattle.tables.specs.declared.Element.{Element}
 use Rattle.tables.proofs.Bits.{fitted}
 use Rattle.rows.specs.Places.{Sized}
 use Rattle.sampler.specs.Points.{alongOf}
-use Rattle.sampler.specs.Answers.{elementOf, bodyOf, refusalOf, inside}
+use Rattle.sampler.specs.Answers.{sampledResult, elementOf, bodyOf, refusalOf, inside}
 use Rattle.sampler.proofs.Obeyed.{Granted, granted, Curved, curved}
 use Rattle.sampler.proofs.Entries.{refused-curve, curve-outside, curve-there, Read, curve-asked, point-read}
 use Rattle.sampler.proofs.point_on_curve.Statement.{statement}
@@ -150,7 +150,7 @@ returns-3 c =
     let w = c .before .before .before .before in
     let j = k (m w) in
     let a = s j .args in
-    c .curve-point .ensures ∙ point-read (read w) (a .t) (toZ w32 (ofZ w32 (a .t))) (toZ-ofZ (s j .fits .t))
+    ap sampledResult (c .curve-point .ensures ∙ point-read (read w) (a .t) (toZ w32 (ofZ w32 (a .t))) (toZ-ofZ (s j .fits .t)))
     ∙ curve-there (a .used) (t j) (a .element) (a .t) (given j) (within w)
 
 pub point-on-curve-spec : {M : Type 1} → statement M

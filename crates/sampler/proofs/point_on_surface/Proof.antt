@@ -15,7 +15,7 @@ use Rattle.tables.specs.declared.Element.{Element}
 use Rattle.tables.proofs.Bits.{fitted}
 use Rattle.rows.specs.Places.{Sized}
 use Rattle.sampler.specs.Points.{alongOf}
-use Rattle.sampler.specs.Answers.{elementOf, bodyOf, refusalOf, inside}
+use Rattle.sampler.specs.Answers.{sampledResult, elementOf, bodyOf, refusalOf, inside}
 use Rattle.sampler.proofs.Obeyed.{Granted, granted, Surfaced, surfaced}
 use Rattle.sampler.proofs.Surfaces.{refused-surface, outside-u, outside-v, surface-there, Laid, surface-asked, surface-read}
 use Rattle.sampler.proofs.point_on_surface.Statement.{statement}
@@ -203,8 +203,8 @@ returns-4 c =
     let w = c .before .before .before .before .before .before in
     let d = k (read w) in
     let a = s d .args in
-    c .surface-point .ensures
-    ∙ surface-read (laid w) (a .s) (toZ w32 (ofZ w32 (a .s))) (a .t) (toZ w32 (ofZ w32 (a .t))) (toZ-ofZ (s d .fits .s)) (toZ-ofZ (s d .fits .t))
+    ap sampledResult (c .surface-point .ensures
+    ∙ surface-read (laid w) (a .s) (toZ w32 (ofZ w32 (a .s))) (a .t) (toZ w32 (ofZ w32 (a .t))) (toZ-ofZ (s d .fits .s)) (toZ-ofZ (s d .fits .t)))
     ∙ surface-there (a .used) (t d) (a .element) (a .s) (a .t) (given d) (in-u (both w)) (in-v (both w))
 
 pub point-on-surface-spec : {M : Type 1} → statement M

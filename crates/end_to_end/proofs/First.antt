@@ -1,0 +1,79 @@
+-- Demand 1: by what the text is read as, and by the tests of the sampler.
+use Prim.Native.Nat.{ℕ}
+use mathlib.Core.Path.{_≡_, refl, sym, ap, _∙_}
+use mathlib.Core.Bool.{Bool, true, false, cond}
+use mathlib.Core.List.{List, _++_}
+use lib.ListN.{length, drop}
+use Rattle.tables.specs.Tables.{Tables}
+use Rattle.tables.specs.declared.Used.{Used}
+use Rattle.model.specs.Room.{Rooms}
+use Rattle.model.specs.Read.{Answer, read, refused, readOf}
+use Rattle.model.specs.Layout.{tablesOf, usedOf}
+use Rattle.all_lines.specs.declared.Reading.the-variants as reading
+use Rattle.reader.specs.Reading.{roomsOf, readOutcome, Result, readInto}
+use Rattle.reader.specs.Reading as reader
+use Rattle.tidying.specs.Printed.{tidyText}
+use Rattle.tidy_file.specs.Tidying.{tidyOutcome, TidyResult, hasRoom, written, answered, tidyInto}
+use Rattle.sampler.specs.Demand3.{sampling}
+use Rattle.end_to_end.specs.Demand1.{Outcomes, Demand1}
+use Rattle.end_to_end.proofs.Numbers.{refusal-number}
+use Rattle.end_to_end.proofs.Inside.{nothing-zeros, read-is, turned-down, tidy-is, long-file, refused-file}
+use Rattle.end_to_end.proofs.Samples.{curve-sound, surface-sound, run-sound}
+
+-- ---- each answer with its number and values
+read-outcome : (R : Rooms) (x : Answer) → reader.answered R x .outcome ≡ readOutcome (reader.answered R x .answer)
+read-outcome R (read m) = refl
+read-outcome R (refused n p) = refl
+
+tidy-outcome : (R : Rooms) (x : Answer) (a : List ℕ) → answered R x a .outcome ≡ tidyOutcome (answered R x a .answer)
+tidy-outcome R (refused n p) a = refl
+tidy-outcome R (read m) a = go (tidyText m) (usedOf m) (tablesOf R m) (hasRoom (tidyText m) a) refl
+  where
+    go : (w : List ℕ) (u : Used) (t : Tables) (b : Bool) → hasRoom w a ≡ b → written w u t a .outcome ≡ tidyOutcome (written w u t a .answer)
+    go w u t true e = rw e refl
+    go w u t false e = rw e refl
+
+outcomes : Outcomes readInto tidyInto sampling
+unfolding readInto tidyInto
+outcomes =
+    record {
+      reading = λ s S. read-outcome (roomsOf S) (readOf (roomsOf S) s);
+      tidying = λ s S a. tidy-outcome (roomsOf S) (readOf (roomsOf S) s) a;
+      curve = λ u t number p. curve-sound u t number p .outcome;
+      surface = λ u t number p q. surface-sound u t number p q .outcome;
+      run = λ u t number steps at points. run-sound u t number steps at points .outcome;
+    }
+
+pub first : Demand1 readInto tidyInto sampling
+first =
+    record {
+      outcomes = outcomes;
+      refused-reading = λ s S n p h.
+          let e = read-is s S (refused n p) (turned-down s S n p h) in
+          record {
+            number = refusal-number (roomsOf S) s n p (turned-down s S n p h);
+            tables = ap (λ (r : Result). r .tables) e ∙ nothing-zeros S;
+            counts = ap (λ (r : Result). r .outcome .used) e;
+          };
+      refuses = λ s S a n p h. ap (λ (r : TidyResult). r .answer) (tidy-is s S a (refused n p) (turned-down s S n p h));
+      refused-tidying = λ s S a n p h.
+          let d = refused-file s S a n p h in
+          let e = tidy-is s S a (refused n p) (d .is-refused) in
+          record {
+            read = ap (λ (r : Result). r .answer) (read-is s S (refused n p) (d .is-refused));
+            tables = d .tables ∙ nothing-zeros S;
+            counts = ap (λ (r : TidyResult). r .outcome .used) e;
+            out = d .kept;
+          };
+      long-tidying = λ s S a u h.
+          let l = long-file s S a u h in
+          let e = read-is s S (read (l .model)) (l .is-read) in
+          record {
+            read = ap (λ (r : Result). r .answer) e ∙ ap (λ (w : Used). reading.Read w) (l .counts);
+            tables = l .tables ∙ sym (ap (λ (r : Result). r .tables) e);
+            out = l .kept;
+          };
+      refused-curve = λ u t number p n e. curve-sound u t number p .number n e;
+      refused-surface = λ u t number p q n e. surface-sound u t number p q .number n e;
+      refused-run = λ u t number steps at points n e. run-sound u t number steps at points .refused n e;
+    }
