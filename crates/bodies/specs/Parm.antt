@@ -1,4 +1,4 @@
--- 01: "parm u or v, then 2 or more"; "parm v belong[s] to surfaces": a parm line, and what the code finds of it.
+-- 01: "parm u or v, then 2 or more"; "trim, hole and parm v belong to surfaces": a parm line, and what the code finds of it.
 use Prim.Native.Nat.{ℕ, _≤_, _<_}
 use mathlib.Core.Path.{_≡_}
 use mathlib.Core.List.{List, _∷_}

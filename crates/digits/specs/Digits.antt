@@ -17,7 +17,7 @@ abbrev pub natOf : ℕ → List ℕ → ℕ
 natOf a [] = a
 natOf a (b ∷ bs) = natOf (a * 10 + (b - 48)) bs
 
--- "1 to k digits"
+-- 1 to k digits: "1 to 10 digits", "1 to 3 digits", "1 to 5 digits"
 unfoldable pub whole : ℕ → List ℕ → Bool
 whole k w = digits w && leb 1 (length w) && leb (length w) k
 

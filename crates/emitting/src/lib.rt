@@ -5,7 +5,7 @@ ghost use Prim.Native.Nat.{_+_, min};
 ghost use Rattle.forms.specs.Written.{writtenWhole, writtenNumber, writtenCorner};
 ghost use Rattle.keywords.specs.Keywords.{keywordTable, keywordOf};
 ghost use Rattle.keywords.specs.Arguments.{argumentTable, argumentBytes};
-ghost use Rattle.emitting.specs.Emitting.{Emitted};
+ghost use Rattle.emitting.specs.Emitting.{emission, emittedWhole, emittedSpaced};
 
 pub mod names;
 
@@ -35,7 +35,7 @@ pub fn room_in(lent: usize) -> usize
 }
 
 pub fn emit_byte(out: &mut [u8], at: usize, b: u8) -> usize
-    ensures { λ r. ⌜ Emitted at (b ∷ []) (now (out .entry)) (now (out .exit)) r ⌝ }
+    ensures { λ r. ⌜ emission r (now (out .exit)) ≡ emittedWhole at (b ∷ []) (now (out .entry)) ⌝ }
 {
     let end = place_after(at, 1);
     if end <= room_in(out.len()) {
@@ -51,7 +51,7 @@ pub fn emit_keyword(
     at: usize,
 ) -> usize
     requires { ⌜ now table ≡ keywordTable ⌝ }
-    ensures { λ r. ⌜ Emitted at (keywordOf statement) (now (out .entry)) (now (out .exit)) r ⌝ }
+    ensures { λ r. ⌜ emission r (now (out .exit)) ≡ emittedWhole at (keywordOf statement) (now (out .entry)) ⌝ }
 {
     let end = place_after(at, keywords::keyword_length(statement, table));
     if end <= room_in(out.len()) {
@@ -67,7 +67,7 @@ pub fn emit_argument(
     at: usize,
 ) -> usize
     requires { ⌜ now table ≡ argumentTable ⌝ }
-    ensures { λ r. ⌜ Emitted at (argumentBytes argument) (now (out .entry)) (now (out .exit)) r ⌝ }
+    ensures { λ r. ⌜ emission r (now (out .exit)) ≡ emittedWhole at (argumentBytes argument) (now (out .entry)) ⌝ }
 {
     let end = place_after(at, keywords::argument_length(argument, table));
     if end <= room_in(out.len()) {
@@ -77,7 +77,7 @@ pub fn emit_argument(
 }
 
 pub fn emit_whole(out: &mut [u8], at: usize, n: u32) -> usize
-    ensures { λ r. ⌜ Emitted at (writtenWhole n) (now (out .entry)) (now (out .exit)) r ⌝ }
+    ensures { λ r. ⌜ emission r (now (out .exit)) ≡ emittedWhole at (writtenWhole n) (now (out .entry)) ⌝ }
 {
     let end = place_after(at, writing::whole_length(n));
     if end <= room_in(out.len()) {
@@ -87,7 +87,7 @@ pub fn emit_whole(out: &mut [u8], at: usize, n: u32) -> usize
 }
 
 pub fn emit_number(out: &mut [u8], at: usize, value: i32) -> usize
-    ensures { λ r. ⌜ Emitted at (writtenNumber value) (now (out .entry)) (now (out .exit)) r ⌝ }
+    ensures { λ r. ⌜ emission r (now (out .exit)) ≡ emittedWhole at (writtenNumber value) (now (out .entry)) ⌝ }
 {
     let end = place_after(at, writing::number_length(value));
     if end <= room_in(out.len()) {
@@ -97,7 +97,7 @@ pub fn emit_number(out: &mut [u8], at: usize, value: i32) -> usize
 }
 
 pub fn emit_corner(out: &mut [u8], at: usize, v: u32, vt: u32, vn: u32) -> usize
-    ensures { λ r. ⌜ Emitted at (writtenCorner (record { v = v; vt = vt; vn = vn })) (now (out .entry)) (now (out .exit)) r ⌝ }
+    ensures { λ r. ⌜ emission r (now (out .exit)) ≡ emittedWhole at (writtenCorner (record { v = v; vt = vt; vn = vn })) (now (out .entry)) ⌝ }
 {
     let end = place_after(at, writing::corner_length(v, vt, vn));
     if end <= room_in(out.len()) {
@@ -114,28 +114,28 @@ pub fn emit_spaced_argument(
     at: usize,
 ) -> usize
     requires { ⌜ now table ≡ argumentTable ⌝ }
-    ensures { λ r. ⌜ Emitted at (32 ∷ argumentBytes argument) (now (out .entry)) (now (out .exit)) r ⌝ }
+    ensures { λ r. ⌜ emission r (now (out .exit)) ≡ emittedSpaced at (argumentBytes argument) (now (out .entry)) ⌝ }
 {
     let word = emit_byte(out, at, b' ');
     emit_argument(argument, table, out, word)
 }
 
 pub fn emit_spaced_whole(out: &mut [u8], at: usize, n: u32) -> usize
-    ensures { λ r. ⌜ Emitted at (32 ∷ writtenWhole n) (now (out .entry)) (now (out .exit)) r ⌝ }
+    ensures { λ r. ⌜ emission r (now (out .exit)) ≡ emittedSpaced at (writtenWhole n) (now (out .entry)) ⌝ }
 {
     let word = emit_byte(out, at, b' ');
     emit_whole(out, word, n)
 }
 
 pub fn emit_spaced_number(out: &mut [u8], at: usize, value: i32) -> usize
-    ensures { λ r. ⌜ Emitted at (32 ∷ writtenNumber value) (now (out .entry)) (now (out .exit)) r ⌝ }
+    ensures { λ r. ⌜ emission r (now (out .exit)) ≡ emittedSpaced at (writtenNumber value) (now (out .entry)) ⌝ }
 {
     let word = emit_byte(out, at, b' ');
     emit_number(out, word, value)
 }
 
 pub fn emit_spaced_corner(out: &mut [u8], at: usize, v: u32, vt: u32, vn: u32) -> usize
-    ensures { λ r. ⌜ Emitted at (32 ∷ writtenCorner (record { v = v; vt = vt; vn = vn })) (now (out .entry)) (now (out .exit)) r ⌝ }
+    ensures { λ r. ⌜ emission r (now (out .exit)) ≡ emittedSpaced at (writtenCorner (record { v = v; vt = vt; vn = vn })) (now (out .entry)) ⌝ }
 {
     let word = emit_byte(out, at, b' ');
     emit_corner(out, word, v, vt, vn)

@@ -9,7 +9,7 @@ ghost use Rattle.text.specs.Rest.{endOf};
 ghost use Rattle.tables.specs.Asking.{partOf};
 ghost use Rattle.tidying.specs.Agree.{wordsAt};
 ghost use Rattle.emitting.specs.Naming.{sameBytes, partNames, NextMet};
-ghost use Rattle.emitting.specs.Emitting.{Emitted};
+ghost use Rattle.emitting.specs.Emitting.{emission, emittedWhole, Emitted};
 use crate::emit_byte;
 use crate::place_after;
 use crate::room_in;
@@ -96,7 +96,7 @@ pub fn same_names(
 // The word of the text from `from` to `to`.
 fn emit_word(text: &[u8], from: usize, to: usize, out: &mut [u8], at: usize) -> usize
     requires { ⌜ to ≡ endOf (now text) from ⌝ }
-    ensures { λ r. ⌜ Emitted at (wordOf (drop from (now (text .entry)))) (now (out .entry)) (now (out .exit)) r ⌝ }
+    ensures { λ r. ⌜ emission r (now (out .exit)) ≡ emittedWhole at (wordOf (drop from (now (text .entry)))) (now (out .entry)) ⌝ }
 {
     let end = place_after(at, to - from);
     if end <= room_in(out.len()) {

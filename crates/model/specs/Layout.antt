@@ -15,7 +15,7 @@ use Rattle.tables.specs.declared.Used.{Used}
 use Rattle.model.specs.Model.{Names, Shape, point, line, face, Free, curve, curve2, surface, Part, Loop, Body, Kind, plain, free, Element, Model, State}
 use Rattle.model.specs.Room.{Rooms, summed, ofKind, partCount}
 
--- ---- names: "the place and length of its group run and material in the text", "from the first name to the last"; "0 where none is set and after a bare g"
+-- ---- names: "the place and length of its group run and material in the text", "from the first name to the last"; "0 where none is set and after a bare `g`"
 pub record Run : Type 0 where
   pub place : ℕ
   pub length : ℕ
@@ -68,7 +68,7 @@ abbrev pub elementRows : ℕ → ℕ → List Element → List ℕ
 elementRows c b [] = []
 elementRows c b (e ∷ es) = elementRow c b e ++ elementRows (c + cornerWidth * length (e .corners)) (b + ofKind (λ x. 1) (e .kind)) es
 
--- ---- bodies: p parameters and l loop parts stand before this one's; "a body with no loops has first loop part 0"
+-- ---- bodies: p parameters and l loop parts stand before this one's; a body with no loops has first loop part 0 (DECISIONS 139)
 abbrev pub firstPart : ℕ → ℕ → ℕ
 firstPart l n = cond (lib.Dec.eqb n 0) 0 l
 
@@ -100,7 +100,7 @@ bodyRows p l (b ∷ bs) = bodyRow p l b ++ bodyRows (p + (length (b .us) + lengt
 abbrev pub parameterRow : Body → List ℤ
 parameterRow b = b .us ++ b .vs
 
--- ---- loops, "stored in order": what begins with a part (1 a trim, 2 a hole, 0 nothing), its curv2; and its two numbers beside it
+-- ---- loops, in the order of their lines: what begins with a part (1 a trim, 2 a hole, 0 nothing), its curv2; and its two numbers beside it
 abbrev pub beginning : Bool → ℕ
 beginning false = 1
 beginning true = 2

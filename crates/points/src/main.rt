@@ -1,6 +1,4 @@
 // The points of a run on a curve of an .obj file: the element's number and the steps are the arguments, the file is standard input.
-use libc::STDIN_FILENO;
-use libc::STDOUT_FILENO;
 use reader::Reading;
 use sampler::Ran;
 use tables::Used;
@@ -8,39 +6,45 @@ ghost use mathlib.Core.Path.{_≡_};
 ghost use Prim.Native.Nat.{_≤_};
 ghost use lib.ListN.{length};
 
-fn put(bytes: &[u8]) {
-    io::write_all(STDOUT_FILENO, bytes);
-}
-
-fn put_whole(n: u64) {
-    io::print_decimal(STDOUT_FILENO, n);
+// Each of these answers whether it was written; where it was not, nothing more is.
+fn put_whole(n: u64) -> bool {
+    let mut text = [0u8; 20];
+    let k = io::decimal(n, &mut text);
+    streams::write_output(&text[..k])
 }
 
 // A number of millionths with six places, by way of the bytes lent.
-fn put_written(bytes: &mut [u8], value: i32) {
+fn put_written(bytes: &mut [u8], value: i32) -> bool {
     let n = writing::number_length(value);
     if n <= bytes.len() {
         writing::write_number(bytes, 0, value);
-        put(&bytes[0..n]);
+        return streams::write_output(&bytes[0..n]);
     }
+    false
 }
 
-fn put_number(value: i32, behind: &[u8]) {
+fn put_number(value: i32, behind: &[u8]) -> bool {
     let mut bytes = [0u8; 16];
-    put_written(&mut bytes, value);
-    put(behind);
+    if put_written(&mut bytes, value) {
+        return streams::write_output(behind);
+    }
+    false
 }
 
-// Points of `axes` numbers each, a line for each point.
+// Points of `axes` numbers each, a line for each point; nothing more once a write has failed.
 fn put_points(points: &[i32], axes: usize) {
     let mut i: usize = 0;
     let mut axis: usize = 1;
     while i < points.len() {
         if axis < axes {
-            put_number(points[i], b" ");
+            if !put_number(points[i], b" ") {
+                return;
+            }
             axis += 1;
         } else {
-            put_number(points[i], b"\n");
+            if !put_number(points[i], b"\n") {
+                return;
+            }
             axis = 1;
         }
         i += 1;
@@ -71,18 +75,27 @@ fn least(a: u64, b: u64) -> u64
     if a < b { a } else { b }
 }
 
+fn put_refused(number: u32) -> bool {
+    if streams::write_output(b"refused ") {
+        return put_whole(number as u64);
+    }
+    false
+}
+
 fn put_refusal(number: u32) {
-    put(b"refused ");
-    put_whole(number as u64);
-    put(b"\n");
+    if put_refused(number) {
+        streams::write_output(b"\n");
+    }
 }
 
 fn put_refusal_at(number: u32, place: usize) {
-    put(b"refused ");
-    put_whole(number as u64);
-    put(b" at ");
-    put_whole(place as u64);
-    put(b"\n");
+    if put_refused(number) {
+        if streams::write_output(b" at ") {
+            if put_whole(place as u64) {
+                streams::write_output(b"\n");
+            }
+        }
+    }
 }
 
 // A point of a run has as many numbers as there are numbers for each of its steps + 1 points.
@@ -187,14 +200,18 @@ fn argument(i: usize) -> u32 {
     whole_of(&buffer[..n])
 }
 
-// The room is one byte more than is taken, to see that a text is longer.
+// The room is one byte more than is taken, to see that a text is longer. Nothing is printed where the input could not be read.
 fn run_on_input(input: &mut [u8], element: u32, steps: u32) {
-    let n = io::read_full(STDIN_FILENO, input);
-    if 65536 < n {
+    let read = streams::read_input(input);
+    if read.failed {
+        return;
+    }
+    let count = read.count;
+    if 65536 < count {
         put_refusal_at(1, 0);
         return;
     }
-    run_on_text(&input[..n], element, steps);
+    run_on_text(&input[..count], element, steps);
 }
 
 fn main() {

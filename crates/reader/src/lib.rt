@@ -1,8 +1,6 @@
 // Reading a text into lent tables.
-mod line_by_line; // all lines, with the tables cleared after a refusal
-
-use crate::line_by_line::read_lines;
 pub use all_lines::Reading;
+use all_lines::lines_of;
 use storing::clear;
 ghost use mathlib.Core.Path.{_≡_};
 ghost use Rattle.tables.specs.Tables.{tables};
@@ -47,7 +45,7 @@ pub fn read(
     }
     let keyword_table = keywords::keyword_table();
     let argument_table = keywords::argument_table();
-    read_lines(
+    lines_of(
         text,
         v,
         vt,

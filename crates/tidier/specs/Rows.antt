@@ -79,7 +79,7 @@ abbrev pub goingOn : ℕ → List ℕ → List ℤ → List (List ℕ)
 goingOn zero l z = []
 goingOn (suc n) l z = cond (eqb (getD l 0 0) 0) (partWords l z ++ goingOn n (drop loopWidth l) (drop spanWidth z)) []
 
--- "what begins with it (1 a trim, 2 a hole, 0 nothing)"
+-- what begins with a part: 1 a trim, 2 a hole, 0 nothing
 abbrev pub loopWords : ℕ → List ℕ → List ℤ → List (List ℕ)
 loopWords n l z = keywordOf (loopKeyword (eqb (getD l 0 0) 2)) ∷ (partWords l z ++ goingOn n (drop loopWidth l) (drop spanWidth z))
 

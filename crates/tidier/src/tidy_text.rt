@@ -1,10 +1,11 @@
 // All that the tables hold, as the tidy text.
 ghost use mathlib.Core.Path.{_≡_};
-ghost use Prim.Native.Nat.{_≤_};
+ghost use Prim.Native.Nat.{_≤_, min};
+ghost use lib.ListN.{length};
 ghost use Rattle.text.specs.Written.{writtenLines};
 ghost use Rattle.keywords.specs.Keywords.{keywordTable};
 ghost use Rattle.tables.specs.Tables.{tables};
-ghost use Rattle.emitting.specs.Emitting.{Emitted};
+ghost use Rattle.emitting.specs.Emitting.{emission, emittedWhole, Emitted};
 ghost use Rattle.tidier.specs.TidyFrom.{verticesFrom, tidyFrom};
 use crate::elements;
 use crate::vertices;
@@ -65,8 +66,8 @@ fn all_vertices(
     )
 }
 
-// The tidy text of what the tables hold, from the front of `out` on; the names in it are those of `text`.
-pub fn write_tidy(
+// The tidy text of what the tables hold, from the front of `out` on, word by word where there is room; the names in it are those of `text`.
+fn emit_tidy(
     text: &[u8],
     used: tables::Used,
     v: &[i32],
@@ -102,4 +103,97 @@ pub fn write_tidy(
         out,
         first,
     )
+}
+
+// The length of the tidy text, 16,777,217 for every one that is too long.
+fn measure(
+    text: &[u8],
+    used: tables::Used,
+    v: &[i32],
+    vt: &[i32],
+    vn: &[i32],
+    vp: &[i32],
+    corners: &[u32],
+    elements: &[u32],
+    bodies: &[u32],
+    ranges: &[i32],
+    parameters: &[i32],
+    parts: &[u32],
+    spans: &[i32],
+) -> usize
+    ensures { λ r. ⌜ r ≡ min (length (tidyFrom (now (text .entry)) used (tables (now (v .entry)) (now (vt .entry)) (now (vn .entry)) (now (vp .entry)) (now (corners .entry)) (now (elements .entry)) (now (bodies .entry)) (now (ranges .entry)) (now (parameters .entry)) (now (parts .entry)) (now (spans .entry))))) 16777217 ⌝ }
+{
+    let mut none = [0u8; 1];
+    emit_tidy(
+        text,
+        used,
+        v,
+        vt,
+        vn,
+        vp,
+        corners,
+        elements,
+        bodies,
+        ranges,
+        parameters,
+        parts,
+        spans,
+        &mut none,
+    )
+}
+
+// The tidy text of what the tables hold, from the front of `out` on, and its length, 16,777,217 for every one that is too long. It is measured first: a buffer
+// that it passes stays as it was.
+pub fn write_tidy(
+    text: &[u8],
+    used: tables::Used,
+    v: &[i32],
+    vt: &[i32],
+    vn: &[i32],
+    vp: &[i32],
+    corners: &[u32],
+    elements: &[u32],
+    bodies: &[u32],
+    ranges: &[i32],
+    parameters: &[i32],
+    parts: &[u32],
+    spans: &[i32],
+    out: &mut [u8],
+) -> usize
+    ensures { λ r. ⌜ emission r (now (out .exit)) ≡ emittedWhole 0 (tidyFrom (now (text .entry)) used (tables (now (v .entry)) (now (vt .entry)) (now (vn .entry)) (now (vp .entry)) (now (corners .entry)) (now (elements .entry)) (now (bodies .entry)) (now (ranges .entry)) (now (parameters .entry)) (now (parts .entry)) (now (spans .entry)))) (now (out .entry)) ⌝ }
+{
+    let length = measure(
+        text,
+        used,
+        v,
+        vt,
+        vn,
+        vp,
+        corners,
+        elements,
+        bodies,
+        ranges,
+        parameters,
+        parts,
+        spans,
+    );
+    if length <= emitting::room_in(out.len()) {
+        return emit_tidy(
+            text,
+            used,
+            v,
+            vt,
+            vn,
+            vp,
+            corners,
+            elements,
+            bodies,
+            ranges,
+            parameters,
+            parts,
+            spans,
+            out,
+        );
+    }
+    length
 }

@@ -1,32 +1,7 @@
-// The tidy text of an .obj file, from standard input to standard output, or its refusal.
-use libc::STDIN_FILENO;
-use libc::STDOUT_FILENO;
-use tidy_file::Tidied;
-
-fn put(bytes: &[u8]) {
-    io::write_all(STDOUT_FILENO, bytes);
-}
-
-fn put_refusal(number: u32, place: usize) {
-    put(b"refused ");
-    io::print_decimal(STDOUT_FILENO, number as u64);
-    put(b" at ");
-    io::print_decimal(STDOUT_FILENO, place as u64);
-    put(b"\n");
-}
-
-// A tidy text that was written is within the buffer.
-fn put_front(out: &[u8], length: usize) {
-    if length <= out.len() {
-        put(&out[0..length]);
-    }
-}
-
-fn put_tidied(tidied: Tidied, out: &[u8]) {
-    match tidied {
-        Tidied::Written { length, used: _ } => put_front(out, length),
-        Tidied::TooLong { used: _ } => put_refusal(16, 0),
-        Tidied::Refused { number, place } => put_refusal(number, place),
+// The tidy text of an .obj file, from standard input to standard output, or its refusal. What is printed is `tidy_output`'s.
+fn put_front(out: &[u8], count: usize) {
+    if count <= out.len() {
+        streams::write_output(&out[0..count]);
     }
 }
 
@@ -43,7 +18,7 @@ fn tidy_text(text: &[u8]) {
     let mut loops = [0u32; 16384];
     let mut spans = [0i32; 16384];
     let mut out = [0u8; 65536];
-    let tidied = tidy_file::tidy(
+    let count = tidy_output::tidy_output(
         text,
         &mut v,
         &mut vt,
@@ -58,17 +33,17 @@ fn tidy_text(text: &[u8]) {
         &mut spans,
         &mut out,
     );
-    put_tidied(tidied, &out);
+    put_front(&out, count);
 }
 
-// The room is one byte more than is taken, to see that a text is longer.
+// The room is one byte more than is taken, to see that a text is longer. Nothing is printed where the input could not be read.
 fn tidy_input(input: &mut [u8]) {
-    let n = io::read_full(STDIN_FILENO, input);
-    if 65536 < n {
-        put_refusal(1, 0);
+    let read = streams::read_input(input);
+    if read.failed {
         return;
     }
-    tidy_text(&input[..n]);
+    let count = read.count;
+    tidy_text(&input[..count]);
 }
 
 fn main() {

@@ -13,7 +13,8 @@ use Rattle.tables.specs.Tables.{Tables}
 use Rattle.tables.specs.declared.Used.{Used}
 use Rattle.model.specs.Read.{Answer, read, refused, readOf}
 use Rattle.model.specs.Layout.{tablesOf, usedOf}
-use Rattle.emitting.specs.Emitting.{Emitted}
+use Rattle.emitting.specs.Emitting.{emission, emittedWhole}
+use Rattle.emitting.proofs.Emissions.{emitted-whole, whole-kept}
 use Rattle.tidier.specs.TidyFrom.{tidyFrom}
 use Rattle.tidied.proofs.TidyFrom.{tidy-from}
 use Rattle.reader.specs.Reading.{Result, result, roomsOf, readInto}
@@ -24,24 +25,34 @@ use Rattle.tidy_file.specs.declared.Tidied.{Tidied}
 use Rattle.tidy_file.specs.declared.Tidied.the-variants.{Written, TooLong, Refused}
 use Rattle.tidy_file.specs.Tidying.{TidyResult, tidyResult, hasRoom, written, answered, tidyInto}
 
--- ---- writing: k is the length of w, as it is measured
-module _ (w out : List ℕ) (used : Used) (t : Tables) (k : ℕ) (e : k ≡ min (length w) 16777217) where
-  no-room : hasRoom w out ≡ false → tidyResult (TooLong used) t out ≡ written w used t out
-  no-room h = rw h refl
+-- ---- writing: k is the length of w, as `write_tidy` answers it, and m what the buffer holds then
+module _ (w out m : List ℕ) (used : Used) (t : Tables) (k : ℕ) (e : emission k m ≡ emittedWhole 0 w out) where
+  ends : k ≡ min (0 + length w) 16777217
+  ends = emitted-whole e .ends
 
-  pub past-buffer : length out < k → tidyResult (TooLong used) t out ≡ written w used t out
-  past-buffer h = no-room (and-first (leb (length w) 16777216) (lt-leb (length w) (length out) (omega arith)))
+  no-room : hasRoom w out ≡ false → min (length out) 16777216 < 0 + length w → tidyResult (TooLong used) t m ≡ written w used t out
+  no-room h g = rw (h, whole-kept 0 w out e g) refl
 
-  pub past-longest : 16777216 < k → tidyResult (TooLong used) t out ≡ written w used t out
-  past-longest h = no-room (and-second (leb (length w) (length out)) (lt-leb (length w) 16777216 (omega arith)))
+  pub past-buffer : length m < k → tidyResult (TooLong used) t m ≡ written w used t out
+  past-buffer h =
+      let same : length m ≡ length out = emitted-whole e .same in
+      let long : k ≡ min (0 + length w) 16777217 = ends in
+      no-room (and-first (leb (length w) 16777216) (lt-leb (length w) (length out) (omega arith))) (omega arith)
 
-  pub written-whole : k ≤ length out → k ≤ 16777216 → (m : List ℕ) (r : ℕ) → Emitted 0 w out m r → tidyResult (Written k used) t m ≡ written w used t out
-  written-whole h g m r x =
+  pub past-longest : 16777216 < k → tidyResult (TooLong used) t m ≡ written w used t out
+  past-longest h =
+      let long : k ≡ min (0 + length w) 16777217 = ends in
+      no-room (and-second (leb (length w) (length out)) (lt-leb (length w) 16777216 (omega arith))) (omega arith)
+
+  pub written-whole : k ≤ length m → k ≤ 16777216 → tidyResult (Written k used) t m ≡ written w used t out
+  written-whole h g =
+      let kept : length m ≡ length out = emitted-whole e .same in
+      let long : k ≡ min (0 + length w) 16777217 = ends in
       let same : k ≡ length w = omega arith in
       let fits : length w ≤ length out = omega arith in
       let short : length w ≤ 16777216 = omega arith in
       let room : hasRoom w out ≡ true = and-both (le-leb (length w) (length out) fits) (le-leb (length w) 16777216 short) in
-      let held : m ≡ w ++ drop (length w) out = x .stored (omega arith) (omega arith) ∙ sets-eq w out 0 (omega arith) ∙ ap (λ (n : ℕ). w ++ drop n out) (let z : 0 + length w ≡ length w = omega arith in z) in
+      let held : m ≡ w ++ drop (length w) out = emitted-whole e .stored (omega arith) (omega arith) ∙ sets-eq w out 0 (omega arith) ∙ ap (λ (n : ℕ). w ++ drop n out) (let z : 0 + length w ≡ length w = omega arith in z) in
       rw room (ap₂ (λ (n : ℕ) (l : List ℕ). tidyResult (Written n used) t l) same held)
 
 -- ---- tidying: the text s was read into the tables t, which then held u. An equation of two answers gives one of what each holds.

@@ -3,8 +3,6 @@ use reader::Reading;
 use tables::Used;
 use tidier::tidy_text::write_tidy;
 ghost use mathlib.Core.Path.{_≡_};
-ghost use Prim.Native.Nat.{min};
-ghost use lib.ListN.{length};
 ghost use Rattle.tables.specs.Tables.{tables};
 ghost use Rattle.tidier.specs.TidyFrom.{tidyFrom};
 ghost use Rattle.tidy_file.specs.Tidying.{tidyResult, written, tidyInto};
@@ -16,44 +14,7 @@ pub enum Tidied {
     Refused { number: u32, place: usize },
 }
 
-// The length of the tidy text, 16,777,217 for every one that is too long.
-fn measure(
-    text: &[u8],
-    used: Used,
-    v: &[i32],
-    vt: &[i32],
-    vn: &[i32],
-    vp: &[i32],
-    corners: &[u32],
-    elements: &[u32],
-    bodies: &[u32],
-    ranges: &[i32],
-    parameters: &[i32],
-    loops: &[u32],
-    spans: &[i32],
-) -> usize
-    ensures { λ r. ⌜ r ≡ min (length (tidyFrom (now (text .entry)) used (tables (now (v .entry)) (now (vt .entry)) (now (vn .entry)) (now (vp .entry)) (now (corners .entry)) (now (elements .entry)) (now (bodies .entry)) (now (ranges .entry)) (now (parameters .entry)) (now (loops .entry)) (now (spans .entry))))) 16777217 ⌝ }
-{
-    let mut none = [0u8; 1];
-    write_tidy(
-        text,
-        used,
-        v,
-        vt,
-        vn,
-        vp,
-        corners,
-        elements,
-        bodies,
-        ranges,
-        parameters,
-        loops,
-        spans,
-        &mut none,
-    )
-}
-
-// The tidy text of what the tables hold, where there is room for all of it.
+// The tidy text of what the tables hold, written where there is room for all of it.
 fn write_whole(
     text: &[u8],
     used: Used,
@@ -72,28 +33,7 @@ fn write_whole(
 ) -> Tidied
     ensures { λ r. ⌜ tidyResult r (tables (now (v .entry)) (now (vt .entry)) (now (vn .entry)) (now (vp .entry)) (now (corners .entry)) (now (elements .entry)) (now (bodies .entry)) (now (ranges .entry)) (now (parameters .entry)) (now (loops .entry)) (now (spans .entry))) (now (out .exit)) ≡ written (tidyFrom (now (text .entry)) used (tables (now (v .entry)) (now (vt .entry)) (now (vn .entry)) (now (vp .entry)) (now (corners .entry)) (now (elements .entry)) (now (bodies .entry)) (now (ranges .entry)) (now (parameters .entry)) (now (loops .entry)) (now (spans .entry)))) used (tables (now (v .entry)) (now (vt .entry)) (now (vn .entry)) (now (vp .entry)) (now (corners .entry)) (now (elements .entry)) (now (bodies .entry)) (now (ranges .entry)) (now (parameters .entry)) (now (loops .entry)) (now (spans .entry))) (now (out .entry)) ⌝ }
 {
-    let length = measure(
-        text,
-        used,
-        v,
-        vt,
-        vn,
-        vp,
-        corners,
-        elements,
-        bodies,
-        ranges,
-        parameters,
-        loops,
-        spans,
-    );
-    if out.len() < length {
-        return Tidied::TooLong { used: used };
-    }
-    if 16_777_216 < length {
-        return Tidied::TooLong { used: used };
-    }
-    write_tidy(
+    let length = write_tidy(
         text,
         used,
         v,
@@ -109,6 +49,12 @@ fn write_whole(
         spans,
         out,
     );
+    if out.len() < length {
+        return Tidied::TooLong { used: used };
+    }
+    if 16_777_216 < length {
+        return Tidied::TooLong { used: used };
+    }
     Tidied::Written {
         length: length,
         used: used,

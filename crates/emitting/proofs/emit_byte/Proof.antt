@@ -1,9 +1,9 @@
--- Written where it ends within the buffer and the longest text; else only the place after it is told.
+-- Written where it ends within the buffer and the longest text; else nothing is.
 use mathlib.Core.Path.{refl}
 use mathlib.Core.List.{[], _∷_}
 use native.Mathlib.Omega.{arith}
 use denote.Ref.{now}
-use Rattle.emitting.proofs.Emissions.{emitted-roomless}
+use Rattle.emitting.proofs.Emissions.{whole-room, whole-roomless}
 use borrow.Author.Needs.{needs}
 use Rattle.emitting.proofs.emit_byte.Statement.{statement}
 use Rattle.emitting.proofs.emit_byte.Tie as tie
@@ -21,13 +21,17 @@ same-length : tie.Need-same-length
 same-length c = search needs
 
 returns : tie.Need-returns
-returns c = search needs
+returns c =
+    let s = c .before .before .before .before .before .before .before .before in
+    let e = c .before .before .before .before .before .before .place-after in
+    let w = c .before .before .put-byte in
+    whole-room (s .args .at) (s .args .b ∷ []) (now (s .args .out)) 1 (e .result) refl (e .ensures) (omega arith) (w .last .0) (w .result) (w .ensures)
 
 returns-2 : tie.Need-returns-2
 returns-2 c =
     let s = c .before .before .before .before in
     let e = c .before .before .place-after in
-    emitted-roomless (s .args .at) (s .args .b ∷ []) (now (s .args .out)) 1 (e .result) refl (e .ensures) (omega arith)
+    whole-roomless (s .args .at) (s .args .b ∷ []) (now (s .args .out)) 1 (e .result) refl (e .ensures) (omega arith)
 
 pub emit-byte-spec : {M : Type 1} → statement M
 emit-byte-spec =

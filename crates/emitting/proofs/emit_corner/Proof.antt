@@ -1,8 +1,8 @@
--- Written where it ends within the buffer and the longest text; else only the place after it is told.
+-- Written where it ends within the buffer and the longest text; else nothing is.
 use native.Mathlib.Omega.{arith}
 use denote.Ref.{now}
 use Rattle.forms.specs.Written.{writtenCorner}
-use Rattle.emitting.proofs.Emissions.{emitted-roomless}
+use Rattle.emitting.proofs.Emissions.{whole-room, whole-roomless}
 use borrow.Author.Needs.{needs}
 use Rattle.emitting.proofs.emit_corner.Statement.{statement}
 use Rattle.emitting.proofs.emit_corner.Tie as tie
@@ -23,13 +23,18 @@ same-length : tie.Need-same-length
 same-length c = search needs
 
 returns : tie.Need-returns
-returns c = search needs
+returns c =
+    let s = c .before .before .before .before .before .before .before .before .before in
+    let e = c .before .before .before .before .before .before .place-after in
+    let n = c .before .before .before .before .before .before .before .corner-length in
+    let w = c .before .before .write-corner in
+    whole-room (s .args .at) (writtenCorner (record { v = s .args .v; vt = s .args .vt; vn = s .args .vn })) (now (s .args .out)) (n .result) (e .result) (n .ensures) (e .ensures) (omega arith) (w .last .0) (w .result) (w .ensures)
 
 returns-2 : tie.Need-returns-2
 returns-2 c =
     let s = c .before .before .before .before .before in
     let e = c .before .before .place-after in
-    emitted-roomless (s .args .at) (writtenCorner (record { v = s .args .v; vt = s .args .vt; vn = s .args .vn })) (now (s .args .out)) (c .before .before .before .corner-length .result) (e .result) (c .before .before .before .corner-length .ensures) (e .ensures) (omega arith)
+    whole-roomless (s .args .at) (writtenCorner (record { v = s .args .v; vt = s .args .vt; vn = s .args .vn })) (now (s .args .out)) (c .before .before .before .corner-length .result) (e .result) (c .before .before .before .corner-length .ensures) (e .ensures) (omega arith)
 
 pub emit-corner-spec : {M : Type 1} → statement M
 emit-corner-spec =

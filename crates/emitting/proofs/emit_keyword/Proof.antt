@@ -1,8 +1,8 @@
--- Written where it ends within the buffer and the longest text; else only the place after it is told.
+-- Written where it ends within the buffer and the longest text; else nothing is.
 use native.Mathlib.Omega.{arith}
 use denote.Ref.{now}
 use Rattle.keywords.specs.Keywords.{keywordOf}
-use Rattle.emitting.proofs.Emissions.{emitted-roomless}
+use Rattle.emitting.proofs.Emissions.{whole-room, whole-roomless}
 use borrow.Author.Needs.{needs}
 use Rattle.emitting.proofs.emit_keyword.Statement.{statement}
 use Rattle.emitting.proofs.emit_keyword.Tie as tie
@@ -23,13 +23,18 @@ same-length : tie.Need-same-length
 same-length c = search needs
 
 returns : tie.Need-returns
-returns c = search needs
+returns c =
+    let s = c .before .before .before .before .before .before .before .before .before in
+    let e = c .before .before .before .before .before .before .place-after in
+    let n = c .before .before .before .before .before .before .before .keyword-length in
+    let w = c .before .before .write-keyword in
+    whole-room (s .args .at) (keywordOf (s .args .statement)) (now (s .args .out)) (n .result) (e .result) (n .ensures) (e .ensures) (omega arith) (w .last .1 .1 .0) (w .result) (w .ensures)
 
 returns-2 : tie.Need-returns-2
 returns-2 c =
     let s = c .before .before .before .before .before in
     let e = c .before .before .place-after in
-    emitted-roomless (s .args .at) (keywordOf (s .args .statement)) (now (s .args .out)) (c .before .before .before .keyword-length .result) (e .result) (c .before .before .before .keyword-length .ensures) (e .ensures) (omega arith)
+    whole-roomless (s .args .at) (keywordOf (s .args .statement)) (now (s .args .out)) (c .before .before .before .keyword-length .result) (e .result) (c .before .before .before .keyword-length .ensures) (e .ensures) (omega arith)
 
 pub emit-keyword-spec : {M : Type 1} → statement M
 emit-keyword-spec =

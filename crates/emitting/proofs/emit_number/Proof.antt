@@ -1,11 +1,11 @@
--- Written where it ends within the buffer and the longest text; else only the place after it is told.
+-- Written where it ends within the buffer and the longest text; else nothing is.
 use native.Mathlib.Omega.{arith}
 use denote.Ref.{now}
 use lib.ListN.{length}
 use mir.Facts.{toZ-ofZ}
 use Rattle.forms.specs.Written.{writtenNumber}
 use mathlib.Core.Path.{_≡_}
-use Rattle.emitting.proofs.Emissions.{emitted-room, emitted-roomless}
+use Rattle.emitting.proofs.Emissions.{whole-room, whole-roomless}
 use borrow.Author.Needs.{needs}
 use Rattle.emitting.proofs.emit_number.Statement.{statement}
 use Rattle.emitting.proofs.emit_number.Tie as tie
@@ -33,7 +33,7 @@ returns c =
     let w = c .before .before .write-number in
     let i : n .result ≡ length (writtenNumber (s .args .value)) = rw (toZ-ofZ (s .fits .value)) at (n .ensures) in
     let j = rw (toZ-ofZ (s .fits .value)) at (w .ensures) in
-    emitted-room (s .args .at) (writtenNumber (s .args .value)) (now (s .args .out)) (w .last .0) (n .result) (e .result) (w .result) i (e .ensures) (omega arith) j
+    whole-room (s .args .at) (writtenNumber (s .args .value)) (now (s .args .out)) (n .result) (e .result) i (e .ensures) (omega arith) (w .last .0) (w .result) j
 
 returns-2 : tie.Need-returns-2
 returns-2 c =
@@ -41,7 +41,7 @@ returns-2 c =
     let e = c .before .before .place-after in
     let n = c .before .before .before .number-length in
     let i : n .result ≡ length (writtenNumber (s .args .value)) = rw (toZ-ofZ (s .fits .value)) at (n .ensures) in
-    emitted-roomless (s .args .at) (writtenNumber (s .args .value)) (now (s .args .out)) (n .result) (e .result) i (e .ensures) (omega arith)
+    whole-roomless (s .args .at) (writtenNumber (s .args .value)) (now (s .args .out)) (n .result) (e .result) i (e .ensures) (omega arith)
 
 pub emit-number-spec : {M : Type 1} → statement M
 emit-number-spec =

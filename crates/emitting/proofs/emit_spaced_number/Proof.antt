@@ -1,6 +1,8 @@
 -- The space, and the word.
 use mir.Facts.{toZ-ofZ}
-use Rattle.emitting.proofs.Emissions.{emitted-then}
+use denote.Ref.{now}
+use Rattle.forms.specs.Written.{writtenNumber}
+use Rattle.emitting.proofs.Emissions.{space-then}
 use borrow.Author.Needs.{needs}
 use Rattle.emitting.proofs.emit_spaced_number.Statement.{statement}
 use Rattle.emitting.proofs.emit_spaced_number.Tie as tie
@@ -15,7 +17,9 @@ same-length : tie.Need-same-length
 same-length c = search needs
 
 returns : tie.Need-returns
-returns c = emitted-then (c .before .before .before .before .before .before .emit-byte .ensures) (rw (toZ-ofZ (c .before .before .before .before .before .before .before .before .before .fits .value)) at (c .before .before .emit-number .ensures))
+returns c =
+    let s = c .before .before .before .before .before .before .before .before .before in
+    space-then (s .args .at) (writtenNumber (s .args .value)) (now (s .args .out)) (c .before .before .before .before .before .before .emit-byte .ensures) (rw (toZ-ofZ (c .before .before .before .before .before .before .before .before .before .fits .value)) at (c .before .before .emit-number .ensures))
 
 pub emit-spaced-number-spec : {M : Type 1} → statement M
 emit-spaced-number-spec =

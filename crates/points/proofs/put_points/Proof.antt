@@ -1,12 +1,9 @@
 -- Each number takes one off what is left.
-use Prim.Native.Nat.{_-_, _≤_}
+use Prim.Native.Nat.{_-_}
 use lib.ListN.{length}
 use borrow.Author.Needs.{needs}
 use Rattle.points.proofs.put_points.Statement.{statement}
 use Rattle.points.proofs.put_points.Tie as tie
-use Rattle.points.proofs.put_points.Reads as reads
-use Rattle.points.proofs.put_points.Lts as lts
-use Rattle.points.proofs.put_number.Reads as put-number-reads
 
 abbrev Inv-loop : tie.InvT-loop
 Inv-loop points axes i₀ axis₀ t5 t6 i axis = Unit {0}
@@ -29,6 +26,9 @@ slice-aggregate-put-number c = search needs
 put-number-requires : tie.Need-put-number-requires Inv-loop μ-loop
 put-number-requires c κs = search needs
 
+returns : tie.Need-returns Inv-loop μ-loop
+returns c = search needs
+
 add-axis : tie.Need-add-axis Inv-loop μ-loop
 add-axis c = search needs
 
@@ -44,6 +44,9 @@ slice-aggregate-put-number-2 c = search needs
 put-number-requires-2 : tie.Need-put-number-requires-2 Inv-loop μ-loop
 put-number-requires-2 c κs = search needs
 
+returns-2 : tie.Need-returns-2 Inv-loop μ-loop
+returns-2 c = search needs
+
 add-i : tie.Need-add-i Inv-loop μ-loop
 add-i c = search needs
 
@@ -53,8 +56,8 @@ loop-less c = search needs
 loop-again : tie.Need-loop-again Inv-loop μ-loop
 loop-again c = search needs
 
-returns : tie.Need-returns Inv-loop μ-loop
-returns c = search needs
+returns-3 : tie.Need-returns-3 Inv-loop μ-loop
+returns-3 c = search needs
 
 pub put-points-spec : {M : Type 1} → statement M
 put-points-spec =
@@ -67,12 +70,14 @@ put-points-spec =
     shared-slice-copy-out-put-number
     slice-aggregate-put-number
     put-number-requires
+    returns
     add-axis
     mul-put-number-2
     shared-slice-copy-out-put-number-2
     slice-aggregate-put-number-2
     put-number-requires-2
+    returns-2
     add-i
     loop-less
     loop-again
-    returns)
+    returns-3)

@@ -2,7 +2,8 @@
 use mathlib.Core.Path.{_∙_}
 use denote.Ref.{now}
 use Rattle.tables.specs.Tables.{tables}
-use Rattle.reader.proofs.Whole.{cleared-blank, read-too-long, read-whole}
+use Rattle.all_lines.proofs.Cleared.{cleared-blank}
+use Rattle.reader.proofs.Whole.{read-too-long, read-whole}
 use borrow.Author.Needs.{needs}
 use Rattle.reader.proofs.read.Statement.{statement}
 use Rattle.reader.proofs.read.Tie as tie
@@ -10,7 +11,7 @@ use Rattle.reader.proofs.read.Reads as reads
 use Rattle.reader.proofs.read.Lts as lts
 use Rattle.keywords.proofs.argument_table.Reads as argument-table-reads
 use Rattle.keywords.proofs.keyword_table.Reads as keyword-table-reads
-use Rattle.reader.proofs.line_by_line.read_lines.Reads as read-lines-reads
+use Rattle.all_lines.proofs.lines_of.Reads as lines-of-reads
 use Rattle.storing.proofs.clear.Reads as clear-reads
 
 clear-requires : tie.Need-clear-requires
@@ -61,45 +62,45 @@ keyword-table-requires c κs = search needs
 argument-table-requires : tie.Need-argument-table-requires
 argument-table-requires c κs = search needs
 
-read-lines-requires : tie.Need-read-lines-requires
-read-lines-requires c κs =
+lines-of-requires : tie.Need-lines-of-requires
+lines-of-requires c κs =
     let short = c .before .before .before .before .before .before .before .before .before .before .before .before .before .before .before in
     let cleared = short .before .before .before .before .before .before .before .before .before .before .before .before .before .before .before .before in
     let a = cleared .before .before .before .before .before .before .before .before .before .before .before .before .before .before .before .before .before .args in
     (short .if1 .left, (cleared-blank (tables (now (a .v)) (now (a .vt)) (now (a .vn)) (now (a .vp)) (now (a .corners)) (now (a .elements)) (now (a .bodies)) (now (a .ranges)) (now (a .parameters)) (now (a .loops)) (now (a .spans))) (tables (cleared .clear .last .0) (cleared .clear .last .1 .0) (cleared .clear .last .1 .1 .0) (cleared .clear .last .1 .1 .1 .0) (cleared .clear .last .1 .1 .1 .1 .0) (cleared .clear .last .1 .1 .1 .1 .1 .0) (cleared .clear .last .1 .1 .1 .1 .1 .1 .0) (cleared .clear .last .1 .1 .1 .1 .1 .1 .1 .0) (cleared .clear .last .1 .1 .1 .1 .1 .1 .1 .1 .0) (cleared .clear .last .1 .1 .1 .1 .1 .1 .1 .1 .1 .0) (cleared .clear .last .1 .1 .1 .1 .1 .1 .1 .1 .1 .1 .0)) (cleared .clear .ensures), (c .before .before .before .before .before .before .before .before .before .before .before .before .before .before .keyword-table .ensures, c .before .before .before .before .before .before .before .before .before .before .before .before .before .argument-table .ensures)))
 
 same-length-12 : tie.Need-same-length-12
-same-length-12 c = c .before .before .before .before .before .before .before .before .before .before .before .before .before .before .before .read-lines .kept .1 .0 ∙ c .before .before .before .before .before .before .before .before .before .before .before .before .before .before .before .before .before .before .before .before .before .before .before .before .before .before .before .before .before .before .before .before .before .before .before .before .before .before .before .before .before .before .before .before .before .before .before .clear .kept .0
+same-length-12 c = c .before .before .before .before .before .before .before .before .before .before .before .before .before .before .before .lines-of .kept .1 .0 ∙ c .before .before .before .before .before .before .before .before .before .before .before .before .before .before .before .before .before .before .before .before .before .before .before .before .before .before .before .before .before .before .before .before .before .before .before .before .before .before .before .before .before .before .before .before .before .before .before .clear .kept .0
 
 same-length-13 : tie.Need-same-length-13
-same-length-13 c = c .before .before .before .before .before .before .before .before .before .before .before .before .before .before .before .read-lines .kept .1 .1 .0 ∙ c .before .before .before .before .before .before .before .before .before .before .before .before .before .before .before .before .before .before .before .before .before .before .before .before .before .before .before .before .before .before .before .before .before .before .before .before .before .before .before .before .before .before .before .before .before .before .before .clear .kept .1 .0
+same-length-13 c = c .before .before .before .before .before .before .before .before .before .before .before .before .before .before .before .lines-of .kept .1 .1 .0 ∙ c .before .before .before .before .before .before .before .before .before .before .before .before .before .before .before .before .before .before .before .before .before .before .before .before .before .before .before .before .before .before .before .before .before .before .before .before .before .before .before .before .before .before .before .before .before .before .before .clear .kept .1 .0
 
 same-length-14 : tie.Need-same-length-14
-same-length-14 c = c .before .before .before .before .before .before .before .before .before .before .before .before .before .before .before .read-lines .kept .1 .1 .1 .0 ∙ c .before .before .before .before .before .before .before .before .before .before .before .before .before .before .before .before .before .before .before .before .before .before .before .before .before .before .before .before .before .before .before .before .before .before .before .before .before .before .before .before .before .before .before .before .before .before .before .clear .kept .1 .1 .0
+same-length-14 c = c .before .before .before .before .before .before .before .before .before .before .before .before .before .before .before .lines-of .kept .1 .1 .1 .0 ∙ c .before .before .before .before .before .before .before .before .before .before .before .before .before .before .before .before .before .before .before .before .before .before .before .before .before .before .before .before .before .before .before .before .before .before .before .before .before .before .before .before .before .before .before .before .before .before .before .clear .kept .1 .1 .0
 
 same-length-15 : tie.Need-same-length-15
-same-length-15 c = c .before .before .before .before .before .before .before .before .before .before .before .before .before .before .before .read-lines .kept .1 .1 .1 .1 .0 ∙ c .before .before .before .before .before .before .before .before .before .before .before .before .before .before .before .before .before .before .before .before .before .before .before .before .before .before .before .before .before .before .before .before .before .before .before .before .before .before .before .before .before .before .before .before .before .before .before .clear .kept .1 .1 .1 .0
+same-length-15 c = c .before .before .before .before .before .before .before .before .before .before .before .before .before .before .before .lines-of .kept .1 .1 .1 .1 .0 ∙ c .before .before .before .before .before .before .before .before .before .before .before .before .before .before .before .before .before .before .before .before .before .before .before .before .before .before .before .before .before .before .before .before .before .before .before .before .before .before .before .before .before .before .before .before .before .before .before .clear .kept .1 .1 .1 .0
 
 same-length-16 : tie.Need-same-length-16
-same-length-16 c = c .before .before .before .before .before .before .before .before .before .before .before .before .before .before .before .read-lines .kept .1 .1 .1 .1 .1 .0 ∙ c .before .before .before .before .before .before .before .before .before .before .before .before .before .before .before .before .before .before .before .before .before .before .before .before .before .before .before .before .before .before .before .before .before .before .before .before .before .before .before .before .before .before .before .before .before .before .before .clear .kept .1 .1 .1 .1 .0
+same-length-16 c = c .before .before .before .before .before .before .before .before .before .before .before .before .before .before .before .lines-of .kept .1 .1 .1 .1 .1 .0 ∙ c .before .before .before .before .before .before .before .before .before .before .before .before .before .before .before .before .before .before .before .before .before .before .before .before .before .before .before .before .before .before .before .before .before .before .before .before .before .before .before .before .before .before .before .before .before .before .before .clear .kept .1 .1 .1 .1 .0
 
 same-length-17 : tie.Need-same-length-17
-same-length-17 c = c .before .before .before .before .before .before .before .before .before .before .before .before .before .before .before .read-lines .kept .1 .1 .1 .1 .1 .1 .0 ∙ c .before .before .before .before .before .before .before .before .before .before .before .before .before .before .before .before .before .before .before .before .before .before .before .before .before .before .before .before .before .before .before .before .before .before .before .before .before .before .before .before .before .before .before .before .before .before .before .clear .kept .1 .1 .1 .1 .1 .0
+same-length-17 c = c .before .before .before .before .before .before .before .before .before .before .before .before .before .before .before .lines-of .kept .1 .1 .1 .1 .1 .1 .0 ∙ c .before .before .before .before .before .before .before .before .before .before .before .before .before .before .before .before .before .before .before .before .before .before .before .before .before .before .before .before .before .before .before .before .before .before .before .before .before .before .before .before .before .before .before .before .before .before .before .clear .kept .1 .1 .1 .1 .1 .0
 
 same-length-18 : tie.Need-same-length-18
-same-length-18 c = c .before .before .before .before .before .before .before .before .before .before .before .before .before .before .before .read-lines .kept .1 .1 .1 .1 .1 .1 .1 .0 ∙ c .before .before .before .before .before .before .before .before .before .before .before .before .before .before .before .before .before .before .before .before .before .before .before .before .before .before .before .before .before .before .before .before .before .before .before .before .before .before .before .before .before .before .before .before .before .before .before .clear .kept .1 .1 .1 .1 .1 .1 .0
+same-length-18 c = c .before .before .before .before .before .before .before .before .before .before .before .before .before .before .before .lines-of .kept .1 .1 .1 .1 .1 .1 .1 .0 ∙ c .before .before .before .before .before .before .before .before .before .before .before .before .before .before .before .before .before .before .before .before .before .before .before .before .before .before .before .before .before .before .before .before .before .before .before .before .before .before .before .before .before .before .before .before .before .before .before .clear .kept .1 .1 .1 .1 .1 .1 .0
 
 same-length-19 : tie.Need-same-length-19
-same-length-19 c = c .before .before .before .before .before .before .before .before .before .before .before .before .before .before .before .read-lines .kept .1 .1 .1 .1 .1 .1 .1 .1 .0 ∙ c .before .before .before .before .before .before .before .before .before .before .before .before .before .before .before .before .before .before .before .before .before .before .before .before .before .before .before .before .before .before .before .before .before .before .before .before .before .before .before .before .before .before .before .before .before .before .before .clear .kept .1 .1 .1 .1 .1 .1 .1 .0
+same-length-19 c = c .before .before .before .before .before .before .before .before .before .before .before .before .before .before .before .lines-of .kept .1 .1 .1 .1 .1 .1 .1 .1 .0 ∙ c .before .before .before .before .before .before .before .before .before .before .before .before .before .before .before .before .before .before .before .before .before .before .before .before .before .before .before .before .before .before .before .before .before .before .before .before .before .before .before .before .before .before .before .before .before .before .before .clear .kept .1 .1 .1 .1 .1 .1 .1 .0
 
 same-length-20 : tie.Need-same-length-20
-same-length-20 c = c .before .before .before .before .before .before .before .before .before .before .before .before .before .before .before .read-lines .kept .1 .1 .1 .1 .1 .1 .1 .1 .1 .0 ∙ c .before .before .before .before .before .before .before .before .before .before .before .before .before .before .before .before .before .before .before .before .before .before .before .before .before .before .before .before .before .before .before .before .before .before .before .before .before .before .before .before .before .before .before .before .before .before .before .clear .kept .1 .1 .1 .1 .1 .1 .1 .1 .0
+same-length-20 c = c .before .before .before .before .before .before .before .before .before .before .before .before .before .before .before .lines-of .kept .1 .1 .1 .1 .1 .1 .1 .1 .1 .0 ∙ c .before .before .before .before .before .before .before .before .before .before .before .before .before .before .before .before .before .before .before .before .before .before .before .before .before .before .before .before .before .before .before .before .before .before .before .before .before .before .before .before .before .before .before .before .before .before .before .clear .kept .1 .1 .1 .1 .1 .1 .1 .1 .0
 
 same-length-21 : tie.Need-same-length-21
-same-length-21 c = c .before .before .before .before .before .before .before .before .before .before .before .before .before .before .before .read-lines .kept .1 .1 .1 .1 .1 .1 .1 .1 .1 .1 .0 ∙ c .before .before .before .before .before .before .before .before .before .before .before .before .before .before .before .before .before .before .before .before .before .before .before .before .before .before .before .before .before .before .before .before .before .before .before .before .before .before .before .before .before .before .before .before .before .before .before .clear .kept .1 .1 .1 .1 .1 .1 .1 .1 .1 .0
+same-length-21 c = c .before .before .before .before .before .before .before .before .before .before .before .before .before .before .before .lines-of .kept .1 .1 .1 .1 .1 .1 .1 .1 .1 .1 .0 ∙ c .before .before .before .before .before .before .before .before .before .before .before .before .before .before .before .before .before .before .before .before .before .before .before .before .before .before .before .before .before .before .before .before .before .before .before .before .before .before .before .before .before .before .before .before .before .before .before .clear .kept .1 .1 .1 .1 .1 .1 .1 .1 .1 .0
 
 same-length-22 : tie.Need-same-length-22
-same-length-22 c = c .before .before .before .before .before .before .before .before .before .before .before .before .before .before .before .read-lines .kept .1 .1 .1 .1 .1 .1 .1 .1 .1 .1 .1 .0 ∙ c .before .before .before .before .before .before .before .before .before .before .before .before .before .before .before .before .before .before .before .before .before .before .before .before .before .before .before .before .before .before .before .before .before .before .before .before .before .before .before .before .before .before .before .before .before .before .before .clear .kept .1 .1 .1 .1 .1 .1 .1 .1 .1 .1 .0
+same-length-22 c = c .before .before .before .before .before .before .before .before .before .before .before .before .before .before .before .lines-of .kept .1 .1 .1 .1 .1 .1 .1 .1 .1 .1 .1 .0 ∙ c .before .before .before .before .before .before .before .before .before .before .before .before .before .before .before .before .before .before .before .before .before .before .before .before .before .before .before .before .before .before .before .before .before .before .before .before .before .before .before .before .before .before .before .before .before .before .before .clear .kept .1 .1 .1 .1 .1 .1 .1 .1 .1 .1 .0
 
 returns-2 : tie.Need-returns-2
 returns-2 c =
@@ -107,7 +108,7 @@ returns-2 c =
     let short = all .before .before .before .before .before .before .before .before .before .before .before .before .before .before .before .before in
     let cleared = short .before .before .before .before .before .before .before .before .before .before .before .before .before .before .before .before in
     let a = cleared .before .before .before .before .before .before .before .before .before .before .before .before .before .before .before .before .before .args in
-    read-whole (now (a .text)) (tables (now (a .v)) (now (a .vt)) (now (a .vn)) (now (a .vp)) (now (a .corners)) (now (a .elements)) (now (a .bodies)) (now (a .ranges)) (now (a .parameters)) (now (a .loops)) (now (a .spans))) (tables (cleared .clear .last .0) (cleared .clear .last .1 .0) (cleared .clear .last .1 .1 .0) (cleared .clear .last .1 .1 .1 .0) (cleared .clear .last .1 .1 .1 .1 .0) (cleared .clear .last .1 .1 .1 .1 .1 .0) (cleared .clear .last .1 .1 .1 .1 .1 .1 .0) (cleared .clear .last .1 .1 .1 .1 .1 .1 .1 .0) (cleared .clear .last .1 .1 .1 .1 .1 .1 .1 .1 .0) (cleared .clear .last .1 .1 .1 .1 .1 .1 .1 .1 .1 .0) (cleared .clear .last .1 .1 .1 .1 .1 .1 .1 .1 .1 .1 .0)) (cleared .clear .ensures) (short .if1 .left) (tables (all .read-lines .last .1 .0) (all .read-lines .last .1 .1 .0) (all .read-lines .last .1 .1 .1 .0) (all .read-lines .last .1 .1 .1 .1 .0) (all .read-lines .last .1 .1 .1 .1 .1 .0) (all .read-lines .last .1 .1 .1 .1 .1 .1 .0) (all .read-lines .last .1 .1 .1 .1 .1 .1 .1 .0) (all .read-lines .last .1 .1 .1 .1 .1 .1 .1 .1 .0) (all .read-lines .last .1 .1 .1 .1 .1 .1 .1 .1 .1 .0) (all .read-lines .last .1 .1 .1 .1 .1 .1 .1 .1 .1 .1 .0) (all .read-lines .last .1 .1 .1 .1 .1 .1 .1 .1 .1 .1 .1 .0)) (all .read-lines .result) (all .read-lines .ensures)
+    read-whole (now (a .text)) (tables (now (a .v)) (now (a .vt)) (now (a .vn)) (now (a .vp)) (now (a .corners)) (now (a .elements)) (now (a .bodies)) (now (a .ranges)) (now (a .parameters)) (now (a .loops)) (now (a .spans))) (tables (cleared .clear .last .0) (cleared .clear .last .1 .0) (cleared .clear .last .1 .1 .0) (cleared .clear .last .1 .1 .1 .0) (cleared .clear .last .1 .1 .1 .1 .0) (cleared .clear .last .1 .1 .1 .1 .1 .0) (cleared .clear .last .1 .1 .1 .1 .1 .1 .0) (cleared .clear .last .1 .1 .1 .1 .1 .1 .1 .0) (cleared .clear .last .1 .1 .1 .1 .1 .1 .1 .1 .0) (cleared .clear .last .1 .1 .1 .1 .1 .1 .1 .1 .1 .0) (cleared .clear .last .1 .1 .1 .1 .1 .1 .1 .1 .1 .1 .0)) (cleared .clear .ensures) (short .if1 .left) (tables (all .lines-of .last .1 .0) (all .lines-of .last .1 .1 .0) (all .lines-of .last .1 .1 .1 .0) (all .lines-of .last .1 .1 .1 .1 .0) (all .lines-of .last .1 .1 .1 .1 .1 .0) (all .lines-of .last .1 .1 .1 .1 .1 .1 .0) (all .lines-of .last .1 .1 .1 .1 .1 .1 .1 .0) (all .lines-of .last .1 .1 .1 .1 .1 .1 .1 .1 .0) (all .lines-of .last .1 .1 .1 .1 .1 .1 .1 .1 .1 .0) (all .lines-of .last .1 .1 .1 .1 .1 .1 .1 .1 .1 .1 .0) (all .lines-of .last .1 .1 .1 .1 .1 .1 .1 .1 .1 .1 .1 .0)) (all .lines-of .result) (all .lines-of .ensures)
 
 pub read-spec : {M : Type 1} → statement M
 read-spec =
@@ -128,7 +129,7 @@ read-spec =
     returns
     keyword-table-requires
     argument-table-requires
-    read-lines-requires
+    lines-of-requires
     same-length-12
     same-length-13
     same-length-14

@@ -3,6 +3,7 @@ use Prim.Native.Nat.{_-_}
 use lib.ListN.{length}
 use native.Mathlib.Omega.{arith}
 use denote.Ref.{now}
+use Rattle.emitting.proofs.Emissions.{emitted-whole}
 use borrow.Author.Needs.{needs}
 use Rattle.emitting.proofs.NamesLeft.{NamesLeft, names-start, names-done, names-turn}
 use Rattle.emitting.proofs.names.emit_words.Statement.{statement}
@@ -41,7 +42,7 @@ emit-word-requires c κs = c .before .word-end .ensures .0
 loop-less : tie.Need-loop-less Inv-loop μ-loop
 loop-less c =
     let l = c .before .before .before .before .before .before .before .before .before .before .before .loop in
-    let next = names-turn (l .inv) (c .before .before .before .before .before .before .before .before .before .before .next-word .ensures) (c .before .before .before .before .before .before .before .before .before .if1 .left) (c .before .before .before .before .before .before .before .emit-byte .ensures) (c .before .before .before .before .word-end .ensures .0) (c .before .before .emit-word .ensures) in
+    let next = names-turn (l .inv) (c .before .before .before .before .before .before .before .before .before .before .next-word .ensures) (c .before .before .before .before .before .before .before .before .before .if1 .left) (emitted-whole (c .before .before .before .before .before .before .before .emit-byte .ensures)) (c .before .before .before .before .word-end .ensures .0) (emitted-whole (c .before .before .emit-word .ensures)) in
     let less = next .1 in
     let within = next .0 .within in
     omega arith
@@ -49,7 +50,7 @@ loop-less c =
 loop-again : tie.Need-loop-again Inv-loop μ-loop
 loop-again c =
     let l = c .before .before .before .before .before .before .before .before .before .before .before .loop in
-    let next = names-turn (l .inv) (c .before .before .before .before .before .before .before .before .before .before .next-word .ensures) (c .before .before .before .before .before .before .before .before .before .if1 .left) (c .before .before .before .before .before .before .before .emit-byte .ensures) (c .before .before .before .before .word-end .ensures .0) (c .before .before .emit-word .ensures) in
+    let next = names-turn (l .inv) (c .before .before .before .before .before .before .before .before .before .before .next-word .ensures) (c .before .before .before .before .before .before .before .before .before .if1 .left) (emitted-whole (c .before .before .before .before .before .before .before .emit-byte .ensures)) (c .before .before .before .before .word-end .ensures .0) (emitted-whole (c .before .before .emit-word .ensures)) in
     next .0
 
 pub emit-words-spec : {M : Type 1} → statement M

@@ -2,7 +2,7 @@
 use mathlib.Core.List.{[], _∷_}
 use denote.Ref.{now}
 use Rattle.tidier.specs.Rows.{parameterLines, bodyLoops, endLine}
-use Rattle.emitting.proofs.Emissions.{emitted-then, emitted-is}
+use Rattle.emitting.proofs.Emissions.{emitted-then, emitted-is, emitted-whole}
 use Rattle.tidier.proofs.Turns.{one-line, three-lines}
 use borrow.Author.Needs.{needs}
 use Rattle.tidier.proofs.body.closing_lines.Statement.{statement}
@@ -34,7 +34,7 @@ returns c =
     let a = c .before .before .before .before .before .before .before .before .before .before .before .before .before .before .before .before .before .before .before .args in
     emitted-is (three-lines (parameterLines (now (a .parameters)) (a .kind) (a .body)) (bodyLoops (now (a .parts)) (now (a .spans)) (a .body)) (endLine ∷ []))
     (emitted-then (c .before .before .before .before .before .before .before .before .before .before .before .before .before .before .before .parameter-lines .ensures)
-    (emitted-then (c .before .before .before .before .before .before .before .before .before .before .loop-lines .ensures) (emitted-is (one-line endLine) (emitted-then (c .before .before .before .before .before .before .emit-keyword .ensures) (c .before .before .emit-byte .ensures)))))
+    (emitted-then (c .before .before .before .before .before .before .before .before .before .before .loop-lines .ensures) (emitted-is (one-line endLine) (emitted-then (emitted-whole (c .before .before .before .before .before .before .emit-keyword .ensures)) (emitted-whole (c .before .before .emit-byte .ensures))))))
 
 pub closing-lines-spec : {M : Type 1} → statement M
 closing-lines-spec =

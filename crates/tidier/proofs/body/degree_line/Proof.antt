@@ -6,7 +6,7 @@ use Rattle.text.specs.Written.{writtenLine}
 use Rattle.forms.specs.Written.{writtenWhole}
 use Rattle.keywords.specs.Keywords.{keywordOf}
 use Rattle.keywords.specs.declared.Statement.the-variants.{Degree}
-use Rattle.emitting.proofs.Emissions.{emitted-then, emitted-is}
+use Rattle.emitting.proofs.Emissions.{emitted-then, emitted-is, emitted-spaced, emitted-whole}
 use Rattle.tidier.proofs.Turns.{emitted-line, spaced-one, spaced-two, degree-one, degree-two}
 use borrow.Author.Needs.{needs}
 use Rattle.tidier.proofs.body.degree_line.Statement.{statement}
@@ -29,7 +29,7 @@ returns c =
     let b = c .before .before .before .before .before .before .before .before .before .before .before .before .before .before .before .args .body in
     let m = writtenWhole (b .«degree_u») in
     emitted-is (ap (λ (w : List (List ℕ)). writtenLine (keywordOf Degree ∷ w)) (degree-one (b .«degree_u») (b .«degree_v») (c .before .before .before .before .if1 .taken)))
-    (emitted-line (keywordOf Degree) (m ∷ []) (c .before .before .before .before .before .before .before .before .before .before .before .before .emit-keyword .ensures) (emitted-is (spaced-one m) (c .before .before .before .before .before .before .before .before .emit-spaced-whole .ensures)) (c .before .before .emit-byte .ensures))
+    (emitted-line (keywordOf Degree) (m ∷ []) (emitted-whole (c .before .before .before .before .before .before .before .before .before .before .before .before .emit-keyword .ensures)) (emitted-is (spaced-one m) (emitted-spaced (c .before .before .before .before .before .before .before .before .emit-spaced-whole .ensures))) (emitted-whole (c .before .before .emit-byte .ensures)))
 
 emit-spaced-whole-requires-2 : tie.Need-emit-spaced-whole-requires-2
 emit-spaced-whole-requires-2 c κs = search needs
@@ -46,7 +46,7 @@ returns-2 c =
     let m = writtenWhole (b .«degree_u») in
     let n = writtenWhole (b .«degree_v») in
     emitted-is (ap (λ (w : List (List ℕ)). writtenLine (keywordOf Degree ∷ w)) (degree-two (b .«degree_u») (b .«degree_v») (c .before .before .before .before .before .before .before .before .if1 .left)))
-    (emitted-line (keywordOf Degree) (m ∷ n ∷ []) (c .before .before .before .before .before .before .before .before .before .before .before .before .before .before .before .before .emit-keyword .ensures) (emitted-is (spaced-two m n) (emitted-then (c .before .before .before .before .before .before .before .before .before .before .before .before .emit-spaced-whole .ensures) (c .before .before .before .before .before .before .emit-spaced-whole2 .ensures))) (c .before .before .emit-byte2 .ensures))
+    (emitted-line (keywordOf Degree) (m ∷ n ∷ []) (emitted-whole (c .before .before .before .before .before .before .before .before .before .before .before .before .before .before .before .before .emit-keyword .ensures)) (emitted-is (spaced-two m n) (emitted-then (emitted-spaced (c .before .before .before .before .before .before .before .before .before .before .before .before .emit-spaced-whole .ensures)) (emitted-spaced (c .before .before .before .before .before .before .emit-spaced-whole2 .ensures)))) (emitted-whole (c .before .before .emit-byte2 .ensures)))
 
 pub degree-line-spec : {M : Type 1} → statement M
 degree-line-spec =

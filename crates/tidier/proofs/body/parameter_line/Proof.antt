@@ -1,12 +1,13 @@
 -- The keyword, the direction, the numbers, the line's end.
 use mathlib.Core.List.{_∷_, map}
+use native.Mathlib.Omega.{arith}
 use denote.Ref.{now}
 use lib.ListN.{take, drop}
 use Rattle.forms.specs.Written.{writtenNumber}
 use Rattle.keywords.specs.Keywords.{keywordOf}
 use Rattle.keywords.specs.Arguments.{argumentBytes}
 use Rattle.keywords.specs.declared.Statement.the-variants.{Parameters}
-use Rattle.emitting.proofs.Emissions.{emitted-then}
+use Rattle.emitting.proofs.Emissions.{emitted-then, emitted-spaced, emitted-whole}
 use Rattle.tidier.proofs.Turns.{emitted-line}
 use borrow.Author.Needs.{needs}
 use Rattle.tidier.proofs.body.parameter_line.Statement.{statement}
@@ -19,7 +20,7 @@ emit-spaced-argument-requires : tie.Need-emit-spaced-argument-requires
 emit-spaced-argument-requires c κs = search needs
 
 emit-numbers-requires : tie.Need-emit-numbers-requires
-emit-numbers-requires c κs = search needs
+emit-numbers-requires c κs = omega (arith, emitted-spaced (c .before .before .before .emit-spaced-argument .ensures) .ends)
 
 emit-byte-requires : tie.Need-emit-byte-requires
 emit-byte-requires c κs = search needs
@@ -30,8 +31,8 @@ same-length c = search needs
 returns : tie.Need-returns
 returns c =
     let a = c .before .before .before .before .before .before .before .before .before .before .before .before .before .before .before .before .before .args in
-    emitted-line (keywordOf Parameters) (argumentBytes (a .direction) ∷ map writtenNumber (take (a .count) (drop (a .first) (now (a .parameters))))) (c .before .before .before .before .before .before .before .before .before .before .before .before .before .before .emit-keyword .ensures)
-    (emitted-then (c .before .before .before .before .before .before .before .before .before .before .emit-spaced-argument .ensures) (c .before .before .before .before .before .before .emit-numbers .ensures)) (c .before .before .emit-byte .ensures)
+    emitted-line (keywordOf Parameters) (argumentBytes (a .direction) ∷ map writtenNumber (take (a .count) (drop (a .first) (now (a .parameters))))) (emitted-whole (c .before .before .before .before .before .before .before .before .before .before .before .before .before .before .emit-keyword .ensures))
+    (emitted-then (emitted-spaced (c .before .before .before .before .before .before .before .before .before .before .emit-spaced-argument .ensures)) (c .before .before .before .before .before .before .emit-numbers .ensures)) (emitted-whole (c .before .before .emit-byte .ensures))
 
 pub parameter-line-spec : {M : Type 1} → statement M
 parameter-line-spec =

@@ -12,7 +12,7 @@ use Rattle.keywords.specs.declared.Argument.{Argument}
 use Rattle.keywords.specs.declared.Argument.the-variants.{Rational}
 use Rattle.keywords.specs.declared.Statement.the-variants.{BodyType}
 use Rattle.tidier.specs.Rows.{basisArgument}
-use Rattle.emitting.proofs.Emissions.{emitted-then, emitted-is}
+use Rattle.emitting.proofs.Emissions.{emitted-then, emitted-is, emitted-spaced, emitted-whole}
 use Rattle.tidier.proofs.Turns.{emitted-line, spaced-one, spaced-two}
 use borrow.Author.Needs.{needs}
 use Rattle.tidier.proofs.body.type_line.Statement.{statement}
@@ -42,8 +42,8 @@ returns c =
     let t = argumentBytes (basisArgument (b .basis)) in
     let k = ap (λ (x : Argument). 32 ∷ argumentBytes x) (c .before .before .before .before .before .before .before .before .basis-argument .ensures) in
     emitted-is (ap (λ (n : ℕ). writtenLine (keywordOf BodyType ∷ cond (eqb n 1) (argumentBytes Rational ∷ t ∷ []) (t ∷ []))) (sym (c .before .before .before .before .before .before .before .before .before .before .before .before .before .if1 .taken)))
-    (emitted-line (keywordOf BodyType) (argumentBytes Rational ∷ t ∷ []) (c .before .before .before .before .before .before .before .before .before .before .before .before .before .before .before .before .before .emit-keyword .ensures)
-    (emitted-is (spaced-two (argumentBytes Rational) t) (emitted-then (c .before .before .before .before .before .before .before .before .before .before .before .emit-spaced-argument .ensures) (emitted-is k (c .before .before .before .before .before .before .emit-spaced-argument2 .ensures)))) (c .before .before .emit-byte .ensures))
+    (emitted-line (keywordOf BodyType) (argumentBytes Rational ∷ t ∷ []) (emitted-whole (c .before .before .before .before .before .before .before .before .before .before .before .before .before .before .before .before .before .emit-keyword .ensures))
+    (emitted-is (spaced-two (argumentBytes Rational) t) (emitted-then (emitted-spaced (c .before .before .before .before .before .before .before .before .before .before .before .emit-spaced-argument .ensures)) (emitted-is k (emitted-spaced (c .before .before .before .before .before .before .emit-spaced-argument2 .ensures))))) (emitted-whole (c .before .before .emit-byte .ensures)))
 
 basis-argument-requires-2 : tie.Need-basis-argument-requires-2
 basis-argument-requires-2 c κs = search needs
@@ -63,8 +63,8 @@ returns-2 c =
     let t = argumentBytes (basisArgument (b .basis)) in
     let k = ap (λ (x : Argument). 32 ∷ argumentBytes x) (c .before .before .before .before .before .before .before .before .basis-argument2 .ensures) in
     emitted-is (ap (λ (x : Bool). writtenLine (keywordOf BodyType ∷ cond x (argumentBytes Rational ∷ t ∷ []) (t ∷ []))) (sym (ne-eqb (b .rational) 1 (c .before .before .before .before .before .before .before .before .before .if1 .left))))
-    (emitted-line (keywordOf BodyType) (t ∷ []) (c .before .before .before .before .before .before .before .before .before .before .before .before .before .emit-keyword .ensures)
-    (emitted-is (spaced-one t) (emitted-is k (c .before .before .before .before .before .before .emit-spaced-argument3 .ensures))) (c .before .before .emit-byte2 .ensures))
+    (emitted-line (keywordOf BodyType) (t ∷ []) (emitted-whole (c .before .before .before .before .before .before .before .before .before .before .before .before .before .emit-keyword .ensures))
+    (emitted-is (spaced-one t) (emitted-is k (emitted-spaced (c .before .before .before .before .before .before .emit-spaced-argument3 .ensures)))) (emitted-whole (c .before .before .emit-byte2 .ensures)))
 
 pub type-line-spec : {M : Type 1} → statement M
 type-line-spec =

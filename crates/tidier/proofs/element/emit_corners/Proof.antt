@@ -10,7 +10,7 @@ use Rattle.forms.specs.Written.{writtenCorner}
 use Rattle.tables.specs.Records.{cornersEnd}
 use Rattle.emitting.specs.Emitting.{spaced}
 use Rattle.tidier.specs.Rows.{cornersFrom}
-use Rattle.emitting.proofs.Emissions.{Left, left-start, left-turn, left-ends}
+use Rattle.emitting.proofs.Emissions.{Left, left-start, left-turn, left-ends, emitted-spaced}
 use Rattle.tidier.proofs.Turns.{corner-turn, corners-none}
 use Rattle.tidier.proofs.element.emit_corners.Statement.{statement}
 use Rattle.tidier.proofs.element.emit_corners.Tie as tie
@@ -54,7 +54,7 @@ loop-again c =
     let l = c .before .before .before .before .before .before .loop in
     let h : 0 < l .left = omega arith in
     let r = c .before .before .before .before .corner-at in
-    (left-turn (l .inv .0) (corner-turn (now (a .corners)) (a .first) (l .k) (l .left) (r .result) h (r .ensures)) (c .before .before .emit-spaced-corner .ensures), omega arith)
+    (left-turn (l .inv .0) (corner-turn (now (a .corners)) (a .first) (l .k) (l .left) (r .result) h (r .ensures)) (emitted-spaced (c .before .before .emit-spaced-corner .ensures)), omega arith)
 
 same-length : tie.Need-same-length Inv-loop μ-loop
 same-length c = c .before .loop .inv .0 .same

@@ -3,7 +3,7 @@ use mathlib.Core.Path.{sym, _∙_}
 use denote.Ref.{now}
 use Rattle.keywords.specs.Keywords.{keywordOf}
 use Rattle.tidying.specs.Agree.{wordsAt}
-use Rattle.emitting.proofs.Emissions.{emitted-none, emitted-is}
+use Rattle.emitting.proofs.Emissions.{emitted-none, emitted-is, emitted-whole}
 use Rattle.tidier.proofs.Turns.{emitted-line, changed-none, changed-line}
 use borrow.Author.Needs.{needs}
 use Rattle.tidier.proofs.elements.name_line.Statement.{statement}
@@ -36,7 +36,7 @@ returns-2 c =
     let a = c .before .before .before .before .before .before .before .before .before .before .before .before .before .before .before .before .args in
     let t = now (a .text) in
     emitted-is (changed-line (a .statement) (wordsAt t (a .before) (a .before-length)) (wordsAt t (a .place) (a .length)) (sym (c .before .before .before .before .before .before .before .before .before .before .before .before .before .same-names .ensures) ∙ c .before .before .before .before .before .before .before .before .before .before .before .before .if1 .left))
-    (emitted-line (keywordOf (a .statement)) (wordsAt t (a .place) (a .length)) (c .before .before .before .before .before .before .before .before .before .before .emit-keyword .ensures) (c .before .before .before .before .before .before .emit-names .ensures) (c .before .before .emit-byte .ensures))
+    (emitted-line (keywordOf (a .statement)) (wordsAt t (a .place) (a .length)) (emitted-whole (c .before .before .before .before .before .before .before .before .before .before .emit-keyword .ensures)) (c .before .before .before .before .before .before .emit-names .ensures) (emitted-whole (c .before .before .emit-byte .ensures)))
 
 pub name-line-spec : {M : Type 1} → statement M
 name-line-spec =

@@ -4,7 +4,7 @@ use denote.Ref.{now}
 use Rattle.forms.specs.Written.{writtenWhole}
 use Rattle.keywords.specs.Keywords.{keywordOf}
 use Rattle.keywords.specs.declared.Statement.the-variants.{Smoothing}
-use Rattle.emitting.proofs.Emissions.{emitted-none, emitted-is}
+use Rattle.emitting.proofs.Emissions.{emitted-none, emitted-is, emitted-spaced, emitted-whole}
 use Rattle.tidier.proofs.Turns.{emitted-line, spaced-one, smoothed-none, smoothed-line}
 use borrow.Author.Needs.{needs}
 use Rattle.tidier.proofs.elements.smoothing_line.Statement.{statement}
@@ -32,7 +32,7 @@ returns-2 : tie.Need-returns-2
 returns-2 c =
     let a = c .before .before .before .before .before .before .before .before .before .before .before .before .before .before .args in
     emitted-is (smoothed-line (a .before) (a .smoothing) (c .before .before .before .before .before .before .before .before .before .before .before .before .if1 .left))
-    (emitted-line (keywordOf Smoothing) (writtenWhole (a .smoothing) ∷ []) (c .before .before .before .before .before .before .before .before .before .before .emit-keyword .ensures) (emitted-is (spaced-one (writtenWhole (a .smoothing))) (c .before .before .before .before .before .before .emit-spaced-whole .ensures)) (c .before .before .emit-byte .ensures))
+    (emitted-line (keywordOf Smoothing) (writtenWhole (a .smoothing) ∷ []) (emitted-whole (c .before .before .before .before .before .before .before .before .before .before .emit-keyword .ensures)) (emitted-is (spaced-one (writtenWhole (a .smoothing))) (emitted-spaced (c .before .before .before .before .before .before .emit-spaced-whole .ensures))) (emitted-whole (c .before .before .emit-byte .ensures)))
 
 pub smoothing-line-spec : {M : Type 1} → statement M
 smoothing-line-spec =

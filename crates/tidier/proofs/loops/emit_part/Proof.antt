@@ -6,7 +6,7 @@ use lib.IntN.{ℤ}
 use mir.Facts.{toZ-ofZ}
 use Prim.Native.Nat.{ℕ}
 use Rattle.forms.specs.Written.{writtenWhole, writtenNumber}
-use Rattle.emitting.proofs.Emissions.{emitted-then, emitted-is}
+use Rattle.emitting.proofs.Emissions.{emitted-then, emitted-is, emitted-spaced}
 use Rattle.tidier.proofs.Turns.{part-words}
 use borrow.Author.Needs.{needs}
 use Rattle.tidier.proofs.loops.emit_part.Statement.{statement}
@@ -46,8 +46,8 @@ returns c =
     let y = ap (λ (z : ℤ). 32 ∷ writtenNumber z) (toZ-ofZ (record { sfits = c .before .before .before .before .before .before .before .before .value-in2 .ok }) ∙ c .before .before .before .before .before .before .before .before .value-in2 .ensures) in
     let n = ap (λ (k : ℕ). 32 ∷ writtenWhole k) (c .before .before .before .number-in .ensures) in
     emitted-is (part-words (now (a .loops)) (now (a .spans)) (a .i))
-    (emitted-then (emitted-is x (c .before .before .before .before .before .before .before .before .before .before .before .before .emit-spaced-number .ensures))
-    (emitted-then (emitted-is y (c .before .before .before .before .before .before .before .emit-spaced-number2 .ensures)) (emitted-is n (c .before .before .emit-spaced-whole .ensures))))
+    (emitted-then (emitted-is x (emitted-spaced (c .before .before .before .before .before .before .before .before .before .before .before .before .emit-spaced-number .ensures)))
+    (emitted-then (emitted-is y (emitted-spaced (c .before .before .before .before .before .before .before .emit-spaced-number2 .ensures))) (emitted-is n (emitted-spaced (c .before .before .emit-spaced-whole .ensures)))))
 
 pub emit-part-spec : {M : Type 1} → statement M
 emit-part-spec =

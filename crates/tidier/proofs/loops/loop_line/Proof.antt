@@ -8,7 +8,7 @@ use lib.ListN.{getD, drop}
 use Rattle.keywords.specs.Keywords.{keywordOf}
 use Rattle.tidying.specs.Printed.{loopKeyword}
 use Rattle.tidier.specs.Rows.{partWords, goingOn}
-use Rattle.emitting.proofs.Emissions.{emitted-none, emitted-then, emitted-is}
+use Rattle.emitting.proofs.Emissions.{emitted-none, emitted-then, emitted-is, emitted-whole}
 use Rattle.tidier.proofs.Turns.{emitted-line, first-read, loop-words, begun-none, begun-line}
 use borrow.Author.Needs.{needs}
 use Rattle.tidier.proofs.loops.loop_line.Statement.{statement}
@@ -52,9 +52,9 @@ returns-2 c =
     let b = c .before .before .before .before .before .before .before .before .before .before .before .before .before .before .before .before .before .before .number-in in
     let k = ap keywordOf (c .before .before .before .before .before .before .before .before .before .before .before .before .before .before .before .before .loop-keyword .ensures ∙ ap (λ (n : ℕ). loopKeyword (eqb n 2)) (b .ensures ∙ sym (first-read (now (a .loops)) (a .first)))) in
     emitted-is (begun-line (a .count) (now (a .loops)) (now (a .spans)) (a .first) (λ (e : getD (now (a .loops)) (a .first) 0 ≡ 0). c .before .before .before .before .before .before .before .before .before .before .before .before .before .before .before .before .before .if1 .left (b .ensures ∙ e)))
-    (emitted-line (keywordOf (loopKeyword (eqb (getD l 0 0) 2))) (partWords l z ++ goingOn (a .count) (drop 2 l) (drop 2 z)) (emitted-is k (c .before .before .before .before .before .before .before .before .before .before .before .before .before .before .emit-keyword .ensures))
+    (emitted-line (keywordOf (loopKeyword (eqb (getD l 0 0) 2))) (partWords l z ++ goingOn (a .count) (drop 2 l) (drop 2 z)) (emitted-is k (emitted-whole (c .before .before .before .before .before .before .before .before .before .before .before .before .before .before .emit-keyword .ensures)))
     (emitted-is (loop-words (now (a .loops)) (now (a .spans)) (a .first) (a .count)) (emitted-then (c .before .before .before .before .before .before .before .before .before .before .emit-part .ensures) (c .before .before .before .before .before .before .emit-going-on .ensures)))
-    (c .before .before .emit-byte .ensures))
+    (emitted-whole (c .before .before .emit-byte .ensures)))
 
 pub loop-line-spec : {M : Type 1} → statement M
 loop-line-spec =

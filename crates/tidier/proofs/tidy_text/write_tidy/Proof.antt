@@ -1,45 +1,42 @@
--- The vertices, and then the elements.
-use mathlib.Core.List.{List, _++_}
+-- The length first; then the text where there is room for all of it, and else nothing.
+use Prim.Native.Nat.{_+_, min}
+use mathlib.Core.Path.{_≡_, refl}
 use native.Mathlib.Omega.{arith}
+use lib.ListN.{length}
 use denote.Ref.{now}
-use Rattle.tidier.specs.TidyFrom.{verticesFrom, elementsFrom, tidyFrom}
-use Rattle.emitting.proofs.Emissions.{emitted-then, emitted-is}
-use Rattle.tidier.proofs.Turns.{lines-append}
+use Rattle.tables.specs.Tables.{tables}
+use Rattle.tidier.specs.TidyFrom.{tidyFrom}
+use Rattle.emitting.proofs.Emissions.{whole-emitted, whole-roomless}
 use borrow.Author.Needs.{needs}
 use Rattle.tidier.proofs.tidy_text.write_tidy.Statement.{statement}
 use Rattle.tidier.proofs.tidy_text.write_tidy.Tie as tie
 
-keyword-table-requires : tie.Need-keyword-table-requires
-keyword-table-requires c κs = search needs
+measure-requires : tie.Need-measure-requires
+measure-requires c κs = search needs
 
-argument-table-requires : tie.Need-argument-table-requires
-argument-table-requires c κs = search needs
+room-in-requires : tie.Need-room-in-requires
+room-in-requires c κs = search needs
 
-all-vertices-requires : tie.Need-all-vertices-requires
-all-vertices-requires c κs = search needs
-
-elements-lines-requires : tie.Need-elements-lines-requires
-elements-lines-requires c κs = (c .before .before .before .before .before .before .before .before .before .keyword-table .ensures, (c .before .before .before .before .before .before .before .before .argument-table .ensures, omega (arith, c .before .before .before .before .before .all-vertices .ensures .ends)))
+emit-tidy-requires : tie.Need-emit-tidy-requires
+emit-tidy-requires c κs = search needs
 
 same-length : tie.Need-same-length
 same-length c = search needs
 
 returns : tie.Need-returns
-unfolding tidyFrom
 returns c =
-    let a = c .before .before .before .before .before .before .before .before .before .before .before .before .before .before .before .before .before .before .before .args in
-    emitted-is
-    (lines-append (verticesFrom (a .used) (now (a .v)) (now (a .vt)) (now (a .vn)) (now (a .vp)))
-    (elementsFrom (now (a .text)) (a .used) (now (a .elements)) (now (a .corners)) (now (a .bodies)) (now (a .ranges)) (now (a .parameters)) (now (a .parts)) (now (a .spans)) (a .used .elements) 0))
-    (emitted-then (c .before .before .before .before .before .before .before .before .all-vertices .ensures) (c .before .before .elements-lines .ensures))
+    let e = c .before .before .emit-tidy .ensures in
+    whole-emitted e (omega (arith, e .ends, c .before .before .before .before .before .before .measure .ensures, c .before .before .before .before .before .room-in .ensures, c .before .before .before .before .if1 .taken))
+
+returns-2 : tie.Need-returns-2
+returns-2 c =
+    let a = c .before .before .before .before .before .before .before .before .before .args in
+    let w = tidyFrom (now (a .text)) (a .used) (tables (now (a .v)) (now (a .vt)) (now (a .vn)) (now (a .vp)) (now (a .corners)) (now (a .elements)) (now (a .bodies)) (now (a .ranges)) (now (a .parameters)) (now (a .parts)) (now (a .spans))) in
+    let m = c .before .before .measure in
+    let j : m .result ≡ min (0 + length w) 16777217 = omega (arith, m .ensures) in
+    whole-roomless 0 w (now (a .out)) (length w) (m .result) refl j (omega (arith, c .before .room-in .ensures, c .if1 .left))
 
 pub write-tidy-spec : {M : Type 1} → statement M
 write-tidy-spec =
     tie.close
-    (tie.spec
-    keyword-table-requires
-    argument-table-requires
-    all-vertices-requires
-    elements-lines-requires
-    same-length
-    returns)
+    (tie.spec measure-requires room-in-requires emit-tidy-requires same-length returns returns-2)

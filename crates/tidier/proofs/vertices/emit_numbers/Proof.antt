@@ -11,7 +11,7 @@ use mir.Syntax.{w32}
 use mir.Facts.{toZ-ofZ}
 use Rattle.forms.specs.Written.{writtenNumber}
 use Rattle.emitting.specs.Emitting.{spaced}
-use Rattle.emitting.proofs.Emissions.{Left, left-start, left-turn, left-ends, emitted-is}
+use Rattle.emitting.proofs.Emissions.{Left, left-start, left-turn, left-ends, emitted-is, emitted-spaced}
 use Rattle.tidier.proofs.Turns.{numbers-turn, numbers-past, numbers-none}
 use Rattle.tidier.proofs.vertices.emit_numbers.Statement.{statement}
 use Rattle.tidier.proofs.vertices.emit_numbers.Tie as tie
@@ -58,7 +58,7 @@ loop-again c =
     let h : 0 < l .left = omega arith in
     let k : l .i < length v = omega arith in
     let e = ap (λ (z : ℤ). 32 ∷ writtenNumber z) (toZ-ofZ {w = w32} {z = getD v (l .i) (pos 0)} (record { sfits = c .before .before .before .emit-spaced-number-arg2 .given })) in
-    left-turn (l .inv) (numbers-turn v (l .i) (l .left) h k) (emitted-is e (c .before .before .emit-spaced-number .ensures))
+    left-turn (l .inv) (numbers-turn v (l .i) (l .left) h k) (emitted-is e (emitted-spaced (c .before .before .emit-spaced-number .ensures)))
 
 same-length-2 : tie.Need-same-length-2 Inv-loop μ-loop
 same-length-2 c = c .before .loop .inv .same

@@ -1,10 +1,12 @@
 -- The keyword, the numbers, the line's end.
 use mathlib.Core.List.{map}
+use native.Mathlib.Omega.{arith}
 use denote.Ref.{now}
 use lib.ListN.{take, drop}
 use Rattle.forms.specs.Written.{writtenNumber}
 use Rattle.keywords.specs.Keywords.{keywordOf}
 use Rattle.tidier.proofs.Turns.{emitted-line}
+use Rattle.emitting.proofs.Emissions.{emitted-whole}
 use borrow.Author.Needs.{needs}
 use Rattle.tidier.proofs.vertices.number_line.Statement.{statement}
 use Rattle.tidier.proofs.vertices.number_line.Tie as tie
@@ -13,7 +15,7 @@ emit-keyword-requires : tie.Need-emit-keyword-requires
 emit-keyword-requires c κs = search needs
 
 emit-numbers-requires : tie.Need-emit-numbers-requires
-emit-numbers-requires c κs = search needs
+emit-numbers-requires c κs = omega (arith, emitted-whole (c .before .before .before .emit-keyword .ensures) .ends)
 
 emit-byte-requires : tie.Need-emit-byte-requires
 emit-byte-requires c κs = search needs
@@ -25,7 +27,7 @@ returns : tie.Need-returns
 returns c =
     let a = c .before .before .before .before .before .before .before .before .before .before .before .before .before .args in
     emitted-line (keywordOf (a .statement)) (map writtenNumber (take (a .count) (drop (a .first) (now (a .values)))))
-    (c .before .before .before .before .before .before .before .before .before .before .emit-keyword .ensures) (c .before .before .before .before .before .before .emit-numbers .ensures) (c .before .before .emit-byte .ensures)
+    (emitted-whole (c .before .before .before .before .before .before .before .before .before .before .emit-keyword .ensures)) (c .before .before .before .before .before .before .emit-numbers .ensures) (emitted-whole (c .before .before .emit-byte .ensures))
 
 pub number-line-spec : {M : Type 1} → statement M
 number-line-spec =
