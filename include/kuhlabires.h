@@ -116,7 +116,7 @@ enum kuhlabires_refusal {
     KUHLABIRES_NOT_ALLOWED_HERE = 10,       /* at the keyword; at the text's length where the text ends in a body */
     KUHLABIRES_TYPE_DEGREE_OR_PARM = 11,    /* one of them is missing; at the keyword */
     KUHLABIRES_CONTROL_COUNT = 12,          /* at `end`; at the word of a curv2 control with one coordinate */
-    KUHLABIRES_PARAMETER_ORDER = 13,        /* or range; at `end` */
+    KUHLABIRES_PARAMETER_ORDER = 13,        /* or range, or an inner knot too often; at `end` */
     KUHLABIRES_TABLE_LACKS_ROOM = 14,       /* at the keyword; exactly when the entries needed pass the lent length */
     KUHLABIRES_RECORDS_BREAK_RULES = 15,    /* a record of the element, or a vertex it names, breaks a rule or passes the used or lent entries */
     KUHLABIRES_OUTPUT_LACKS_ROOM = 16,      /* the tidy text passes the lent buffer or 16,777,216 bytes; a run passes the point table */

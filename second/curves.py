@@ -5,6 +5,8 @@ says s and t too, as its first vn."""
 
 import random
 
+from records import BSPLINE, continuous
+
 LEAST, MOST = -2_000_000_000, 2_000_000_000
 
 
@@ -24,11 +26,11 @@ def rising(rng, count):
 
 
 def knots(rng, degree, count):
-    """Never falling, with multiple knots, and x_n under x_k."""
+    """Never falling, with multiple knots, x_n under x_k, inner ones at most n times."""
     distinct = rising(rng, rng.randint(2, count))
     for _ in range(100):
         found = sorted(distinct + rng.choices(distinct, k=count - len(distinct)))
-        if found[degree] < found[count - degree - 1]:
+        if found[degree] < found[count - degree - 1] and continuous(BSPLINE, degree, found):
             return found
     return [distinct[0]] * (count // 2) + [distinct[-1]] * (count - count // 2)
 

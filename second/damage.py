@@ -92,7 +92,7 @@ def body_damage(rng, lines):
     heads = [i for i, words in enumerate(lines) if words[0] in (b"curv", b"curv2", b"surf")]
     parms = [i for i, words in enumerate(lines) if words[0] == b"parm" and len(words) > 2]
     forces = [i for i, words in enumerate(lines) if words[0] in (b"cstype", b"deg")]
-    style = rng.randrange(8)
+    style = rng.randrange(9)
     if style == 0 and forces:
         del lines[rng.choice(forces)]
     elif style == 1 and parms:
@@ -118,6 +118,11 @@ def body_damage(rng, lines):
     elif style == 7 and parms:
         at = rng.choice(parms)
         lines[at] = lines[at][:2] + [lines[at][2]] * (len(lines[at]) - 2)
+    elif style == 8 and parms:
+        words = lines[rng.choice(parms)]
+        first = rng.randrange(2, len(words))
+        for at in range(first, min(len(words), first + rng.randint(2, 5))):
+            words[at] = words[first]
     return lines
 
 

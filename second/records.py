@@ -4,6 +4,7 @@ Every number of a table counts as one entry; a room is a table's length in
 entries.  Used counts are in records, corners in numbers.
 """
 
+from collections import Counter
 from typing import NamedTuple
 
 WIDTHS = {
@@ -111,3 +112,12 @@ def in_order(type_, parameters):
     if type_ == BSPLINE:
         return all(a <= b for a, b in pairs)
     return all(a < b for a, b in pairs)
+
+
+def continuous(type_, degree, parameters):
+    """02, Q-5: a knot value strictly between x_n and x_k stands at most n times."""
+    if type_ != BSPLINE:
+        return True
+    low, high = widest(type_, degree, parameters)
+    times = Counter(value for value in parameters if low < value < high)
+    return all(count <= degree for count in times.values())

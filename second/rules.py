@@ -12,7 +12,7 @@ from typing import NamedTuple
 
 from records import (
     CARDINAL, CARDINAL_DEGREE, CURV, CURV2, F, HOLE, L, LARGEST, ONE, P, SURF,
-    TABLES, TRIM, TYPES, WIDTHS, controls, in_order, widest,
+    TABLES, TRIM, TYPES, WIDTHS, continuous, controls, in_order, widest,
 )
 
 LEAST_CORNERS = {P: 1, L: 2, F: 3, CURV: 2, CURV2: 2, SURF: 1}
@@ -183,7 +183,7 @@ def counts_agree(type_, degrees, runs, count):
 def ranges_obey(kind, type_, degrees, runs, limits):
     for direction, (degree, run) in enumerate(zip(degrees, runs)):
         start, end = limits[2 * direction:2 * direction + 2]
-        if not in_order(type_, run):
+        if not in_order(type_, run) or not continuous(type_, degree, run):
             return False
         low, high = widest(type_, degree, run)
         if not low <= start < end <= high:

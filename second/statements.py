@@ -9,7 +9,7 @@ from math import prod
 from records import (
     BEZIER, BSPLINE, CARDINAL, CARDINAL_DEGREE, CURV, CURV2, F, HOLE, L, ONE, P,
     SURF, TABLES, TAYLOR, TRIM, WIDTHS,
-    Fault, Read, Used, controls, in_order, widest,
+    Fault, Read, Used, continuous, controls, in_order, widest,
 )
 from words import corner, degree, name, number, reference, smoothing
 
@@ -261,6 +261,8 @@ class Reader:
             raise Fault(12, place)
 
         if not all(in_order(body.type, run) for run in runs):
+            raise Fault(13, place)
+        if not all(continuous(body.type, n, run) for n, run in zip(body.degrees, runs)):
             raise Fault(13, place)
         limits = [widest(body.type, n, run) for n, run in zip(body.degrees, runs)]
         if body.range is None:

@@ -6,7 +6,7 @@ table they need.
 
 from typing import NamedTuple
 
-from records import TABLES
+from records import BSPLINE, TABLES, continuous
 from spelling import coordinate, letters
 
 VERTICES = {"v": (3, 4, 4), "vt": (1, 3, 3), "vn": (3, 3, 3), "vp": (1, 3, 4)}
@@ -36,7 +36,7 @@ def increasing(rng, count):
 
 
 def knots(rng, degree, count):
-    """Values that never decrease, x_n below x_k."""
+    """Values that never decrease, x_n below x_k, inner ones at most n times."""
     k = count - degree - 1
     style = rng.random()
     if style < 0.3:
@@ -47,7 +47,7 @@ def knots(rng, degree, count):
     distinct = increasing(rng, rng.randint(2, 4))
     while True:
         found = sorted(rng.choice(distinct) for _ in range(count))
-        if found[degree] < found[k]:
+        if found[degree] < found[k] and continuous(BSPLINE, degree, found):
             return found
         if rng.random() < 0.1:
             return increasing(rng, count)

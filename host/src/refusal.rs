@@ -35,7 +35,7 @@ impl Refusal {
             10 => "the statement is not allowed here; the text ends in a body",
             11 => "no type or degree (at the line of curv, curv2, surf), no parm (at end)",
             12 => "control counts disagree",
-            13 => "parameter order or range",
+            13 => "parameter order or range, or a bspline's inner knot more than n times",
             14 => "a lent table lacks room",
             15 => "a record of the element, names aside, or a vertex that it names breaks a rule or passes the used or lent entries",
             16 => "the tidy text passes the lent buffer or 16,777,216 bytes (at place 0); a run passes the lent point table",

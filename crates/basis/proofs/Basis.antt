@@ -1,21 +1,17 @@
 -- The four types along one direction: a bspline by its own rule, the other three by one.
-use Prim.Native.Nat.{ℕ, suc, _+_, _*_, _-_, _<_, _≤_}
+use Prim.Native.Nat.{ℕ, _+_, _*_, _-_, _<_, _≤_}
 use native.Mathlib.Nat.{zero-mul, mul-zero, mul-one, mul-le-mul-left}
-use native.Mathlib.Numerals.{add-one}
 use native.Mathlib.Omega.{arith}
 use mathlib.Core.Path.{_≡_, refl, sym, _∙_}
-use mathlib.Core.List.{List, [], _∷_}
-use mathlib.Core.Bool.{Bool, true, false, cond, _&&_, and-true}
+use mathlib.Core.List.{List}
+use mathlib.Core.Bool.{Bool, true, false, cond, _&&_}
 use mathlib.Core.Logic.{⊎-elim}
 use borrow.Author.Tests.{leb-true, leb-false, le-leb, lt-leb, ne-eqb}
 use lib.Dec.{leb, eqb}
-use lib.ListN.{length, getD, drop, length-drop}
-use lib.Seq.{drop-cons}
+use lib.ListN.{length, getD}
 use lib.IntN.{ℤ, pos}
-use lib.Signed.{ltZ, leZ}
 use Rattle.lists.proofs.Tests.{test, and-left, and-right}
-use Rattle.basis.proofs.Order.{lt-le}
-use Rattle.tables.specs.Bodies.{Basis, bezier, bspline, cardinal, taylor, enough, controls, ordered, low, high, curveCount, surfaceCount, basisOf}
+use Rattle.tables.specs.Bodies.{Basis, bezier, bspline, cardinal, taylor, enough, controls, low, high, curveCount, surfaceCount, basisOf}
 
 -- what holds of the other three holds of a type that is no bspline
 pub not-bspline : (P : Basis → Type 0) → P bezier → P cardinal → P taylor → (type : ℕ) → (type ≡ 2 → ⊥) → P (basisOf type)
@@ -29,9 +25,6 @@ not-bspline P a b c type h = rw (ne-eqb type 2 h) (go (eqb type 1) (eqb type 3))
 module _ (type : ℕ) (other : type ≡ 2 → ⊥) where
   pub enough-other : (n p : ℕ) → enough (basisOf type) n p ≡ true
   enough-other n p = not-bspline (λ t. enough t n p ≡ true) refl refl refl type other
-
-  pub follows-other : (a b : ℤ) → ordered (basisOf type) (a ∷ b ∷ []) ≡ ltZ a b
-  follows-other a b = not-bspline (λ t. ordered t (a ∷ b ∷ []) ≡ ltZ a b) (and-true (ltZ a b)) (and-true (ltZ a b)) (and-true (ltZ a b)) type other
 
   pub low-other : (n : ℕ) (x : List ℤ) → low (basisOf type) n x ≡ getD x 0 (pos 0)
   low-other n x = not-bspline (λ t. low t n x ≡ getD x 0 (pos 0)) refl refl refl type other
@@ -48,41 +41,6 @@ enough-knots n p =
 
 pub knots-enough : (type n p : ℕ) → type ≡ 2 → enough (basisOf type) n p ≡ true → 2 * n + 2 ≤ p
 knots-enough type n p e h = let k : leb (n + 1) (p - n - 1) ≡ true = rw e at h in omega (arith, leb-true (n + 1) (p - n - 1) k)
-
--- ---- the order of parameters, two at a time
-pub follows-below : (t : Basis) (a b : ℤ) → ltZ a b ≡ true → ordered t (a ∷ b ∷ []) ≡ true
-follows-below bezier a b h = rw h
-follows-below bspline a b h = let e = lt-le a b h in rw e
-follows-below cardinal a b h = rw h
-follows-below taylor a b h = rw h
-
-ordered-two : (t : Basis) (a b : ℤ) (x : List ℤ) → ordered t (a ∷ b ∷ x) ≡ (ordered t (a ∷ b ∷ []) && ordered t (b ∷ x))
-ordered-two bezier a b x = rw (and-true (ltZ a b))
-ordered-two bspline a b x = rw (and-true (leZ a b))
-ordered-two cardinal a b x = rw (and-true (ltZ a b))
-ordered-two taylor a b x = rw (and-true (ltZ a b))
-
-ordered-few : (t : Basis) (x : List ℤ) → length x ≤ 1 → ordered t x ≡ true
-ordered-few bezier [] h = refl
-ordered-few bspline [] h = refl
-ordered-few cardinal [] h = refl
-ordered-few taylor [] h = refl
-ordered-few bezier (a ∷ []) h = refl
-ordered-few bspline (a ∷ []) h = refl
-ordered-few cardinal (a ∷ []) h = refl
-ordered-few taylor (a ∷ []) h = refl
-ordered-few t (a ∷ b ∷ x) h = absurd (omega arith)
-
-module _ (t : Basis) (x : List ℤ) (i : ℕ) where
-  pub ordered-step : i + 1 < length x
-      → ordered t (drop i x) ≡ (ordered t (getD x i (pos 0) ∷ getD x (i + 1) (pos 0) ∷ []) && ordered t (drop (i + 1) x))
-  ordered-step h =
-      let l : i < length x = omega arith in
-      let m : suc i < length x = omega arith in
-      rw (add-one, drop-cons x i (pos 0) l, drop-cons x (suc i) (pos 0) m) (ordered-two t (getD x i (pos 0)) (getD x (suc i) (pos 0)) (drop (suc (suc i)) x))
-
-  pub ordered-end : length x ≤ i + 1 → ordered t (drop i x) ≡ true
-  ordered-end h = ordered-few t (drop i x) (rw length-drop (omega arith))
 
 -- ---- a product against a number
 pub product-none : (a b k : ℕ) → a ≡ 0 → eqb k 0 ≡ eqb k (a * b)

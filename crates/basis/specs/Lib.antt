@@ -1,1 +1,2 @@
 pub mod Widest
+pub mod Stepping

@@ -1,11 +1,15 @@
 // What a type asks along one direction of a body: how many controls, in what order its parameters stand, and which range they allow.
+pub mod stepping;
+
+use crate::stepping::asked_of;
+use crate::stepping::holds;
+use crate::stepping::walk;
 ghost use mathlib.Core.Path.{_≡_};
-ghost use mathlib.Core.List.{[], _∷_};
 ghost use mathlib.Core.Bool.{true};
 ghost use Prim.Native.Nat.{_+_, _*_, _≤_};
 ghost use lib.Dec.{eqb};
 ghost use lib.ListN.{length};
-ghost use Rattle.tables.specs.Bodies.{enough, controls, ordered, low, high, inOrder, curveCount, surfaceCount, basisOf};
+ghost use Rattle.tables.specs.Bodies.{enough, controls, low, high, inOrder, curveCount, surfaceCount, basisOf};
 ghost use Rattle.basis.specs.Widest.{widest};
 
 // Along a direction of p parameters and degree n: whether a bspline's controls are enough.
@@ -79,32 +83,6 @@ pub fn surface_count(basis: u32, m: u32, p: u32, n: u32, q: u32, k: u32) -> bool
     product_is(controls(basis, m, p), controls(basis, n, q), k)
 }
 
-// Whether b may follow a: knots never decrease, other parameters increase.
-pub fn follows(basis: u32, a: i32, b: i32) -> bool
-    ensures { λ r. ⌜ r ≡ ordered (basisOf basis) (a ∷ b ∷ []) ⌝ }
-{
-    if a < b {
-        return true;
-    }
-    if basis == 2 {
-        return a <= b;
-    }
-    false
-}
-
-fn ordered(basis: u32, x: &[i32]) -> bool
-    ensures { λ r. ⌜ r ≡ ordered (basisOf basis) (now (x .entry)) ⌝ }
-{
-    let mut i = 0;
-    while i + 1 < x.len() {
-        if !follows(basis, x[i], x[i + 1]) {
-            return false;
-        }
-        i += 1;
-    }
-    true
-}
-
 // The widest range that the parameters allow, and its two ends.
 fn low(basis: u32, n: u32, x: &[i32]) -> i32
     requires { ⌜ (2 ≤ length (now x)) × (enough (basisOf basis) n (length (now x)) ≡ true) ⌝ }
@@ -131,16 +109,7 @@ pub fn in_order(basis: u32, n: u32, x: &[i32], start: i32, end: i32) -> bool
     requires { ⌜ (2 ≤ length (now x)) × (enough (basisOf basis) n (length (now x)) ≡ true) ⌝ }
     ensures { λ r. ⌜ r ≡ inOrder (basisOf basis) n (now (x .entry)) start end ⌝ }
 {
-    if !ordered(basis, x) {
-        return false;
-    }
-    if start < low(basis, n, x) {
-        return false;
-    }
-    if end <= start {
-        return false;
-    }
-    end <= high(basis, n, x)
+    holds(walk(asked_of(basis, n, x.len()), x), start, end)
 }
 
 // A curv2's range is the widest.

@@ -3,23 +3,30 @@ use Prim.Native.Nat.{ℕ, suc, _+_, _-_, _≤_, _<_}
 use native.Mathlib.Nat.{add-zero, sub-zero}
 use native.Mathlib.Omega.{arith}
 use mathlib.Core.Path.{_≡_, refl, sym, ap, ap₂, _∙_}
-use mathlib.Core.List.{List, [], _∷_}
+use mathlib.Core.List.{List, [], _∷_, _++_}
 use mathlib.Core.Bool.{Bool, true, false, cond, _&&_, not, and-true}
 use mathlib.Core.Logic.{⊎-elim}
-use borrow.Author.Tests.{ne-eqb, eq-eqb, eqb-true, eqb-false, not-true}
+use borrow.Author.Tests.{ne-eqb, eq-eqb, eqb-true, eqb-false, not-true, leb-false}
 use lib.ListN.{length, take, set, length-set}
-use lib.Seq.{sets, take-nil}
-use lib.Dec.{eqb, eqb·suc-zero}
+use lib.Seq.{sets, take-nil, set-out, length-sets}
+use lib.Dec.{eqb, leb, eqb·suc-zero}
 use lib.IntN.{ℤ}
-use Rattle.lists.proofs.Tests.{and-left, and-right, test, never}
-use Rattle.tables.specs.Bodies.{low, high, inOrder, curveCount, surfaceCount, basisOf}
+use Rattle.lists.proofs.Tests.{and-left, and-right, and-first, test, never}
+use Rattle.lists.proofs.Laws.{sets-append}
+use Rattle.tables.specs.Bodies.{enough, low, high, inOrder, curveCount, surfaceCount, basisOf}
+use Rattle.basis.specs.declared.stepping.Asked.{Asked}
+use Rattle.basis.specs.declared.stepping.Order.{Order}
+use Rattle.basis.specs.Stepping.{askedOf, fresh, stepOf, walkFrom, walked, holdsIn}
+use Rattle.basis.proofs.Basis.{curve-enough, surface-enough-u, surface-enough-v}
+use Rattle.basis.proofs.Walks.{walk-is, walk-holds}
 use Rattle.model.specs.Model.{Free, curve, curve2, surface, Body}
 use Rattle.model.specs.Statements.{settled}
 use Rattle.model.specs.Parse.{some?, complete, countsAgree, inRange}
 use Rattle.state.specs.declared.Form.{Form}
 use Rattle.bodies.specs.Numbers.{numbersAt, NumberMet}
 use Rattle.bodies.specs.Types.{freeOf}
-use Rattle.bodies.specs.Closing.{parmOf, completeOf, agreeOf, rangedOf, bodyFor, judgedIs}
+use Rattle.bodies.specs.Closing.{parmOf, completeOf, agreeOf, heldOf, bodyFor, settledIs, storedIs, judgedIs}
+use Rattle.bodies.specs.declared.closing.Judged.{Judged}
 use Rattle.bodies.specs.declared.closing.Judged.the-variants as judged
 use Rattle.bodies.proofs.Steps.{numbers-more}
 
@@ -54,32 +61,56 @@ module _ (kind u v : ℕ) where
       (u-there h, nonzero v (sym (ap (λ (b : Bool). cond b (not (eqb v 0)) true) (eq-eqb kind 6 k)) ∙ and-right (not (eqb u 0)) (cond (eqb kind 6) (not (eqb v 0)) true) h))
 
 -- ---- `store`
-pub record Storing (s : List ℕ) (at count : ℕ) (l : List ℤ) (first i done : ℕ) (t : List ℤ) : Type 0 where
+pub record Storing (s : List ℕ) (at count : ℕ) (a : Asked) (l : List ℤ) (first i done : ℕ) (o : Order) (t : List ℤ) : Type 0 where
   pub to : i ≤ length s
+  pub judged : walked a (take count (numbersAt s at)) ≡ walkFrom a done o (take (count - done) (numbersAt s i))
   pub left : sets l first (take count (numbersAt s at)) ≡ sets t (first + done) (take (count - done) (numbersAt s i))
   pub same : length t ≡ length l
 
-pub storing-none : (s : List ℕ) (at count : ℕ) (l : List ℤ) (first : ℕ) → at ≤ length s → Storing s at count l first at 0 l
-storing-none s at count l first h = record { to = h; left = rw (add-zero first, sub-zero count) refl; same = refl }
+pub storing-none : (s : List ℕ) (at count : ℕ) (a : Asked) (l : List ℤ) (first : ℕ) → at ≤ length s → {o : Order} → o ≡ fresh → Storing s at count a l first at 0 o l
+storing-none s at count a l first h e = record { to = h; judged = rw (sub-zero count, e) refl; left = rw (add-zero first, sub-zero count) refl; same = refl }
 
-module _ (s : List ℕ) (at count : ℕ) (l : List ℤ) (first i done : ℕ) (t : List ℤ) (w : Storing s at count l first i done t) where
-  pub storing-over : numbersAt s i ≡ [] → t ≡ sets l first (take count (numbersAt s at))
-  storing-over e = sym (w .left ∙ ap (λ (x : List ℤ). sets t (first + done) (take (count - done) x)) e ∙ ap (sets t (first + done)) (take-nil (count - done)))
+-- a number past the lent entries is not stored
+put-one : {A : Type 0} (t : List A) (k : ℕ) (y : A) {r : Bool} {x : List A} → r ≡ leb (k + 1) (length t) → x ≡ cond r (sets t k (y ∷ [])) t → x ≡ set t k y
+put-one t k y {r} {x} h e =
+    ⊎-elim
+    (λ (b : leb (k + 1) (length t) ≡ true). e ∙ ap (λ (c : Bool). cond c (set t k y) t) (h ∙ b))
+    (λ (b : leb (k + 1) (length t) ≡ false).
+    let m = leb-false (k + 1) (length t) b in
+    e ∙ ap (λ (c : Bool). cond c (set t k y) t) (h ∙ b) ∙ sym (set-out t k y (omega arith)))
+    (test (leb (k + 1) (length t)))
 
-  pub storing-all : count ≤ done → t ≡ sets l first (take count (numbersAt s at))
-  storing-all h = let e : count - done ≡ 0 = omega arith in sym (w .left ∙ ap (λ (k : ℕ). sets t (first + done) (take k (numbersAt s i))) e)
+module _ (s : List ℕ) (at count : ℕ) (a : Asked) (l : List ℤ) (first i done : ℕ) (o : Order) (t : List ℤ) (w : Storing s at count a l first i done o t) where
+  module _ (e : take (count - done) (numbersAt s i) ≡ []) where
+    over : (o ≡ walked a (take count (numbersAt s at))) × (t ≡ sets l first (take count (numbersAt s at)))
+    over = (sym (w .judged ∙ ap (walkFrom a done o) e), sym (w .left ∙ ap (sets t (first + done)) e))
 
-  pub storing-more : done < count → first + count ≤ length l → {z y : ℤ} {e : ℕ} → NumberMet s i z e → y ≡ z → Storing s at count l first e (done + 1) (set t (first + done) y)
-  storing-more h b {z} {y} {e} m f =
+  pub storing-over : numbersAt s i ≡ [] → (o ≡ walked a (take count (numbersAt s at))) × (t ≡ sets l first (take count (numbersAt s at)))
+  storing-over e = over (ap (take (count - done)) e ∙ take-nil (count - done))
+
+  pub storing-all : count ≤ done → (o ≡ walked a (take count (numbersAt s at))) × (t ≡ sets l first (take count (numbersAt s at)))
+  storing-all h = let e : count - done ≡ 0 = omega arith in over (ap (λ (k : ℕ). take k (numbersAt s i)) e)
+
+  pub storing-more :
+      done < count → {z y : ℤ} {e : ℕ} → NumberMet s i z e → y ≡ z → {p : Order} → p ≡ stepOf a done o y → {r : Bool} {x : List ℤ} →
+      r ≡ leb (first + done + 1) (length t) → x ≡ cond r (sets t (first + done) (y ∷ [])) t → Storing s at count a l first e (done + 1) p x
+  storing-more h {z} {y} {e} m f {p} d {r} {x} room put =
       let k : count - done ≡ suc (count - (done + 1)) = omega arith in
       let j : suc (first + done) ≡ first + (done + 1) = omega arith in
+      let n : suc done ≡ done + 1 = omega arith in
+      let rest = numbers-more s i m ∙ ap (λ (c : ℤ). c ∷ numbersAt s e) (sym f) in
+      let stored = put-one t (first + done) y room put in
       record {
         to = m .to;
+        judged =
+            w .judged
+            ∙ ap₂ (λ (c : List ℤ) (k : ℕ). walkFrom a done o (take k c)) rest k
+            ∙ ap₂ (λ (c : ℕ) (q : Order). walkFrom a c q (take (count - (done + 1)) (numbersAt s e))) n (sym d);
         left =
             w .left
-            ∙ ap₂ (λ (x : List ℤ) (k : ℕ). sets t (first + done) (take k x)) (numbers-more s i m) k
-            ∙ ap₂ (λ (x : ℤ) (n : ℕ). sets (set t (first + done) x) n (take (count - (done + 1)) (numbersAt s e))) (sym f) j;
-        same = length-set t (first + done) y ∙ w .same;
+            ∙ ap₂ (λ (c : List ℤ) (k : ℕ). sets t (first + done) (take k c)) rest k
+            ∙ ap₂ (λ (c : List ℤ) (n : ℕ). sets c n (take (count - (done + 1)) (numbersAt s e))) (sym stored) j;
+        same = ap length stored ∙ length-set t (first + done) y ∙ w .same;
       }
 
 -- ---- the tests of a body, by its kind
@@ -147,9 +178,23 @@ parm-there s at h =
     (λ (e : eqb at 0 ≡ false). parm-some s at (eqb-false at 0 e))
     (test (eqb at 0))
 
-pub u-ranged :
-    (kind : ℕ) (f : Form) {us : List ℤ} {xs : List ℤ} (ys : List ℤ) (a b c d : ℤ) → xs ≡ us → rangedOf kind f xs ys a b c d ≡ rangedOf kind f us ys a b c d
-u-ranged kind f ys a b c d e = ap (λ (x : List ℤ). rangedOf kind f x ys a b c d) e
+-- ---- `settle`
+module _ (kind u v : ℕ) (o p : Order) (a b c d : ℤ) {s e : ℤ} (hs : s ≡ cond (eqb kind 5) (o .low) a) (he : e ≡ cond (eqb kind 5) (o .high) b) where
+  held : heldOf kind o p (cond (eqb kind 5) (o .low) a) (cond (eqb kind 5) (o .high) b) c d ≡ heldOf kind o p s e c d
+  held = ap₂ (λ (s e : ℤ). heldOf kind o p s e c d) (sym hs) (sym he)
+
+  pub not-held : holdsIn o s e ≡ false → settledIs kind u v o p a b c d (judged.Refused 13)
+  not-held h = (refl, held ∙ and-first (cond (eqb kind 6) (holdsIn p c d) true) h)
+
+  module _ (h : holdsIn o s e ≡ true) where
+    pub not-along-v : kind ≡ 6 → holdsIn p c d ≡ false → settledIs kind u v o p a b c d (judged.Refused 13)
+    not-along-v k i = (refl, held ∙ rw (h, eq-eqb kind 6 k, i) refl)
+
+    pub along-both : kind ≡ 6 → holdsIn p c d ≡ true → settledIs kind u v o p a b c d (judged.Fine u v s e)
+    along-both k i = (refl, refl, record { start-is = hs; end-is = he; held = rw (h, eq-eqb kind 6 k, i) refl })
+
+    pub along-one : (kind ≡ 6 → ⊥) → settledIs kind u v o p a b c d (judged.Fine u v s e)
+    along-one k = (refl, refl, record { start-is = hs; end-is = he; held = rw (h, ne-eqb kind 6 k) refl })
 
 -- ---- `judge`
 module _ (f : Form) (kind : ℕ) (us vs : List ℤ) (a b c d : ℤ) (k u v : ℕ) (hu : u ≡ length us) (hv : v ≡ length vs) where
@@ -169,32 +214,76 @@ module _ (f : Form) (kind : ℕ) (us vs : List ℤ) (a b c d : ℤ) (k u v : ℕ
     pub refuse-12 : agreeOf kind f u v k ≡ false → judgedIs B k (judged.Refused 12)
     refuse-12 i = (rw (whole ∙ h, counts ∙ i) refl, omega arith)
 
-    module _ (i : agreeOf kind f u v k ≡ true) where
-      in-range : inRange (freeOf kind) B ≡ rangedOf kind f us vs (startIn (eqb kind 5) B) (endIn (eqb kind 5) B) c d
-      in-range = range-is (eqb kind 6) (eqb kind 5) (one-kind kind) B
+    -- the parameters along u came to o, along v to p
+    module _ (i : agreeOf kind f u v k ≡ true) {o p : Order} (x : o ≡ walked (askedOf (f .basis) (f .«degree_u») u) us) (y : p ≡ walked (askedOf (f .basis) (f .«degree_v») v) vs) where
+      agrees : (t : Bool) → eqb kind 6 ≡ t → cond t (surfaceCount (basisOf (f .basis)) (f .«degree_u») u (f .«degree_v») v k) (curveCount (basisOf (f .basis)) (f .«degree_u») u k) ≡ true
+      agrees t e = sym (ap (λ (t : Bool). cond t (surfaceCount (basisOf (f .basis)) (f .«degree_u») u (f .«degree_v») v k) (curveCount (basisOf (f .basis)) (f .«degree_u») u k)) e) ∙ i
 
-      module _ {ys : List ℤ} {s e c₂ d₂ : ℤ} {r : Bool} (p : s ≡ startIn (eqb kind 5) B) (q : e ≡ endIn (eqb kind 5) B) (n : c₂ ≡ c) (o : d₂ ≡ d) (w : kind ≡ 6 → vs ≡ ys) (g : r ≡ rangedOf kind f us ys s e c₂ d₂) where
-        other : (t : Bool) → eqb kind 6 ≡ t → cond t (inOrder (basisOf (f .basis)) (f .«degree_v») vs c d) true ≡ cond t (inOrder (basisOf (f .basis)) (f .«degree_v») ys c d) true
-        other true z = ap (λ (x : List ℤ). inOrder (basisOf (f .basis)) (f .«degree_v») x c d) (w (eqb-true kind 6 z))
-        other false z = refl
+      enough-u : enough (basisOf (f .basis)) (f .«degree_u») (length us) ≡ true
+      enough-u =
+          ap (enough (basisOf (f .basis)) (f .«degree_u»)) (sym hu)
+          ∙ ⊎-elim
+          (λ (e : eqb kind 6 ≡ true). surface-enough-u (basisOf (f .basis)) (f .«degree_u») u (f .«degree_v») v k (agrees true e))
+          (λ (e : eqb kind 6 ≡ false). curve-enough (basisOf (f .basis)) (f .«degree_u») u k (agrees false e))
+          (test (eqb kind 6))
 
-        same : inRange (freeOf kind) B ≡ r
-        same =
-            in-range
-            ∙ ap (λ (x : Bool). inOrder (basisOf (f .basis)) (f .«degree_u») us (startIn (eqb kind 5) B) (endIn (eqb kind 5) B) && x) (other (eqb kind 6) refl)
-            ∙ sym (g ∙ rw (p, q, n, o) refl)
+      some-u : 1 ≤ length us
+      some-u = let n = u-there kind u v h in omega arith
 
-        pub refuse-13 : r ≡ false → judgedIs B k (judged.Refused 13)
-        refuse-13 j = (rw (whole ∙ h, counts ∙ i, same ∙ j) refl, omega arith)
+      along-u : o ≡ walked (askedOf (f .basis) (f .«degree_u») (length us)) us
+      along-u = x ∙ ap (λ (n : ℕ). walked (askedOf (f .basis) (f .«degree_u») n) us) hu
 
-        pub pass : r ≡ true → u ≤ 16777216 → v ≤ 16777216 → judgedIs B k (judged.Fine u v s e)
-        pass j x y =
-            record {
-              none-wrong = rw (whole ∙ h, counts ∙ i, same ∙ j) refl;
-              count-u = hu;
-              count-v = hv;
-              small-u = x;
-              small-v = y;
-              starts = p ∙ start-is (eqb kind 6) (eqb kind 5) (one-kind kind) B;
-              ends = q ∙ end-is (eqb kind 6) (eqb kind 5) (one-kind kind) B;
-            }
+      law-u : (s e : ℤ) → holdsIn o s e ≡ inOrder (basisOf (f .basis)) (f .«degree_u») us s e
+      law-u s e = ap (λ (q : Order). holdsIn q s e) along-u ∙ walk-holds (f .basis) (f .«degree_u») us s e some-u enough-u
+
+      law-v : eqb kind 6 ≡ true → holdsIn p c d ≡ inOrder (basisOf (f .basis)) (f .«degree_v») vs c d
+      law-v e =
+          let n = both-there kind u v (eqb-true kind 6 e) h .1 in
+          ap (λ (q : Order). holdsIn q c d) (y ∙ ap (λ (n : ℕ). walked (askedOf (f .basis) (f .«degree_v») n) vs) hv)
+          ∙ walk-holds (f .basis) (f .«degree_v») vs c d (omega arith) (ap (enough (basisOf (f .basis)) (f .«degree_v»)) (sym hv) ∙ surface-enough-v (basisOf (f .basis)) (f .«degree_u») u (f .«degree_v») v k (agrees true e))
+
+      other : (t : Bool) → eqb kind 6 ≡ t → cond t (holdsIn p c d) true ≡ cond t (inOrder (basisOf (f .basis)) (f .«degree_v») vs c d) true
+      other true e = law-v e
+      other false e = refl
+
+      starts : cond (eqb kind 5) (o .low) a ≡ startIn (eqb kind 5) B
+      starts = ap (λ (z : ℤ). cond (eqb kind 5) z a) (ap (λ (q : Order). q .low) along-u ∙ walk-is (f .basis) (f .«degree_u») us some-u enough-u .1)
+
+      ends : cond (eqb kind 5) (o .high) b ≡ endIn (eqb kind 5) B
+      ends = ap (λ (z : ℤ). cond (eqb kind 5) z b) (ap (λ (q : Order). q .high) along-u ∙ walk-is (f .basis) (f .«degree_u») us some-u enough-u .2)
+
+      in-range : inRange (freeOf kind) B ≡ heldOf kind o p (cond (eqb kind 5) (o .low) a) (cond (eqb kind 5) (o .high) b) c d
+      in-range =
+          range-is (eqb kind 6) (eqb kind 5) (one-kind kind) B
+          ∙ sym (ap₂ (λ (s t : Bool). s && t) (law-u (cond (eqb kind 5) (o .low) a) (cond (eqb kind 5) (o .high) b) ∙ ap₂ (λ (s e : ℤ). inOrder (basisOf (f .basis)) (f .«degree_u») us s e) starts ends) (other (eqb kind 6) refl))
+
+      pub settled-judged : u ≤ 16777216 → v ≤ 16777216 → (r : Judged) → settledIs kind u v o p a b c d r → judgedIs B k r
+      settled-judged m n (judged.Refused z) g =
+          let e = g .0 in
+          (rw (whole ∙ h, counts ∙ i, in-range ∙ g .1) (sym e), omega arith)
+      settled-judged m n (judged.Fine u₂ v₂ s e) g =
+          let q = g .2 in
+          let t : heldOf kind o p (cond (eqb kind 5) (o .low) a) (cond (eqb kind 5) (o .high) b) c d ≡ true = ap₂ (λ (s e : ℤ). heldOf kind o p s e c d) (sym (q .start-is)) (sym (q .end-is)) ∙ q .held in
+          let x₁ = g .0 in
+          let x₂ = g .1 in
+          record {
+            none-wrong = rw (whole ∙ h, counts ∙ i, in-range ∙ t) refl;
+            count-u = x₁ ∙ hu;
+            count-v = x₂ ∙ hv;
+            small-u = omega arith;
+            small-v = omega arith;
+            starts = q .start-is ∙ starts ∙ start-is (eqb kind 6) (eqb kind 5) (one-kind kind) B;
+            ends = q .end-is ∙ ends ∙ end-is (eqb kind 6) (eqb kind 5) (one-kind kind) B;
+          }
+
+-- whatever 13 says, both runs are in the table
+pub both-stored :
+    (p q x : List ℤ) (first u : ℕ) (us vs : List ℤ) (r : Judged) → u ≡ length us → q ≡ sets p first us → x ≡ sets q (first + u) vs → storedIs p x first (us ++ vs) r
+both-stored p q x first u us vs r h e g = go r
+  where
+    all : x ≡ sets p first (us ++ vs)
+    all = g ∙ ap₂ (λ (l : List ℤ) (m : ℕ). sets l (first + m) vs) e h ∙ sym (sets-append p first us vs)
+
+    go : (r : Judged) → storedIs p x first (us ++ vs) r
+    go (judged.Refused z) = ap length all ∙ length-sets p first (us ++ vs)
+    go (judged.Fine u₂ v₂ s e) = all

@@ -1,13 +1,13 @@
 -- A body that passed is stored: its parameters one after the other, its record, and its range as it is settled.
 use Prim.Native.Nat.{ℕ, _+_, _*_, _-_, _≤_, _<_}
 use native.Mathlib.Omega.{arith}
-use mathlib.Core.Path.{_≡_, refl, sym, ap, ap₂, _∙_}
+use mathlib.Core.Path.{_≡_, refl, sym, ap, _∙_}
 use mathlib.Core.List.{List, [], _∷_, _++_}
 use mathlib.Core.Bool.{Bool, true, false, cond}
 use mathlib.Core.Logic.{⊎-elim}
-use borrow.Author.Tests.{ne-eqb, eqb-true, eqb-false, le-leb, lt-leb, leb-true, leb-false}
+use borrow.Author.Tests.{ne-eqb, eqb-true, eqb-false, le-leb}
 use lib.ListN.{length, take}
-use lib.Seq.{sets, take-length}
+use lib.Seq.{sets, take-length, length-sets}
 use lib.Dec.{eqb, leb}
 use lib.IntN.{ℤ}
 use Rattle.lists.proofs.Tests.{test}
@@ -16,13 +16,12 @@ use Rattle.model.specs.Model.{Body}
 use Rattle.state.specs.declared.Form.{Form}
 use Rattle.state.specs.declared.Open.{Open}
 use Rattle.bodies.specs.Numbers.{numbersAt}
-use Rattle.bodies.specs.Closing.{parmOf, bodyFor, refusalOf, Passed, judgedIs, recordOf, Kept, NotKept}
+use Rattle.bodies.specs.Closing.{parmOf, bodyFor, refusalOf, Passed, judgedIs, storedIs, recordOf, Kept, NotKept}
 use Rattle.bodies.specs.declared.closing.Judged.{Judged}
 use Rattle.bodies.specs.declared.closing.Judged.the-variants as judged
-use Rattle.lists.proofs.Laws.{sets-append}
 use Rattle.bodies.proofs.Closings.{parm-none, parm-some, settled-rest}
 
--- ---- `store_parameters`
+-- ---- the parameters of a direction
 pub parm-take : (s : List ℕ) (at : ℕ) {n : ℕ} → n ≡ length (parmOf s at) → take n (numbersAt s at) ≡ parmOf s at
 parm-take s at {n} h =
     ⊎-elim
@@ -34,22 +33,6 @@ parm-take s at {n} h =
     let p = parm-some s at (eqb-false at 0 e) in
     ap (λ (k : ℕ). take k (numbersAt s at)) (h ∙ ap length p) ∙ take-length (numbersAt s at) ∙ sym p)
     (test (eqb at 0))
-
-module _ (s t : List ℕ) (at bt : ℕ) (u v first : ℕ) (p : List ℤ) where
-  pub no-room : length p < first + u + v → (false ≡ leb (first + (u + v)) (length p)) × (p ≡ p)
-  no-room h = (sym (lt-leb (first + (u + v)) (length p) (omega arith)), refl)
-
-  pub both-stored :
-      u ≡ length (parmOf s at) → v ≡ length (parmOf t bt) → first + u + v ≤ length p → {x y : List ℤ} →
-      x ≡ sets p first (take u (numbersAt s at)) → y ≡ sets x (first + u) (take v (numbersAt t bt)) →
-      (true ≡ leb (first + (u + v)) (length p)) × (y ≡ sets p first (parmOf s at ++ parmOf t bt))
-  both-stored hu hv h {x} {y} e f = (
-    sym (le-leb (first + (u + v)) (length p) (omega arith)),
-    f
-        ∙ ap₂ (λ (l : List ℤ) (r : List ℤ). sets l (first + u) r) (e ∙ ap (sets p first) (parm-take s at hu)) (parm-take t bt hv)
-        ∙ ap (λ (k : ℕ). sets (sets p first (parmOf s at)) (first + k) (parmOf t bt)) hu
-        ∙ sym (sets-append p first (parmOf s at) (parmOf t bt)),
-  )
 
 -- ---- a record among those whose room was asked for
 pub record-put :
@@ -76,9 +59,16 @@ module _ (b : Body) (k : ℕ) (r : Judged) (j : judgedIs b k r) where
   pub is-refused : {n : ℕ} → r ≡ judged.Refused n → (refusalOf b k ≡ n) × (0 < n)
   is-refused h = rw h at j
 
-module _ (f : Form) (o : Open) (used : Used) (b : Body) (l : List ℕ) (r p : List ℤ) where
-  pub not-kept : {n : ℕ} → (refusalOf b (o .controls) ≡ n) × (0 < n) → NotKept o used b l l r r p p n
-  not-kept {n} h =
+module _ (p x : List ℤ) (first : ℕ) (zs : List ℤ) (r : Judged) (j : storedIs p x first zs r) where
+  pub has-stored : {u v : ℕ} {s e : ℤ} → r ≡ judged.Fine u v s e → x ≡ sets p first zs
+  has-stored h = rw h at j
+
+  pub not-stored : {n : ℕ} → r ≡ judged.Refused n → length x ≡ length p
+  not-stored h = rw h at j
+
+module _ (f : Form) (o : Open) (used : Used) (b : Body) (l : List ℕ) (r p : List ℤ) {x : List ℤ} where
+  pub not-kept : {n : ℕ} → (refusalOf b (o .controls) ≡ n) × (0 < n) → length x ≡ length p → NotKept o used b l l r r p x n
+  not-kept {n} h same =
       let e = h .0 in
       let g = h .1 in
       let z : eqb n 0 ≡ false = ne-eqb n 0 (λ i. absurd (omega arith)) in
@@ -87,13 +77,16 @@ module _ (f : Form) (o : Open) (used : Used) (b : Body) (l : List ℕ) (r p : Li
         short = λ i. absurd (omega arith);
         same = refl;
         same-ranges = refl;
-        same-parameters = refl;
+        same-parameters = same;
       }
 
-  module _ {u v : ℕ} {s e : ℤ} (w : Passed b (o .controls) u v s e) {t : Bool} {x : List ℤ} (g : t ≡ leb (used .parameters + (u + v)) (length p)) (k : x ≡ cond t (sets p (used .parameters) (b .us ++ b .vs)) p) where
-    pub no-parameters : t ≡ false → NotKept o used b l l r r p x 14
+  module _ {u v : ℕ} {s e : ℤ} (w : Passed b (o .controls) u v s e) (k : x ≡ sets p (used .parameters) (b .us ++ b .vs)) where
+    same-length : length x ≡ length p
+    same-length = ap length k ∙ length-sets p (used .parameters) (b .us ++ b .vs)
+
+    pub no-parameters : length x < used .parameters + u + v → NotKept o used b l l r r p x 14
     no-parameters h =
-        let z = leb-false (used .parameters + (u + v)) (length p) (sym g ∙ h) in
+        let z = same-length in
         let hu = w .count-u in
         let hv = w .count-v in
         record {
@@ -101,15 +94,15 @@ module _ (f : Form) (o : Open) (used : Used) (b : Body) (l : List ℕ) (r p : Li
           short = λ i. omega arith;
           same = refl;
           same-ranges = refl;
-          same-parameters = ap length (k ∙ ap (λ (t : Bool). cond t (sets p (used .parameters) (b .us ++ b .vs)) p) h);
+          same-parameters = z;
         }
 
     pub kept :
-        t ≡ true → {m : List ℕ} {q : List ℤ} {s₂ e₂ c d : ℤ} → m ≡ sets l (9 * (used .bodies - 1)) (recordOf f o used u v) →
+        used .parameters + u + v ≤ length x → {m : List ℕ} {q : List ℤ} {s₂ e₂ c d : ℤ} → m ≡ sets l (9 * (used .bodies - 1)) (recordOf f o used u v) →
         q ≡ sets r (4 * (used .bodies - 1)) (s₂ ∷ e₂ ∷ c ∷ d ∷ []) → s₂ ≡ s → e₂ ≡ e → c ≡ b .start-v → d ≡ b .end-v →
         Kept f o used b l m r q p x u v
     kept h {m} {q} a₁ a₂ i₁ i₂ i₃ i₄ =
-        let z = leb-true (used .parameters + (u + v)) (length p) (sym g ∙ h) in
+        let z = same-length in
         let hu = w .count-u in
         let hv = w .count-v in
         let rest = settled-rest (b .free) b in
@@ -118,7 +111,7 @@ module _ (f : Form) (o : Open) (used : Used) (b : Body) (l : List ℕ) (r p : Li
           count-u = hu;
           count-v = hv;
           room = omega arith;
-          parameters = k ∙ ap (λ (t : Bool). cond t (sets p (used .parameters) (b .us ++ b .vs)) p) h;
+          parameters = k;
           body = a₁;
           range = a₂ ∙ ap (sets r (4 * (used .bodies - 1))) (row4 (i₁ ∙ w .starts) (i₂ ∙ w .ends) (i₃ ∙ sym (rest .0)) (i₄ ∙ sym (rest .1)));
         }

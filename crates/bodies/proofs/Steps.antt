@@ -1,12 +1,10 @@
 -- One step along a line's numbers, and what the loops over them keep: what is left comes, with what was passed, to what all of it comes to.
-use Prim.Native.Nat.{ℕ, suc, _+_, _-_, _≤_}
-use mathlib.Core.Path.{_≡_, refl, sym, ap, ap₂, _∙_}
+use Prim.Native.Nat.{ℕ, _+_, _≤_}
+use mathlib.Core.Path.{_≡_, refl, sym, ap, _∙_}
 use mathlib.Core.List.{List, [], _∷_}
-use mathlib.Core.Bool.{Bool, true, false}
 use native.Mathlib.Omega.{arith}
-use lib.ListN.{length, drop, getD}
-use lib.IntN.{ℤ, pos}
-use lib.Signed.{ltZ, leZ}
+use lib.ListN.{length, drop}
+use lib.IntN.{ℤ}
 use Rattle.text.specs.Words.{wordOf}
 use Rattle.text.specs.Rest.{Rest, restAt, push, wordAt, endOf, WordMet, EndMet, BadMet, gapIs}
 use Rattle.text.specs.declared.Met.{Met}
@@ -16,7 +14,6 @@ use Rattle.decimals.specs.Number.{numberOf}
 use Rattle.decimals.specs.Answers.{saidNumber}
 use Rattle.decimals.specs.declared.number.Number.{Number}
 use Rattle.decimals.specs.declared.number.Number.the-variants as number
-use Rattle.tables.specs.Bodies.{Basis, bezier, bspline, cardinal, taylor, ordered}
 use Rattle.bodies.specs.Numbers.{before, leading, numbersAt, NumberMet, NoNumber, stepIs, AllNumbers, NotAll, countedIs}
 use Rattle.bodies.specs.declared.numbers.Step.{Step}
 use Rattle.bodies.specs.declared.numbers.Step.the-variants as step
@@ -163,68 +160,3 @@ module _ (s : List ℕ) (at i count : ℕ) (w : Counting s at i count) where
         fewer = λ e. let l = m .word-left (w .bad ∙ e) in omega arith;
         small = let a = w .small in let b = w .to in omega arith;
       }
-
--- ---- `number_of`
-pub record Seeking (s : List ℕ) (at index i left : ℕ) : Type 0 where
-  pub to : i ≤ length s
-  pub same : getD (numbersAt s at) index (pos 0) ≡ getD (numbersAt s i) left (pos 0)
-
-module _ (s : List ℕ) (at index i left : ℕ) (w : Seeking s at index i left) where
-  pub seeking-here : {z : ℤ} {e : ℕ} → NumberMet s i z e → left ≡ 0 → z ≡ getD (numbersAt s at) index (pos 0)
-  seeking-here {z} {e} m h = sym (w .same ∙ ap₂ (λ (l : List ℤ) (k : ℕ). getD l k (pos 0)) (numbers-more s i m) h)
-
-  pub seeking-more : {z : ℤ} {e : ℕ} → NumberMet s i z e → (left ≡ 0 → ⊥) → Seeking s at index e (left - 1)
-  seeking-more {z} {e} m h =
-      let k : left ≡ suc (left - 1) = omega arith in
-      record { to = m .to; same = w .same ∙ ap₂ (λ (l : List ℤ) (k : ℕ). getD l k (pos 0)) (numbers-more s i m) k }
-
-  pub seeking-none : numbersAt s i ≡ [] → pos 0 ≡ getD (numbersAt s at) index (pos 0)
-  seeking-none e = sym (w .same ∙ ap (λ (l : List ℤ). getD l left (pos 0)) e)
-
--- ---- the order
-two-first : (t : Basis) (a b : ℤ) (x : List ℤ) → ordered t (a ∷ b ∷ []) ≡ true → ordered t (a ∷ b ∷ x) ≡ ordered t (b ∷ x)
-two-first bezier a b x h = rw (sym (mathlib.Core.Bool.and-true (ltZ a b)) ∙ h) refl
-two-first bspline a b x h = rw (sym (mathlib.Core.Bool.and-true (leZ a b)) ∙ h) refl
-two-first cardinal a b x h = rw (sym (mathlib.Core.Bool.and-true (ltZ a b)) ∙ h) refl
-two-first taylor a b x h = rw (sym (mathlib.Core.Bool.and-true (ltZ a b)) ∙ h) refl
-
-two-never : (t : Basis) (a b : ℤ) (x : List ℤ) → ordered t (a ∷ b ∷ []) ≡ false → ordered t (a ∷ b ∷ x) ≡ false
-two-never bezier a b x h = rw (sym (mathlib.Core.Bool.and-true (ltZ a b)) ∙ h) refl
-two-never bspline a b x h = rw (sym (mathlib.Core.Bool.and-true (leZ a b)) ∙ h) refl
-two-never cardinal a b x h = rw (sym (mathlib.Core.Bool.and-true (ltZ a b)) ∙ h) refl
-two-never taylor a b x h = rw (sym (mathlib.Core.Bool.and-true (ltZ a b)) ∙ h) refl
-
-pub ordered-none : (t : Basis) → ordered t [] ≡ true
-ordered-none bezier = refl
-ordered-none bspline = refl
-ordered-none cardinal = refl
-ordered-none taylor = refl
-
-ordered-one : (t : Basis) (a : ℤ) → ordered t (a ∷ []) ≡ true
-ordered-one bezier a = refl
-ordered-one bspline a = refl
-ordered-one cardinal a = refl
-ordered-one taylor a = refl
-
-pub record Rising (t : Basis) (s : List ℕ) (at : ℕ) (first : ℤ) (i : ℕ) (last : ℤ) : Type 0 where
-  pub to : i ≤ length s
-  pub same : ordered t (first ∷ numbersAt s at) ≡ ordered t (last ∷ numbersAt s i)
-
-module _ (t : Basis) (s : List ℕ) (at : ℕ) (first : ℤ) (i : ℕ) (last : ℤ) (w : Rising t s at first i last) where
-  pub rising-over : numbersAt s i ≡ [] → true ≡ ordered t (first ∷ numbersAt s at)
-  rising-over e = sym (w .same ∙ ap (λ (x : List ℤ). ordered t (last ∷ x)) e ∙ ordered-one t last)
-
-  -- y is z as it is handed on
-  module _ {y z : ℤ} {e : ℕ} (m : NumberMet s i z e) (f : y ≡ z) {r : Bool} (h : r ≡ ordered t (last ∷ y ∷ [])) where
-    on : ordered t (first ∷ numbersAt s at) ≡ ordered t (last ∷ y ∷ numbersAt s e)
-    on = w .same ∙ ap (λ (x : List ℤ). ordered t (last ∷ x)) (numbers-more s i m) ∙ ap (λ (x : ℤ). ordered t (last ∷ x ∷ numbersAt s e)) (sym f)
-
-    pub rising-more : r ≡ true → Rising t s at first e y
-    rising-more k = record { to = m .to; same = on ∙ two-first t last y (numbersAt s e) (sym h ∙ k) }
-
-    pub rising-fails : r ≡ false → false ≡ ordered t (first ∷ numbersAt s at)
-    rising-fails k = sym (on ∙ two-never t last y (numbersAt s e) (sym h ∙ k))
-
-pub ordered-on :
-    (t : Basis) (s : List ℕ) (at : ℕ) {y z : ℤ} {e : ℕ} {r : Bool} → NumberMet s at z e → y ≡ z → r ≡ ordered t (y ∷ numbersAt s e) → r ≡ ordered t (numbersAt s at)
-ordered-on t s at {y} {z} {e} m f h = h ∙ ap (λ (x : ℤ). ordered t (x ∷ numbersAt s e)) f ∙ ap (ordered t) (sym (numbers-more s at m))

@@ -2,12 +2,14 @@
 use Prim.Native.Nat.{ℕ, _+_, _*_, _-_, _≤_, _<_}
 use mathlib.Core.Path.{_≡_}
 use mathlib.Core.List.{List, [], _∷_, _++_}
-use mathlib.Core.Bool.{Bool, true, cond, _&&_, not}
+use mathlib.Core.Bool.{Bool, true, false, cond, _&&_, not}
 use lib.ListN.{length, getD}
 use lib.Dec.{eqb}
 use lib.Seq.{sets}
 use lib.IntN.{ℤ, pos}
-use Rattle.tables.specs.Bodies.{inOrder, curveCount, surfaceCount, basisOf}
+use Rattle.tables.specs.Bodies.{curveCount, surfaceCount, basisOf}
+use Rattle.basis.specs.declared.stepping.Order.{Order}
+use Rattle.basis.specs.Stepping.{holdsIn}
 use Rattle.tables.specs.declared.Used.{Used}
 use Rattle.model.specs.Model.{Body}
 use Rattle.model.specs.Statements.{settled}
@@ -36,10 +38,9 @@ agreeOf kind f u v k =
     (surfaceCount (basisOf (f .basis)) (f .«degree_u») u (f .«degree_v») v k)
     (curveCount (basisOf (f .basis)) (f .«degree_u») u k)
 
--- 13 along u, on a surface along v too
-abbrev pub rangedOf : ℕ → Form → List ℤ → List ℤ → ℤ → ℤ → ℤ → ℤ → Bool
-rangedOf kind f us vs a b c d =
-    inOrder (basisOf (f .basis)) (f .«degree_u») us a b && cond (eqb kind 6) (inOrder (basisOf (f .basis)) (f .«degree_v») vs c d) true
+-- 13 along u, on a surface along v too: from what the parameters of each came to
+abbrev pub heldOf : ℕ → Order → Order → ℤ → ℤ → ℤ → ℤ → Bool
+heldOf kind along-u along-v a b c d = holdsIn along-u a b && cond (eqb kind 6) (holdsIn along-v c d) true
 
 -- ---- the body that the numbers stand for, its loops aside
 abbrev pub bodyFor : Form → ℕ → List ℤ → List ℤ → ℤ → ℤ → ℤ → ℤ → Body
@@ -71,6 +72,22 @@ pub record Passed (b : Body) (k u v : ℕ) (start end : ℤ) : Type 0 where
   pub small-v : v ≤ 16777216
   pub starts : start ≡ settled (b .free) b .start-u
   pub ends : end ≡ settled (b .free) b .end-u
+
+-- with the ends of the range along u: a curv2's are the widest
+pub record Settled (kind : ℕ) (along-u along-v : Order) (a b c d start end : ℤ) : Type 0 where
+  pub start-is : start ≡ cond (eqb kind 5) (along-u .low) a
+  pub end-is : end ≡ cond (eqb kind 5) (along-u .high) b
+  pub held : heldOf kind along-u along-v start end c d ≡ true
+
+abbrev pub settledIs : ℕ → ℕ → ℕ → Order → Order → ℤ → ℤ → ℤ → ℤ → Judged → Type 0
+settledIs kind u v along-u along-v a b c d (judged.Refused n) =
+    (n ≡ 13) × (heldOf kind along-u along-v (cond (eqb kind 5) (along-u .low) a) (cond (eqb kind 5) (along-u .high) b) c d ≡ false)
+settledIs kind u v along-u along-v a b c d (judged.Fine m n start end) = (m ≡ u) × (n ≡ v) × Settled kind along-u along-v a b c d start end
+
+-- the table p of parameters, and x after it: the parameters zs are stored where nothing is wrong
+abbrev pub storedIs : List ℤ → List ℤ → ℕ → List ℤ → Judged → Type 0
+storedIs p x first zs (judged.Refused n) = length x ≡ length p
+storedIs p x first zs (judged.Fine u v start end) = x ≡ sets p first zs
 
 abbrev pub judgedIs : Body → ℕ → Judged → Type 0
 judgedIs b k (judged.Refused n) = (refusalOf b k ≡ n) × (0 < n)

@@ -3,13 +3,17 @@ use crate::numbers::Counted;
 use crate::numbers::Step;
 use crate::numbers::count_numbers;
 use crate::numbers::next_number;
-use crate::ranges::end_of;
-use crate::ranges::in_range;
-use crate::ranges::start_of;
 use basis::curve_count;
+use basis::stepping::Asked;
+use basis::stepping::Order;
+use basis::stepping::asked_of;
+use basis::stepping::holds;
+use basis::stepping::no_order;
+use basis::stepping::step;
 use basis::surface_count;
 use state::Form;
 use state::Open;
+use storing::put_i32;
 use storing::put4_i32;
 use storing::put9_u32;
 use tables::Used;
@@ -18,12 +22,13 @@ ghost use mathlib.Core.List.{[], _∷_, _++_};
 ghost use mathlib.Core.Bool.{true, cond};
 ghost use Prim.Native.Nat.{_+_, _*_, _-_, _≤_, _<_};
 ghost use lib.ListN.{length, take, getD};
-ghost use lib.Dec.{leb};
+ghost use lib.Dec.{eqb};
 ghost use lib.IntN.{pos};
 ghost use lib.Seq.{sets};
+ghost use Rattle.basis.specs.Stepping.{walked};
 ghost use Rattle.model.specs.Layout.{firstPart};
 ghost use Rattle.bodies.specs.Numbers.{numbersAt};
-ghost use Rattle.bodies.specs.Closing.{parmOf, completeOf, agreeOf, rangedOf, bodyFor, bodyIn, judgedIs, recordOf, closedIs};
+ghost use Rattle.bodies.specs.Closing.{parmOf, completeOf, agreeOf, bodyFor, bodyIn, settledIs, judgedIs, storedIs, recordOf, closedIs};
 
 pub enum Judged {
     Refused(u32),
@@ -78,59 +83,84 @@ fn counts_agree(kind: u32, form: Form, u: u32, v: u32, controls: u32) -> bool
     curve_count(form.basis, form.degree_u, u, controls)
 }
 
-// The first `count` numbers of a line, stored from `first` on.
-fn store(text: &[u8], at: usize, count: u32, parameters: &mut [i32], first: usize)
-    requires { ⌜ (at ≤ length (now text)) × (first + count ≤ length (now parameters)) ⌝ }
+// The first `count` numbers of a line, judged one after the other, and stored from `first` on as far as there is room.
+fn store(
+    text: &[u8],
+    at: usize,
+    count: u32,
+    asked: Asked,
+    parameters: &mut [i32],
+    first: usize,
+) -> Order
+    requires { ⌜ (at ≤ length (now text)) × (first ≤ 8589934592) ⌝ }
+    ensures { λ r. ⌜ r ≡ walked asked (take count (numbersAt (now (text .entry)) at)) ⌝ }
     ensures { λ r. ⌜ now (parameters .exit) ≡ sets (now (parameters .entry)) first (take count (numbersAt (now (text .entry)) at)) ⌝ }
 {
     let mut i = at;
     let mut done: u32 = 0;
+    let mut order = no_order();
     while done < count {
         match next_number(text, i) {
             Step::Stopped => {
-                return;
+                return order;
             }
             Step::End(_) => {
-                return;
+                return order;
             }
             Step::Number { value, end } => {
-                parameters[first + done as usize] = value;
+                order = step(asked, done as usize, order, value);
+                put_i32(parameters, first + done as usize, value);
                 done += 1;
                 i = end;
             }
         }
     }
+    order
 }
 
-// 13; the range along u is a curv2's widest or the stated one.
-fn ranged(
+// A curv2's range is the widest; other kinds state theirs.
+fn end_of(kind: u32, widest: i32, stated: i32) -> i32
+    ensures { λ r. ⌜ r ≡ cond (eqb kind 5) widest stated ⌝ }
+{
+    if kind == 5 {
+        return widest;
+    }
+    stated
+}
+
+// 13, from what the parameters of each direction came to.
+fn settle(
     kind: u32,
-    form: Form,
-    u_text: &[u8],
-    u_at: usize,
     u: u32,
-    v_text: &[u8],
-    v_at: usize,
     v: u32,
-    start: i32,
-    end: i32,
+    along_u: Order,
+    along_v: Order,
+    start_u: i32,
+    end_u: i32,
     start_v: i32,
     end_v: i32,
-) -> bool
-    requires { ⌜ («u_at» ≤ length (now «u_text»)) × (u ≡ length (numbersAt (now «u_text») «u_at»)) ⌝ }
-    requires { ⌜ (kind ≡ 6 → («v_at» ≤ length (now «v_text»)) × (v ≡ length (numbersAt (now «v_text») «v_at»))) ⌝ }
-    ensures { λ r. ⌜ r ≡ rangedOf kind form (numbersAt (now («u_text» .entry)) «u_at») (numbersAt (now («v_text» .entry)) «v_at») start end «start_v» «end_v» ⌝ }
+) -> Judged
+    ensures { λ r. ⌜ settledIs kind u v «along_u» «along_v» «start_u» «end_u» «start_v» «end_v» r ⌝ }
 {
-    if !in_range(u_text, u_at, form.basis, form.degree_u, u, start, end) {
-        return false;
+    let start = end_of(kind, along_u.low, start_u);
+    let end = end_of(kind, along_u.high, end_u);
+    if !holds(along_u, start, end) {
+        return Judged::Refused(13);
     }
     if kind == 6 {
-        return in_range(v_text, v_at, form.basis, form.degree_v, v, start_v, end_v);
+        if !holds(along_v, start_v, end_v) {
+            return Judged::Refused(13);
+        }
     }
-    true
+    Judged::Fine {
+        u: u,
+        v: v,
+        start: start,
+        end: end,
+    }
 }
 
-// 11, 12 and 13, in this order.
+// 11, 12 and 13, in this order; the parameters are stored, u then v, where 13 is asked.
 fn judge(
     u_text: &[u8],
     v_text: &[u8],
@@ -140,46 +170,40 @@ fn judge(
     end_u: i32,
     start_v: i32,
     end_v: i32,
+    parameters: &mut [i32],
+    first: u32,
 ) -> Judged
     requires { ⌜ (body .«u_at» ≤ length (now «u_text»)) × (length (now «u_text») ≤ 16777216) ⌝ }
     requires { ⌜ (body .«v_at» ≤ length (now «v_text»)) × (length (now «v_text») ≤ 16777216) ⌝ }
     ensures { λ r. ⌜ judgedIs (bodyFor form (body .kind) (parmOf (now («u_text» .entry)) (body .«u_at»)) (parmOf (now («v_text» .entry)) (body .«v_at»)) «start_u» «end_u» «start_v» «end_v») (body .controls) r ⌝ }
+    ensures { λ r. ⌜ storedIs (now (parameters .entry)) (now (parameters .exit)) first (parmOf (now («u_text» .entry)) (body .«u_at») ++ parmOf (now («v_text» .entry)) (body .«v_at»)) r ⌝ }
 {
-    let kind = body.kind;
     let u_at = body.u_at;
     let v_at = body.v_at;
     let u = parm_count(u_text, u_at);
     let v = parm_count(v_text, v_at);
-    if !complete(kind, u, v) {
+    if !complete(body.kind, u, v) {
         return Judged::Refused(11);
     }
-    if !counts_agree(kind, form, u, v, body.controls) {
+    if !counts_agree(body.kind, form, u, v, body.controls) {
         return Judged::Refused(12);
     }
-    let start = start_of(kind, u_text, u_at, form.basis, form.degree_u, start_u);
-    let end = end_of(kind, u_text, u_at, form.basis, form.degree_u, u, end_u);
-    if !ranged(
-        kind,
-        form,
-        u_text,
-        u_at,
+    let at = first as usize;
+    let asked_u = asked_of(form.basis, form.degree_u, u as usize);
+    let along_u = store(u_text, u_at, u, asked_u, parameters, at);
+    let asked_v = asked_of(form.basis, form.degree_v, v as usize);
+    let along_v = store(v_text, v_at, v, asked_v, parameters, at + u as usize);
+    settle(
+        body.kind,
         u,
-        v_text,
-        v_at,
         v,
-        start,
-        end,
+        along_u,
+        along_v,
+        start_u,
+        end_u,
         start_v,
         end_v,
-    ) {
-        return Judged::Refused(13);
-    }
-    Judged::Fine {
-        u: u,
-        v: v,
-        start: start,
-        end: end,
-    }
+    )
 }
 
 // The first loop part of a body that has some, after those before it.
@@ -223,32 +247,6 @@ fn store_range(bodies: u32, start: i32, end: i32, ranges: &mut [i32])
     put4_i32(ranges, at, start, end, start_v, end_v);
 }
 
-// The parameters, u then v.
-fn store_parameters(
-    u_text: &[u8],
-    u_at: usize,
-    u: u32,
-    v_text: &[u8],
-    v_at: usize,
-    v: u32,
-    first: u32,
-    parameters: &mut [i32],
-) -> bool
-    requires { ⌜ («u_at» ≤ length (now «u_text»)) × (u ≡ length (parmOf (now «u_text») «u_at»)) × (u ≤ 16777216) ⌝ }
-    requires { ⌜ («v_at» ≤ length (now «v_text»)) × (v ≡ length (parmOf (now «v_text») «v_at»)) × (v ≤ 16777216) ⌝ }
-    ensures { λ r. ⌜ r ≡ leb (first + (u + v)) (length (now (parameters .entry))) ⌝ }
-    ensures { λ r. ⌜ now (parameters .exit) ≡ cond r (sets (now (parameters .entry)) first (parmOf (now («u_text» .entry)) «u_at» ++ parmOf (now («v_text» .entry)) «v_at»)) (now (parameters .entry)) ⌝ }
-{
-    let at = first as usize;
-    let behind = at + u as usize;
-    if parameters.len() < behind + v as usize {
-        return false;
-    }
-    store(u_text, u_at, u, parameters, at);
-    store(v_text, v_at, v, parameters, behind);
-    true
-}
-
 // The `end` of an open body: the form is the one in force at its element's line, the degrees those that the body has. The texts hold the last parm line of
 // each direction, at the places that `body` has.
 pub fn close_body(
@@ -276,19 +274,12 @@ pub fn close_body(
         ranges[at + 1],
         ranges[at + 2],
         ranges[at + 3],
+        parameters,
+        used.parameters,
     ) {
         Judged::Refused(n) => Closed::Refused(n),
         Judged::Fine { u, v, start, end } => {
-            if !store_parameters(
-                u_text,
-                body.u_at,
-                u,
-                v_text,
-                body.v_at,
-                v,
-                used.parameters,
-                parameters,
-            ) {
+            if parameters.len() < used.parameters as usize + u as usize + v as usize {
                 return Closed::Refused(14);
             }
             store_record(form, body, used, u, v, bodies);

@@ -3,4 +3,3 @@ pub mod closing; // end
 pub mod loops; // trim and hole
 pub mod numbers;
 pub mod parm;
-pub mod ranges; // the order and range of parameters

@@ -10,4 +10,5 @@ pub mod CurveNear
 pub mod SurfaceNear
 pub mod WeightsOne
 pub mod Within
+pub mod NoJump
 pub mod Examples

@@ -13,11 +13,11 @@ use Rattle.whole.proofs.FracLaws.{Is, is-conv, is-whole, is-plus, is-times, is-
 use Rattle.curves.specs.Exact.{splineWeight}
 use Rattle.curves.proofs.SplineScheme.{OnSpan, part, gap, rest, level, scale, left, right, portion, all, portion-past, part-is, rest-is, gap-is, gap-pos, scale-is}
 
-off : (b : Bool) → (T b → ⊥) → Is (cond b (whole (pos 1)) (whole (pos 0))) (pos 0) 1
+pub off : (b : Bool) → (T b → ⊥) → Is (cond b (whole (pos 1)) (whole (pos 0))) (pos 0) 1
 off true f = absurd (f tt)
 off false f = is-whole (pos 0) 1
 
-on : (b : Bool) → T b → Is (cond b (whole (pos 1)) (whole (pos 0))) (pos 1) 1
+pub on : (b : Bool) → T b → Is (cond b (whole (pos 1)) (whole (pos 0))) (pos 1) 1
 on true u = is-whole (pos 1) 1
 on false u = absurd u
 

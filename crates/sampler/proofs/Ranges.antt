@@ -14,7 +14,7 @@ use lib.Signed.{_≤ℤ_, _<ℤ_, leZ, ltZ, <ℤ-≤ℤ-trans}
 use Rattle.lists.proofs.Tests.{and-left, and-right}
 use Rattle.whole.specs.Round.{Small}
 use Rattle.whole.proofs.Order.{yes-le, yes-lt, ≤ℤ-trans, ≤ℤ-<ℤ-trans, <ℤ→≤ℤ}
-use Rattle.tables.specs.Bodies.{Basis, bezier, bspline, enough, rising, steady, ordered, low, high, ranged, inOrder, basisOf}
+use Rattle.tables.specs.Bodies.{Basis, bezier, bspline, enough, rising, steady, ordered, continuous, low, high, ranged, inOrder, basisOf}
 use Rattle.curves.specs.Directions.{at, BezierRules, SplineRules, Rules}
 use Rattle.rows.specs.Places.{direction, Sound}
 use Rattle.runs.specs.Runs.{Ranged}
@@ -36,11 +36,11 @@ steady-at (a ∷ b ∷ x) h (suc i) l = steady-at (b ∷ x) (and-right (leZ a b)
 module _ (t : Basis) (n : ℕ) (x : List ℤ) (s e : ℤ) (h : inOrder t n x s e ≡ true) where
   in-ordered : ordered t x ≡ true
   unfolding inOrder
-  in-ordered = and-left (ordered t x) (ranged t n x s e) h
+  in-ordered = and-left (ordered t x) (continuous t n x) (and-left (ordered t x && continuous t n x) (ranged t n x s e) h)
 
   in-ranged : ranged t n x s e ≡ true
   unfolding inOrder
-  in-ranged = and-right (ordered t x) (ranged t n x s e) h
+  in-ranged = and-right (ordered t x && continuous t n x) (ranged t n x s e) h
 
   in-low : low t n x ≤ℤ s
   in-low = yes-le (low t n x) s (and-left (leZ (low t n x) s) (ltZ s e) (and-left (leZ (low t n x) s && ltZ s e) (leZ e (high t n x)) in-ranged))

@@ -4,3 +4,4 @@ pub mod Filled
 pub mod Flat
 pub mod Examples
 pub mod Types
+pub mod Knots

@@ -70,9 +70,30 @@ high taylor n x = getD x (length x - 1) (pos 0)
 abbrev pub ranged : Basis → ℕ → List ℤ → ℤ → ℤ → Bool
 ranged t n x start end = leZ (low t n x) start && ltZ start end && leZ end (high t n x)
 
+-- how often a value stands among x
+abbrev pub multiplicity : ℤ → List ℤ → ℕ
+multiplicity a [] = 0
+multiplicity a (b ∷ x) = cond (leZ a b && leZ b a) (suc (multiplicity a x)) (multiplicity a x)
+
+-- a value that stands m times does so at most n times, or does not lie strictly between two ends
+abbrev pub seldom : ℕ → ℤ → ℤ → ℤ → ℕ → Bool
+seldom n lo hi a m = cond (ltZ lo a && ltZ a hi) (leb m n) true
+
+-- each value of x, counted from where it stands first
+abbrev pub eachSeldom : ℕ → ℤ → ℤ → List ℤ → Bool
+eachSeldom n lo hi [] = true
+eachSeldom n lo hi (a ∷ x) = seldom n lo hi a (multiplicity a (a ∷ x)) && eachSeldom n lo hi x
+
+-- 02, Q-5: "a knot value strictly between x_n and x_k stands at most n times. Multiplicities at the two ends stay free."
+abbrev pub continuous : Basis → ℕ → List ℤ → Bool
+continuous bezier n x = true
+continuous bspline n x = eachSeldom n (low bspline n x) (high bspline n x) x
+continuous cardinal n x = true
+continuous taylor n x = true
+
 -- 13 along one direction
 unfoldable pub inOrder : Basis → ℕ → List ℤ → ℤ → ℤ → Bool
-inOrder t n x start end = ordered t x && ranged t n x start end
+inOrder t n x start end = ordered t x && continuous t n x && ranged t n x start end
 
 -- 12: the controls of a curve; "A surface has k_u times k_v controls"
 unfoldable pub curveCount : Basis → ℕ → ℕ → ℕ → Bool

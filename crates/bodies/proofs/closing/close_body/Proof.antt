@@ -1,11 +1,11 @@
--- The verdict of `judge`, then room, then the stores (`Keeping`).
+-- 11 to 13 as they are judged, then the room, then the record and the range (`Keeping`).
 use mathlib.Core.Path.{refl}
+use mathlib.Core.List.{_++_}
 use denote.Ref.{now}
 use borrow.Author.Needs.{needs}
 use Rattle.bodies.specs.Closing.{parmOf, bodyIn}
 use Rattle.tables.proofs.Bits.{fitted}
 use Rattle.bodies.proofs.Keeping as K
-use borrow.Author.Tests.{not-true, not-false}
 use Rattle.bodies.proofs.closing.close_body.Statement.{statement}
 use Rattle.bodies.proofs.closing.close_body.Tie as tie
 
@@ -60,54 +60,68 @@ enum-known-n c = search needs
 enum-known-u : tie.Need-enum-known-u
 enum-known-u c = search needs
 
-store-parameters-requires : tie.Need-store-parameters-requires
-store-parameters-requires c κs =
-    let u = c .before .before in
-    let judge = u .before .before in
-    let judge-arg4 = judge .before in
-    let judge-arg3 = judge-arg4 .before in
-    let judge-arg2 = judge-arg3 .before in
-    let judge-arg = judge-arg2 .before in
-    let start = judge-arg .before .before .before .before .before in
-    let w = (K.has-passed (bodyIn (start .args .form) (start .args .body) (start .args .used) (now (start .args .u-text)) (now (start .args .v-text)) (now (start .args .ranges))) (start .args .body .controls) (judge .judge .result) (K.judged-to (start .args .form) (start .args .body .kind) (parmOf (now (start .args .u-text)) (start .args .body .«u_at»)) (parmOf (now (start .args .v-text)) (start .args .body .«v_at»)) (start .args .body .controls) (judge .judge .result) (fitted (judge-arg .judge-arg .given)) (fitted (judge-arg2 .judge-arg2 .given)) (fitted (judge-arg3 .judge-arg3 .given)) (fitted (judge-arg4 .judge-arg4 .given)) (judge .judge .ensures)) (u .u .given .1)) in ((start .pre .0 .0, w .count-u, w .small-u), (start .pre .1 .0 .0, w .count-v, w .small-v))
+cast-if1 : tie.Need-cast-if1
+cast-if1 c = search needs
+
+cast-if1-2 : tie.Need-cast-if1-2
+cast-if1-2 c = search needs
+
+add-if1 : tie.Need-add-if1
+add-if1 c = search needs
+
+cast-if1-3 : tie.Need-cast-if1-3
+cast-if1-3 c = search needs
+
+add-if1-2 : tie.Need-add-if1-2
+add-if1-2 c = search needs
 
 same-length : tie.Need-same-length
 same-length c = search needs
 
 returns : tie.Need-returns
 returns c =
-    let if1 = c in
-    let store-parameters = if1 .before .before in
-    let u = store-parameters .before .before .before in
-    let judge = u .before .before in
-    let judge-arg4 = judge .before in
-    let judge-arg3 = judge-arg4 .before in
-    let judge-arg2 = judge-arg3 .before in
-    let judge-arg = judge-arg2 .before in
-    let start = judge-arg .before .before .before .before .before in
-    K.no-parameters (start .args .form) (start .args .body) (start .args .used) (bodyIn (start .args .form) (start .args .body) (start .args .used) (now (start .args .u-text)) (now (start .args .v-text)) (now (start .args .ranges))) (now (start .args .bodies)) (now (start .args .ranges)) (now (start .args .parameters)) (K.has-passed (bodyIn (start .args .form) (start .args .body) (start .args .used) (now (start .args .u-text)) (now (start .args .v-text)) (now (start .args .ranges))) (start .args .body .controls) (judge .judge .result) (K.judged-to (start .args .form) (start .args .body .kind) (parmOf (now (start .args .u-text)) (start .args .body .«u_at»)) (parmOf (now (start .args .v-text)) (start .args .body .«v_at»)) (start .args .body .controls) (judge .judge .result) (fitted (judge-arg .judge-arg .given)) (fitted (judge-arg2 .judge-arg2 .given)) (fitted (judge-arg3 .judge-arg3 .given)) (fitted (judge-arg4 .judge-arg4 .given)) (judge .judge .ensures)) (u .u .given .1)) (store-parameters .store-parameters .ensures .0) (store-parameters .store-parameters .ensures .1) (not-true _ (if1 .if1 .taken))
+    let u = c .before .before .before in
+    let judge = u .before .before .before in
+    let arg4 = judge .before .before in
+    let arg3 = arg4 .before in
+    let arg2 = arg3 .before in
+    let arg = arg2 .before in
+    let s = arg .before .before .before .before .before in
+    let a = s .args in
+    let us = parmOf (now (a .u-text)) (a .body .«u_at») in
+    let vs = parmOf (now (a .v-text)) (a .body .«v_at») in
+    let b = bodyIn (a .form) (a .body) (a .used) (now (a .u-text)) (now (a .v-text)) (now (a .ranges)) in
+    let said = K.judged-to (a .form) (a .body .kind) us vs (a .body .controls) (judge .judge .result) (fitted (arg .judge-arg .given)) (fitted (arg2 .judge-arg2 .given)) (fitted (arg3 .judge-arg3 .given)) (fitted (arg4 .judge-arg4 .given)) (judge .judge .ensures .0) in
+    K.no-parameters (a .form) (a .body) (a .used) b (now (a .bodies)) (now (a .ranges)) (now (a .parameters)) (K.has-passed b (a .body .controls) (judge .judge .result) said (u .u .given .1)) (K.has-stored (now (a .parameters)) _ (a .used .parameters) (us ++ vs) (judge .judge .result) (judge .judge .ensures .1) (u .u .given .1)) (c .if1 .taken)
 
 store-record-requires : tie.Need-store-record-requires
-store-record-requires c κs = search needs
+store-record-requires c κs =
+    let s = c .before .before .before .before .before .before .before .before .before .before .before .before .before .before .before .before .before in
+    (s .pre .1 .1 .0, s .pre .1 .1 .1, s .pre .1 .1 .3)
 
 store-range-requires : tie.Need-store-range-requires
 store-range-requires c κs =
-    let start = c .before .before .before .before .before .before .before .before .before .before .before .before .before .before .before .before .before .before .before .before .before in
-    (start .pre .1 .1 .0, start .pre .1 .1 .2)
+    let s = c .before .before .before .before .before .before .before .before .before .before .before .before .before .before .before .before .before .before .before .before .before in
+    (s .pre .1 .1 .0, s .pre .1 .1 .2)
+
+same-length-2 : tie.Need-same-length-2
+same-length-2 c = search needs
 
 returns-2 : tie.Need-returns-2
 returns-2 c =
     let n = c .before in
-    let judge = n .before .before in
-    let judge-arg4 = judge .before in
-    let judge-arg3 = judge-arg4 .before in
-    let judge-arg2 = judge-arg3 .before in
-    let judge-arg = judge-arg2 .before in
-    let start = judge-arg .before .before .before .before .before in
-    K.not-kept (start .args .form) (start .args .body) (start .args .used) (bodyIn (start .args .form) (start .args .body) (start .args .used) (now (start .args .u-text)) (now (start .args .v-text)) (now (start .args .ranges))) (now (start .args .bodies)) (now (start .args .ranges)) (now (start .args .parameters)) (K.is-refused (bodyIn (start .args .form) (start .args .body) (start .args .used) (now (start .args .u-text)) (now (start .args .v-text)) (now (start .args .ranges))) (start .args .body .controls) (judge .judge .result) (K.judged-to (start .args .form) (start .args .body .kind) (parmOf (now (start .args .u-text)) (start .args .body .«u_at»)) (parmOf (now (start .args .v-text)) (start .args .body .«v_at»)) (start .args .body .controls) (judge .judge .result) (fitted (judge-arg .judge-arg .given)) (fitted (judge-arg2 .judge-arg2 .given)) (fitted (judge-arg3 .judge-arg3 .given)) (fitted (judge-arg4 .judge-arg4 .given)) (judge .judge .ensures)) (n .n .given .1))
-
-same-length-2 : tie.Need-same-length-2
-same-length-2 c = search needs
+    let judge = n .before .before .before in
+    let arg4 = judge .before .before in
+    let arg3 = arg4 .before in
+    let arg2 = arg3 .before in
+    let arg = arg2 .before in
+    let s = arg .before .before .before .before .before in
+    let a = s .args in
+    let us = parmOf (now (a .u-text)) (a .body .«u_at») in
+    let vs = parmOf (now (a .v-text)) (a .body .«v_at») in
+    let b = bodyIn (a .form) (a .body) (a .used) (now (a .u-text)) (now (a .v-text)) (now (a .ranges)) in
+    let said = K.judged-to (a .form) (a .body .kind) us vs (a .body .controls) (judge .judge .result) (fitted (arg .judge-arg .given)) (fitted (arg2 .judge-arg2 .given)) (fitted (arg3 .judge-arg3 .given)) (fitted (arg4 .judge-arg4 .given)) (judge .judge .ensures .0) in
+    K.not-kept (a .form) (a .body) (a .used) b (now (a .bodies)) (now (a .ranges)) (now (a .parameters)) (K.is-refused b (a .body .controls) (judge .judge .result) said (n .n .given .1)) (K.not-stored (now (a .parameters)) _ (a .used .parameters) (us ++ vs) (judge .judge .result) (judge .judge .ensures .1) (n .n .given .1))
 
 same-length-3 : tie.Need-same-length-3
 same-length-3 c = search needs
@@ -115,21 +129,28 @@ same-length-3 c = search needs
 same-length-4 : tie.Need-same-length-4
 same-length-4 c = search needs
 
+same-length-5 : tie.Need-same-length-5
+same-length-5 c = search needs
+
 returns-3 : tie.Need-returns-3
 returns-3 c =
-    let store-range = c .before in
-    let store-record = store-range .before .before .before .before in
-    let if1 = store-record .before .before in
-    let store-parameters = if1 .before .before in
-    let known-told2 = store-parameters .before .before in
-    let u = known-told2 .before in
-    let judge = u .before .before in
-    let judge-arg4 = judge .before in
-    let judge-arg3 = judge-arg4 .before in
-    let judge-arg2 = judge-arg3 .before in
-    let judge-arg = judge-arg2 .before in
-    let start = judge-arg .before .before .before .before .before in
-    K.kept (start .args .form) (start .args .body) (start .args .used) (bodyIn (start .args .form) (start .args .body) (start .args .used) (now (start .args .u-text)) (now (start .args .v-text)) (now (start .args .ranges))) (now (start .args .bodies)) (now (start .args .ranges)) (now (start .args .parameters)) (K.has-passed (bodyIn (start .args .form) (start .args .body) (start .args .used) (now (start .args .u-text)) (now (start .args .v-text)) (now (start .args .ranges))) (start .args .body .controls) (judge .judge .result) (K.judged-to (start .args .form) (start .args .body .kind) (parmOf (now (start .args .u-text)) (start .args .body .«u_at»)) (parmOf (now (start .args .v-text)) (start .args .body .«v_at»)) (start .args .body .controls) (judge .judge .result) (fitted (judge-arg .judge-arg .given)) (fitted (judge-arg2 .judge-arg2 .given)) (fitted (judge-arg3 .judge-arg3 .given)) (fitted (judge-arg4 .judge-arg4 .given)) (judge .judge .ensures)) (u .u .given .1)) (store-parameters .store-parameters .ensures .0) (store-parameters .store-parameters .ensures .1) (not-false _ (if1 .if1 .left)) (store-record .store-record .ensures) (store-range .store-range .ensures) (fitted (known-told2 .known-told2 .given .1 .1 .0 .1)) (fitted (known-told2 .known-told2 .given .1 .1 .1 .0 .1)) refl refl
+    let range = c .before in
+    let row = range .before .before .before .before in
+    let one = row .before .before in
+    let told = one .before .before in
+    let u = told .before in
+    let judge = u .before .before .before in
+    let arg4 = judge .before .before in
+    let arg3 = arg4 .before in
+    let arg2 = arg3 .before in
+    let arg = arg2 .before in
+    let s = arg .before .before .before .before .before in
+    let a = s .args in
+    let us = parmOf (now (a .u-text)) (a .body .«u_at») in
+    let vs = parmOf (now (a .v-text)) (a .body .«v_at») in
+    let b = bodyIn (a .form) (a .body) (a .used) (now (a .u-text)) (now (a .v-text)) (now (a .ranges)) in
+    let said = K.judged-to (a .form) (a .body .kind) us vs (a .body .controls) (judge .judge .result) (fitted (arg .judge-arg .given)) (fitted (arg2 .judge-arg2 .given)) (fitted (arg3 .judge-arg3 .given)) (fitted (arg4 .judge-arg4 .given)) (judge .judge .ensures .0) in
+    K.kept (a .form) (a .body) (a .used) b (now (a .bodies)) (now (a .ranges)) (now (a .parameters)) (K.has-passed b (a .body .controls) (judge .judge .result) said (u .u .given .1)) (K.has-stored (now (a .parameters)) _ (a .used .parameters) (us ++ vs) (judge .judge .result) (judge .judge .ensures .1) (u .u .given .1)) (one .if1 .left) (row .store-record .ensures) (range .store-range .ensures) (fitted (told .known-told2 .given .1 .1 .0 .1)) (fitted (told .known-told2 .given .1 .1 .1 .0 .1)) refl refl
 
 pub close-body-spec : {M : Type 1} → statement M
 close-body-spec =
@@ -152,13 +173,18 @@ close-body-spec =
     judge-requires
     enum-known-n
     enum-known-u
-    store-parameters-requires
+    cast-if1
+    cast-if1-2
+    add-if1
+    cast-if1-3
+    add-if1-2
     same-length
     returns
     store-record-requires
     store-range-requires
-    returns-2
     same-length-2
+    returns-2
     same-length-3
     same-length-4
+    same-length-5
     returns-3)

@@ -1,114 +1,120 @@
 -- Each test says what the definition says of the body (`Closings`).
-use mathlib.Core.Path.{_≡_, refl, sym, ap, _∙_}
+use mathlib.Core.Path.{refl, _∙_}
 use native.Mathlib.Omega.{arith}
 use denote.Ref.{now}
-use borrow.Author.Needs.{needs}
 use mir.Facts.{toZ-ofZ}
-use Rattle.tables.proofs.Bits.{fitted}
+use borrow.Author.Needs.{needs}
 use Rattle.basis.proofs.Tests.{failed, passed}
-use Rattle.bodies.proofs.Closings as C
-use mathlib.Core.List.{List}
-use mathlib.Core.Bool.{cond}
-use lib.ListN.{length}
-use lib.Dec.{eqb}
-use lib.IntN.{ℤ}
-use Rattle.tables.specs.Bodies.{low, high, basisOf}
-use Rattle.bodies.specs.Numbers.{numbersAt}
 use Rattle.bodies.specs.Closing.{parmOf}
+use Rattle.bodies.proofs.Closings as C
+use Rattle.bodies.proofs.Keeping.{parm-take}
 use Rattle.bodies.proofs.closing.judge.Statement.{statement}
 use Rattle.bodies.proofs.closing.judge.Tie as tie
 
 parm-count-requires : tie.Need-parm-count-requires
-parm-count-requires c κs =
-    let start = c .before .before in
-    start .pre .0
+parm-count-requires c κs = c .before .before .pre .0
 
 parm-count-requires-2 : tie.Need-parm-count-requires-2
-parm-count-requires-2 c κs =
-    let start = c .before .before .before in
-    start .pre .1
+parm-count-requires-2 c κs = c .before .before .before .pre .1
 
 complete-requires : tie.Need-complete-requires
 complete-requires c κs = search needs
 
 returns : tie.Need-returns
 returns c =
-    let if1 = c in
-    let complete = if1 .before in
-    let parm-count2 = complete .before in
-    let parm-count = parm-count2 .before in
-    let start = parm-count .before .before .before in
-    C.refuse-11 (start .args .form) (start .args .body .kind) (parmOf (now (start .args .u-text)) (start .args .body .«u_at»)) (parmOf (now (start .args .v-text)) (start .args .body .«v_at»)) (start .args .start-u) (start .args .end-u) (start .args .start-v) (start .args .end-v) (start .args .body .controls) (parm-count .parm-count .result) (parm-count2 .parm-count2 .result) (parm-count .parm-count .ensures .0) (parm-count2 .parm-count2 .ensures .0) (failed (complete .complete .ensures) (if1 .if1 .taken))
+    let complete = c .before in
+    let count-v = complete .before in
+    let count-u = count-v .before in
+    let s = count-u .before .before .before in
+    let a = s .args in
+    let us = parmOf (now (a .u-text)) (a .body .«u_at») in
+    let vs = parmOf (now (a .v-text)) (a .body .«v_at») in
+    (C.refuse-11 (a .form) (a .body .kind) us vs (a .start-u) (a .end-u) (a .start-v) (a .end-v) (a .body .controls) (count-u .parm-count .result) (count-v .parm-count2 .result) (count-u .parm-count .ensures .0) (count-v .parm-count2 .ensures .0) (failed (complete .complete .ensures) (c .if1 .taken)), refl)
 
 counts-agree-requires : tie.Need-counts-agree-requires
-counts-agree-requires c κs =
-    let if1 = c in
-    let complete = if1 .before in
-    (passed (complete .complete .ensures) (if1 .if1 .left))
+counts-agree-requires c κs = passed (c .before .complete .ensures) (c .if1 .left)
 
 returns-2 : tie.Need-returns-2
 returns-2 c =
-    let if2 = c in
-    let counts-agree = if2 .before in
-    let if1 = counts-agree .before in
-    let complete = if1 .before in
-    let parm-count2 = complete .before in
-    let parm-count = parm-count2 .before in
-    let start = parm-count .before .before .before in
-    C.refuse-12 (start .args .form) (start .args .body .kind) (parmOf (now (start .args .u-text)) (start .args .body .«u_at»)) (parmOf (now (start .args .v-text)) (start .args .body .«v_at»)) (start .args .start-u) (start .args .end-u) (start .args .start-v) (start .args .end-v) (start .args .body .controls) (parm-count .parm-count .result) (parm-count2 .parm-count2 .result) (parm-count .parm-count .ensures .0) (parm-count2 .parm-count2 .ensures .0) (passed (complete .complete .ensures) (if1 .if1 .left)) (failed (counts-agree .counts-agree .ensures) (if2 .if2 .taken))
+    let agree = c .before in
+    let one = agree .before in
+    let complete = one .before in
+    let count-v = complete .before in
+    let count-u = count-v .before in
+    let s = count-u .before .before .before in
+    let a = s .args in
+    let us = parmOf (now (a .u-text)) (a .body .«u_at») in
+    let vs = parmOf (now (a .v-text)) (a .body .«v_at») in
+    (C.refuse-12 (a .form) (a .body .kind) us vs (a .start-u) (a .end-u) (a .start-v) (a .end-v) (a .body .controls) (count-u .parm-count .result) (count-v .parm-count2 .result) (count-u .parm-count .ensures .0) (count-v .parm-count2 .ensures .0) (passed (complete .complete .ensures) (one .if1 .left)) (failed (agree .counts-agree .ensures) (c .if2 .taken)), refl)
 
-start-of-requires : tie.Need-start-of-requires
-start-of-requires c κs =
-    let start = c .before .before .before .before .before .before .before .before in
-    start .pre .0 .0
+cast-asked-of : tie.Need-cast-asked-of
+cast-asked-of c = search needs
 
-end-of-requires : tie.Need-end-of-requires
-end-of-requires c κs =
-    let if1 = c .before .before .before in
-    let complete = if1 .before in
-    let parm-count2 = complete .before in
-    let parm-count = parm-count2 .before in
-    let start = parm-count .before .before .before in
-    let one = C.u-there (start .args .body .kind) (parm-count .parm-count .result) (parm-count2 .parm-count2 .result) (passed (complete .complete .ensures) (if1 .if1 .left)) in let pu = (parm-count .parm-count .ensures .0) in let there : (parmOf (now (start .args .u-text)) (start .args .body .«u_at»)) ≡ (numbersAt (now (start .args .u-text)) (start .args .body .«u_at»)) = C.parm-there (now (start .args .u-text)) (start .args .body .«u_at») (omega arith) in (start .pre .0 .0, pu ∙ ap length there)
+asked-of-requires : tie.Need-asked-of-requires
+asked-of-requires c κs = search needs
 
-ranged-requires : tie.Need-ranged-requires
-ranged-requires c κs =
-    let if1 = c .before .before .before .before in
-    let complete = if1 .before in
-    let parm-count2 = complete .before in
-    let parm-count = parm-count2 .before in
-    let start = parm-count .before .before .before in
-    let one = C.u-there (start .args .body .kind) (parm-count .parm-count .result) (parm-count2 .parm-count2 .result) (passed (complete .complete .ensures) (if1 .if1 .left)) in let pu = (parm-count .parm-count .ensures .0) in let there : (parmOf (now (start .args .u-text)) (start .args .body .«u_at»)) ≡ (numbersAt (now (start .args .u-text)) (start .args .body .«u_at»)) = C.parm-there (now (start .args .u-text)) (start .args .body .«u_at») (omega arith) in let pv = (parm-count2 .parm-count2 .ensures .0) in let other : (start .args .body .kind) ≡ 6 → (parmOf (now (start .args .v-text)) (start .args .body .«v_at»)) ≡ (numbersAt (now (start .args .v-text)) (start .args .body .«v_at»)) = (λ e. let two = C.both-there (start .args .body .kind) (parm-count .parm-count .result) (parm-count2 .parm-count2 .result) e (passed (complete .complete .ensures) (if1 .if1 .left)) .1 in C.parm-there (now (start .args .v-text)) (start .args .body .«v_at») (omega arith)) in ((start .pre .0 .0, pu ∙ ap length there), λ e. (start .pre .1 .0, pv ∙ ap length (other e)))
+store-requires : tie.Need-store-requires
+store-requires c κs =
+    let s = c .before .before .before .before .before .before .before .before .before .before in
+    let f = s .fits .first in
+    (s .pre .0 .0, omega arith)
+
+cast-asked-of-2 : tie.Need-cast-asked-of-2
+cast-asked-of-2 c = search needs
+
+asked-of-requires-2 : tie.Need-asked-of-requires-2
+asked-of-requires-2 c κs = search needs
+
+cast-store : tie.Need-cast-store
+cast-store c = search needs
+
+add-store : tie.Need-add-store
+add-store c =
+    let count-u = c .before .before .before .before .before .before .before .before .before .before .before in
+    let f = count-u .before .before .before .fits .first in
+    let g = count-u .parm-count .ensures .1 in
+    omega arith
+
+store-requires-2 : tie.Need-store-requires-2
+store-requires-2 c κs =
+    let count-u = c .before .before .before .before .before .before .before .before .before .before .before in
+    let s = count-u .before .before .before in
+    let f = s .fits .first in
+    let g = count-u .parm-count .ensures .1 in
+    (s .pre .1 .0, omega arith)
+
+settle-requires : tie.Need-settle-requires
+settle-requires c κs = search needs
+
+same-length : tie.Need-same-length
+same-length c = search needs
 
 returns-3 : tie.Need-returns-3
 returns-3 c =
-    let if3 = c in
-    let ranged = if3 .before in
-    let end-of = ranged .before in
-    let start-of = end-of .before in
-    let if2 = start-of .before in
-    let counts-agree = if2 .before in
-    let if1 = counts-agree .before in
-    let complete = if1 .before in
-    let parm-count2 = complete .before in
-    let parm-count = parm-count2 .before in
-    let start = parm-count .before .before .before in
-    let one = C.u-there (start .args .body .kind) (parm-count .parm-count .result) (parm-count2 .parm-count2 .result) (passed (complete .complete .ensures) (if1 .if1 .left)) in let pu = (parm-count .parm-count .ensures .0) in let there : (parmOf (now (start .args .u-text)) (start .args .body .«u_at»)) ≡ (numbersAt (now (start .args .u-text)) (start .args .body .«u_at»)) = C.parm-there (now (start .args .u-text)) (start .args .body .«u_at») (omega arith) in let pv = (parm-count2 .parm-count2 .ensures .0) in let other : (start .args .body .kind) ≡ 6 → (parmOf (now (start .args .v-text)) (start .args .body .«v_at»)) ≡ (numbersAt (now (start .args .v-text)) (start .args .body .«v_at»)) = (λ e. let two = C.both-there (start .args .body .kind) (parm-count .parm-count .result) (parm-count2 .parm-count2 .result) e (passed (complete .complete .ensures) (if1 .if1 .left)) .1 in C.parm-there (now (start .args .v-text)) (start .args .body .«v_at») (omega arith)) in let s₁ = fitted {z = start-of .start-of .result} (start-of .start-of .ok) in let s₂ = (rw (toZ-ofZ (start .fits .start-u)) at (start-of .start-of .ensures)) in let s₃ = s₁ ∙ s₂ ∙ ap (λ (x : List ℤ). cond (eqb (start .args .body .kind) 5) (low (basisOf (start .args .form .basis)) (start .args .form .«degree_u») x) (start .args .start-u)) (sym there) in let e₁ = fitted {z = end-of .end-of .result} (end-of .end-of .ok) in let e₂ = (rw (toZ-ofZ (start .fits .end-u)) at (end-of .end-of .ensures)) in let e₃ = e₁ ∙ e₂ ∙ ap (λ (x : List ℤ). cond (eqb (start .args .body .kind) 5) (high (basisOf (start .args .form .basis)) (start .args .form .«degree_u») x) (start .args .end-u)) (sym there) in C.refuse-13 (start .args .form) (start .args .body .kind) (parmOf (now (start .args .u-text)) (start .args .body .«u_at»)) (parmOf (now (start .args .v-text)) (start .args .body .«v_at»)) (start .args .start-u) (start .args .end-u) (start .args .start-v) (start .args .end-v) (start .args .body .controls) (parm-count .parm-count .result) (parm-count2 .parm-count2 .result) (parm-count .parm-count .ensures .0) (parm-count2 .parm-count2 .ensures .0) (passed (complete .complete .ensures) (if1 .if1 .left)) (passed (counts-agree .counts-agree .ensures) (if2 .if2 .left)) s₃ e₃ (toZ-ofZ (start .fits .start-v)) (toZ-ofZ (start .fits .end-v)) other (ranged .ranged .ensures ∙ C.u-ranged (start .args .body .kind) (start .args .form) (numbersAt (now (start .args .v-text)) (start .args .body .«v_at»)) _ _ _ _ (sym there)) (failed refl (if3 .if3 .taken))
-
-returns-4 : tie.Need-returns-4
-returns-4 c =
-    let if3 = c in
-    let ranged = if3 .before in
-    let end-of = ranged .before in
-    let start-of = end-of .before in
-    let if2 = start-of .before in
-    let counts-agree = if2 .before in
-    let if1 = counts-agree .before in
-    let complete = if1 .before in
-    let parm-count2 = complete .before in
-    let parm-count = parm-count2 .before in
-    let start = parm-count .before .before .before in
-    let one = C.u-there (start .args .body .kind) (parm-count .parm-count .result) (parm-count2 .parm-count2 .result) (passed (complete .complete .ensures) (if1 .if1 .left)) in let pu = (parm-count .parm-count .ensures .0) in let there : (parmOf (now (start .args .u-text)) (start .args .body .«u_at»)) ≡ (numbersAt (now (start .args .u-text)) (start .args .body .«u_at»)) = C.parm-there (now (start .args .u-text)) (start .args .body .«u_at») (omega arith) in let pv = (parm-count2 .parm-count2 .ensures .0) in let other : (start .args .body .kind) ≡ 6 → (parmOf (now (start .args .v-text)) (start .args .body .«v_at»)) ≡ (numbersAt (now (start .args .v-text)) (start .args .body .«v_at»)) = (λ e. let two = C.both-there (start .args .body .kind) (parm-count .parm-count .result) (parm-count2 .parm-count2 .result) e (passed (complete .complete .ensures) (if1 .if1 .left)) .1 in C.parm-there (now (start .args .v-text)) (start .args .body .«v_at») (omega arith)) in let s₁ = fitted {z = start-of .start-of .result} (start-of .start-of .ok) in let s₂ = (rw (toZ-ofZ (start .fits .start-u)) at (start-of .start-of .ensures)) in let s₃ = s₁ ∙ s₂ ∙ ap (λ (x : List ℤ). cond (eqb (start .args .body .kind) 5) (low (basisOf (start .args .form .basis)) (start .args .form .«degree_u») x) (start .args .start-u)) (sym there) in let e₁ = fitted {z = end-of .end-of .result} (end-of .end-of .ok) in let e₂ = (rw (toZ-ofZ (start .fits .end-u)) at (end-of .end-of .ensures)) in let e₃ = e₁ ∙ e₂ ∙ ap (λ (x : List ℤ). cond (eqb (start .args .body .kind) 5) (high (basisOf (start .args .form .basis)) (start .args .form .«degree_u») x) (start .args .end-u)) (sym there) in C.pass (start .args .form) (start .args .body .kind) (parmOf (now (start .args .u-text)) (start .args .body .«u_at»)) (parmOf (now (start .args .v-text)) (start .args .body .«v_at»)) (start .args .start-u) (start .args .end-u) (start .args .start-v) (start .args .end-v) (start .args .body .controls) (parm-count .parm-count .result) (parm-count2 .parm-count2 .result) (parm-count .parm-count .ensures .0) (parm-count2 .parm-count2 .ensures .0) (passed (complete .complete .ensures) (if1 .if1 .left)) (passed (counts-agree .counts-agree .ensures) (if2 .if2 .left)) s₃ e₃ (toZ-ofZ (start .fits .start-v)) (toZ-ofZ (start .fits .end-v)) other (ranged .ranged .ensures ∙ C.u-ranged (start .args .body .kind) (start .args .form) (numbersAt (now (start .args .v-text)) (start .args .body .«v_at»)) _ _ _ _ (sym there)) (passed refl (if3 .if3 .left)) (parm-count .parm-count .ensures .1) (parm-count2 .parm-count2 .ensures .1)
+    let store-v = c .before .before in
+    let asked-v = store-v .before .before in
+    let store-u = asked-v .before .before in
+    let asked-u = store-u .before .before in
+    let two = asked-u .before in
+    let agree = two .before in
+    let one = agree .before in
+    let complete = one .before in
+    let count-v = complete .before in
+    let count-u = count-v .before in
+    let s = count-u .before .before .before in
+    let a = s .args in
+    let us = parmOf (now (a .u-text)) (a .body .«u_at») in
+    let vs = parmOf (now (a .v-text)) (a .body .«v_at») in
+    let all-u = parm-take (now (a .u-text)) (a .body .«u_at») (count-u .parm-count .ensures .0) in
+    let all-v = parm-take (now (a .v-text)) (a .body .«v_at») (count-v .parm-count2 .ensures .0) in
+    let x = rw (asked-u .asked-of .ensures, all-u) at (store-u .store .ensures .0) in
+    let y = rw (asked-v .asked-of2 .ensures, all-v) at (store-v .store2 .ensures .0) in
+    let p = rw all-u at (store-u .store .ensures .1) in
+    let q = rw all-v at (store-v .store2 .ensures .1) in
+    let t = rw (toZ-ofZ (s .fits .start-u), toZ-ofZ (s .fits .end-u), toZ-ofZ (s .fits .start-v), toZ-ofZ (s .fits .end-v)) at (c .settle .ensures) in (
+      C.settled-judged (a .form) (a .body .kind) us vs (a .start-u) (a .end-u) (a .start-v) (a .end-v) (a .body .controls) (count-u .parm-count .result) (count-v .parm-count2 .result) (count-u .parm-count .ensures .0) (count-v .parm-count2 .ensures .0) (passed (complete .complete .ensures) (one .if1 .left)) (passed (agree .counts-agree .ensures) (two .if2 .left)) x y (count-u .parm-count .ensures .1) (count-v .parm-count2 .ensures .1) (c .settle .result) t,
+      C.both-stored (now (a .parameters)) _ _ (a .first) (count-u .parm-count .result) us vs (c .settle .result) (count-u .parm-count .ensures .0) p q,
+    )
 
 pub judge-spec : {M : Type 1} → statement M
 judge-spec =
@@ -120,8 +126,14 @@ judge-spec =
     returns
     counts-agree-requires
     returns-2
-    start-of-requires
-    end-of-requires
-    ranged-requires
-    returns-3
-    returns-4)
+    cast-asked-of
+    asked-of-requires
+    store-requires
+    cast-asked-of-2
+    asked-of-requires-2
+    cast-store
+    add-store
+    store-requires-2
+    settle-requires
+    same-length
+    returns-3)
