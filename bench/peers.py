@@ -256,11 +256,15 @@ def function_rows(folder, counted):
         row(f"bezier {name}, a point", ", ".join(f"{name} {count / (20 * batch):.0f}" for name, count in spent if 400 * batch < count))
 
 
-def machine():
+def machine_line():
     model = re.search(r"model name\s*: (.*)", Path("/proc/cpuinfo").read_text()).group(1)
     memory = int(re.search(r"MemTotal:\s*(\d+)", Path("/proc/meminfo").read_text()).group(1)) * 1024 / 1e9
+    return f"{model}, {os.cpu_count()} cores, {memory:.0f} GB of memory"
+
+
+def machine():
     peers = ", ".join(f"{p} {installed(p)}" for p in PACKAGES[:4])
-    print(f"{model}, {os.cpu_count()} cores, {memory:.0f} GB of memory; {peers}.")
+    print(f"{machine_line()}; {peers}.")
 
 
 def main():

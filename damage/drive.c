@@ -9,6 +9,7 @@
  *     C curve     element, t
  *     F surface   element, s, t
  *     N run       element, steps, point table's length, place
+ *     P polyline  element, tolerance, point table's length, place
  *     K corner    element, corner
  *     G group     element
  *     M material  element
@@ -194,6 +195,14 @@ static void point(char letter) {
     say_number((uint32_t)p.z);
 }
 
+/* How many numbers a point of that element has; an element that has points is in the table. */
+static size_t axes_of(uint32_t element) {
+    size_t at = KUHLABIRES_ELEMENT_WIDTH * ((size_t)element - 1);
+    uint32_t kind = 0;
+    if (element > 0 && 4 * (at + 1) <= tables.of[ELEMENTS].size) memcpy(&kind, tables.of[ELEMENTS].data + 4 * at, sizeof kind);
+    return kind == KUHLABIRES_CURV2 ? 2 : 3;
+}
+
 static void run(void) {
     uint32_t element = (uint32_t)number(), steps = (uint32_t)number();
     size_t length = number(), at = number();
@@ -206,6 +215,24 @@ static void run(void) {
     say_head('N', all_unchanged() && intact(points));
     say_number(r.refusal);
     say_number(r.numbers);
+    say(points.data, points.size);
+    take_back(points);
+}
+
+static void polyline(void) {
+    uint32_t element = (uint32_t)number();
+    int32_t tolerance = (int32_t)number();
+    size_t length = number(), at = number();
+    struct block points = lend(4 * length);
+    not_to_be_looked_at(points);
+    kuhlabires_polyline_answer r = kuhlabires_polyline(used, LEND(&tables), element, tolerance, (int32_t *)(void *)points.data, length, at);
+    size_t numbers = (size_t)r.points * axes_of(element);
+    size_t from = numbers > 0 ? 4 * at : 0;
+    left_as_it_was(points, 0, from);
+    left_as_it_was(points, from + 4 * numbers, points.size);
+    say_head('P', all_unchanged() && intact(points));
+    say_number(r.refusal);
+    say_number(r.points);
     say(points.data, points.size);
     take_back(points);
 }
@@ -248,6 +275,7 @@ int main(void) {
         case 'C':
         case 'F': point(letter); break;
         case 'N': run(); break;
+        case 'P': polyline(); break;
         case 'K': corner(); break;
         case 'G':
         case 'M': part(letter); break;

@@ -218,6 +218,47 @@ static void run(const struct tables *t, kuhlabires_used used, uint32_t number, u
     take_back(points);
 }
 
+static int near_chord(int64_t tolerance, int32_t p, int32_t m, int32_t q) {
+    int64_t off = 2 * (int64_t)m - ((int64_t)p + q);
+    return (off < 0 ? -off : off) <= 2 * tolerance;
+}
+
+/* The ends of the chords from a to b, split as the rule says; how many numbers they have. */
+static size_t cut(const struct tables *t, kuhlabires_used used, uint32_t number, int32_t tolerance, int depth, int64_t a, int64_t b, int32_t *ends) {
+    int64_t middle = (a + b - ((a + b) & 1)) / 2;
+    kuhlabires_point p = curve_at(t, used, number, a), m = curve_at(t, used, number, middle), q = curve_at(t, used, number, b);
+    if (depth == 0 || b - a <= 1 || (near_chord(tolerance, p.x, m.x, q.x) && near_chord(tolerance, p.y, m.y, q.y) && near_chord(tolerance, p.z, m.z, q.z))) {
+        const int32_t point[3] = {q.x, q.y, q.z};
+        memcpy(ends, point, 4 * q.axes);
+        return q.axes;
+    }
+    size_t first = cut(t, used, number, tolerance, depth - 1, a, middle, ends);
+    return first + cut(t, used, number, tolerance, depth - 1, middle, b, ends + first);
+}
+
+/* A polyline is what the rule gives from points sampled alone, in just its room; in less it is 16 and nothing is written. */
+static void polyline(const struct tables *t, kuhlabires_used used, uint32_t number, uint32_t axes, int64_t start, int64_t end) {
+    static const int32_t tolerances[] = {INT32_MAX, 100000000, 1000000};
+    static int32_t wanted[3 * KUHLABIRES_MOST_POLYLINE_POINTS];
+    const size_t place = 1;
+    for (size_t i = 0; i < sizeof tolerances / sizeof *tolerances; i++) {
+        kuhlabires_point first = curve_at(t, used, number, start);
+        const int32_t point[3] = {first.x, first.y, first.z};
+        memcpy(wanted, point, 4 * axes);
+        size_t needed = axes + cut(t, used, number, tolerances[i], 12, start, end, wanted + axes);
+        struct block points = lend(4 * (place + needed));
+        int32_t *table = (int32_t *)(void *)points.data;
+        kuhlabires_polyline_answer r = kuhlabires_polyline(used, LEND(t), number, tolerances[i], table, place + needed - 1, place);
+        HOLD(r.refusal == 16 && r.points == 0 && all_from(points, 0, FILLER));
+        r = kuhlabires_polyline(used, LEND(t), number, -1, table, place + needed, place);
+        HOLD(r.refusal == 19 && r.points == 0 && all_from(points, 0, FILLER));
+        r = kuhlabires_polyline(used, LEND(t), number, tolerances[i], table, place + needed, place);
+        HOLD(intact(points) && r.refusal == 0 && (size_t)r.points * axes == needed);
+        HOLD(memcmp(table + place, wanted, 4 * needed) == 0);
+        take_back(points);
+    }
+}
+
 /* The same points, however the caller has doubles rounded. */
 static void rounded(const struct tables *t, kuhlabires_used used, uint32_t number, int64_t u, int64_t v, kuhlabires_point curve, kuhlabires_point surface) {
     static const unsigned other[] = {_MM_ROUND_DOWN, _MM_ROUND_UP, _MM_ROUND_TOWARD_ZERO};
@@ -250,6 +291,7 @@ static void sampled(const struct tables *t, kuhlabires_used used, uint32_t numbe
             within(t, used, number, corners, curve);
             HOLD(refused_point(curve_at(t, used, number, limits[0] - 1), 19) && refused_point(curve_at(t, used, number, limits[1] + 1), 19));
             if (j == 0) run(t, used, number, curve.axes, limits[0], limits[1]);
+            if (j == 0) polyline(t, used, number, curve.axes, limits[0], limits[1]);
         }
         if (is_surface && surface.refusal == 0) within(t, used, number, corners, surface);
     }
@@ -261,7 +303,7 @@ static void sampled(const struct tables *t, kuhlabires_used used, uint32_t numbe
     }
 }
 
-/* Tables changed at random are answered too, and nothing lent is written but a run's own part. */
+/* Tables changed at random are answered too, and nothing lent is written but a run's or a polyline's own part. */
 static void broken(struct block text, const struct tables *whole, kuhlabires_used used) {
     static const uint32_t odd[] = {0, 1, 2, 3, 4, 5, 9, 20, 21, 65536, 1000000, 2000000001, 0x7fffffff, 0x80000000, 0xffffffff, 0xfffffffe};
     uint64_t chance = 88172645463325252u;
@@ -292,6 +334,10 @@ static void broken(struct block text, const struct tables *whole, kuhlabires_use
             kuhlabires_run r = kuhlabires_run_on_curve(counts, LEND(&t), number, 2, (int32_t *)(void *)points.data, 12, 3);
             HOLD(intact(points) && (r.refusal == 0 ? r.numbers == 9 || r.numbers == 6 : r.numbers == 0));
             HOLD(all_from(points, 4 * (3 + r.numbers), FILLER));
+            memset(points.data, FILLER, points.size);
+            kuhlabires_polyline_answer line = kuhlabires_polyline(counts, LEND(&t), number, INT32_MAX, (int32_t *)(void *)points.data, 12, 3);
+            HOLD(intact(points) && (line.refusal == 0 ? line.points >= 2 && line.points <= 4 : line.points == 0));
+            HOLD(all_from(points, 4 * (3 + 3 * (size_t)line.points), FILLER));
             memset(points.data, FILLER, points.size);
             kuhlabires_part part = kuhlabires_group_of(text.data, text.size, counts, TABLE(&t, ELEMENTS, const uint32_t), number);
             HOLD(part.place <= text.size && part.length <= text.size - part.place);

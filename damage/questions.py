@@ -7,8 +7,10 @@ from kinds import buffer, needed, rooms
 from stream import ELEMENTS, RANGES
 
 from check import CASES, broken, changed, rows
+from polyline import polyline as second_polyline
 from reader import read
 from records import CURV, CURV2, SIGNED, SURF, TABLES, Refused, Used
+from sampler import RefusedPoint
 from tidier import tidy
 
 AMPLE = 1 << 24
@@ -23,6 +25,20 @@ def parameter(rng, start, end):
 
 def held(t):
     return max(INT32[0], min(INT32[1], t))
+
+
+def polyline(rng, stream, element, axes):
+    """A polyline in just its room, in one entry less, or from any place; a tolerance below the size of
+    the curve takes second/ some thousand points, so those are rare."""
+    tolerance = rng.choice((-1, INT32[0], INT32[1], 1_000_000_000, 100_000_000, *[10_000_000] * 3, 1_000_000))
+    if rng.random() < 0.03:
+        tolerance = rng.choice((0, 1, 1_000))
+    whole = second_polyline(stream.used, stream.tables, element, tolerance, [0] * 12_296, 0)
+    needs = 9 if isinstance(whole, RefusedPoint) else axes * whole.count
+    at = rng.choice((0, 0, 1, 5))
+    length = max(0, at + needs + rng.choice((-needs, -1, 0, 0, 0, 4)))
+    place = rng.choice((at, at, at, at, length, (1 << 64) - 1, 1 << 62))
+    stream.polyline(element, tolerance, length, place)
 
 
 def ask(rng, stream, most):
@@ -46,6 +62,7 @@ def ask(rng, stream, most):
             length = max(0, at + needs + rng.choice((-needs, -1, 0, 0, 0, 4)))
             place = rng.choice((at, at, at, at, length, (1 << 64) - 1, 1 << 62))
             stream.run(element, steps, length, place)
+            polyline(rng, stream, element, axes)
         if kind == SURF or rng.random() < 0.3:
             stream.surface(element, s, t)
         for k in {0, corners - 1, corners, rng.choice((1, UINT32, rng.randrange(1 << 32)))}:
@@ -107,6 +124,8 @@ def stored_calls(stream):
         if word == "run":
             steps, room, at = rest
             stream.run(element, steps, room, at)
+        elif word == "polyline":
+            stream.polyline(element, *rest)
         elif word == "corner":
             stream.corner(element, rest[0] - 1)
         elif word == "obeys":

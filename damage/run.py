@@ -139,6 +139,8 @@ def large(seed, makers, commands, totals):
             ask(rng, stream, 2)
             for length in (3 * 65_537, 3 * 65_537 - 1):
                 stream.run(1, 65_536, length, 0)
+            for length in (3 * 4_097, 0):
+                stream.polyline(1, 0, length, 0)
             differ += hold(stream, commands, f"{seed}-{maker.__name__}-{texts}")
             counted(stream, totals)
             texts += 1
@@ -165,7 +167,7 @@ def counted(stream, totals):
 
 LETTERS = {
     "R": "read", "O": "rooms and read", "T": "tidy", "C": "point_on_curve", "F": "point_on_surface", "N": "run_on_curve",
-    "K": "corner_of", "G": "group_of", "M": "material_of",
+    "P": "polyline", "K": "corner_of", "G": "group_of", "M": "material_of",
 }
 
 

@@ -12,6 +12,7 @@ import sys
 SECOND = Path(__file__).resolve().parent.parent / "second"
 sys.path.append(str(SECOND))
 
+from polyline import polyline
 from reader import corner_of, group_of, material_of, read
 from records import SIGNED, TABLES, Refused, Used, zeros
 from sampler import RefusedPoint, point_on_curve, point_on_surface, run_on_curve
@@ -114,6 +115,16 @@ class Stream:
         number, written = (answer.number, 0) if refused else (0, answer.numbers)
         after = array("i", points if refused else answer.points).tobytes()
         self.ask("N", number, (numbers(element, steps, length, at),), numbers(number, written), after)
+
+    def polyline(self, element, tolerance, length, at):
+        filler = array("i", FILLER * 4)[0]
+        points = [filler] * length
+        answer = polyline(self.used, self.tables, element, tolerance, points, at)
+        refused = isinstance(answer, RefusedPoint)
+        number, written = (answer.number, 0) if refused else (0, answer.count)
+        after = array("i", points if refused else answer.points).tobytes()
+        request = (numbers(element, tolerance, length, at),)
+        self.ask("P", number, request, numbers(number, written), after)
 
     def corner(self, element, k):
         """Corner k counts from 0, as the library counts."""

@@ -1,13 +1,15 @@
 /*
- * Prints points of a curve of an .obj file, one a line.
+ * Prints points of a curve of an .obj file, one a line: a run of so many steps, or its polyline within a tolerance in millionths.
  *
  *     rt staticlib boundary
  *     gcc -O2 -Iinclude examples/points.c target/staticlib/libboundary.a -o points
  *     ./points examples/chair-rail.obj 1 8
+ *     ./points examples/foam-wing.obj 1 polyline 500
  */
 #include <inttypes.h>
 #include <stdio.h>
 #include <stdlib.h>
+#include <string.h>
 
 #include "kuhlabires.h"
 
@@ -73,6 +75,28 @@ static void print_number(int32_t number, const char *after)
     printf("%s%" PRIu32 ".%06" PRIu32 "%s", number < 0 ? "-" : "", whole / 1000000, whole % 1000000, after);
 }
 
+static void print_points(const int32_t *points, size_t numbers, size_t axes)
+{
+    for (size_t i = 0; i < numbers; i++)
+        print_number(points[i], (i + 1) % axes ? " " : "\n");
+}
+
+static int print_polyline(kuhlabires_used used, const kuhlabires_tables *t, uint32_t element, int32_t tolerance)
+{
+    const size_t room = 3 * (size_t)KUHLABIRES_MOST_POLYLINE_POINTS;
+    int32_t *points = table_of(room);
+    const kuhlabires_polyline_answer line = kuhlabires_polyline(used, KUHLABIRES_LEND(t), element, tolerance, points, room, 0);
+    if (line.refusal)
+        fprintf(stderr, "element %" PRIu32 ": refused %" PRIu32 "\n", element, line.refusal);
+    else {
+        const uint32_t kind = t->elements[KUHLABIRES_ELEMENT_WIDTH * (size_t)(element - 1) + KUHLABIRES_ELEMENT_KIND];
+        const size_t axes = kind == KUHLABIRES_CURV2 ? 2 : 3;
+        print_points(points, axes * line.points, axes);
+    }
+    free(points);
+    return line.refusal != 0;
+}
+
 static int print_run(kuhlabires_used used, const kuhlabires_tables *t, uint32_t element, uint32_t steps)
 {
     const size_t room = steps > KUHLABIRES_MOST_STEPS ? 0 : 3 * ((size_t)steps + 1);
@@ -80,19 +104,17 @@ static int print_run(kuhlabires_used used, const kuhlabires_tables *t, uint32_t 
     const kuhlabires_run run = kuhlabires_run_on_curve(used, KUHLABIRES_LEND(t), element, steps, points, room, 0);
     if (run.refusal)
         fprintf(stderr, "element %" PRIu32 ": refused %" PRIu32 "\n", element, run.refusal);
-    else {
-        const size_t axes = run.numbers / ((size_t)steps + 1);
-        for (size_t i = 0; i < run.numbers; i++)
-            print_number(points[i], (i + 1) % axes ? " " : "\n");
-    }
+    else
+        print_points(points, run.numbers, run.numbers / ((size_t)steps + 1));
     free(points);
     return run.refusal != 0;
 }
 
 int main(int count, char **words)
 {
-    if (count != 4) {
-        fprintf(stderr, "usage: %s FILE ELEMENT STEPS\n", words[0]);
+    const int polyline = count == 5 && !strcmp(words[3], "polyline");
+    if (count != 4 && !polyline) {
+        fprintf(stderr, "usage: %s FILE ELEMENT STEPS, or %s FILE ELEMENT polyline TOLERANCE\n", words[0], words[0]);
         return 2;
     }
     size_t length;
@@ -106,8 +128,11 @@ int main(int count, char **words)
     int failed = reading.refusal != 0;
     if (failed)
         fprintf(stderr, "%s: refused %" PRIu32 " at %zu\n", words[1], reading.refusal, reading.place);
-    else
-        failed = print_run(reading.used, &t, (uint32_t)strtoul(words[2], NULL, 10), (uint32_t)strtoul(words[3], NULL, 10));
+    else {
+        const uint32_t element = (uint32_t)strtoul(words[2], NULL, 10);
+        failed = polyline ? print_polyline(reading.used, &t, element, (int32_t)strtol(words[4], NULL, 10))
+                          : print_run(reading.used, &t, element, (uint32_t)strtoul(words[3], NULL, 10));
+    }
     drop(&t);
     free(text);
     return failed;

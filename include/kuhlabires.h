@@ -30,6 +30,8 @@ extern "C" {
 #define KUHLABIRES_MOST_BYTES 16777216u
 /* The most steps of a run. */
 #define KUHLABIRES_MOST_STEPS 65536u
+/* The most points of a polyline: 12 halvings, and the start. */
+#define KUHLABIRES_MOST_POLYLINE_POINTS 4097u
 
 /* ---- The eleven tables: how many entries one record has, and where each of its numbers stands in it ---- */
 
@@ -119,10 +121,10 @@ enum kuhlabires_refusal {
     KUHLABIRES_PARAMETER_ORDER = 13,        /* or range, or an inner knot too often; at `end` */
     KUHLABIRES_TABLE_LACKS_ROOM = 14,       /* at the keyword; exactly when the entries needed pass the lent length */
     KUHLABIRES_RECORDS_BREAK_RULES = 15,    /* a record of the element, or a vertex it names, breaks a rule or passes the used or lent entries */
-    KUHLABIRES_OUTPUT_LACKS_ROOM = 16,      /* the tidy text passes the lent buffer or 16,777,216 bytes; a run passes the point table */
+    KUHLABIRES_OUTPUT_LACKS_ROOM = 16,      /* the tidy text passes the lent buffer or 16,777,216 bytes; a run or a polyline passes the point table */
     KUHLABIRES_NO_SUCH_ELEMENT = 17,        /* no element of that number, or one of another kind */
     KUHLABIRES_NOT_SAMPLED = 18,            /* the body is rational, cardinal or taylor */
-    KUHLABIRES_PARAMETER_OUTSIDE = 19       /* outside start..end; a run of 0 or over 65,536 steps */
+    KUHLABIRES_PARAMETER_OUTSIDE = 19       /* outside start..end; a run of 0 or over 65,536 steps; a negative tolerance */
 };
 
 /* ---- Records that pass by value ---- */
@@ -164,6 +166,12 @@ typedef struct kuhlabires_run {
     uint32_t refusal;
     size_t numbers;
 } kuhlabires_run;
+
+/* A polyline: how many points were written, of 3 numbers each for a curv, of 2 for a curv2. */
+typedef struct kuhlabires_polyline_answer {
+    uint32_t refusal;
+    uint32_t points;
+} kuhlabires_polyline_answer;
 
 /* A corner's references, each from 1; 0 for none. */
 typedef struct kuhlabires_corner {
@@ -219,6 +227,15 @@ kuhlabires_point kuhlabires_point_on_surface(kuhlabires_used used, KUHLABIRES_TA
  */
 kuhlabires_run kuhlabires_run_on_curve(kuhlabires_used used, KUHLABIRES_TABLES_IN, uint32_t element, uint32_t steps, int32_t *points,
                                        size_t points_length, size_t at);
+
+/*
+ * The polyline of the curv or curv2 of that number: the range is halved, at most 12 times, until twice the sampled middle of an interval is within
+ * twice the tolerance of the sum of its two end points on each axis, or the interval is one millionth long. The points, from start to end, are
+ * written to points from entry `at` on; no other entry is written, and none where it is refused. Refuses 17, 15, 18, 19 (a negative tolerance), 16.
+ * Only the middle of an interval is looked at: a curve that swings to both sides of a chord and crosses it at its middle passes for straight.
+ */
+kuhlabires_polyline_answer kuhlabires_polyline(kuhlabires_used used, KUHLABIRES_TABLES_IN, uint32_t element, int32_t tolerance, int32_t *points,
+                                               size_t points_length, size_t at);
 
 /* Corner k, from 0, of the element of that number; three zeros for no such corner. */
 kuhlabires_corner kuhlabires_corner_of(kuhlabires_used used, const uint32_t *elements, size_t elements_length, const uint32_t *corners,

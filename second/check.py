@@ -7,6 +7,7 @@ from pathlib import Path
 from damage import cases
 from exact import exact_on_curve, exact_on_surface, within
 from packed import ROOMS, files, sampled_cases
+from polyline import DEPTH, is_straight, middle_of, polyline, polyline_parameters
 from reader import corner_of, group_of, material_of, read
 from records import CURV, CURV2, SURF, TABLES, TEXT_LIMIT, Read, Refused, Used
 from rules import body_of, element_record, obeys
@@ -86,7 +87,7 @@ def check_packed(tally):
 
 def check_sampled(tally):
     """What the sampling program must write lies within its bound of the exact value."""
-    for label, data, _, first, s, t in sampled_cases():
+    for label, data, _, first, s, t, _ in sampled_cases():
         answer = read(data, ROOMS)
         for element in range(max(first, 1), min(first + 2, answer.used.elements) + 1):
             kind = element_record(answer.tables, element)[0]
@@ -176,6 +177,13 @@ def called(data, used, tables, call):
         if isinstance(answer, RefusedPoint):
             return f"refused {answer.number}"
         return " ".join(map(str, ["filled", answer.numbers, *answer.points]))
+    if name == "polyline":
+        element, tolerance, room, at = numbers
+        before = list(range(-1, -room - 1, -1))
+        answer = polyline(used, tables, element, tolerance, list(before), at)
+        if isinstance(answer, RefusedPoint):
+            return f"refused {answer.number}"
+        return " ".join(map(str, ["filled", answer.count, *answer.points]))
     answer = {"curve": point_on_curve, "surface": point_on_surface}[name](used, tables, *numbers)
     if isinstance(answer, RefusedPoint):
         return f"refused {answer.number}"
@@ -188,6 +196,17 @@ def check_points(tally):
         data = (CASES / name).read_bytes()
         used, tables = changed(read(data, rooms), changes)
         tally.hold(f"{name} {call} {changes}", called(data, used, tables, call), wanted)
+
+
+def check_depth(tally):
+    """Where nothing is straight the depth of 12 ends it: 4,096 chords."""
+    answer = read((CASES / "points/parabola.obj").read_bytes(), dict.fromkeys(TABLES, 2_000))
+    line = polyline(answer.used, answer.tables, 1, 0, [7] * 12_291, 0)
+    tally.hold("points where the depth is used up", line.count, 4_097)
+    ends = [-2_000_000_000, 0, 0], [2_000_000_000, 0, 0]
+    tally.hold("their first and last", (line.points[:3], line.points[-3:]), ends)
+    parameters = polyline_parameters(lambda t: [t * t], 0, -8_191, 8_193)
+    tally.hold("parameters 12 deep", parameters, list(range(-8_191, 8_194, 4)))
 
 
 # The seeded self-check
@@ -221,6 +240,8 @@ def check_bounds(rng, used, tables):
             return f"element {element}: {point} is not within {degree}/2 of {value}"
         if kind != SURF and not run_agrees(rng, used, tables, element, body):
             return f"element {element}: a run differs from its points"
+        if kind != SURF and not polyline_holds(rng, used, tables, element, body):
+            return f"element {element}: a polyline breaks a rule"
     return None
 
 
@@ -233,6 +254,41 @@ def run_agrees(rng, used, tables, element, body):
     run = run_on_curve(used, tables, element, steps, table, at)
     short = run_on_curve(used, tables, element, steps, table[:at + len(points) - 1], at)
     return run == (len(points), [7] * at + points + [7] * past) and short == RefusedPoint(16)
+
+
+def polyline_holds(rng, used, tables, element, body):
+    """Its parameters rise from start to end, every chord has its reason, its points
+    are those sampled alone, and they fill just their room."""
+    tolerance, at = rng.choice((100_000_000, 1_000_000, 50_000)), rng.randint(0, 3)
+    start, end = body.range[:2]
+
+    def point(t):
+        return list(point_on_curve(used, tables, element, t))
+
+    parameters = polyline_parameters(point, tolerance, start, end)
+    if (parameters[0], parameters[-1]) != (start, end):
+        return False
+    for a, b in zip(parameters, parameters[1:]):
+        deep = halvings(start, end, a, b)
+        straight = is_straight(tolerance, point(a), point(middle_of(a, b)), point(b))
+        if not (a < b and (straight or b - a <= 1 or deep == DEPTH)):
+            return False
+    points = [number for t in parameters for number in point(t)]
+    table = [7] * (at + len(points))
+    line = polyline(used, tables, element, tolerance, table, at)
+    short = polyline(used, tables, element, tolerance, table[1:], at)
+    wanted = (len(parameters), [7] * at + points)
+    return line == wanted and short == RefusedPoint(16)
+
+
+def halvings(start, end, a, b):
+    """How often start..end was halved to come to a..b."""
+    depth = 0
+    while (start, end) != (a, b) and depth <= DEPTH:
+        middle = middle_of(start, end)
+        start, end = (start, middle) if b <= middle else (middle, end)
+        depth += 1
+    return depth
 
 
 def check_one(rng, data, rooms):
@@ -300,6 +356,7 @@ def check_broken(rng, answer):
         point_on_curve(used, tables, element, 0)
         point_on_surface(used, tables, element, 0, 0)
         run_on_curve(used, tables, element, 2, [0] * 9, 0)
+        polyline(used, tables, element, 100_000_000, [0] * 9, 0)
     return check_bounds(rng, used, tables) if whole else None
 
 
@@ -354,6 +411,7 @@ def main():
     check_size(tally)
     check_program(tally)
     check_points(tally)
+    check_depth(tally)
     check_tidied(tally, CASES / "tidy")
     check_tidied(tally, EXAMPLES)
     check_valid(tally, 2, SELF_CHECKS // 4)

@@ -1,7 +1,7 @@
 """Seeded curves and surfaces with what is asked of them, for the program that
 samples: degrees 1 to 20, both types, multiple knots, ends of ranges, extreme
-coordinates.  `requests(seed, count)` yields (label, text, steps, s, t); the text
-says s and t too, as its first vn."""
+coordinates.  `requests(seed, count)` yields (label, text, steps, s, t, tolerance);
+the text says s, t and the tolerance too, as its first vn."""
 
 import random
 
@@ -65,7 +65,7 @@ def words(numbers):
     return " ".join(map(millionths, numbers))
 
 
-def text(rng, kind, type_, degrees):
+def text(rng, kind, type_, degrees, tolerance=0):
     most = 4 if kind != "surf" else 1
     sides = [direction(rng, type_, degree, most) for degree in degrees]
     limits = [part(rng, *side[2]) if kind != "curv2" else side[2] for side in sides]
@@ -83,17 +83,18 @@ def text(rng, kind, type_, degrees):
     lines += [f"parm {name} {words(side[0])}" for name, side in zip("uv", sides)]
     lines += ["end", ""]
     s, t = (asked(rng, sides[i][0], *limits[i]) for i in (0, -1))
-    lines.insert(0, f"vn {words((s, t, 0))}")
+    lines.insert(0, f"vn {words((s, t, tolerance))}")
     return "\n".join(lines).encode(), s, t
 
 
 def requests(seed, count):
-    rng = random.Random(seed)
+    rng, tolerances = random.Random(seed), random.Random(seed + 1)
     for number in range(count):
         kind = ("curv", "curv2", "surf")[number % 3]
         degree = number // 3 % 20 + 1
         degrees = [degree] if kind != "surf" else rng.choice([[degree, 1], [1, degree], [2, 3], [3, 2]])
         type_ = rng.choice(("bezier", "bspline"))
-        data, s, t = text(rng, kind, type_, degrees)
+        tolerance = tolerances.choice([-1, 0, 1, 999_999, *[2 * MOST // 2 ** k for k in range(1, 8)]])
+        data, s, t = text(rng, kind, type_, degrees, tolerance)
         label = f"{number + 1} {kind} {type_} {' '.join(map(str, degrees))}"
-        yield label, data, rng.choice([0, 1, 2, 3, 7, 19, 20, 30]), s, t
+        yield label, data, rng.choice([0, 1, 2, 3, 7, 19, 20, 30]), s, t, tolerance

@@ -14,6 +14,7 @@ from pathlib import Path
 
 from curves import requests, words
 from damage import cases
+from polyline import polyline
 from reader import read
 from records import CURV, CURV2, SURF, TABLES, Read, Refused, zeros
 from rules import body_of, element_record
@@ -83,26 +84,34 @@ def seeded_cases():
         yield f"seeded {number}", data
 
 
-def answers(used, tables, element, steps, s, t):
+def filled(answer, written, table):
+    """What the program writes of a run or a polyline, and of its table."""
+    shown = f"refused {answer.number}" if isinstance(answer, RefusedPoint) else str(written(answer))
+    points = table if isinstance(answer, RefusedPoint) else answer.points
+    return f"{shown}: " + " ".join(map(str, points))
+
+
+def answers(used, tables, element, steps, s, t, tolerance):
     """What the program writes of one element."""
     curve = point_on_curve(used, tables, element, s)
     surface = point_on_surface(used, tables, element, s, t)
     table = [7] * POINTS
     run = run_on_curve(used, tables, element, steps, table, PLACE)
-    if isinstance(run, RefusedPoint):
-        filled = f"refused {run.number}"
-    else:
-        filled, table = str(run.numbers), run.points
+    line = polyline(used, tables, element, tolerance, table, PLACE)
     points = [
         f"refused {point.number}" if isinstance(point, RefusedPoint) else " ".join(map(str, point))
         for point in (curve, surface)
     ]
-    return f" | curve {points[0]} | surface {points[1]} | run {filled}: " + " ".join(map(str, table))
+    return (
+        f" | curve {points[0]} | surface {points[1]}"
+        f" | run {filled(run, lambda r: r.numbers, table)}"
+        f" | polyline {filled(line, lambda r: r.count, table)}"
+    )
 
 
 def examples():
     """The examples of document 000 that have a curve or a surface, at both ends and
-    the middle of its range; (label, text, steps, first element, s, t)."""
+    the middle of its range; (label, text, steps, first element, s, t, tolerance)."""
     for path in sorted((CASES / "000").glob("*.obj")):
         data = path.read_bytes()
         answer = read(data, ROOMS)
@@ -112,30 +121,31 @@ def examples():
             if element_record(answer.tables, element)[0] not in (CURV, CURV2, SURF):
                 continue
             start, end, start_v, end_v = body_of(answer.tables, element).range
-            for name, s, t in (
-                ("start", start, start_v),
-                ("middle", (start + end) // 2, (start_v + end_v) // 2),
-                ("end", end, end_v),
+            for name, s, t, tolerance in (
+                ("start", start, start_v, 1_000_000),
+                ("middle", (start + end) // 2, (start_v + end_v) // 2, 100_000),
+                ("end", end, end_v, 20_000),
             ):
-                asked = f"vn {words((s, t, 0))}\n".encode()
-                yield f"000/{path.name} element {element} {name}", asked + data, 7, element, s, t
+                asked = f"vn {words((s, t, tolerance))}\n".encode()
+                label = f"000/{path.name} element {element} {name}"
+                yield label, asked + data, 7, element, s, t, tolerance
 
 
 def sampled_cases():
-    """(label, text, steps, first element, s, t) of what the program samples."""
+    """(label, text, steps, first element, s, t, tolerance) of what the program samples."""
     yield from examples()
-    for label, data, steps, s, t in requests(SEED, SAMPLED):
-        yield label, data, steps, 0, s, t
+    for label, data, steps, s, t, tolerance in requests(SEED, SAMPLED):
+        yield label, data, steps, 0, s, t, tolerance
 
 
 def sampled():
     """stdin and stdout of the program that samples."""
     given, wanted = [], []
-    for label, data, steps, first, s, t in sampled_cases():
+    for label, data, steps, first, s, t, tolerance in sampled_cases():
         answer = read(data, ROOMS)
         given.append(f"{len(data)} {steps} {first} {label}\n".encode() + data)
         lines = [
-            answers(answer.used, answer.tables, element, steps, s, t)
+            answers(answer.used, answer.tables, element, steps, s, t, tolerance)
             for element in range(first, first + 3)
         ]
         wanted.append(f"{label}{''.join(lines)}\n".encode())

@@ -3,7 +3,7 @@ use crate::show;
 use crate::{tell, Failure};
 use kuhlabires::{
     group_of, material_of, point_on_surface, read, run_on_curve, tidy_text, Body, Decimal, Element, Kind, Refusal,
-    Tables, MOST_BYTES, MOST_STEPS,
+    Tables, MOST_BYTES, MOST_POLYLINE_POINTS, MOST_STEPS,
 };
 use std::ffi::OsStr;
 use std::fs::File;
@@ -182,11 +182,32 @@ fn run(tables: &Tables, element: u32, steps: u32, out: &mut dyn Write) -> io::Re
         Err(refusal) => return Ok(Err(refusal)),
     };
     let axes = written / (steps as usize + 1);
-    for point in numbers[..written].chunks(axes) {
+    write_points(&numbers[..written], axes, out)?;
+    Ok(Ok(()))
+}
+
+fn write_points(numbers: &[i32], axes: usize, out: &mut dyn Write) -> io::Result<()> {
+    for point in numbers.chunks(axes) {
         let shown: Vec<String> = point.iter().map(|&n| Decimal(n).to_string()).collect();
         writeln!(out, "{}", shown.join(" "))?;
     }
-    Ok(Ok(()))
+    Ok(())
+}
+
+pub fn polyline(input: Input, element: u32, tolerance: i32, out: &mut dyn Write) -> Result<(), Failure> {
+    let tables = tables_of(&input)?;
+    let mut numbers = vec![0; 3 * MOST_POLYLINE_POINTS];
+    let points = kuhlabires::polyline(&tables, element, tolerance, &mut numbers, 0).map_err(|refusal| {
+        let (name, number, words) = (&input.name, refusal.number, refusal.words());
+        let tolerance = Decimal(tolerance);
+        tell(format_args!("{name}: element {element}, tolerance {tolerance}: refused {number}: {words}\n"));
+        Failure::Refused
+    })?;
+    let axes = match tables.element(element) {
+        Some(Element { kind: Some(Kind::Curv2), .. }) => 2,
+        _ => 3,
+    };
+    Ok(write_points(&numbers[..axes * points], axes, out)?)
 }
 
 // On a surface the parameters of a run, along u and along v.

@@ -33,6 +33,9 @@ pub const MOST_BYTES: usize = 16_777_216;
 /// The most steps of a run.
 pub const MOST_STEPS: u32 = 65_536;
 
+/// The most points of a polyline: 12 halvings, and the start.
+pub const MOST_POLYLINE_POINTS: usize = 4_097;
+
 /// How many entries of each table the text can need: reading it into tables of at least these lengths never gives 14. All together are at
 /// most 22 for each word of the text, so at most 11 for each byte and 11 more. A text over [`MOST_BYTES`] needs none: it is refused.
 pub fn rooms_of(text: &[u8]) -> Rooms {
@@ -87,6 +90,24 @@ pub fn run_on_curve(
     let answer = raw::run_on_curve(tables, element, steps, points, at);
     unless_refused(answer.refusal, 0)?;
     Ok(answer.numbers)
+}
+
+/// The polyline of the `curv` or `curv2` of that number: few points where it is straight. The range is halved, at most 12 times, until twice
+/// the sampled middle of an interval is within twice the tolerance of the sum of its end points on each axis, or the interval is one millionth
+/// long. Its points, from start to end, of three or two numbers each, fill `points` from entry `at` on. Answers how many points were written. A
+/// refusal, 17, 15, 18, 19 (a negative tolerance), 16, leaves `points` as it was.
+///
+/// Only the middle of an interval is looked at: a curve that swings to both sides of a chord and crosses it there passes for straight.
+pub fn polyline(
+    tables: &Tables,
+    element: u32,
+    tolerance: i32,
+    points: &mut [i32],
+    at: usize,
+) -> Result<usize, Refusal> {
+    let answer = raw::polyline(tables, element, tolerance, points, at);
+    unless_refused(answer.refusal, 0)?;
+    Ok(answer.points as usize)
 }
 
 /// Corner `k`, from 0, of the element of that number; three zeros for no such corner.

@@ -1,5 +1,6 @@
 //! The command `kuhlabires`: checks, tidies and samples .obj files for a person at a terminal.
 mod commands;
+mod decimal;
 mod show;
 
 use std::env;
@@ -17,9 +18,13 @@ kuhlabires: reads, tidies and samples Wavefront .obj files
     kuhlabires elements FILE                its elements, one a line
     kuhlabires points FILE ELEMENT STEPS    points of a curv, curv2 or surf: STEPS steps from its start to its
                                             end, on a surf along u, and along v
+    kuhlabires polyline FILE ELEMENT TOLERANCE
+                                            few points of a curv or curv2 where it is straight: an interval is
+                                            halved, at most 12 times, until its middle lies that near to the chord
     kuhlabires --help
 
 FILE is a path, or - for standard input. ELEMENT is a number as `elements` lists it. STEPS is 1 to 65536.
+TOLERANCE has at most six decimals, in the units of the file: 0.0005 is 500 millionths.
 Points are written one a line, x y z, for a curv2 u v; those of a surf row by row, u varying fastest.
 Where standard error is a terminal, it is told there that a large file is worked on; with --quiet it is not.
 The exit status is 0; 1 where the file or the call is refused; 2 for bad usage or a file that cannot be opened.
@@ -65,9 +70,14 @@ fn run(arguments: &[OsString], out: &mut dyn Write) -> Result<(), Failure> {
             let (element, steps) = (number("ELEMENT", element)?, number("STEPS", steps)?);
             commands::points(open()?, element, steps, out)
         }
+        ["polyline", _, element, tolerance] => {
+            let (element, tolerance) = (number("ELEMENT", element)?, millionths("TOLERANCE", tolerance)?);
+            commands::polyline(open()?, element, tolerance, out)
+        }
         [] => Err(Failure::Usage("no command".into())),
         [command @ ("check" | "tidy" | "elements"), ..] => Err(Failure::Usage(format!("{command} takes a FILE"))),
         ["points", ..] => Err(Failure::Usage("points takes a FILE, an ELEMENT and STEPS".into())),
+        ["polyline", ..] => Err(Failure::Usage("polyline takes a FILE, an ELEMENT and a TOLERANCE".into())),
         [other, ..] => Err(Failure::Usage(format!("no command {other}"))),
     }
 }
@@ -79,6 +89,10 @@ fn number(name: &str, word: &str) -> Result<u32, Failure> {
             _ => format!("{name} is a whole number, and not {word}"),
         })
     })
+}
+
+fn millionths(name: &str, word: &str) -> Result<i32, Failure> {
+    decimal::millionths(word).map_err(|wrong| Failure::Usage(format!("{name} {word}: {wrong}")))
 }
 
 fn main() -> ExitCode {

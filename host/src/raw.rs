@@ -32,6 +32,12 @@ pub struct Run {
 }
 
 #[repr(C)]
+pub struct Polyline {
+    pub refusal: u32,
+    pub points: u32,
+}
+
+#[repr(C)]
 pub struct Part {
     pub place: usize,
     pub length: usize,
@@ -69,6 +75,10 @@ boundary! {
         used: Used; *const i32, *const u32;
         element: u32, steps: u32, points: *mut i32, points_length: usize, at: usize
     ) -> Run;
+    kuhlabires_polyline(
+        used: Used; *const i32, *const u32;
+        element: u32, tolerance: i32, points: *mut i32, points_length: usize, at: usize
+    ) -> Polyline;
 }
 
 extern "C" {
@@ -156,6 +166,14 @@ pub fn run_on_curve(tables: &Tables, element: u32, steps: u32, points: &mut [i32
         as_ptr,
         tables,
         kuhlabires_run_on_curve(tables.used; element, steps, points.as_mut_ptr(), points.len(), at)
+    )
+}
+
+pub fn polyline(tables: &Tables, element: u32, tolerance: i32, points: &mut [i32], at: usize) -> Polyline {
+    with_tables!(
+        as_ptr,
+        tables,
+        kuhlabires_polyline(tables.used; element, tolerance, points.as_mut_ptr(), points.len(), at)
     )
 }
 

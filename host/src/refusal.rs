@@ -38,10 +38,10 @@ impl Refusal {
             13 => "parameter order or range, or a bspline's inner knot more than n times",
             14 => "a lent table lacks room",
             15 => "a record of the element, names aside, or a vertex that it names breaks a rule or passes the used or lent entries",
-            16 => "the tidy text passes the lent buffer or 16,777,216 bytes (at place 0); a run passes the lent point table",
+            16 => "the tidy text passes the lent buffer or 16,777,216 bytes (at place 0); a run or a polyline passes the lent point table",
             17 => "no element of that number, or one of another kind",
             18 => "the body is rational, cardinal or taylor",
-            19 => "a parameter outside start..end; a run of 0 or over 65,536 steps",
+            19 => "a parameter outside start..end; a run of 0 or over 65,536 steps; a negative tolerance",
             _ => "no number of refusal",
         }
     }

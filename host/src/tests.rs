@@ -42,6 +42,20 @@ fn a_run_fills_its_part_alone() {
 }
 
 #[test]
+fn a_polyline_fills_its_part_alone() {
+    let tables = read_whole(b"v 0 0 0\nv 4 4 0\nv 8 0 0\ncstype bezier\ndeg 1\ncurv -3 5 1 2 3\nparm u -3 1 5\nend\n");
+    let mut points = [7; 11];
+    assert_eq!(polyline(&tables, 1, 3_999_999, &mut points, 1), Ok(3));
+    assert_eq!(points, [7, 0, 0, 0, 4_000_000, 4_000_000, 0, 8_000_000, 0, 0, 7]);
+    assert_eq!(polyline(&tables, 1, 4_000_000, &mut points, 5), Ok(2));
+    let before = points;
+    for (element, tolerance, at, number) in [(1, 0, 3, 16), (1, -1, 0, 19), (2, 0, 0, 17), (1, 0, usize::MAX, 16)] {
+        assert_eq!(polyline(&tables, element, tolerance, &mut points, at), Err(Refusal { number, place: 0 }));
+    }
+    assert_eq!(points, before);
+}
+
+#[test]
 fn a_surface_is_sampled() {
     let tables = read_whole(SURFACE);
     assert_eq!(

@@ -6,14 +6,16 @@ Nothing of the proved crates or of the Rust crate is used, so that equal outputs
 """
 
 import sys
+from decimal import Decimal
 from pathlib import Path
 
 HERE = Path(__file__).resolve().parent
 ROOT = HERE.parent.parent
 sys.path.insert(0, str(ROOT / "second"))
 
+from polyline import polyline  # noqa: E402
 from reader import group_of, material_of, read  # noqa: E402
-from records import KINDS, SURF, TABLES, TYPES, Refused  # noqa: E402
+from records import CURV2, KINDS, SURF, TABLES, TYPES, Refused  # noqa: E402
 from rules import body_of, element_record  # noqa: E402
 from sampler import MOST_STEPS, Filled, RefusedPoint, point_on_surface, run_on_curve, run_parameters  # noqa: E402
 from tidier import tidy  # noqa: E402
@@ -125,11 +127,21 @@ def points(name, text, used, tables, element, steps):
     return answer
 
 
+def cut(name, text, used, tables, element, tolerance):
+    element, millionths = int(element), round(Decimal(tolerance) * 1_000_000)
+    answer = polyline(used, tables, element, millionths, [0] * 12_291, 0)
+    if isinstance(answer, RefusedPoint):
+        return f"{name}: element {element}, tolerance {decimal(millionths)}: refused {answer.number}: {WORDS[answer.number]}\n"
+    axes = 2 if element_record(tables, element)[0] == CURV2 else 3
+    numbers = answer.points[:axes * answer.count]
+    return "".join(point(numbers[k:k + axes]) + "\n" for k in range(0, len(numbers), axes))
+
+
 def tidied(name, text, used, tables):
     return tidy(text, ROOMS, 65_536).text.decode()
 
 
-COMMANDS = {"check": check, "tidy": tidied, "elements": elements, "points": points}
+COMMANDS = {"check": check, "tidy": tidied, "elements": elements, "points": points, "polyline": cut}
 
 
 def written(command, name, *rest):

@@ -10,10 +10,12 @@ use Rattle.tables.specs.declared.Used.{Used}
 use Rattle.reader.specs.Reading.{ReadOutcome}
 use Rattle.tidy_file.specs.Tidying.{TidyOutcome}
 use Rattle.sampler.specs.Answers.{PointOutcome, RunOutcome}
+use Rattle.polyline.specs.Answers.{PolylineOutcome}
 use Rattle.answers.specs.declared.ReadAnswer.{ReadAnswer}
 use Rattle.answers.specs.declared.TidyAnswer.{TidyAnswer}
 use Rattle.answers.specs.declared.Point.{Point}
 use Rattle.answers.specs.declared.Run.{Run}
+use Rattle.answers.specs.declared.PolylinePoints.{PolylinePoints}
 use Rattle.answers.specs.declared.Part.{Part}
 
 abbrev pub readIn : ReadOutcome → ReadAnswer
@@ -35,6 +37,9 @@ pointIn o =
 
 abbrev pub runIn : RunOutcome → Run
 runIn o = record { refusal = o .number; numbers = o .count }
+
+abbrev pub polylineIn : PolylineOutcome → PolylinePoints
+polylineIn o = record { refusal = o .number; points = o .points }
 
 abbrev pub part : ℕ → ℕ → Part
 part place count = record { place = place; length = count }

@@ -4,7 +4,9 @@ ghost use Rattle.model.specs.Layout.{noneUsed};
 ghost use Rattle.reader.specs.Reading.{readOutcome};
 ghost use Rattle.tidy_file.specs.Tidying.{tidyOutcome};
 ghost use Rattle.sampler.specs.Answers.{pointOutcome, runOutcome};
-ghost use Rattle.answers.specs.Answers.{readIn, tidyIn, pointIn, runIn, partIn};
+ghost use Rattle.polyline.specs.Answers.{polylineOutcome};
+ghost use Rattle.answers.specs.Answers.{readIn, tidyIn, pointIn, runIn, polylineIn, partIn};
+use polyline::PolylineResult;
 use reader::Reading;
 use sampler::Ran;
 use sampler::Sampled;
@@ -43,6 +45,13 @@ pub struct Point {
 pub struct Run {
     pub refusal: u32,
     pub numbers: usize,
+}
+
+// How many points a polyline wrote. Refused where `refusal` is not 0.
+#[repr(C)]
+pub struct PolylinePoints {
+    pub refusal: u32,
+    pub points: u32,
 }
 
 // A part of the caller's text; its length is 0 for none.
@@ -149,6 +158,21 @@ pub fn run_of(answer: Ran) -> Run
         Ran::Refused { number } => Run {
             refusal: number,
             numbers: 0,
+        },
+    }
+}
+
+pub fn polyline_of(answer: PolylineResult) -> PolylinePoints
+    ensures { λ r. ⌜ r ≡ polylineIn (polylineOutcome answer) ⌝ }
+{
+    match answer {
+        PolylineResult::Filled { points } => PolylinePoints {
+            refusal: 0,
+            points: points,
+        },
+        PolylineResult::Refused { number } => PolylinePoints {
+            refusal: number,
+            points: 0,
         },
     }
 }

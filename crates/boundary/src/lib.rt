@@ -3,12 +3,14 @@ ghost use mathlib.Core.Path.{_≡_};
 ghost use Rattle.tables.specs.Tables.{tables};
 ghost use Rattle.tables.specs.Asking.{cornerOf, groupOf, materialOf};
 ghost use Rattle.sampler.specs.Answers.{pointOnCurve, pointOnSurface, runInto};
+ghost use Rattle.polyline.specs.Answers.{polylineInto};
 ghost use Rattle.rooms.specs.Rooms.{roomsOfText};
 ghost use Rattle.reader.specs.Reading.{readInto};
 ghost use Rattle.tidy_file.specs.Tidying.{tidyInto};
-ghost use Rattle.answers.specs.Answers.{readIn, tidyIn, pointIn, runIn, groupIn, materialIn, bytesIn};
+ghost use Rattle.answers.specs.Answers.{readIn, tidyIn, pointIn, runIn, polylineIn, groupIn, materialIn, bytesIn};
 use answers::Part;
 use answers::Point;
+use answers::PolylinePoints;
 use answers::ReadAnswer;
 use answers::Run;
 use answers::TidyAnswer;
@@ -251,6 +253,48 @@ pub extern "C" fn kuhlabires_run_on_curve(
         spans,
         element,
         steps,
+        points,
+        at,
+    ))
+}
+
+// The polyline of a curv or curv2: its points fill the table from entry `at` on, counted in numbers.
+#[no_mangle]
+pub extern "C" fn kuhlabires_polyline(
+    used: Used,
+    v: &[i32],
+    vt: &[i32],
+    vn: &[i32],
+    vp: &[i32],
+    corners: &[u32],
+    elements: &[u32],
+    bodies: &[u32],
+    ranges: &[i32],
+    parameters: &[i32],
+    loops: &[u32],
+    spans: &[i32],
+    element: u32,
+    tolerance: i32,
+    points: &mut [i32],
+    at: usize,
+) -> PolylinePoints
+    ensures { λ r. ⌜ (r ≡ polylineIn (polylineInto used (tables (now (v .entry)) (now (vt .entry)) (now (vn .entry)) (now (vp .entry)) (now (corners .entry)) (now (elements .entry)) (now (bodies .entry)) (now (ranges .entry)) (now (parameters .entry)) (now (loops .entry)) (now (spans .entry))) element tolerance at (now (points .entry)) .outcome)) × (now (points .exit) ≡ polylineInto used (tables (now (v .entry)) (now (vt .entry)) (now (vn .entry)) (now (vp .entry)) (now (corners .entry)) (now (elements .entry)) (now (bodies .entry)) (now (ranges .entry)) (now (parameters .entry)) (now (loops .entry)) (now (spans .entry))) element tolerance at (now (points .entry)) .points) ⌝ }
+{
+    answers::polyline_of(polyline::polyline(
+        used,
+        v,
+        vt,
+        vn,
+        vp,
+        corners,
+        elements,
+        bodies,
+        ranges,
+        parameters,
+        loops,
+        spans,
+        element,
+        tolerance,
         points,
         at,
     ))

@@ -6,3 +6,4 @@ pub mod Second
 pub mod Third
 pub mod Kept
 pub mod Cheats
+pub mod Polylines

@@ -34,7 +34,7 @@ use Rattle.end_to_end.proofs.Samples.{curve-not-15, surface-not-15, run
 use Rattle.end_to_end.proofs.Second.{its-answer, its-tables, read-back}
 
 -- what holds of the counts and the tables of a file holds of the answer and the tables that reading it leaves
-shown : (P : Used → Tables → Type 0) (s : List ℕ) (S : Tables) (u : Used) (m : Model) → readInto s S .answer ≡ reading.Read u → readOf (roomsOf S) s ≡ read m
+pub shown : (P : Used → Tables → Type 0) (s : List ℕ) (S : Tables) (u : Used) (m : Model) → readInto s S .answer ≡ reading.Read u → readOf (roomsOf S) s ≡ read m
     → P (usedOf m) (tablesOf (roomsOf S) m) → P u (readInto s S .tables)
 shown P s S u m h e q =
     let f : reading.Read (usedOf m) ≡ reading.Read u = sym (its-answer s S m e) ∙ h in
@@ -58,7 +58,7 @@ module _ (s : List ℕ) (S : Tables) (u : Used) (h : readInto s S .answer ≡ re
       shown (λ (w : Used) (x : Tables). refusalOf asked w x number ≡ 15 → ⊥) s S u (file .model) h (file .is-read)
       (sampling-never-15 (roomsOf S) s (file .model) (file .is-read) asked number)
 
-  a-curve : (number : ℕ) → Plain u t number → (elementOf t number .kind ≡ curveKind) ⊎ (elementOf t number .kind ≡ curve2Kind) → Curve u t number
+  pub a-curve : (number : ℕ) → Plain u t number → (elementOf t number .kind ≡ curveKind) ⊎ (elementOf t number .kind ≡ curve2Kind) → Curve u t number
   a-curve number c k =
       record { some = c .some; in-use = c .in-use; kind = k; obeyed = its-obeyed number (c .some) (c .in-use); plain = c .plain; type = c .type }
 

@@ -66,7 +66,7 @@ module _ (R : Rooms) (s : List ℕ) (m : Model) (h : readOf R s ≡ read m) (num
 
   -- ---- curves
   module _ (k : (b .free ≡ curve) ⊎ (b .free ≡ curve2)) where
-    its-curve : Curve (usedOf m) t number
+    pub its-curve : Curve (usedOf m) t number
     its-curve =
         record {
           some = some R s m h number b o;
@@ -81,7 +81,7 @@ module _ (R : Rooms) (s : List ℕ) (m : Model) (h : readOf R s ≡ read m) (num
         kinds (inl e) = inl (its-kind R s m h number b o ∙ ap freeNumber e)
         kinds (inr e) = inr (its-kind R s m h number b o ∙ ap freeNumber e)
 
-    axes-are : axesOf (elementOf t number) ≡ axesIn (b .free)
+    pub axes-are : axesOf (elementOf t number) ≡ axesIn (b .free)
     axes-are = ap (λ (n : ℕ). cond (eqb n 5) 2 3) (its-kind R s m h number b o) ∙ by-kind (b .free)
       where
         by-kind : (f : Free) → cond (eqb (freeNumber f) 5) 2 3 ≡ axesIn f
@@ -101,7 +101,7 @@ module _ (R : Rooms) (s : List ℕ) (m : Model) (h : readOf R s ≡ read m) (num
         ap (λ (d : Direction). curveExact d p (controlOf t (elementOf t number) axis)) (its-u R s m h number b o (c .type))
         ∙ exact-same (alongU b) p (controlOf t (elementOf t number) axis) (controlIn x (b .free) cs axis) (λ i l. its-control R s m h number b o axis i (let e = many in omega arith) a)
 
-    close : (p : ℤ) (axis : ℕ) (z : ℤ) → axis < axesIn (b .free) → OnCurve t number p axis z → Close z (curveExact (alongU b) p (controlIn x (b .free) cs axis)) (b .degree-u)
+    pub close : (p : ℤ) (axis : ℕ) (z : ℤ) → axis < axesIn (b .free) → OnCurve t number p axis z → Close z (curveExact (alongU b) p (controlIn x (b .free) cs axis)) (b .degree-u)
     close p axis z a q =
         subst (λ (n : ℕ). Close z (curveExact (alongU b) p (controlIn x (b .free) cs axis)) n) (ap (λ (y : records.Body). y .«degree_u») body-is)
         (subst (λ (f : Frac). Close z f (bodyOf t number .«degree_u»)) (exact p axis a) q)

@@ -16,3 +16,4 @@ pub mod Never15
 pub mod Accepted
 pub mod Names
 pub mod Tidied
+pub mod Polylines

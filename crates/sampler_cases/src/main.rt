@@ -1,10 +1,11 @@
 // Texts, and the points on each of their elements, in tables of 16,384 entries. A case is a line and then the text: the text's length, the steps of a run, a
-// number of element, and what the case shows, which is written again before the answers for that number and the next two. The parameters asked for are the first two numbers of the text's first vn.
+// number of element, and what the case shows, which is written again before the answers for that number and the next two. The parameters asked for are the first two numbers of the text's first vn, the tolerance of a polyline is its third.
 use case_files::least;
 use case_files::line_end;
 use case_files::number_at;
 use libc::STDIN_FILENO;
 use libc::STDOUT_FILENO;
+use polyline::PolylineResult;
 use reader::Reading;
 use sampler::Ran;
 use sampler::Sampled;
@@ -67,6 +68,55 @@ fn put_run(ran: Ran, points: &[i32]) {
     put_numbers(points);
 }
 
+// A polyline's answer, and the whole table that it was to fill.
+fn put_polyline(result: PolylineResult, table: &[i32]) {
+    match result {
+        PolylineResult::Filled { points } => put_whole(points as u64),
+        PolylineResult::Refused { number } => put_refusal(number),
+    }
+    put(b":");
+    put_numbers(table);
+}
+
+// The polyline fills its table from entry 2 on.
+fn cut(
+    used: Used,
+    v: &[i32],
+    vt: &[i32],
+    vn: &[i32],
+    vp: &[i32],
+    corners: &[u32],
+    elements: &[u32],
+    bodies: &[u32],
+    ranges: &[i32],
+    parameters: &[i32],
+    loops: &[u32],
+    spans: &[i32],
+    element: u32,
+    tolerance: i32,
+) {
+    let mut points = [7i32; 64];
+    let result = polyline::polyline(
+        used,
+        v,
+        vt,
+        vn,
+        vp,
+        corners,
+        elements,
+        bodies,
+        ranges,
+        parameters,
+        loops,
+        spans,
+        element,
+        tolerance,
+        &mut points,
+        2,
+    );
+    put_polyline(result, &points);
+}
+
 // The run fills its table from entry 2 on.
 fn run(
     used: Used,
@@ -123,6 +173,7 @@ fn sample(
     steps: u32,
     s: i32,
     t: i32,
+    tolerance: i32,
 ) {
     put(b" | curve");
     put_point(sampler::point_on_curve(
@@ -176,6 +227,23 @@ fn sample(
         element,
         steps,
     );
+    put(b" | polyline");
+    cut(
+        used,
+        v,
+        vt,
+        vn,
+        vp,
+        corners,
+        elements,
+        bodies,
+        ranges,
+        parameters,
+        loops,
+        spans,
+        element,
+        tolerance,
+    );
 }
 
 // Three numbers of element, one after the other.
@@ -195,11 +263,12 @@ fn sample_elements(
     steps: u32,
     first: usize,
 ) {
-    if vn.len() < 2 {
+    if vn.len() < 3 {
         return;
     }
     let s = vn[0];
     let t = vn[1];
+    let tolerance = vn[2];
     let from = least(first, 1000) as u32;
     let mut element: u32 = 0;
     while element < 3 {
@@ -220,6 +289,7 @@ fn sample_elements(
             steps,
             s,
             t,
+            tolerance,
         );
         element += 1;
     }

@@ -10,11 +10,11 @@ use Rattle.sampler_cases.proofs.put.Reads as put-reads
 use Rattle.sampler_cases.proofs.sample.Reads as sample-reads
 
 abbrev Inv-loop : tie.InvT-loop
-Inv-loop used v vt vn vp corners elements bodies ranges parameters loops spans steps first s t from element₀ t19 element =
+Inv-loop used v vt vn vp corners elements bodies ranges parameters loops spans steps first s t tolerance from element₀ t20 element =
     from ≤ 1000
 
 abbrev μ-loop : tie.MeasureT-loop
-μ-loop used v vt vn vp corners elements bodies ranges parameters loops spans steps first s t from element₀ t19 element =
+μ-loop used v vt vn vp corners elements bodies ranges parameters loops spans steps first s t tolerance from element₀ t20 element =
     3 - element
 
 returns : tie.Need-returns Inv-loop μ-loop
@@ -25,6 +25,9 @@ shared-slice-copy-out-s c = search needs
 
 shared-slice-copy-out-t : tie.Need-shared-slice-copy-out-t Inv-loop μ-loop
 shared-slice-copy-out-t c = search needs
+
+shared-slice-copy-out-tolerance : tie.Need-shared-slice-copy-out-tolerance Inv-loop μ-loop
+shared-slice-copy-out-tolerance c = search needs
 
 least-requires : tie.Need-least-requires Inv-loop μ-loop
 least-requires c κs = search needs
@@ -68,6 +71,7 @@ sample-elements-spec =
     returns
     shared-slice-copy-out-s
     shared-slice-copy-out-t
+    shared-slice-copy-out-tolerance
     least-requires
     cast-from
     loop-holds

@@ -1,0 +1,115 @@
+/*
+ * The polyline of a curve of a file, and the run that is as straight.
+ *
+ *     polyline FILE ELEMENT TOLERANCE counts          points, intervals looked at, and the fewest steps of a run whose every chord is as straight
+ *     polyline FILE ELEMENT TOLERANCE cut TIMES       the polyline so many times: its time
+ *     polyline FILE ELEMENT STEPS run TIMES           the run so many times: its time
+ *
+ * TOLERANCE is in millionths. A chord is straight where twice the point at the middle of its interval, rounded down, is within twice the tolerance
+ * of the sum of its two ends on each axis. The intervals are counted by a splitter of its own, over points asked for alone.
+ */
+#include <stdint.h>
+#include <string.h>
+
+#include "driver.h"
+#include "kuhlabires.h"
+
+static kuhlabires_tables tables;
+static kuhlabires_used used;
+static uint32_t element;
+static int32_t tolerance, points[3 * (KUHLABIRES_MOST_STEPS + 1)];
+
+static void *table_of(size_t entries)
+{
+    return calloc(entries + 1, sizeof(int32_t));
+}
+
+static void read_file(const char *name)
+{
+    size_t n;
+    uint8_t *text = (uint8_t *)bytes_of(name, &n);
+    const kuhlabires_room room = kuhlabires_rooms(text, n);
+    kuhlabires_tables t = {
+        table_of(room.v), room.v, table_of(room.vt), room.vt, table_of(room.vn), room.vn, table_of(room.vp), room.vp,
+        table_of(room.corners), room.corners, table_of(room.elements), room.elements, table_of(room.bodies), room.bodies,
+        table_of(room.ranges), room.ranges, table_of(room.parameters), room.parameters, table_of(room.loops), room.loops,
+        table_of(room.spans), room.spans,
+    };
+    tables = t;
+    kuhlabires_reading reading = kuhlabires_read(text, n, KUHLABIRES_LEND(&tables));
+    if (reading.refusal)
+        exit(2);
+    used = reading.used;
+}
+
+static kuhlabires_point at(int64_t t)
+{
+    return kuhlabires_point_on_curve(used, KUHLABIRES_LEND(&tables), element, (int32_t)t);
+}
+
+static int is_near(int32_t p, int32_t m, int32_t q)
+{
+    int64_t off = 2 * (int64_t)m - ((int64_t)p + q);
+    return (off < 0 ? -off : off) <= 2 * (int64_t)tolerance;
+}
+
+static int64_t middle_of(int64_t a, int64_t b)
+{
+    return (a + b - ((a + b) & 1)) / 2;
+}
+
+static int is_straight(int64_t a, int64_t b)
+{
+    kuhlabires_point p = at(a), m = at(middle_of(a, b)), q = at(b);
+    return is_near(p.x, m.x, q.x) && is_near(p.y, m.y, q.y) && is_near(p.z, m.z, q.z);
+}
+
+/* How many intervals are looked at from a to b, this one included. */
+static long intervals(int depth, int64_t a, int64_t b)
+{
+    if (depth == 0 || b - a <= 1 || is_straight(a, b))
+        return 1;
+    return 1 + intervals(depth - 1, a, middle_of(a, b)) + intervals(depth - 1, middle_of(a, b), b);
+}
+
+static int run_is_straight(int64_t start, int64_t end, long steps)
+{
+    for (long j = 0; j < steps; j++)
+        if (!is_straight(start + j * (end - start) / steps, start + (j + 1) * (end - start) / steps))
+            return 0;
+    return 1;
+}
+
+static void counts(void)
+{
+    const uint32_t body = tables.elements[KUHLABIRES_ELEMENT_WIDTH * (element - 1) + KUHLABIRES_ELEMENT_BODY];
+    const int64_t start = tables.ranges[KUHLABIRES_RANGE_WIDTH * (body - 1)], end = tables.ranges[KUHLABIRES_RANGE_WIDTH * (body - 1) + 1];
+    kuhlabires_polyline_answer cut = kuhlabires_polyline(used, KUHLABIRES_LEND(&tables), element, tolerance, points, 3 * KUHLABIRES_MOST_POLYLINE_POINTS, 0);
+    long steps = 1;
+    while (steps <= KUHLABIRES_MOST_STEPS && !run_is_straight(start, end, steps))
+        steps++;
+    printf("points %u intervals %ld steps %ld\n", cut.points, intervals(12, start, end), steps);
+}
+
+int main(int count, char **arguments)
+{
+    if (count < 5)
+        return 2;
+    read_file(arguments[1]);
+    element = (uint32_t)atoi(arguments[2]);
+    tolerance = atoi(arguments[3]);
+    if (!strcmp(arguments[4], "counts")) {
+        counts();
+        return 0;
+    }
+    const int cut = !strcmp(arguments[4], "cut");
+    const long times = atol(arguments[5]);
+    double from = seconds();
+    for (long i = 0; i < times; i++) {
+        if (cut)
+            kuhlabires_polyline(used, KUHLABIRES_LEND(&tables), element, tolerance, points, 3 * KUHLABIRES_MOST_POLYLINE_POINTS, 0);
+        else
+            kuhlabires_run_on_curve(used, KUHLABIRES_LEND(&tables), element, (uint32_t)tolerance, points, sizeof points / sizeof *points, 0);
+    }
+    printf("seconds %.9f\n", seconds() - from);
+}

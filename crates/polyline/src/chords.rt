@@ -1,0 +1,109 @@
+// A chord's tests, and a point's numbers.
+ghost use mathlib.Core.Path.{_≡_};
+ghost use Prim.Native.Nat.{_+_, _≤_};
+ghost use lib.ListN.{length};
+ghost use lib.Seq.{sets};
+ghost use Rattle.sampler.specs.Answers.{pointOutcome};
+ghost use Rattle.polyline.specs.Chords.{middle, near, straight, short};
+ghost use Rattle.polyline.specs.Inner.{spaceOf};
+use sampler::Sampled;
+
+// The middle, rounded down: `/` rounds towards zero, so what it halves is raised above zero first.
+pub fn middle_of(a: i32, b: i32) -> i32
+    ensures { λ m. ⌜ m ≡ middle a b ⌝ }
+{
+    let raised = a as i64 + b as i64 + 4294967296;
+    (raised / 2 - 2147483648) as i32
+}
+
+pub fn is_short(a: i32, b: i32) -> bool
+    ensures { λ r. ⌜ r ≡ short a b ⌝ }
+{
+    b as i64 - a as i64 <= 1
+}
+
+// Whether twice m is within twice the tolerance of p and q together; their doubles pass 32 bits.
+pub fn is_near(tolerance: i32, p: i32, m: i32, q: i32) -> bool
+    ensures { λ r. ⌜ r ≡ near tolerance p m q ⌝ }
+{
+    let room = 2 * tolerance as i64;
+    let off = 2 * m as i64 - (p as i64 + q as i64);
+    if 0 - room <= off {
+        return off <= room;
+    }
+    false
+}
+
+// A point's coordinates, 0 for each that it lacks.
+pub struct Space {
+    pub x: i32,
+    pub y: i32,
+    pub z: i32,
+}
+
+pub fn space_of(p: Sampled) -> Space
+    ensures { λ r. ⌜ r ≡ spaceOf (pointOutcome p .coordinates) ⌝ }
+{
+    match p {
+        Sampled::Space { x, y, z } => Space { x, y, z },
+        Sampled::Plane { u, v } => Space { x: u, y: v, z: 0 },
+        Sampled::Refused { number: _ } => Space { x: 0, y: 0, z: 0 },
+    }
+}
+
+pub fn is_straight(tolerance: i32, p: Sampled, m: Sampled, q: Sampled) -> bool
+    ensures { λ r. ⌜ r ≡ straight tolerance (pointOutcome p .coordinates) (pointOutcome m .coordinates) (pointOutcome q .coordinates) ⌝ }
+{
+    let a = space_of(p);
+    let b = space_of(m);
+    let c = space_of(q);
+    if !is_near(tolerance, a.x, b.x, c.x) {
+        return false;
+    }
+    if !is_near(tolerance, a.y, b.y, c.y) {
+        return false;
+    }
+    is_near(tolerance, a.z, b.z, c.z)
+}
+
+// Why there is no point, 0 where there is one.
+pub fn refusal_in(p: Sampled) -> u32
+    ensures { λ r. ⌜ r ≡ pointOutcome p .number ⌝ }
+{
+    match p {
+        Sampled::Space { x: _, y: _, z: _ } => 0,
+        Sampled::Plane { u: _, v: _ } => 0,
+        Sampled::Refused { number } => number,
+    }
+}
+
+pub fn axes_in(p: Sampled) -> usize
+    ensures { λ r. ⌜ (r ≡ length (pointOutcome p .coordinates)) × (r ≤ 3) ⌝ }
+{
+    match p {
+        Sampled::Space { x: _, y: _, z: _ } => 3,
+        Sampled::Plane { u: _, v: _ } => 2,
+        Sampled::Refused { number: _ } => 0,
+    }
+}
+
+// A point's numbers from place `at` on; the place after them.
+pub fn store(points: &mut [i32], at: usize, p: Sampled) -> usize
+    requires { ⌜ at + length (pointOutcome p .coordinates) ≤ length (now points) ⌝ }
+    ensures { λ r. ⌜ (r ≡ at + length (pointOutcome p .coordinates)) × (now (points .exit) ≡ sets (now (points .entry)) at (pointOutcome p .coordinates)) ⌝ }
+{
+    match p {
+        Sampled::Space { x, y, z } => {
+            points[at] = x;
+            points[at + 1] = y;
+            points[at + 2] = z;
+            at + 3
+        }
+        Sampled::Plane { u, v } => {
+            points[at] = u;
+            points[at + 1] = v;
+            at + 2
+        }
+        Sampled::Refused { number: _ } => at,
+    }
+}

@@ -1,0 +1,402 @@
+// The polyline of a curve: few points where it is straight.
+ghost use mathlib.Core.Path.{_≡_};
+ghost use Prim.Native.Nat.{_+_, _≤_};
+ghost use lib.ListN.{length};
+ghost use lib.Seq.{sets};
+ghost use Rattle.tables.specs.Tables.{tables};
+ghost use Rattle.sampler.specs.Answers.{pointOnCurve};
+ghost use Rattle.polyline.specs.Chords.{ends, numbers};
+ghost use Rattle.polyline.specs.Answers.{pointAt, polylineInto, polylineAnswer};
+ghost use Rattle.polyline.specs.Inner.{Interval, splitOf};
+use crate::chords::axes_in;
+use crate::chords::is_short;
+use crate::chords::is_straight;
+use crate::chords::middle_of;
+use crate::chords::refusal_in;
+use crate::chords::store;
+use sampler::Sampled;
+use sampler::point_on_curve;
+use tables::Used;
+
+mod chords;
+
+// How often an interval is halved at most.
+const DEPTH: u32 = 12;
+
+// How many points were written, or why none was.
+pub enum PolylineResult {
+    Filled { points: u32 },
+    Refused { number: u32 },
+}
+
+// An interval is a chord, or halved at its middle, with what is sampled there.
+pub enum Split {
+    Chord,
+    Halves { middle: i32, point: Sampled },
+}
+
+// What the interval from a to b comes to, where p and q are sampled.
+fn split_of(
+    used: Used,
+    v: &[i32],
+    vt: &[i32],
+    vn: &[i32],
+    vp: &[i32],
+    corners: &[u32],
+    elements: &[u32],
+    bodies: &[u32],
+    ranges: &[i32],
+    parameters: &[i32],
+    loops: &[u32],
+    spans: &[i32],
+    element: u32,
+    tolerance: i32,
+    depth: u32,
+    a: i32,
+    b: i32,
+    p: Sampled,
+    q: Sampled,
+) -> Split
+    requires { ⌜ Interval (pointAt used (tables (now v) (now vt) (now vn) (now vp) (now corners) (now elements) (now bodies) (now ranges) (now parameters) (now loops) (now spans)) element) a b p q ⌝ }
+    ensures { λ r. ⌜ r ≡ splitOf (pointOnCurve used (tables (now (v .entry)) (now (vt .entry)) (now (vn .entry)) (now (vp .entry)) (now (corners .entry)) (now (elements .entry)) (now (bodies .entry)) (now (ranges .entry)) (now (parameters .entry)) (now (loops .entry)) (now (spans .entry))) element) tolerance depth a b ⌝ }
+{
+    if depth == 0 {
+        return Split::Chord;
+    }
+    if is_short(a, b) {
+        return Split::Chord;
+    }
+    let middle = middle_of(a, b);
+    let point = point_on_curve(
+        used,
+        v,
+        vt,
+        vn,
+        vp,
+        corners,
+        elements,
+        bodies,
+        ranges,
+        parameters,
+        loops,
+        spans,
+        element,
+        middle,
+    );
+    if is_straight(tolerance, p, point, q) {
+        return Split::Chord;
+    }
+    Split::Halves { middle, point }
+}
+
+// How many chords there are from a to b.
+fn count(
+    used: Used,
+    v: &[i32],
+    vt: &[i32],
+    vn: &[i32],
+    vp: &[i32],
+    corners: &[u32],
+    elements: &[u32],
+    bodies: &[u32],
+    ranges: &[i32],
+    parameters: &[i32],
+    loops: &[u32],
+    spans: &[i32],
+    element: u32,
+    tolerance: i32,
+    depth: u32,
+    a: i32,
+    b: i32,
+    p: Sampled,
+    q: Sampled,
+) -> u32
+    requires { ⌜ (depth ≤ 12) × Interval (pointAt used (tables (now v) (now vt) (now vn) (now vp) (now corners) (now elements) (now bodies) (now ranges) (now parameters) (now loops) (now spans)) element) a b p q ⌝ }
+    ensures { λ r. ⌜ r ≡ length (ends (pointAt used (tables (now (v .entry)) (now (vt .entry)) (now (vn .entry)) (now (vp .entry)) (now (corners .entry)) (now (elements .entry)) (now (bodies .entry)) (now (ranges .entry)) (now (parameters .entry)) (now (loops .entry)) (now (spans .entry))) element) tolerance depth a b) ⌝ }
+{
+    let split = split_of(
+        used,
+        v,
+        vt,
+        vn,
+        vp,
+        corners,
+        elements,
+        bodies,
+        ranges,
+        parameters,
+        loops,
+        spans,
+        element,
+        tolerance,
+        depth,
+        a,
+        b,
+        p,
+        q,
+    );
+    let Split::Halves { middle, point } = split else {
+        return 1;
+    };
+    let left = count(
+        used,
+        v,
+        vt,
+        vn,
+        vp,
+        corners,
+        elements,
+        bodies,
+        ranges,
+        parameters,
+        loops,
+        spans,
+        element,
+        tolerance,
+        depth - 1,
+        a,
+        middle,
+        p,
+        point,
+    );
+    let right = count(
+        used,
+        v,
+        vt,
+        vn,
+        vp,
+        corners,
+        elements,
+        bodies,
+        ranges,
+        parameters,
+        loops,
+        spans,
+        element,
+        tolerance,
+        depth - 1,
+        middle,
+        b,
+        point,
+        q,
+    );
+    left + right
+}
+
+// Writes the end of each chord from a to b, from place `at` on; the place after them.
+fn write(
+    used: Used,
+    v: &[i32],
+    vt: &[i32],
+    vn: &[i32],
+    vp: &[i32],
+    corners: &[u32],
+    elements: &[u32],
+    bodies: &[u32],
+    ranges: &[i32],
+    parameters: &[i32],
+    loops: &[u32],
+    spans: &[i32],
+    element: u32,
+    tolerance: i32,
+    depth: u32,
+    a: i32,
+    b: i32,
+    p: Sampled,
+    q: Sampled,
+    points: &mut [i32],
+    at: usize,
+) -> usize
+    requires { ⌜ (at + length (numbers (pointAt used (tables (now v) (now vt) (now vn) (now vp) (now corners) (now elements) (now bodies) (now ranges) (now parameters) (now loops) (now spans)) element) (ends (pointAt used (tables (now v) (now vt) (now vn) (now vp) (now corners) (now elements) (now bodies) (now ranges) (now parameters) (now loops) (now spans)) element) tolerance depth a b)) ≤ length (now points)) × Interval (pointAt used (tables (now v) (now vt) (now vn) (now vp) (now corners) (now elements) (now bodies) (now ranges) (now parameters) (now loops) (now spans)) element) a b p q ⌝ }
+    ensures { λ r. ⌜ (r ≡ at + length (numbers (pointAt used (tables (now (v .entry)) (now (vt .entry)) (now (vn .entry)) (now (vp .entry)) (now (corners .entry)) (now (elements .entry)) (now (bodies .entry)) (now (ranges .entry)) (now (parameters .entry)) (now (loops .entry)) (now (spans .entry))) element) (ends (pointAt used (tables (now (v .entry)) (now (vt .entry)) (now (vn .entry)) (now (vp .entry)) (now (corners .entry)) (now (elements .entry)) (now (bodies .entry)) (now (ranges .entry)) (now (parameters .entry)) (now (loops .entry)) (now (spans .entry))) element) tolerance depth a b))) × (now (points .exit) ≡ sets (now (points .entry)) at (numbers (pointAt used (tables (now (v .entry)) (now (vt .entry)) (now (vn .entry)) (now (vp .entry)) (now (corners .entry)) (now (elements .entry)) (now (bodies .entry)) (now (ranges .entry)) (now (parameters .entry)) (now (loops .entry)) (now (spans .entry))) element) (ends (pointAt used (tables (now (v .entry)) (now (vt .entry)) (now (vn .entry)) (now (vp .entry)) (now (corners .entry)) (now (elements .entry)) (now (bodies .entry)) (now (ranges .entry)) (now (parameters .entry)) (now (loops .entry)) (now (spans .entry))) element) tolerance depth a b))) ⌝ }
+{
+    let split = split_of(
+        used,
+        v,
+        vt,
+        vn,
+        vp,
+        corners,
+        elements,
+        bodies,
+        ranges,
+        parameters,
+        loops,
+        spans,
+        element,
+        tolerance,
+        depth,
+        a,
+        b,
+        p,
+        q,
+    );
+    let Split::Halves { middle, point } = split else {
+        return store(points, at, q);
+    };
+    let next = write(
+        used,
+        v,
+        vt,
+        vn,
+        vp,
+        corners,
+        elements,
+        bodies,
+        ranges,
+        parameters,
+        loops,
+        spans,
+        element,
+        tolerance,
+        depth - 1,
+        a,
+        middle,
+        p,
+        point,
+        points,
+        at,
+    );
+    write(
+        used,
+        v,
+        vt,
+        vn,
+        vp,
+        corners,
+        elements,
+        bodies,
+        ranges,
+        parameters,
+        loops,
+        spans,
+        element,
+        tolerance,
+        depth - 1,
+        middle,
+        b,
+        point,
+        q,
+        points,
+        next,
+    )
+}
+
+// The polyline of the curv or curv2 of that number, counted from 1 over all elements: its points fill the table from entry `at` on, counted in numbers.
+pub fn polyline(
+    used: Used,
+    v: &[i32],
+    vt: &[i32],
+    vn: &[i32],
+    vp: &[i32],
+    corners: &[u32],
+    elements: &[u32],
+    bodies: &[u32],
+    ranges: &[i32],
+    parameters: &[i32],
+    loops: &[u32],
+    spans: &[i32],
+    element: u32,
+    tolerance: i32,
+    points: &mut [i32],
+    at: usize,
+) -> PolylineResult
+    ensures { λ r. ⌜ polylineAnswer r (now (points .exit)) ≡ polylineInto used (tables (now (v .entry)) (now (vt .entry)) (now (vn .entry)) (now (vp .entry)) (now (corners .entry)) (now (elements .entry)) (now (bodies .entry)) (now (ranges .entry)) (now (parameters .entry)) (now (loops .entry)) (now (spans .entry))) element tolerance at (now (points .entry)) ⌝ }
+{
+    let e = tables::element_of(used, elements, element);
+    let body = tables::body_of(used, bodies, ranges, e.body);
+    let start = body.start_u;
+    let end = body.end_u;
+    let first = point_on_curve(
+        used,
+        v,
+        vt,
+        vn,
+        vp,
+        corners,
+        elements,
+        bodies,
+        ranges,
+        parameters,
+        loops,
+        spans,
+        element,
+        start,
+    );
+    let refused = refusal_in(first);
+    if refused != 0 {
+        return PolylineResult::Refused { number: refused };
+    }
+    if tolerance < 0 {
+        return PolylineResult::Refused { number: 19 };
+    }
+    let last = point_on_curve(
+        used,
+        v,
+        vt,
+        vn,
+        vp,
+        corners,
+        elements,
+        bodies,
+        ranges,
+        parameters,
+        loops,
+        spans,
+        element,
+        end,
+    );
+    let chords = count(
+        used,
+        v,
+        vt,
+        vn,
+        vp,
+        corners,
+        elements,
+        bodies,
+        ranges,
+        parameters,
+        loops,
+        spans,
+        element,
+        tolerance,
+        DEPTH,
+        start,
+        end,
+        first,
+        last,
+    );
+    let numbers = axes_in(first) * (chords as usize + 1);
+    if points.len() < numbers {
+        return PolylineResult::Refused { number: 16 };
+    }
+    if points.len() - numbers < at {
+        return PolylineResult::Refused { number: 16 };
+    }
+    let next = store(points, at, first);
+    write(
+        used,
+        v,
+        vt,
+        vn,
+        vp,
+        corners,
+        elements,
+        bodies,
+        ranges,
+        parameters,
+        loops,
+        spans,
+        element,
+        tolerance,
+        DEPTH,
+        start,
+        end,
+        first,
+        last,
+        points,
+        next,
+    );
+    PolylineResult::Filled { points: chords + 1 }
+}
