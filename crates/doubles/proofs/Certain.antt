@@ -16,8 +16,8 @@ use Rattle.whole.specs.Round.{Small, between}
 use Rattle.whole.proofs.IntLaws.{abs-neg, abs-+}
 use Rattle.whole.proofs.Ring.{ring, _⊕_, _⊝_, _⊗_, _≐_}
 use Rattle.whole.proofs.Rounding.{distance, between-unique}
-use Rattle.doubles.specs.Doubles.{anchor, kept, weightOf, leaned, above, below, certain}
-use Rattle.doubles.proofs.Whole.{kept-value}
+use Rattle.doubles.specs.Doubles.{anchor, encode, weightOf, leaned, above, below, certain}
+use Rattle.doubles.proofs.Whole.{encode-value}
 use Rattle.doubles.proofs.Near.{Whole, round-whole-number}
 use Rattle.doubles.proofs.Signs.{At, at-value, at-same, Rounded, add-rounded, sub-rounded, mul-rounded, Nearby, nearby, Close, close-by, at-whole, upright, div-round, eq-at}
 use Rattle.doubles.proofs.Errors.{Leaned, only-one, size-near, weight-size, product-size, Moved, moved}
@@ -34,8 +34,8 @@ module _ (z : ℤ) (small : Small z) where
   beside : Moved anchor 2000000000 z
   beside = moved anchor 2000000000 z small (lit≤ tt)
 
-  kept-at : At (kept z) (pos (beside .number)) 1
-  kept-at = subst (λ (n : ℕ). At (kept z) (pos n) 1) (ap natAbs (beside .same)) (at-value (kept z) false (natAbs (pos anchor +ℤ z)) 1 (kept-value z small))
+  encode-at : At (encode z) (pos (beside .number)) 1
+  encode-at = subst (λ (n : ℕ). At (encode z) (pos n) 1) (ap natAbs (beside .same)) (at-value (encode z) false (natAbs (pos anchor +ℤ z)) 1 (encode-value z small))
 
 -- ---- the difference is exact
 gap-size : (a b : ℤ) → Small a → Small b → natAbs (b -ℤ a) ≤ 4000000000
@@ -45,11 +45,11 @@ module _ (a b : ℤ) (sa : Small a) (sb : Small b) where
   gap-is : pos (beside b sb .number) -ℤ pos (beside a sa .number) ≡ b -ℤ a
   gap-is = ap₂ _-ℤ_ (sym (beside b sb .same)) (sym (beside a sa .same)) ∙ ring (pos anchor ∷ a ∷ b ∷ []) (λ n a b. n ⊕ b ⊝ (n ⊕ a) ≐ b ⊝ a) tt
 
-  gap-at : At (sub binary64 (kept b) (kept a)) (b -ℤ a) 1
+  gap-at : At (sub binary64 (encode b) (encode a)) (b -ℤ a) 1
   gap-at =
-      at-whole binary64 (sub binary64 (kept b) (kept a)) (b -ℤ a) (le-trans (gap-size a b sa sb) (lit≤ tt))
-      (subst (λ z. Rounded binary64 (sub binary64 (kept b) (kept a)) z 1) gap-is
-      (sub-rounded binary64 (kept b) (kept a) (pos (beside b sb .number)) (pos (beside a sa .number)) 1 (zero-lt-suc 0) (kept-at b sb) (kept-at a sa)))
+      at-whole binary64 (sub binary64 (encode b) (encode a)) (b -ℤ a) (le-trans (gap-size a b sa sb) (lit≤ tt))
+      (subst (λ z. Rounded binary64 (sub binary64 (encode b) (encode a)) z 1) gap-is
+      (sub-rounded binary64 (encode b) (encode a) (pos (beside b sb .number)) (pos (beside a sa .number)) 1 (zero-lt-suc 0) (encode-at b sb) (encode-at a sa)))
 
 -- ---- the weight
 module _ (p D : ℕ) (h : p ≤ D) (some : 0 < D) (most : D ≤ 4000000000) where
@@ -86,11 +86,11 @@ module _ (a b : ℤ) (p D : ℕ) (sa : Small a) (sb : Small b) (h : p ≤ D) (so
   product-most =
       product-size (b -ℤ a) (weight .number) 4000000000 (unit + step) (gap-size a b sa sb) (weight-size (weight .number) D p unit step some h (weight .near))
 
-  product-near : Close binary64 (product (kept a) (kept b) (weightOf p D)) ((b -ℤ a) *ℤ weight .number) 1054
+  product-near : Close binary64 (product (encode a) (encode b) (weightOf p D)) ((b -ℤ a) *ℤ weight .number) 1054
   product-near =
-      close-by binary64 (product (kept a) (kept b) (weightOf p D)) ((b -ℤ a) *ℤ weight .number) 1054 (lit< tt)
+      close-by binary64 (product (encode a) (encode b) (weightOf p D)) ((b -ℤ a) *ℤ weight .number) 1054 (lit< tt)
       (in-reach (natAbs ((b -ℤ a) *ℤ weight .number)) reach (2 ^ 85) (lit< tt) product-most)
-      (mul-rounded binary64 (sub binary64 (kept b) (kept a)) (weightOf p D) (b -ℤ a) (weight .number) 1 unit (zero-lt-suc 0) (pow-pos 1074) (gap-at a b sa sb) (weight .value))
+      (mul-rounded binary64 (sub binary64 (encode b) (encode a)) (weightOf p D) (b -ℤ a) (weight .number) 1 unit (zero-lt-suc 0) (pow-pos 1074) (gap-at a b sa sb) (weight .value))
 
 -- ---- a lean by l / unit
 -- x is a whole number, to which n + m / unit, leant by l / unit, was rounded
@@ -104,7 +104,7 @@ record Landing (x : Float) (n : ℕ) (m l : ℤ) : Type 0 where
 more : (n m j k e : ℕ) → n ≤ m + k * e → m ≤ j * e → n ≤ (j + k) * e
 more n m j k e h l = omega arith
 
-module _ (a b : ℤ) (sa : Small a) (w : Float) (z : ℤ) (small : natAbs z ≤ reach * step) (m : Close binary64 (product (kept a) (kept b) w) z 1054)
+module _ (a b : ℤ) (sa : Small a) (w : Float) (z : ℤ) (small : natAbs z ≤ reach * step) (m : Close binary64 (product (encode a) (encode b) w) z 1054)
     (x : Float) (l : ℤ) (at : At x l unit) (little : natAbs l ≤ 2 ^ 36 * step) where
   product-number : natAbs (m .number) ≤ (reach + 2 ^ 32) * step
   product-number = more (natAbs (m .number)) (natAbs z) reach (2 ^ 32) step (size-near (m .number) z (2 ^ 32 * step) (m .near)) small
@@ -114,11 +114,11 @@ module _ (a b : ℤ) (sa : Small a) (w : Float) (z : ℤ) (small : natAbs z ≤ 
       more (natAbs (m .number +ℤ l)) (natAbs (m .number)) (reach + 2 ^ 32) (2 ^ 36) step
       (le-trans (abs-+ (m .number) l) (add-le-add (le-refl (natAbs (m .number))) little)) product-number
 
-  sum-near : Close binary64 (add binary64 (product (kept a) (kept b) w) x) (m .number +ℤ l) 1055
+  sum-near : Close binary64 (add binary64 (product (encode a) (encode b) w) x) (m .number +ℤ l) 1055
   sum-near =
-      close-by binary64 (add binary64 (product (kept a) (kept b) w) x) (m .number +ℤ l) 1055 (lit< tt)
+      close-by binary64 (add binary64 (product (encode a) (encode b) w) x) (m .number +ℤ l) 1055 (lit< tt)
       (in-reach (natAbs (m .number +ℤ l)) (reach + 2 ^ 32 + 2 ^ 36) (2 ^ 86) (lit< tt) sum-most)
-      (add-rounded binary64 (product (kept a) (kept b) w) x (m .number) l unit (pow-pos 1074) (m .value) at)
+      (add-rounded binary64 (product (encode a) (encode b) w) x (m .number) l unit (pow-pos 1074) (m .value) at)
 
   sum-number : natAbs (sum-near .number) ≤ 4000000001 * unit
   sum-number =
@@ -148,21 +148,21 @@ module _ (a b : ℤ) (sa : Small a) (w : Float) (z : ℤ) (small : natAbs z ≤ 
       enough : (n k u : ℕ) → 0 < u → n * u ≤ (anchor + 2000000000) * u → k ≤ n * u + 4000000001 * u → k < 2 ^ 53 * u
       enough n k u U h l = omega arith
 
-  leaned-rounded : Rounded binary64 (leaned (kept a) (kept b) w x) (pos (start * unit) +ℤ sum-near .number) unit
+  leaned-rounded : Rounded binary64 (leaned (encode a) (encode b) w x) (pos (start * unit) +ℤ sum-near .number) unit
   unfolding leaned
   leaned-rounded =
-      add-rounded binary64 (kept a) (add binary64 (product (kept a) (kept b) w) x) (pos (start * unit)) (sum-near .number) unit (pow-pos 1074)
-      (at-same (kept a) (pos start) (pos (start * unit)) 1 unit (zero-lt-suc 0) (ap pos (sym (mul-one (start * unit)))) (kept-at a sa)) (sum-near .value)
+      add-rounded binary64 (encode a) (add binary64 (product (encode a) (encode b) w) x) (pos (start * unit)) (sum-near .number) unit (pow-pos 1074)
+      (at-same (encode a) (pos start) (pos (start * unit)) 1 unit (zero-lt-suc 0) (ap pos (sym (mul-one (start * unit)))) (encode-at a sa)) (sum-near .value)
 
-  ends : leaned (kept a) (kept b) w x ≡ round binary64 false (total .number) unit
+  ends : leaned (encode a) (encode b) w x ≡ round binary64 false (total .number) unit
   ends =
-      upright binary64 (leaned (kept a) (kept b) w x) (total .number) unit (lt-of-lt-of-le (mul-pos (pow-pos 52) (pow-pos 1074)) total-least)
-      (subst (λ y. Rounded binary64 (leaned (kept a) (kept b) w x) y unit) (total .same) leaned-rounded)
+      upright binary64 (leaned (encode a) (encode b) w x) (total .number) unit (lt-of-lt-of-le (mul-pos (pow-pos 52) (pow-pos 1074)) total-least)
+      (subst (λ y. Rounded binary64 (leaned (encode a) (encode b) w x) y unit) (total .same) leaned-rounded)
 
   landed : Whole binary64 false (total .number) unit
   landed = round-whole-number binary64 false (total .number) unit (pow-pos 1074) total-least total-most
 
-  landing : Landing (leaned (kept a) (kept b) w x) (beside a sa .number) (m .number) l
+  landing : Landing (leaned (encode a) (encode b) w x) (beside a sa .number) (m .number) l
   landing = record {
     number = landed .number;
     value = subst (λ (y : Float). HasValue y false (landed .number) 1) (sym ends) (landed .value);
@@ -192,9 +192,9 @@ rearranged N q n a b p r D h e =
     ∙ ring (N ∷ q ∷ a ∷ b ∷ pos p ∷ pos r ∷ []) (λ N q a b p r. (r ⊕ p) ⊗ (q ⊝ (N ⊕ a)) ⊝ p ⊗ (b ⊝ a) ≐ (r ⊕ p) ⊗ (q ⊝ N) ⊝ (r ⊗ a ⊕ p ⊗ b)) tt
     ∙ ap (λ (k : ℕ). pos k *ℤ (q -ℤ N) -ℤ (pos r *ℤ a +ℤ pos p *ℤ b)) (sym e)
 
-kept-number : (q : ℕ) → kept (pos q -ℤ pos anchor) ≡ round binary64 false q 1
-unfolding kept ofInt
-kept-number q = ap (ofInt binary64) (ring (pos q ∷ pos anchor ∷ []) (λ q n. n ⊕ (q ⊝ n) ≐ q) tt)
+encode-number : (q : ℕ) → encode (pos q -ℤ pos anchor) ≡ round binary64 false q 1
+unfolding encode ofInt
+encode-number q = ap (ofInt binary64) (ring (pos q ∷ pos anchor ∷ []) (λ q n. n ⊕ (q ⊝ n) ≐ q) tt)
 
 leaned-fits : (a b w e : Float) → T (fits binary64 (leaned a b w e))
 unfolding leaned
@@ -204,16 +204,16 @@ module _ (a b : ℤ) (p D : ℕ) (sa : Small a) (sb : Small b) (h : p ≤ D) (so
   abbrev weight : Nearby binary64 (weightOf p D) (pos p) D 1022
   weight = weight-near p D h some most
 
-  abbrev moving : Close binary64 (product (kept a) (kept b) (weightOf p D)) ((b -ℤ a) *ℤ weight .number) 1054
+  abbrev moving : Close binary64 (product (encode a) (encode b) (weightOf p D)) ((b -ℤ a) *ℤ weight .number) 1054
   moving = product-near a b p D sa sb h some weight
 
-  lands : (x : Float) (l : ℤ) → At x l unit → natAbs l ≤ 2 ^ 36 * step → Landing (leaned (kept a) (kept b) (weightOf p D) x) (beside a sa .number) (moving .number) l
+  lands : (x : Float) (l : ℤ) → At x l unit → natAbs l ≤ 2 ^ 36 * step → Landing (leaned (encode a) (encode b) (weightOf p D) x) (beside a sa .number) (moving .number) l
   lands = landing a b sa (weightOf p D) ((b -ℤ a) *ℤ weight .number) (product-most a b p D sa sb h some weight) moving
 
-  higher : Landing (leaned (kept a) (kept b) (weightOf p D) above) (beside a sa .number) (moving .number) (pos (2 ^ 36 * step))
+  higher : Landing (leaned (encode a) (encode b) (weightOf p D) above) (beside a sa .number) (moving .number) (pos (2 ^ 36 * step))
   higher = lands above (pos (2 ^ 36 * step)) refl (le-refl (2 ^ 36 * step))
 
-  lower : Landing (leaned (kept a) (kept b) (weightOf p D) below) (beside a sa .number) (moving .number) (negℤ (pos (2 ^ 36 * step)))
+  lower : Landing (leaned (encode a) (encode b) (weightOf p D) below) (beside a sa .number) (moving .number) (negℤ (pos (2 ^ 36 * step)))
   lower = lands below (negℤ (pos (2 ^ 36 * step))) refl (le-of-eq (abs-neg (pos (2 ^ 36 * step))))
 
   nearest-is : pos (lower .number) ≡ pos (higher .number) → between a b p D ≡ pos (higher .number) -ℤ pos anchor
@@ -225,14 +225,14 @@ module _ (a b : ℤ) (p D : ℕ) (sa : Small a) (sb : Small b) (h : p ≤ D) (so
       (subst (λ z. Leaned unit step (z -ℤ pos (beside a sa .number)) (moving .number) (lower .sum) (negℤ (pos (2 ^ 36 * step)))) e (lower .leant))))
 
 pub certain-between : (a b : ℤ) (p D : ℕ) → Small a → Small b → p ≤ D → 0 < D → D ≤ 4000000000
-    → certain (kept a) (kept b) (weightOf p D) ≡ true
-    → leaned (kept a) (kept b) (weightOf p D) above ≡ kept (between a b p D)
+    → certain (encode a) (encode b) (weightOf p D) ≡ true
+    → leaned (encode a) (encode b) (weightOf p D) above ≡ encode (between a b p D)
 certain-between a b p D sa sb h some most sure =
-    let u = leaned (kept a) (kept b) (weightOf p D) above in
-    let v = leaned (kept a) (kept b) (weightOf p D) below in
+    let u = leaned (encode a) (encode b) (weightOf p D) above in
+    let v = leaned (encode a) (encode b) (weightOf p D) below in
     let r = higher a b p D sa sb h some most in
     let s = lower a b p D sa sb h some most in
     let e : pos (r .number) ≡ pos (s .number) = eq-at u v (pos (r .number)) (pos (s .number)) 1 (at-value u false (r .number) 1 (r .value)) (at-value v false (s .number) 1 (s .value)) sure in
     whole-unique binary64 u (round binary64 false (r .number) 1) false (r .number)
-    (leaned-fits (kept a) (kept b) (weightOf p D) above) (round-fits binary64 false (r .number) 1) (r .value) (round-whole binary64 false (r .number) (r .most))
-    ∙ sym (kept-number (r .number)) ∙ ap kept (sym (nearest-is a b p D sa sb h some most (sym e)))
+    (leaned-fits (encode a) (encode b) (weightOf p D) above) (round-fits binary64 false (r .number) 1) (r .value) (round-whole binary64 false (r .number) (r .most))
+    ∙ sym (encode-number (r .number)) ∙ ap encode (sym (nearest-is a b p D sa sb h some most (sym e)))

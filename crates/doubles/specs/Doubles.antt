@@ -3,7 +3,7 @@ use mathlib.Core.Path.{_≡_}
 use mathlib.Core.Bool.{Bool, true, false}
 use Prim.Native.Nat.{ℕ}
 use lib.IntN.{ℤ, pos, negsuc, _+ℤ_}
-use lib.Ieee.{Float, fin, binary64, add, sub, mul, div, eq, ofInt}
+use lib.Ieee.{Float, fin, binary64, add, sub, mul, div, eq, ofInt, toSigned}
 use Rattle.whole.specs.Round.{Small}
 
 -- 2^52 + 2^51: doubles from 2^52 to 2^53 lie 1 apart, so a sum that ends there is rounded to a whole number
@@ -11,14 +11,18 @@ abbrev pub anchor : ℕ
 anchor = 6755399441055744
 
 -- a whole number of millionths, as a double
-unfoldable pub kept : ℤ → Float
-kept z = ofInt binary64 (pos anchor +ℤ z)
+unfoldable pub encode : ℤ → Float
+encode z = ofInt binary64 (pos anchor +ℤ z)
+
+-- and back
+unfoldable pub decode : Float → ℤ
+decode a = toSigned 31 (sub binary64 a (ofInt binary64 (pos anchor)))
 
 -- a double keeps a whole number in range
 pub record Kept (a : Float) : Type 0 where
   pub number : ℤ
   pub small : Small number
-  pub same : a ≡ kept number
+  pub same : a ≡ encode number
 
 -- p / d, rounded to a double
 unfoldable pub weightOf : ℕ → ℕ → Float

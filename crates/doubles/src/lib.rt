@@ -3,20 +3,20 @@ ghost use mathlib.Core.Path.{_≡_};
 ghost use lib.IntN.{natAbs, _-ℤ_};
 ghost use lib.Signed.{_≤ℤ_, _<ℤ_};
 ghost use Rattle.whole.specs.Round.{Small};
-ghost use Rattle.doubles.specs.Doubles.{Kept, kept, weightOf, leaned};
+ghost use Rattle.doubles.specs.Doubles.{Kept, encode, decode, weightOf, leaned};
 
 // z beside the anchor, from which on doubles lie 1 apart.
-pub fn kept(z: i32) -> f64
+pub fn encode(z: i32) -> f64
     requires { ⌜ Small z ⌝ }
-    ensures { λ r. ⌜ r ≡ kept z ⌝ }
+    ensures { λ r. ⌜ r ≡ encode z ⌝ }
 {
     z as f64 + 6755399441055744.0
 }
 
 // The number that a double keeps.
-pub fn told(a: f64) -> i32
+pub fn decode(a: f64) -> i32
     requires { ⌜ Kept a ⌝ }
-    ensures { λ r. ⌜ (a ≡ kept r) × Small r ⌝ }
+    ensures { λ r. ⌜ (r ≡ decode a) × Small r ⌝ }
 {
     (a - 6755399441055744.0) as i32
 }

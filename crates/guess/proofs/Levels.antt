@@ -1,67 +1,78 @@
--- A level's loop: each step makes one place more, from numbers that are still the old ones.
+-- Rows by their indices: a loop makes a row place by place, and a level leaves what the row comes to as it was.
 use mathlib.Core.Path.{_≡_, refl, sym, ap, _∙_, subst, subst₂}
-use mathlib.Core.Logic.{inl, inr}
 use mathlib.Core.List.{List}
-use Prim.Native.Nat.{ℕ, suc, _+_, _*_, _≤_, _<_}
+use Prim.Native.Nat.{ℕ, suc, _+_, _-_, _≤_, _<_}
 use native.Mathlib.Nat.{not-suc-le-zero}
 use native.Mathlib.Decide.{decLe}
 use native.Mathlib.Omega.{arith}
-use lib.IntN.{ℤ, natAbs, _-ℤ_}
-use lib.Ieee.{Float}
-use Rattle.doubles.specs.Doubles.{Kept}
+use lib.ListN.{length, set, length-set}
+use lib.Seq.{getD-set-same, getD-set-other}
+use lib.IntN.{ℤ}
+use lib.Ieee.{nan}
 use Rattle.curves.specs.Directions.{Direction}
-use Rattle.curves.specs.Sampled.{partAt, gapAt}
-use Rattle.rows.specs.Places.{direction, On}
-use Rattle.rows.specs.declared.Along.{Along}
-use Rattle.guess.specs.Places.{double, ofTwo, Standing}
-use Rattle.guess.specs.Steps.{Parted, Between, Stepped, Levelled}
+use Rattle.curves.specs.Sampled.{pyramid, partAt, gapAt}
+use Rattle.curves.proofs.Pyramid.{pyramid-row}
+use Rattle.guess.specs.Steps.{Axis, Parted, Next, Stepped}
+use Rattle.guess.specs.Rows.{placeAt, numberAt, Encoded}
 use Rattle.guess.specs.declared.Gap.{Gap}
+use Rattle.guess.specs.declared.Place.{Place}
 use Rattle.guess.proofs.Weights.{part-of, gap-from}
 
-pub levelled-none : (d : Direction) (s t : ℤ) (old : List Float) (from r : ℕ) → Levelled d s t old old from r 0
-levelled-none d s t old from r = record { long = refl; done = λ j k h. absurd (not-suc-le-zero h); rest = λ n h. refl }
+abbrev nought : Place
+nought = record { x = nan; y = nan; z = nan }
 
-module _ {d : Direction} {s t : ℤ} {old now : List Float} {from r i : ℕ} (l : Levelled d s t old now from r i) where
-  -- number k of place i + j is the old one
-  old-yet : (j k n : ℕ) → n ≡ from + (6 * (i + j) + k) → double now n ≡ double old (from + (6 * (i + j) + k))
-  old-yet j k n e = ap (double now) e ∙ l .rest (from + (6 * (i + j) + k)) (omega arith)
+-- the first i places of a row have a property
+pub record Made (P : ℕ → Place → Type 0) (row : List Place) (i : ℕ) : Type 0 where
+  pub each : (j : ℕ) → j < i → P j (placeAt row j)
 
-  -- so the next two places keep numbers
-  pub standing-next : {last : ℕ} → i < last → Standing old from last → Standing now (from + 6 * i) 1
-  standing-next h g = record { each = λ j k m n. subst Kept (sym (old-yet j k (from + 6 * i + (6 * j + k)) (omega arith))) (g .each (i + j) k (omega arith) n) }
+pub made-none : {P : ℕ → Place → Type 0} {row : List Place} → Made P row 0
+made-none = record { each = λ j h. absurd (not-suc-le-zero h) }
 
-  abbrev Made : List Float → (j k : ℕ) → Type 0
-  Made new j k = Between (double old (from + (6 * j + k))) (double old (from + (6 * suc j + k))) (partAt d (ofTwo k s t) r j) (gapAt d (ofTwo k s t) r j) (double new (6 * j + k))
+pub made-more : {P : ℕ → Place → Type 0} {row : List Place} {i : ℕ} (p : Place) → Made P row i → i < length row → P i p → Made P (set row i p) (i + 1)
+made-more {P} {row} {i} p m h new = record { each = λ j l. pick j (decLe (suc j) i) l }
+  where
+    same-place : (j : ℕ) → (suc j ≤ i → ⊥) → j < i + 1 → i ≡ j
+    same-place j f l = omega arith
 
-module _ {a : Along} {x : List ℤ} {s t : ℤ} {c : ℕ} (o : On a x s c) (q : On a x t c) where
-  abbrev d : Direction
-  d = direction a x
+    pick : (j : ℕ) → Dec (suc j ≤ i) → j < i + 1 → P j (placeAt (set row i p) j)
+    pick j (yes l) k = subst (P j) (sym (getD-set-other row i j p nought (λ q. omega arith))) (m .each j l)
+    pick j (no f) k = subst (λ (q : ℕ). P q (placeAt (set row i p) q)) (same-place j f k) (subst (P i) (sym (getD-set-same row i p nought h)) new)
 
-  pub levelled-more : {old now next : List Float} {from r i : ℕ} {g : Gap} → Levelled d s t old now from r i → Parted d s t r i g
-      → Stepped now next (6 * i) (λ k. double now (from + 6 * i + k)) (λ k. double now (from + 6 * i + (6 + k))) (g .low) (g .high) s t
-      → Levelled d s t old next from r (i + 1)
-  levelled-more {old} {now} {next} {from} {r} {i} {g} l p e = record {
-    long = e .long ∙ l .long;
-    done = λ j k h m. pick j k (decLe (suc j) i) h m;
-    rest = λ n h. e .rest n (inr (omega arith)) ∙ l .rest n (omega arith);
-  }
-    where
-      same-place : (j : ℕ) → (suc j ≤ i → ⊥) → j < i + 1 → i ≡ j
-      same-place j f h = omega arith
+-- a row as it was from place i on
+pub record Left (old new : List Place) (i : ℕ) : Type 0 where
+  pub long : length new ≡ length old
+  pub rest : (j : ℕ) → i ≤ j → placeAt new j ≡ placeAt old j
 
-      here : (k : ℕ) → double now (from + 6 * i + k) ≡ double old (from + (6 * i + k))
-      here k = let p : from + 6 * i + k ≡ from + (6 * i + k) = omega arith in ap (double now) p ∙ l .rest (from + (6 * i + k)) (omega arith)
+pub left-all : {old : List Place} → Left old old 0
+left-all = record { long = refl; rest = λ j h. refl }
 
-      after : (k : ℕ) → double now (from + 6 * i + (6 + k)) ≡ double old (from + (6 * suc i + k))
-      after k = let p : from + 6 * i + (6 + k) ≡ from + (6 * suc i + k) = omega arith in ap (double now) p ∙ l .rest (from + (6 * suc i + k)) (omega arith)
+pub left-less : {old new : List Place} {i : ℕ} (p : Place) → Left old new i → Left old (set new i p) (i + 1)
+left-less {old} {new} {i} p l = record {
+  long = length-set new i p ∙ l .long;
+  rest = λ j h. getD-set-other new i j p nought (λ q. omega arith) ∙ l .rest j (omega arith);
+}
 
-      one : (k : ℕ) → k < 6 → Made l next i k
-      one k m =
-          subst₂ (λ (P D : ℕ). Between (double old (from + (6 * i + k))) (double old (from + (6 * suc i + k))) P D (double next (6 * i + k))) (part-of o q p k) (gap-from o q p k)
-          (subst₂ (λ (u v : Float). Between u v (natAbs (ofTwo k s t -ℤ g .low)) (natAbs (g .high -ℤ g .low)) (double next (6 * i + k))) (here k) (after k) (e .done k m))
+-- ---- a level
+abbrev pub Level : (p g : ℕ → ℕ) (old new : List Place) (i : ℕ) → Type 0
+Level p g old new i = Made (λ j c. Next (p j) (g j) (placeAt old j) (placeAt old (suc j)) c) new i
 
-      pick : (j k : ℕ) → Dec (suc j ≤ i) → j < i + 1 → k < 6 → Made l next j k
-      pick j k (yes h) _ m =
-          subst (λ (u : Float). Between (double old (from + (6 * j + k))) (double old (from + (6 * suc j + k))) (partAt d (ofTwo k s t) r j) (gapAt d (ofTwo k s t) r j) u)
-          (sym (e .rest (6 * j + k) (inl (omega arith)))) (l .done j k h m)
-      pick j k (no h) u m = subst (λ (j : ℕ). Made l next j k) (same-place j h u) (one k m)
+-- the place that a step makes is the next row's
+pub next-place : {d : Direction} {t : ℤ} {r j : ℕ} {g : Gap} {a b a′ b′ c : Place} → Parted d t r j g → a ≡ a′ → b ≡ b′ → Stepped a b g t c → Next (partAt d t r j) (gapAt d t r j) a′ b′ c
+next-place p e f m = rw (← e, ← f, ← part-of p, ← gap-from p) m
+
+-- neighbours by another name
+pub next-of : {p D : ℕ} {a b a′ b′ c : Place} → a ≡ a′ → b ≡ b′ → Next p D a b c → Next p D a′ b′ c
+next-of {p} {D} {c = c} e f m = subst₂ (λ (x y : Place). Next p D x y c) e f m
+
+module _ (p g : ℕ → ℕ → ℕ) (old : List Place) {new : List Place} {last : ℕ} (l : Level (p (last - 1)) (g (last - 1)) old new last) where
+  pub level-encoded : last ≤ length new → Encoded new last
+  level-encoded h = record { most = h; each = λ j i k. l .each j i k .whole }
+
+  pub level-row : 0 < last → (k : Axis) → pyramid p g (last - 1) (numberAt new k) ≡ pyramid p g last (numberAt old k)
+  level-row h k =
+      let n : last ≡ suc (last - 1) = omega arith in
+      pyramid-row p g (last - 1) (numberAt old k) (numberAt new k) (λ j i. l .each j (omega arith) k .is) ∙ ap (λ (q : ℕ). pyramid p g q (numberAt old k)) (sym n)
+
+pub pyramid-one : (p g : ℕ → ℕ → ℕ) (n : ℕ) (c : ℕ → ℤ) → n ≡ 0 → pyramid p g n c ≡ c 0
+unfolding pyramid
+pyramid-one p g n c e = rw e

@@ -1,5 +1,3 @@
-pub mod Stored
-pub mod Weights
 pub mod Stepping
+pub mod Weights
 pub mod Levels
-pub mod Descent

@@ -1,6 +1,6 @@
--- The gaps of a direction: each point lies in its gap, two points of one segment or span in the same, and a Bezier segment has one.
+-- The gaps of a direction: each point lies in its gap, and a Bezier segment has one.
 use mathlib.Core.Path.{_≡_, sym, ap, ap₂, _∙_, subst₂}
-use mathlib.Core.Bool.{Bool, true, false, cond}
+use mathlib.Core.Bool.{false}
 use mathlib.Core.List.{List, [], _∷_}
 use mathlib.Core.Logic.{⊎-elim}
 use Prim.Native.Nat.{ℕ, suc, _+_, _-_, _≤_, _<_}
@@ -21,7 +21,6 @@ use Rattle.curves.proofs.SplineScheme as spline
 use Rattle.rows.specs.Places.{direction, On}
 use Rattle.rows.specs.declared.Along.{Along}
 use Rattle.rows.proofs.Places.{part-is, gap-is}
-use Rattle.guess.specs.Places.{ofTwo, second}
 use Rattle.guess.specs.Steps.{Within, Parted}
 use Rattle.guess.specs.declared.Gap.{Gap}
 
@@ -58,79 +57,37 @@ module _ (d : Direction) (t : ℤ) (o : Rules d t) (r j : ℕ) (h : r < d .degre
   unfolding partAt gapAt
   within u v w = let p = step-parts d t o r j h l in record { part = p .0; wide = p .1; low-small = u; high-small = v; here = w }
 
--- ---- two points of one segment or span
-module _ (d : Direction) (s t : ℤ) (e : chosen d s ≡ chosen d t) (r j : ℕ) where
-  pub same-low : lowAt d s r j ≡ lowAt d t r j
-  unfolding lowAt
-  same-low = ap (λ (g : ℕ). by (d .basis) (at (d .parameters) g) (at (d .parameters) (g + j - r))) e
-
-  pub same-high : highAt d s r j ≡ highAt d t r j
-  unfolding highAt
-  same-high = ap (λ (g : ℕ). by (d .basis) (at (d .parameters) (suc g)) (at (d .parameters) (suc (g + j)))) e
-
 -- ---- the gap that is made
-module _ {a : Along} {x : List ℤ} {s t : ℤ} {g : ℕ} (o : On a x s g) (q : On a x t g) (r j : ℕ) (h : r < a .degree) (l : j ≤ r) (low high : ℤ) (lows : low ≡ lowAt (direction a x) s r j) (highs : high ≡ highAt (direction a x) s r j) where
-  abbrev d : Direction
-  d = direction a x
+module _ {a : Along} {x : List ℤ} {t : ℤ} {g : ℕ} (o : On a x t g) (r j : ℕ) (h : r < a .degree) (l : j ≤ r) (low high : ℤ) (lows : low ≡ lowAt (direction a x) t r j) (highs : high ≡ highAt (direction a x) t r j) where
+  pub upto : (low ≤ℤ t) × (low <ℤ high)
+  upto = rw (lows, highs) (low-upto (direction a x) t (o .sound .rules) r j h l, low-below (direction a x) t (o .sound .rules) r j h l)
 
-  chosen-same : chosen d s ≡ chosen d t
-  chosen-same = sym (o .is) ∙ q .is
-
-  low-other : low ≡ lowAt d t r j
-  low-other = lows ∙ same-low d s t chosen-same r j
-
-  high-other : high ≡ highAt d t r j
-  high-other = highs ∙ same-high d s t chosen-same r j
-
-  pub upto : (low ≤ℤ s) × (low <ℤ high)
-  upto = rw (lows, highs) (low-upto d s (o .sound .rules) r j h l, low-below d s (o .sound .rules) r j h l)
-
-  pub other-upto : (low ≤ℤ t) × (low <ℤ high)
-  other-upto = rw (low-other, high-other) (low-upto d t (q .sound .rules) r j h l, low-below d t (q .sound .rules) r j h l)
-
-  pub parted : Small low → Small high → (v w : Float) → v ≡ weightOf (natAbs (s -ℤ low)) (natAbs (high -ℤ low)) → w ≡ weightOf (natAbs (t -ℤ low)) (natAbs (high -ℤ low))
-      → Parted d s t r j (record { low = low; high = high; first = v; second = w })
-  parted small large v w first second = record {
+  pub parted : Small low → Small high → (w : Float) → w ≡ weightOf (natAbs (t -ℤ low)) (natAbs (high -ℤ low)) → Parted (direction a x) t r j (record { low = low; high = high; part = w })
+  parted small large w is = record {
     low = lows;
     high = highs;
     fair = record {
-      one = subst₂ (λ (a b : ℤ). Within a b s) (sym lows) (sym highs) (within d s (o .sound .rules) r j h l (rw lows at small) (rw highs at large) (o .sound .here));
-      other = subst₂ (λ (a b : ℤ). Within a b t) (sym low-other) (sym high-other) (within d t (q .sound .rules) r j h l (rw low-other at small) (rw high-other at large) (q .sound .here));
-      first = first;
-      second = second;
+      within = subst₂ (λ (a b : ℤ). Within a b t) (sym lows) (sym highs) (within (direction a x) t (o .sound .rules) r j h l (rw lows at small) (rw highs at large) (o .sound .here));
+      weight = is;
     };
   }
 
 -- a Bezier segment has one gap
-one-low : (a : Along) (x : List ℤ) (s : ℤ) → eqb (a .basis) 2 ≡ false → (r j : ℕ) → lowAt (direction a x) s 0 0 ≡ lowAt (direction a x) s r j
+one-low : (a : Along) (x : List ℤ) (t : ℤ) → eqb (a .basis) 2 ≡ false → (r j : ℕ) → lowAt (direction a x) t 0 0 ≡ lowAt (direction a x) t r j
 unfolding lowAt
-one-low a x s e r j = rw e
+one-low a x t e r j = rw e
 
-one-high : (a : Along) (x : List ℤ) (s : ℤ) → eqb (a .basis) 2 ≡ false → (r j : ℕ) → highAt (direction a x) s 0 0 ≡ highAt (direction a x) s r j
+one-high : (a : Along) (x : List ℤ) (t : ℤ) → eqb (a .basis) 2 ≡ false → (r j : ℕ) → highAt (direction a x) t 0 0 ≡ highAt (direction a x) t r j
 unfolding highAt
-one-high a x s e r j = rw e
+one-high a x t e r j = rw e
 
-pub one-gap : (a : Along) (x : List ℤ) (s t : ℤ) → eqb (a .basis) 2 ≡ false → (r j : ℕ) (g : Gap) → Parted (direction a x) s t 0 0 g → Parted (direction a x) s t r j g
-one-gap a x s t e r j g p = record { low = p .low ∙ one-low a x s e r j; high = p .high ∙ one-high a x s e r j; fair = p .fair }
+pub one-gap : (a : Along) (x : List ℤ) (t : ℤ) → eqb (a .basis) 2 ≡ false → (r j : ℕ) {g : Gap} → Parted (direction a x) t 0 0 g → Parted (direction a x) t r j g
+one-gap a x t e r j p = record { low = p .low ∙ one-low a x t e r j; high = p .high ∙ one-high a x t e r j; fair = p .fair }
 
--- ---- the parts and the gap of either point, from the gap that they share
-module _ {a : Along} {x : List ℤ} {s t : ℤ} {c : ℕ} (o : On a x s c) (q : On a x t c) {r j : ℕ} {g : Gap} (p : Parted (direction a x) s t r j g) where
-  abbrev dir : Direction
-  dir = direction a x
+-- ---- the parts and the gap of a number, from its gap
+module _ {d : Direction} {t : ℤ} {r j : ℕ} {g : Gap} (p : Parted d t r j g) where
+  pub part-of : natAbs (t -ℤ g .low) ≡ partAt d t r j
+  part-of = ap (λ (z : ℤ). natAbs (t -ℤ z)) (p .low) ∙ part-is d t r j
 
-  same : chosen dir s ≡ chosen dir t
-  same = sym (o .is) ∙ q .is
-
-  pub part-of : (k : ℕ) → natAbs (ofTwo k s t -ℤ g .low) ≡ partAt dir (ofTwo k s t) r j
-  part-of k = go (second k)
-    where
-      go : (b : Bool) → natAbs (cond b t s -ℤ g .low) ≡ partAt dir (cond b t s) r j
-      go false = ap (λ (z : ℤ). natAbs (s -ℤ z)) (p .low) ∙ part-is dir s r j
-      go true = ap (λ (z : ℤ). natAbs (t -ℤ z)) (p .low ∙ same-low dir s t same r j) ∙ part-is dir t r j
-
-  pub gap-from : (k : ℕ) → natAbs (g .high -ℤ g .low) ≡ gapAt dir (ofTwo k s t) r j
-  gap-from k = go (second k)
-    where
-      go : (b : Bool) → natAbs (g .high -ℤ g .low) ≡ gapAt dir (cond b t s) r j
-      go false = ap₂ (λ (y z : ℤ). natAbs (y -ℤ z)) (p .high) (p .low) ∙ gap-is dir s r j
-      go true = ap₂ (λ (y z : ℤ). natAbs (y -ℤ z)) (p .high ∙ same-high dir s t same r j) (p .low ∙ same-low dir s t same r j) ∙ gap-is dir t r j
+  pub gap-from : natAbs (g .high -ℤ g .low) ≡ gapAt d t r j
+  gap-from = ap₂ (λ (y z : ℤ). natAbs (y -ℤ z)) (p .high) (p .low) ∙ gap-is d t r j

@@ -1,26 +1,32 @@
--- What a step and a level leave, by the numbers' indices: a place stands six numbers after the one before it.
+-- What a step makes of two places: on each axis the number between theirs.
 use mathlib.Core.Path.{_≡_}
-use mathlib.Core.Logic.{_⊎_}
+use mathlib.Core.Bool.{false}
 use mathlib.Core.List.{List}
-use Prim.Native.Nat.{ℕ, zero, suc, _+_, _*_, _≤_, _<_}
-use lib.ListN.{length}
+use Prim.Native.Nat.{ℕ, _≤_, _<_}
+use lib.Dec.{eqb}
 use lib.IntN.{ℤ, natAbs, _-ℤ_}
 use lib.Ieee.{Float}
 use Rattle.whole.specs.Round.{Small, between}
-use Rattle.doubles.specs.Doubles.{kept, weightOf}
+use Rattle.doubles.specs.Doubles.{Kept, decode, weightOf, leaned}
 use Rattle.curves.specs.Directions.{Direction}
-use Rattle.curves.specs.Sampled.{lowAt, highAt, partAt, gapAt}
-use Rattle.guess.specs.Places.{double, ofTwo}
+use Rattle.curves.specs.Sampled.{lowAt, highAt}
+use Rattle.rows.specs.Places.{direction}
+use Rattle.rows.specs.declared.Along.{Along}
 use Rattle.guess.specs.declared.Gap.{Gap}
+use Rattle.guess.specs.declared.Place.{Place}
 
--- one of six
-abbrev pub among : {A : Type 0} → (a b c d e f : A) → ℕ → A
-among a b c d e f zero = a
-among a b c d e f (suc zero) = b
-among a b c d e f (suc (suc zero)) = c
-among a b c d e f (suc (suc (suc zero))) = d
-among a b c d e f (suc (suc (suc (suc zero)))) = e
-among a b c d e f (suc (suc (suc (suc (suc k))))) = f
+pub data Axis : Type 0 where
+  X Y Z : Axis
+
+-- a place's number on an axis
+abbrev pub on : Axis → Place → Float
+on X p = p .x
+on Y p = p .y
+on Z p = p .z
+
+-- a place keeps a whole number in range on each axis
+abbrev pub Encodes : Place → Type 0
+Encodes p = (k : Axis) → Kept (on k p)
 
 -- t lies from `low` to `high`, which differ
 pub record Within (low high t : ℤ) : Type 0 where
@@ -30,38 +36,36 @@ pub record Within (low high t : ℤ) : Type 0 where
   pub high-small : Small high
   pub here : Small t
 
--- both points lie in a gap, at its weights
-pub record Fair (g : Gap) (s t : ℤ) : Type 0 where
-  pub one : Within (g .low) (g .high) s
-  pub other : Within (g .low) (g .high) t
-  pub first : g .first ≡ weightOf (natAbs (s -ℤ g .low)) (natAbs (g .high -ℤ g .low))
-  pub second : g .second ≡ weightOf (natAbs (t -ℤ g .low)) (natAbs (g .high -ℤ g .low))
+-- t lies in a gap, at its weight
+pub record Fair (g : Gap) (t : ℤ) : Type 0 where
+  pub within : Within (g .low) (g .high) t
+  pub weight : g .part ≡ weightOf (natAbs (t -ℤ g .low)) (natAbs (g .high -ℤ g .low))
 
 -- g is the gap of number j of the row of r + 1 numbers
-pub record Parted (d : Direction) (s t : ℤ) (r j : ℕ) (g : Gap) : Type 0 where
-  pub low : g .low ≡ lowAt d s r j
-  pub high : g .high ≡ highAt d s r j
-  pub fair : Fair g s t
+pub record Parted (d : Direction) (t : ℤ) (r j : ℕ) (g : Gap) : Type 0 where
+  pub low : g .low ≡ lowAt d t r j
+  pub high : g .high ≡ highAt d t r j
+  pub fair : Fair g t
 
--- what two doubles keep, c keeps the number between, at p parts of D
+-- g is the one gap of a Bezier segment
+abbrev pub First : (a : Along) (x : List ℤ) (t : ℤ) → Gap → Type 0
+First a x t g = eqb (a .basis) 2 ≡ false → 0 < a .degree → Parted (direction a x) t 0 0 g
+
+-- c keeps the number between those of a and b, at p parts of D
 pub record Between (a b : Float) (p D : ℕ) (c : Float) : Type 0 where
-  pub is : (y z : ℤ) → Small y → Small z → a ≡ kept y → b ≡ kept z → c ≡ kept (between y z p D)
+  pub whole : Kept c
+  pub is : decode c ≡ between (decode a) (decode b) p D
 
--- the place at `to` is f 0 .. f 5
-pub record Placed (old new : List Float) (to : ℕ) (f : ℕ → Float) : Type 0 where
-  pub long : length new ≡ length old
-  pub done : (k : ℕ) → k < 6 → double new (to + k) ≡ f k
-  pub rest : (i : ℕ) → (i < to) ⊎ (to + 6 ≤ i) → double new i ≡ double old i
+abbrev pub Leaned : (a b : Place) (w e : Float) → Place → Type 0
+Leaned a b w e p = (k : Axis) → on k p ≡ leaned (on k a) (on k b) w e
 
--- the place at `to` is made of the numbers a 0 .. a 5 and b 0 .. b 5
-pub record Stepped (old new : List Float) (to : ℕ) (a b : ℕ → Float) (low high s t : ℤ) : Type 0 where
-  pub long : length new ≡ length old
-  pub done : (k : ℕ) → k < 6 → Between (a k) (b k) (natAbs (ofTwo k s t -ℤ low)) (natAbs (high -ℤ low)) (double new (to + k))
-  pub rest : (i : ℕ) → (i < to) ⊎ (to + 6 ≤ i) → double new i ≡ double old i
+-- and so on each axis of a place
+abbrev pub Next : (p D : ℕ) (a b c : Place) → Type 0
+Next p D a b c = (k : Axis) → Between (on k a) (on k b) p D (on k c)
 
--- the first i places, of the row of r + 1, are made of the row at `from`; the rest is as it was
-pub record Levelled (d : Direction) (s t : ℤ) (old new : List Float) (from r i : ℕ) : Type 0 where
-  pub long : length new ≡ length old
-  pub done : (j k : ℕ) → j < i → k < 6
-      → Between (double old (from + (6 * j + k))) (double old (from + (6 * suc j + k))) (partAt d (ofTwo k s t) r j) (gapAt d (ofTwo k s t) r j) (double new (6 * j + k))
-  pub rest : (n : ℕ) → 6 * i ≤ n → double new n ≡ double old n
+abbrev pub Stepped : (a b : Place) → Gap → (t : ℤ) → Place → Type 0
+Stepped a b g t p = Next (natAbs (t -ℤ g .low)) (natAbs (g .high -ℤ g .low)) a b p
+
+-- p is the place that a step makes of a and b, wherever in the gap t lies
+abbrev pub Makes : (a b : Place) → Gap → Place → Type 0
+Makes a b g p = (t : ℤ) → Fair g t → Stepped a b g t p

@@ -1,3 +1,1 @@
-pub mod Laying
 pub mod Making
-pub mod Rowing

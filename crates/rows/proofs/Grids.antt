@@ -17,7 +17,6 @@ use Rattle.curves.specs.Sampled.{pyramid, partAt, gapAt, firstControl, curveSam
 use Rattle.curves.proofs.Samplers.{controls-there}
 use Rattle.curves.proofs.Pyramid.{sampled-cong}
 use Rattle.rows.specs.Places.{direction, Sound, On}
-use Rattle.rows.specs.Rows.{Gathered}
 use Rattle.rows.specs.Controls.{vertexOf, controlAt, Held, Reached}
 use Rattle.rows.specs.declared.Along.{Along}
 use Rattle.rows.proofs.Places.{deep, spline-first, bezier-first}

@@ -1,4 +1,3 @@
 pub mod Places
-pub mod Rowed
 pub mod Searched
 pub mod Grids

@@ -73,7 +73,3 @@ module _ {a : Along} {x : List ℤ} {start end : ℤ} (r : Ranged a x start end)
 -- the point j of a run of n steps has its place
 pub room : (w j n : ℕ) → j ≤ n → w * j + w ≤ w * (n + 1)
 room w j n h = omega (arith, mul-le-mul-left w h)
-
--- fewer points are left
-pub nearer : (n j k : ℕ) → j ≤ k → k ≤ n → n + 1 - (k + 1) < n + 1 - j
-nearer n j k h r = omega arith

@@ -1,6 +1,5 @@
 -- What a run has written stands before what the slice held from there on.
 use mathlib.Core.Path.{_≡_, refl, sym, ap, ap₂, _∙_}
-use mathlib.Core.Logic.{_⊎_, inl, inr}
 use mathlib.Core.List.{List, [], _∷_, _++_, append-assoc, append-nil}
 use Prim.Native.Nat.{ℕ, zero, suc, _+_, _*_, _-_, _≤_, _<_}
 use native.Mathlib.Numerals.{add-one}
@@ -70,21 +69,6 @@ lent-pasted f l w j {now} {last} {point} h r a b p =
 
     none : drop (length now - w * j) (drop (w * j) now) ≡ []
     none = ap (λ (k : ℕ). drop k (drop (w * j) now)) (sym rest) ∙ drop-length (drop (w * j) now)
-
--- the point after the last that was written, or that one once more
-pub lent-next : (f : ℕ → List ℤ) (l : List ℤ) (w j k : ℕ) {now last point : List ℤ} → ((i : ℕ) → length (f i) ≡ w) → (k ≡ j) ⊎ (k ≡ j + 1) → w * k ≤ length now
-    → now ≡ joined (j + 1) f ++ drop (w * (j + 1)) l → last ≡ point ++ drop w (take (length now - w * k) (drop (w * k) now)) → point ≡ f k
-    → putMid (w * k) (length now - w * k) now last ≡ joined (k + 1) f ++ drop (w * (k + 1)) l
-lent-next f l w j k {now} {last} h (inr e) r a b p = lent-pasted f l w k h r (a ∙ ap (λ (i : ℕ). joined i f ++ drop (w * i) l) (sym e)) b p
-lent-next f l w j k {now} {last} h (inl e) r a b p =
-    lent-pasted f now w k h r (apart ∙ ap (λ (q : List ℤ). joined k f ++ q) (sym (ap (drop (w * k)) apart ∙ drop-at (joined k f) _ (w * k) (joined-length w k f h)))) b p
-    ∙ ap (λ (q : List ℤ). joined (k + 1) f ++ q) (ap (drop (w * (k + 1))) upto ∙ drop-at (joined (k + 1) f) _ (w * (k + 1)) (joined-length w (k + 1) f h))
-  where
-    upto : now ≡ joined (k + 1) f ++ drop (w * (k + 1)) l
-    upto = a ∙ ap (λ (i : ℕ). joined (i + 1) f ++ drop (w * (i + 1)) l) (sym e)
-
-    apart : now ≡ joined k f ++ (f k ++ drop (w * (k + 1)) l)
-    apart = rw add-one ((rw add-one at upto) ∙ append-assoc (joined k f) (f k) (drop (w * suc k) l))
 
 pub run-length : (f : ℕ → List ℤ) (l : List ℤ) (w j : ℕ) → ((i : ℕ) → length (f i) ≡ w) → w * j ≤ length l → length (joined j f ++ drop (w * j) l) ≡ length l
 run-length f l w j h k =

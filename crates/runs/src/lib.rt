@@ -1,19 +1,22 @@
-// Runs on curves: the parameters that a run samples at, and its points, two at a time.
+// Runs on curves: the parameters that a run samples at, and its points.
 ghost use mathlib.Core.Path.{_≡_};
 ghost use mathlib.Core.Bool.{cond};
-ghost use mathlib.Core.Logic.{_⊎_};
 ghost use mathlib.Core.List.{_++_};
 ghost use Prim.Native.Nat.{_+_, _*_, _≤_, _<_};
 ghost use lib.Dec.{eqb};
 ghost use lib.ListN.{length, drop};
 ghost use lib.Signed.{_≤ℤ_};
 ghost use Rattle.whole.specs.Round.{Small};
-ghost use Rattle.rows.specs.Places.{On};
 ghost use Rattle.rows.specs.Controls.{Held};
 ghost use Rattle.runs.specs.Runs.{parameterAt, listed, coordinateOf, pointsUpto, Ranged, runBy, axesBy};
-use quick::follow;
-use quick::gather;
-use quick::gathered_pair;
+use guess::certain;
+use guess::exact_at;
+use guess::first_gap;
+use guess::gap_of;
+use guess::guessed;
+use guess::to_nearest;
+use quick::gather_span;
+use quick::point_at;
 use rows::Along;
 use rows::search::find;
 use rows::search::search;
@@ -26,35 +29,6 @@ fn parameter_at(start: i32, end: i32, steps: u32, j: u32) -> i32
 {
     let part = j as u64 * apart(start, end) / steps as u64;
     (start as i64 + part as i64) as i32
-}
-
-// A point of a run and its parameter.
-struct Partner {
-    j: u32,
-    t: i32,
-}
-
-// The point that is made with point j: the next where it lies in the same segment or span, else point j itself.
-fn partner_of(
-    x: &[i32],
-    along: Along,
-    start: i32,
-    end: i32,
-    steps: u32,
-    chosen: usize,
-    j: u32,
-    s: i32,
-) -> Partner
-    requires { ⌜ Ranged along (now x) start end × (0 < steps) × (steps ≤ 65536) × (j ≤ steps) × (s ≡ parameterAt start end steps j) × On along (now x) s chosen ⌝ }
-    ensures { λ r. ⌜ ((r .j ≡ j) ⊎ (r .j ≡ j + 1)) × (r .j ≤ steps) × (r .t ≡ parameterAt start end steps (r .j)) × On along (now (x .entry)) (r .t) chosen ⌝ }
-{
-    if j < steps {
-        let t = parameter_at(start, end, steps, j + 1);
-        if search(x, along, t, chosen, chosen + 1) == chosen {
-            return Partner { j: j + 1, t };
-        }
-    }
-    Partner { j, t: s }
 }
 
 // A point's two or three coordinates, at the front of what is lent.
@@ -87,39 +61,61 @@ pub fn write_points(
     ensures { λ r. ⌜ now (points .exit) ≡ pointsUpto (now (values .entry)) (now (corners .entry)) first axis axes along (now (x .entry)) start end steps (steps + 1) ++ drop (axes * (steps + 1)) (now (points .entry)) ⌝ }
 {
     let mut chosen = find(x, along, start);
-    let mut rows = [0.0; 252];
-    gather(&mut rows, values, corners, first, axis, along, chosen);
+    let mut row = gather_span(values, corners, first, 0, axis, along, chosen);
+    let zero = row.places[0];
+    let trusted = to_nearest(zero.x);
+    let n = along.degree;
+    let mut rest = row;
     let mut j = 0;
     while j <= steps {
-        let s = parameter_at(start, end, steps, j);
-        let next = search(x, along, s, chosen, chosen + 1);
-        follow(&mut rows, values, corners, first, axis, along, chosen, next);
-        chosen = next;
-        let with = partner_of(x, along, start, end, steps, chosen, j, s);
-        let p = gathered_pair(
-            &mut rows,
-            values,
-            corners,
-            first,
-            axis,
-            x,
-            along,
-            chosen,
-            s,
-            with.t,
-        );
+        let t = parameter_at(start, end, steps, j);
+        let next = search(x, along, t, chosen, chosen + 1);
+        if next != chosen {
+            row = gather_span(values, corners, first, 0, axis, along, next);
+            chosen = next;
+        }
+        let one_gap = first_gap(x, along, chosen, t);
+        // The first level reads the controls and writes the working row, so that nothing is copied.
+        let mut a = row.places[0];
+        let mut i = 0;
+        while i < n {
+            let b = row.places[i + 1];
+            let gap = gap_of(x, along, chosen, t, n - 1, i, one_gap);
+            let mut p = guessed(a, b, gap);
+            if !certain(trusted, a, b, gap, p) {
+                p = exact_at(a, b, x, along, chosen, t, n - 1, i);
+            }
+            rest.places[i] = p;
+            a = b;
+            i += 1;
+        }
+        rest.count = n;
+        while 1 < rest.count {
+            let last = rest.count - 1;
+            let mut a = rest.places[0];
+            let mut i = 0;
+            while i < last {
+                let b = rest.places[i + 1];
+                let gap = gap_of(x, along, chosen, t, last - 1, i, one_gap);
+                let mut p = guessed(a, b, gap);
+                if !certain(trusted, a, b, gap, p) {
+                    p = exact_at(a, b, x, along, chosen, t, last - 1, i);
+                }
+                rest.places[i] = p;
+                a = b;
+                i += 1;
+            }
+            rest.count = last;
+        }
+        // Degree 0 has no level.
+        let mut made = rest.places[0];
+        if n == 0 {
+            made = row.places[0];
+        }
+        let point = point_at(made);
         let at = axes * j as usize;
-        write_point(&mut points[at..], axes, p.x, p.y, p.z);
-        let k = with.j;
-        let next_at = axes * k as usize;
-        write_point(
-            &mut points[next_at..],
-            axes,
-            p.other_x,
-            p.other_y,
-            p.other_z,
-        );
-        j = k + 1;
+        write_point(&mut points[at..], axes, point.x, point.y, point.z);
+        j += 1;
     }
 }
 

@@ -1,17 +1,17 @@
--- What the two doubles keep is read back, and what lies between is kept (`between-told`).
-use mathlib.Core.Path.{_≡_}
+-- What the two doubles keep is read back, and what lies between is kept (`between-kept`).
+use mathlib.Core.Path.{_≡_, sym}
 use native.Mathlib.Omega.{arith}
 use lib.IntN.{natAbs, _-ℤ_}
 use Rattle.whole.proofs.Bits.{read-back-small}
-use Rattle.guess.proofs.Stepping.{between-told}
+use Rattle.guess.proofs.Stepping.{between-encode}
 use Rattle.guess.proofs.exact.Statement.{statement}
 use Rattle.guess.proofs.exact.Tie as tie
 
-told-requires : tie.Need-told-requires
-told-requires c κs = c .pre .0
+decode-requires : tie.Need-decode-requires
+decode-requires c κs = c .pre .0
 
-told-requires-2 : tie.Need-told-requires-2
-told-requires-2 c κs = c .before .pre .1
+decode-requires-2 : tie.Need-decode-requires-2
+decode-requires-2 c κs = c .before .pre .1
 
 apart-requires : tie.Need-apart-requires
 apart-requires c κs =
@@ -40,24 +40,25 @@ gap-is c =
 between-requires : tie.Need-between-requires
 between-requires c κs =
     let w = c .before .before .before .before .pre .2 in
-    let a = c .before .before .before .told in
-    let b = c .before .before .told2 in
+    let a = c .before .before .before .decode in
+    let b = c .before .before .decode2 in
     let p = part-is (c .before) in
     let g = gap-is c in
     rw (read-back-small (a .result) (a .ensures .1), read-back-small (b .result) (b .ensures .1))
     (a .ensures .1, b .ensures .1, omega (arith, p, g, w .part), omega (arith, g, w .wide), c .apart2 .ensures .1)
 
-kept-requires : tie.Need-kept-requires
-kept-requires c κs = let b = c .between in rw (read-back-small (b .result) (b .ensures .1)) (b .ensures .1)
+encode-requires : tie.Need-encode-requires
+encode-requires c κs = let b = c .between in rw (read-back-small (b .result) (b .ensures .1)) (b .ensures .1)
 
 returns : tie.Need-returns
 returns c =
     let m = c .before .between in
-    let a = c .before .before .before .before .before .told in
-    let b = c .before .before .before .before .told2 in
-    between-told (a .result) (b .result) (a .ensures .0) (a .ensures .1) (b .ensures .0) (b .ensures .1)
-    (rw (read-back-small (a .result) (a .ensures .1), read-back-small (b .result) (b .ensures .1), part-is (c .before .before .before), gap-is (c .before .before)) at (m .ensures .0))
-    (rw (read-back-small (m .result) (m .ensures .1)) at (c .kept .ensures))
+    let a = c .before .before .before .before .before .decode in
+    let b = c .before .before .before .before .decode2 in
+    between-encode (m .result)
+    (rw (read-back-small (a .result) (a .ensures .1), read-back-small (b .result) (b .ensures .1), part-is (c .before .before .before), gap-is (c .before .before), a .ensures .0, b .ensures .0) at (m .ensures .0))
+    (m .ensures .1)
+    (rw (read-back-small (m .result) (m .ensures .1)) at (c .encode .ensures))
 
 pub exact-spec : {M : Type 1} → statement M
-exact-spec = tie.close (tie.spec told-requires told-requires-2 apart-requires apart-requires-2 between-requires kept-requires returns)
+exact-spec = tie.close (tie.spec decode-requires decode-requires-2 apart-requires apart-requires-2 between-requires encode-requires returns)

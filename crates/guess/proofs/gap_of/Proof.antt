@@ -1,20 +1,22 @@
 -- A spline's gap is made anew; a Bezier segment's is the first (`one-gap`).
 use borrow.Author.Tests.{ne-eqb}
+use native.Mathlib.Omega.{arith}
 use mir.Facts.{toZ-ofZ}
 use Rattle.guess.proofs.Weights.{one-gap}
 use Rattle.guess.proofs.gap_of.Statement.{statement}
 use Rattle.guess.proofs.gap_of.Tie as tie
 
 gap-at-requires : tie.Need-gap-at-requires
-gap-at-requires c κs = let s = c .before .before in rw (toZ-ofZ (s .fits .s), toZ-ofZ (s .fits .t)) (s .pre .0, s .pre .1, s .pre .2, s .pre .3)
+gap-at-requires c κs = let s = c .before .before in rw (toZ-ofZ (s .fits .t)) (s .pre .0, omega arith, omega arith)
 
 returns : tie.Need-returns
-returns c = let s = c .before .before .before in rw (toZ-ofZ (s .fits .s), toZ-ofZ (s .fits .t)) at (c .gap-at .ensures)
+returns c = let s = c .before .before .before in rw (toZ-ofZ (s .fits .t)) at (c .gap-at .ensures)
 
 returns-2 : tie.Need-returns-2
 returns-2 c =
     let s = c .before .before in
-    one-gap (s .args .along) (s .args .x .now) (s .args .s) (s .args .t) (ne-eqb (s .args .along .basis) 2 (c .if1 .left)) (s .args .r) (s .args .j) (s .args .first) (s .pre .4)
+    let e = ne-eqb (s .args .along .basis) 2 (c .if1 .left) in
+    one-gap (s .args .along) (s .args .x .now) (s .args .t) e (s .args .r) (s .args .j) (s .pre .3 e (omega arith))
 
 pub gap-of-spec : {M : Type 1} → statement M
 gap-of-spec = tie.close (tie.spec gap-at-requires returns returns-2)
