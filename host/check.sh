@@ -40,6 +40,7 @@ holds plate-tidy 0 "$command" tidy - < examples/plate.obj
 holds rail-points 0 target/points examples/chair-rail.obj 1 16
 holds wing-points 0 target/points examples/foam-wing.obj 1 100
 holds seat-points-curv2 0 target/points examples/seat.obj 1 5
+holds archive 0 python3 bench/archive.py second/cases/000
 for arguments in "" "check" "points examples/plate.obj 1" "points examples/plate.obj one 8" "tidy no-such-file.obj" "paint examples/plate.obj"; do
     got=0
     # shellcheck disable=SC2086
