@@ -131,7 +131,7 @@ def reading_rows(folder, rounds, counted):
     """Speed, of each kind and size. The texts of the tables that follow stay: one of each kind, named in `counted`, and every mesh."""
     head("text", "MB", "this, MB/s", "with counting", "tinyobjloader", "assimp", "times tinyobjloader, median (worst)",
          "with counting", "times assimp")
-    for kind in ("v and f", "v, vt, vn and f", "polygons of 4,000 corners", "curves and surfaces"):
+    for kind in ("v and f", "v, vt, vn and f", "v, vt, vn and f, exponents", "polygons of 4,000 corners", "curves and surfaces"):
         for size, text in texts(kind, [n * MEGABYTE for n in SIZES]):
             path = folder / f"{kind} {size}.obj"
             path.write_bytes(text)

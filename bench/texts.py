@@ -3,15 +3,15 @@
 import random
 
 
-def _numbers(rng, count, most, places):
-    return " ".join(f"{rng.uniform(-most, most):.{places}f}" for _ in range(count))
+def _numbers(rng, count, most, places, form="f"):
+    return " ".join(f"{rng.uniform(-most, most):.{places}{form}}" for _ in range(count))
 
 
-def _mesh(rng, corner, kinds):
+def _mesh(rng, corner, kinds, form="f"):
     """Patches of 32 by 32 vertices with two triangles to a vertex, as exporters write them: each table, then the faces."""
     side, first = 32, 1
     while True:
-        lines = [f"{kind} {_numbers(rng, count, most, places)}" for kind, count, most, places in kinds for _ in range(side * side)]
+        lines = [f"{kind} {_numbers(rng, count, most, places, form)}" for kind, count, most, places in kinds for _ in range(side * side)]
         for row in range(side - 1):
             for at in range(first + row * side, first + row * side + side - 1):
                 lines.append(f"f {corner(at)} {corner(at + 1)} {corner(at + side)}")
@@ -24,8 +24,13 @@ def plain(rng):
     return _mesh(rng, str, [("v", 3, 900, 6)])
 
 
-def full(rng):
-    return _mesh(rng, lambda at: f"{at}/{at}/{at}", [("v", 3, 900, 6), ("vt", 2, 1, 6), ("vn", 3, 1, 4)])
+def full(rng, form="f"):
+    return _mesh(rng, lambda at: f"{at}/{at}/{at}", [("v", 3, 900, 6), ("vt", 2, 1, 6), ("vn", 3, 1, 4)], form)
+
+
+def exponents(rng):
+    """The same mesh, an exponent on every number."""
+    return full(rng, "e")
 
 
 def long_lines(rng):
@@ -72,6 +77,7 @@ def free_form(rng):
 KINDS = {
     "v and f": plain,
     "v, vt, vn and f": full,
+    "v, vt, vn and f, exponents": exponents,
     "polygons of 4,000 corners": long_lines,
     "curves and surfaces": free_form,
     "one single line": one_line,

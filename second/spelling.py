@@ -27,7 +27,24 @@ def letters(rng, millionths):
         sign = "-"
     else:
         sign = "+" if rng.random() < 0.05 else ""
-    return (sign + start + point + fraction).encode()
+    return (sign + exponential(rng, start + point + fraction)).encode()
+
+
+def exponential(rng, plain):
+    """The same value, its point moved and an exponent written for it, now and then."""
+    if rng.random() < 0.85:
+        return plain
+    whole, _, fraction = plain.partition(".")
+    digits = whole + fraction
+    if rng.random() < 0.2:
+        digits = "0" * rng.randint(0, 12) + digits
+    place = rng.choice((0, 1, len(digits), rng.randint(0, len(digits))))
+    power = len(whole) + len(digits) - len(whole + fraction) - place
+    sign = "-" if power < 0 or (power == 0 and rng.random() < 0.3) else rng.choice(("", "+"))
+    shown = f"{abs(power):0{rng.choice((1, 1, 2, 3))}d}"
+    point = "." if place < len(digits) or rng.random() < 0.3 else ""
+    word = digits[:place] + point + digits[place:] + rng.choice("eE") + sign + shown
+    return word if len(word) < 64 else plain
 
 
 def coordinate(rng):

@@ -4,6 +4,8 @@ A word is a pair (place, letters).  A fault is raised at the word's place.
 """
 
 import re
+from fractions import Fraction
+from math import floor
 
 from records import LARGEST, Fault
 
@@ -16,7 +18,7 @@ TOKEN = re.compile(
     rb"|(?P<ending>\r?\n)"
     rb"|(?P<blanks>(?:[\t ]|\\\r?\n)+)"
 )
-NUMBER = re.compile(rb"([+-]?)([0-9]*)\.?([0-9]*)")
+NUMBER = re.compile(rb"([+-]?)([0-9]*)\.?([0-9]*)(?:[eE]([+-]?[0-9]{1,3}))?")
 REFERENCE = re.compile(rb"-?[0-9]{1,10}")
 DEGREE = re.compile(rb"[0-9]{1,3}")
 SMOOTHING = re.compile(rb"[0-9]{1,5}")
@@ -53,18 +55,16 @@ def names_in(run):
 
 def number(word):
     """A number in millionths: the exact decimal value, rounded once, ties away
-    from zero."""
+    from zero.  It may end in e or E, an optional sign and one to three digits."""
     place, letters = word
     form = NUMBER.fullmatch(letters) if len(letters) <= 64 else None
     if form is None:
         raise Fault(6, place)
-    sign, whole, fraction = form.groups()
+    sign, whole, fraction, exponent = form.groups()
     if not whole and not fraction:
         raise Fault(6, place)
-    divisor = 10 ** len(fraction)
-    millionths, rest = divmod(int(whole + fraction) * 1_000_000, divisor)
-    if 2 * rest >= divisor:
-        millionths += 1
+    value = Fraction(int(whole + fraction), 10 ** len(fraction)) * Fraction(10) ** int(exponent or 0)
+    millionths = floor(value * 1_000_000 + Fraction(1, 2))
     if millionths > LARGEST:
         raise Fault(7, place)
     return -millionths if sign == b"-" else millionths

@@ -152,7 +152,25 @@ def written(command, name, *rest):
     return COMMANDS[command](name, text, answer.used, answer.tables, *rest)
 
 
+def archive(folder):
+    """What bench/archive.py says of a folder: how many files are read, and each refusal with the first file that has it."""
+    paths = sorted(str(path.relative_to(ROOT)) for path in (ROOT / folder).rglob("*.obj"))
+    by_number = {}
+    for path in paths:
+        text = (ROOT / path).read_bytes()
+        answer = read(text, ROOMS)
+        if isinstance(answer, Refused):
+            place, _, reason = refused(path, text, answer).splitlines()[0].partition(": refused ")
+            by_number.setdefault(answer.number, []).append(f"{reason.partition(': ')[2]}; the first is {place}")
+    many = sum(map(len, by_number.values()))
+    lines = [f"{len(paths)} files: {len(paths) - many} read, {many} refused, 0 not opened"]
+    for number, each in sorted(by_number.items(), key=lambda pair: (-len(pair[1]), pair[0])):
+        lines.append(f"refused {number}: {len(each)}, {each[0]}")
+    return "\n".join(lines) + "\n"
+
+
 def main():
+    (HERE / "expected" / "archive.txt").write_text(archive("second/cases/000"))
     for line in (HERE / "calls.txt").read_text().splitlines():
         if not line.startswith("#"):
             name, _, *call = line.split()

@@ -1,4 +1,5 @@
--- 01, "Cases at the edges": the rows marked *, in its order, as one table; and what it is that a row claims.
+-- 01, "Cases at the edges": the rows marked *, in its order, as one table; and what it is that a row claims. `1e3` and `1e4` follow 02, Q-2: "The case
+-- 1e3 now reads as 1000.000000; 1e4 is 7."
 use Prim.Native.Nat.{ℕ, _*_}
 use Prim.Native.String.{String}
 use mathlib.Core.List.{List, [], _∷_}
@@ -62,7 +63,8 @@ table =
     ∷ number "2000.0000004" (says (pos 2000000000))
     ∷ number "2000.0000005" (wrong 7)
     ∷ number "." (wrong 6)
-    ∷ number "1e3" (wrong 6)
+    ∷ number "1e3" (says (pos 1000000000))
+    ∷ number "1e4" (wrong 7)
     ∷ reference 4 "-4" (says 1)
     ∷ reference 4 "-5" (wrong 8)
     ∷ refuses "v 0 0 0\nf 1 1 2\n" 8 14

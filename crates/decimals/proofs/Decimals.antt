@@ -9,15 +9,18 @@ use lib.IntN.{ℤ}
 use lib.Dec.{leb, eqb}
 use borrow.Author.Tests.{le-leb, lt-leb, leb-true, ne-eqb, eqb-false}
 use native.Mathlib.Omega.{arith}
+use native.Mathlib.Nat.{mul-pos}
 use Rattle.lists.proofs.Tests.{and-left, and-right, and-second, test}
 use Rattle.text.specs.Words.{wordOf}
-use Rattle.digits.specs.Said.{Said, says, wrong, must}
+use Rattle.digits.specs.Said.{Said, says, wrong, must, ended}
 use Rattle.digits.specs.Digits.{isDigit, digits, natOf, negative}
-use Rattle.decimals.specs.Number.{before, after, decimal, numerator, denominator, nearest, unsigned, inRange, numberOf}
-use Rattle.decimals.specs.Straight.{tenMillionths, magnitudeOf, pointed, settleOf}
+use Rattle.decimals.specs.Number.{mantissa, exponent, before, after, decimal, numerator, denominator, raised, lowered, nearest, unsigned, inRange, valueOf, numberOf}
+use Rattle.decimals.specs.Straight.{tenMillionths, magnitudeOf, pointed, settleOf, hasExponent, shifted, scaledOf, sizeOf}
 use Rattle.digits.specs.Straight.{first, over, run, past, cap}
-use Rattle.digits.proofs.Rows.{run-digits, natOf-append}
-use Rattle.decimals.proofs.Rounding.{settles}
+use Rattle.digits.proofs.Rows.{run-digits, natOf-append, ten-pos}
+use Rattle.digits.proofs.Saids.{must-says, ended-says, ended-wrong}
+use Rattle.decimals.proofs.Mantissas.{decimal-plain, must-have}
+use Rattle.decimals.proofs.Rounding.{rounding, settles, cap-settles}
 use Rattle.digits.proofs.Fronts.{word-run, word-all, word-not, past-digit, past-word, on-word}
 
 -- a digit is no point
@@ -117,19 +120,42 @@ module _ (n a : ℕ) (l : List ℕ) where
   unfolding pointed
   pointed-of o k = rw (word-all l o, run-digits l, le-leb 1 (n + length (run l)) k) refl
 
+-- ---- without an exponent, else with one
+pub size-plain : (u : List ℕ) (m e end : ℕ) → says (m, e) ≡ ended (magnitudeOf u) end → says (m, e) ≡ ended (sizeOf u) end
+size-plain u m e end h = let q = ended-says (magnitudeOf u) m end e h in rw (q .0) (ap (λ (n : ℕ). says (m, n)) (q .1))
+
+pub size-scaled : (u : List ℕ) (end : ℕ) (r : Said (ℕ × ℕ)) → wrong 6 ≡ ended (magnitudeOf u) end → r ≡ ended (scaledOf u) end → r ≡ ended (sizeOf u) end
+size-scaled u end r h k = rw (ended-wrong (magnitudeOf u) 6 end h) k
+
 -- ---- the number
+must-wrong : (t : Bool) (n a m : ℕ) → must t n (says a) ≡ wrong m → t ≡ false
+must-wrong true n a m h = absurd (let z : _≡_ {A = ℕ} 0 1 = cc in omega arith)
+must-wrong false n a m h = refl
+
+lowered-pos : (x : List ℕ) (d : ℕ) → 0 < d → 0 < lowered x d
+lowered-pos [] d h = h
+lowered-pos (e ∷ x) d h =
+    ⊎-elim
+    (λ (t : negative x ≡ true). rw t (mul-pos h (ten-pos (natOf 0 (unsigned x)))))
+    (λ (t : negative x ≡ false). rw t h)
+    (test (negative x))
+
 module _ (w : List ℕ) where
   pub number-long : 64 < length w → numberOf w ≡ wrong 6
   unfolding numberOf
   number-long h = rw (lt-leb (length w) 64 h) refl
 
-  pub number-bad : magnitudeOf (unsigned w) ≡ wrong 6 → numberOf w ≡ wrong 6
-  unfolding numberOf magnitudeOf
+  pub number-bad : sizeOf (unsigned w) ≡ wrong 6 → numberOf w ≡ wrong 6
+  unfolding numberOf magnitudeOf scaledOf
   number-bad h =
+      let u : List ℕ = unsigned w in
       ⊎-elim
-      (λ (t : decimal (unsigned w) ≡ true). let z : _≡_ {A = ℕ} 0 1 = (let y = rw t at h in cc) in absurd (omega arith))
-      (λ (t : decimal (unsigned w) ≡ false). rw (and-second (leb (length w) 64) t) refl)
-      (test (decimal (unsigned w)))
+      (λ (t : decimal u ≡ true). let z : _≡_ {A = ℕ} 0 1 = (let y = rw t at h in cc) in absurd (omega arith))
+      (λ (t : decimal u ≡ false).
+      let y : must (decimal (mantissa u) && hasExponent (exponent u)) 6 (says (cap (shifted u))) ≡ wrong 6 = rw t at h in
+      let f = must-wrong (decimal (mantissa u) && hasExponent (exponent u)) 6 (cap (shifted u)) 6 y in
+      rw (and-second (leb (length w) 64) (must-have u t ∙ f)) refl)
+      (test (decimal u))
 
   exact : decimal (unsigned w) ≡ true → (minus : Bool) → settleOf minus (tenMillionths (unsigned w)) ≡ inRange minus (nearest (numerator (unsigned w)) (denominator (unsigned w)))
   unfolding decimal tenMillionths numerator denominator
@@ -139,12 +165,25 @@ module _ (w : List ℕ) where
       settles minus (natOf 0 (before u)) (after u) d
       ∙ ap (λ (n : ℕ). inRange minus (nearest n (10 ^ length (after u)))) (sym (natOf-append 0 (before u) (after u)))
 
-  pub number-of : (m : ℕ) → magnitudeOf (unsigned w) ≡ says m → length w ≤ 64 → numberOf w ≡ settleOf (negative w) m
-  unfolding numberOf magnitudeOf
+  scaled-exact : (minus : Bool) → inRange minus (valueOf (unsigned w)) ≡ settleOf minus (cap (shifted (unsigned w)))
+  unfolding shifted denominator
+  scaled-exact minus =
+      let u : List ℕ = unsigned w in
+      ap (inRange minus) (rounding (raised (exponent u) (numerator (mantissa u))) (lowered (exponent u) (denominator (mantissa u))) (lowered-pos (exponent u) (denominator (mantissa u)) (ten-pos (length (after (mantissa u))))))
+      ∙ sym (cap-settles minus (shifted u))
+
+  pub number-of : (m : ℕ) → sizeOf (unsigned w) ≡ says m → length w ≤ 64 → numberOf w ≡ settleOf (negative w) m
+  unfolding numberOf magnitudeOf scaledOf
   number-of m h k =
+      let u : List ℕ = unsigned w in
       ⊎-elim
-      (λ (t : decimal (unsigned w) ≡ true).
-      let y : tenMillionths (unsigned w) ≡ m = (let x = rw t at h in cc) in
-      rw (le-leb (length w) 64 k, t) (sym (exact t (negative w)) ∙ ap (settleOf (negative w)) y))
-      (λ (t : decimal (unsigned w) ≡ false). let z : _≡_ {A = ℕ} 0 1 = (let y = rw t at h in cc) in absurd (omega arith))
-      (test (decimal (unsigned w)))
+      (λ (t : decimal u ≡ true).
+      let y : tenMillionths u ≡ m = (let x = rw t at h in cc) in
+      let p = decimal-plain u t in
+      rw (p .0, p .1, le-leb (length w) 64 k, t) (sym (exact t (negative w)) ∙ ap (settleOf (negative w)) y))
+      (λ (t : decimal u ≡ false).
+      let y : must (decimal (mantissa u) && hasExponent (exponent u)) 6 (says (cap (shifted u))) ≡ says m = rw t at h in
+      let q = must-says (decimal (mantissa u) && hasExponent (exponent u)) 6 (says (cap (shifted u))) m y in
+      let z : cap (shifted u) ≡ m = (let x = q .1 in cc) in
+      rw (le-leb (length w) 64 k, must-have u t ∙ q .0) (scaled-exact (negative w) ∙ ap (settleOf (negative w)) z))
+      (test (decimal u))

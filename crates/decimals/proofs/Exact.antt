@@ -13,31 +13,29 @@ use Rattle.text.specs.Words.{wordOf}
 use Rattle.text.specs.Rest.{endOf}
 use Rattle.digits.specs.Said.{Said, says, ended}
 use Rattle.digits.specs.Digits.{isDigit, natOf}
-use Rattle.decimals.specs.Number.{signed}
-use Rattle.decimals.specs.Straight.{pointed, magnitudeOf, settleOf}
+use Rattle.decimals.specs.Number.{isE, signed}
+use Rattle.decimals.specs.Straight.{pointed, magnitudeOf, settleOf, DecimalsAhead}
 use Rattle.digits.specs.Straight.{first, over, run, WholeRead, FewRead}
 use Rattle.decimals.specs.Answers.{exactIs}
 use Rattle.decimals.specs.declared.number.Exact.{Exact}
-use Rattle.decimals.specs.declared.number.Exact.the-variants.{Of, Other}
+use Rattle.decimals.specs.declared.number.Exact.the-variants.{Of, Scaled, Other}
 use Rattle.digits.proofs.Fronts.{low-no-word, low-stops, word-over}
 use Rattle.digits.proofs.Runs.{few-all, all-whole}
 use Rattle.decimals.proofs.Numbers.{fraction-fits, fraction-of, measure-of}
 use Rattle.digits.proofs.Saids.{said}
 use Rattle.decimals.proofs.Signs.{settle-in}
 
-pub exact-on : (far gar : ℕ) (x y : Said (ℕ × ℕ)) (r : Exact) → x ≡ y → far ≤ gar → exactIs far x r → exactIs gar y r
-exact-on far gar x y (Of m e) h l q = (q .0 ∙ h, let z = q .1 in omega arith)
-exact-on far gar x y Other h l q = q
+pub exact-on : (far gar : ℕ) (x y : Said (ℕ × ℕ)) (p q : ℕ → ℕ → Type 0) (r : Exact) → x ≡ y → far ≤ gar → ((m e : ℕ) → p m e → q m e) → exactIs far x p r → exactIs gar y q r
+exact-on far gar x y p q (Of m e) h l f g = (g .0 ∙ h, let z = g .1 in omega arith)
+exact-on far gar x y p q (Scaled m e) h l f g = f m e g
+exact-on far gar x y p q Other h l f g = g
 
 run-none : (l : List ℕ) → isDigit (first l) ≡ false → length (run l) ≡ 0
 run-none [] h = refl
 run-none (b ∷ bs) h = rw h refl
 
 -- ---- decimals_ahead
-module _ (s : List ℕ) (at whole end value : ℕ) (f : FewRead 6 s at whole end value) (b : ℕ) (e : b ≡ first (drop end s)) (l : b ≤ 32) where
-  stops : isDigit (first (drop end s)) ≡ false
-  stops = low-stops (drop end s) b e l
-
+module _ (s : List ℕ) (at whole end value : ℕ) (f : FewRead 6 s at whole end value) (stops : isDigit (first (drop end s)) ≡ false) where
   short : length (run (drop at s)) ≤ 6
   short = few-all 6 s at whole end value f stops
 
@@ -68,12 +66,29 @@ module _ (s : List ℕ) (at whole end value : ℕ) (f : FewRead 6 s at whole end
     pub decimals-fit : whole ≤ 20000000005 → value * k < 2 ^ 60
     decimals-fit w = let x = fraction-fits s at 0 whole end value end seven none w (10 * k) tenfold in omega arith
 
-    pub decimals-of : (count : ℕ) → (count + (end - at) ≡ 0 → ⊥)
+    pub decimals-ahead : (count : ℕ) → (count + (end - at) ≡ 0 → ⊥) → isE (first (drop end s)) ≡ true → DecimalsAhead s at count whole (value * k) end
+    decimals-ahead count n h =
+        let x = short in
+        let t : take 6 (run (drop at s)) ≡ run (drop at s) = take-all 6 (run (drop at s)) x in
+        let e : end ≡ at + length (run (drop at s)) = f .end-is ∙ ap (λ (l : List ℕ). at + length l) t in
+        let v : value ≡ natOf whole (run (drop at s)) = f .value-is ∙ ap (natOf whole) t in
+        let m : 10 * (value * k) ≡ value * (10 * k) = omega arith in
+        let i : 7 - (end - at) ≡ 7 - length (run (drop at s)) = omega arith in
+        record {
+          end-is = e;
+          to = f .to;
+          few = x;
+          some = omega arith;
+          value-is = m ∙ ap (λ (y : ℕ). value * y) (tenfold ∙ ap (λ (y : ℕ). 10 ^ y) i) ∙ ap (λ (y : ℕ). y * 10 ^ (7 - length (run (drop at s)))) v;
+          stops = h;
+        }
+
+    pub decimals-of : (count : ℕ) → first (drop end s) ≤ 32 → (count + (end - at) ≡ 0 → ⊥)
         → says (10 * (value * k), end) ≡ ended (pointed count whole (wordOf (drop at s))) (endOf s at)
-    decimals-of count n =
+    decimals-of count l n =
         let m : 10 * (value * k) ≡ value * (10 * k) = omega arith in
         ap (λ (t : ℕ). says (t, end)) m
-        ∙ fraction-of s at count whole end value end seven none n (word-over (drop end s) (low-no-word (first (drop end s)) (omega arith))) (10 * k) tenfold
+        ∙ fraction-of s at count whole end value end seven none n (word-over (drop end s) (low-no-word (first (drop end s)) l)) (10 * k) tenfold
 
 -- ---- measure_ahead
 pub four : (s : List ℕ) (at end value : ℕ) → FewRead 4 s at 0 end value → isDigit (first (drop end s)) ≡ false → WholeRead s at end value

@@ -1,5 +1,10 @@
+pub mod Mantissas
+pub mod Shifts
 pub mod Rounding
 pub mod Decimals
 pub mod Numbers
 pub mod Signs
 pub mod Exact
+pub mod Exponents
+pub mod Scaled
+pub mod Ahead

@@ -17,7 +17,7 @@ use Rattle.text.specs.Rest.{endOf}
 use Rattle.digits.specs.Said.{Said, says, wrong, ended}
 use Rattle.digits.specs.Digits.{natOf, negative}
 use Rattle.decimals.specs.Number.{isSign, unsigned, numberOf}
-use Rattle.decimals.specs.Straight.{pointed, magnitudeOf, settleOf}
+use Rattle.decimals.specs.Straight.{pointed, magnitudeOf, sizeOf, settleOf}
 use Rattle.digits.specs.Straight.{first, over, run, past, cap, WholeRead, FewRead}
 use Rattle.digits.proofs.Rows.{run-rest, scaled-small}
 use Rattle.digits.proofs.Fronts.{past-at, next-at, byte-in, word-all, word-run, past-word, byte-word}
@@ -162,7 +162,7 @@ sign-most b n e =
 
 -- ---- number_at
 module _ (s : List ℕ) (at b n : ℕ) (h : at ≤ length s) (e : b ≡ first (drop at s)) (k : n ≡ cond (isSign b) 1 0) where
-  signs : Signed (drop at s) n
+  pub signs : Signed (drop at s) n
   signs = subst (λ (m : ℕ). Signed (drop at s) m) (sym (k ∙ ap (λ (x : ℕ). cond (isSign x) 1 0) e)) (signed-at (drop at s))
 
   pub sign-fits : at + n ≤ length s
@@ -171,19 +171,19 @@ module _ (s : List ℕ) (at b n : ℕ) (h : at ≤ length s) (e : b ≡ first (d
   word : drop (at + n) s ≡ drop n (drop at s)
   word = sym (drop-drop n at s)
 
-  unsigned-is : wordOf (drop (at + n) s) ≡ unsigned (wordOf (drop at s))
+  pub unsigned-is : wordOf (drop (at + n) s) ≡ unsigned (wordOf (drop at s))
   unsigned-is = ap wordOf word ∙ sym (signs .unsigned-is)
 
-  ends : endOf s (at + n) ≡ endOf s at
+  pub ends : endOf s (at + n) ≡ endOf s at
   ends = let y = signs .length-is in let z = ap (λ (l : List ℕ). length (wordOf l)) word in omega arith
 
-  pub number-not : wrong 6 ≡ ended (magnitudeOf (wordOf (drop (at + n) s))) (endOf s (at + n)) → wrong 6 ≡ ended (numberOf (wordOf (drop at s))) (endOf s at)
+  pub number-not : wrong 6 ≡ ended (sizeOf (wordOf (drop (at + n) s))) (endOf s (at + n)) → wrong 6 ≡ ended (numberOf (wordOf (drop at s))) (endOf s at)
   number-not m =
-      unsaid _ 6 (endOf s at) (number-bad (wordOf (drop at s)) (ap magnitudeOf (sym unsigned-is) ∙ ended-wrong _ 6 (endOf s (at + n)) m))
+      unsaid _ 6 (endOf s at) (number-bad (wordOf (drop at s)) (ap sizeOf (sym unsigned-is) ∙ ended-wrong _ 6 (endOf s (at + n)) m))
 
-  module _ (v end : ℕ) (m : says (v, end) ≡ ended (magnitudeOf (wordOf (drop (at + n) s))) (endOf s (at + n))) where
+  module _ (v end : ℕ) (m : says (v, end) ≡ ended (sizeOf (wordOf (drop (at + n) s))) (endOf s (at + n))) where
     end-is : end ≡ endOf s at
-    end-is = ended-says (magnitudeOf (wordOf (drop (at + n) s))) v (endOf s (at + n)) end m .1 ∙ ends
+    end-is = ended-says (sizeOf (wordOf (drop (at + n) s))) v (endOf s (at + n)) end m .1 ∙ ends
 
     pub number-from : at ≤ end
     number-from = let z = end-is in omega arith
@@ -195,8 +195,8 @@ module _ (s : List ℕ) (at b n : ℕ) (h : at ≤ length s) (e : b ≡ first (d
     number-read l r q =
         let z = end-is in
         let w : List ℕ = wordOf (drop at s) in
-        let x = ended-says (magnitudeOf (wordOf (drop (at + n) s))) v (endOf s (at + n)) end m .0 in
-        let y = number-of w v (ap magnitudeOf (sym unsigned-is) ∙ x) (omega arith) in
+        let x = ended-says (sizeOf (wordOf (drop (at + n) s))) v (endOf s (at + n)) end m .0 in
+        let y = number-of w v (ap sizeOf (sym unsigned-is) ∙ x) (omega arith) in
         q
         ∙ ap₂ ended
         (ap (λ (t : Bool). settleOf t v) (ap (λ (x : ℕ). eqb x 45) e ∙ sym (signs .negative-is)) ∙ sym y)

@@ -68,6 +68,16 @@ rounding n d h =
 out : (minus : Bool) (t : ℕ) → 20000000005 ≤ t → settleOf minus t ≡ wrong 7
 out minus t h = let l : 2000000000 < (t + 5) / 10 = omega arith in rw (lt-leb ((t + 5) / 10) 2000000000 l) refl
 
+-- so is what is past it
+pub cap-settles : (minus : Bool) (t : ℕ) → settleOf minus (cap t) ≡ settleOf minus t
+cap-settles minus t =
+    ⊎-elim
+    (λ (q : leb t 20000000005 ≡ true). let l = leb-true t 20000000005 q in ap (settleOf minus) (let e : cap t ≡ t = omega arith in e))
+    (λ (q : leb t 20000000005 ≡ false).
+    let l = leb-false t 20000000005 q in
+    out minus (cap t) (omega arith) ∙ sym (out minus t (omega arith)))
+    (test (leb t 20000000005))
+
 grows : (x k : ℕ) → x ≤ x * 10 ^ k
 grows x k = let h : x * 1 ≤ x * 10 ^ k = mul-le-mul-left x (ten-pos k) in omega arith
 

@@ -1,1 +1,2 @@
+pub mod exponent;
 pub mod number;

@@ -1,3 +1,6 @@
+use crate::exponent::is_e;
+use crate::exponent::scaled;
+use crate::exponent::shifted;
 use digits::Run;
 use digits::byte_at;
 use digits::byte_in;
@@ -14,8 +17,8 @@ ghost use Rattle.text.specs.Rest.{endOf};
 ghost use Rattle.digits.specs.Said.{ended};
 ghost use Rattle.decimals.specs.Number.{numberOf, signed, isSign};
 ghost use Rattle.decimals.specs.Answers.{saidNumber, saidMagnitude, exactIs};
-ghost use Rattle.decimals.specs.Straight.{magnitudeOf, pointed, settleOf};
-ghost use Rattle.digits.specs.Straight.{WholeRead, FewRead};
+ghost use Rattle.decimals.specs.Straight.{magnitudeOf, pointed, sizeOf, settleOf, DecimalsAhead, MantissaAhead};
+ghost use Rattle.digits.specs.Straight.{first, WholeRead, FewRead};
 
 pub enum Number {
     Value { value: i32, end: usize },
@@ -136,7 +139,7 @@ fn settle(minus: bool, value: u64, end: usize) -> Number
     }
 }
 
-fn sign_length(b: u8) -> usize
+pub fn sign_length(b: u8) -> usize
     ensures { λ r. ⌜ r ≡ cond (isSign b) 1 0 ⌝ }
 {
     match b {
@@ -145,13 +148,27 @@ fn sign_length(b: u8) -> usize
     }
 }
 
-// The number that the word at `at` is.
-pub fn number_at(text: &[u8], at: usize) -> Number
+// The number without its sign: most have no exponent.
+fn size(text: &[u8], at: usize) -> Magnitude
     requires { ⌜ at ≤ length (now text) ⌝ }
+    ensures { λ r. ⌜ saidMagnitude r ≡ ended (sizeOf (wordOf (drop at (now (text .entry))))) (endOf (now (text .entry)) at) ⌝ }
+{
+    match measure(text, at) {
+        Magnitude::Of { value, end } => Magnitude::Of {
+            value: value,
+            end: end,
+        },
+        Magnitude::Bad => scaled(text, at),
+    }
+}
+
+// The word at `at` as a number, `size` being that of what follows its sign.
+fn settled(text: &[u8], at: usize, b: u8, size: Magnitude) -> Number
+    requires { ⌜ (at ≤ length (now text)) × (b ≡ first (drop at (now text))) ⌝ }
+    requires { ⌜ saidMagnitude size ≡ ended (sizeOf (wordOf (drop (at + cond (isSign b) 1 0) (now text)))) (endOf (now text) (at + cond (isSign b) 1 0)) ⌝ }
     ensures { λ r. ⌜ saidNumber r ≡ ended (numberOf (wordOf (drop at (now (text .entry))))) (endOf (now (text .entry)) at) ⌝ }
 {
-    let b = byte_at(text, at);
-    match measure(text, at + sign_length(b)) {
+    match size {
         Magnitude::Bad => Number::Malformed,
         Magnitude::Of { value, end } => {
             if 64 < end - at {
@@ -162,22 +179,52 @@ pub fn number_at(text: &[u8], at: usize) -> Number
     }
 }
 
+// The number that the word at `at` is.
+pub fn number_at(text: &[u8], at: usize) -> Number
+    requires { ⌜ at ≤ length (now text) ⌝ }
+    ensures { λ r. ⌜ saidNumber r ≡ ended (numberOf (wordOf (drop at (now (text .entry))))) (endOf (now (text .entry)) at) ⌝ }
+{
+    let b = byte_at(text, at);
+    settled(text, at, b, size(text, at + sign_length(b)))
+}
+
 // Most numbers are far from the text's end and have at most four digits before the point and six after it: these are read straight ahead, in whole
 // millionths, and every other as `number_at` does.
 pub enum Exact {
     Of { millionths: u64, end: usize },
+    Scaled { millionths: u64, end: usize }, // e or E follows
     Other,
+}
+
+// The decimals f from `at` on, after `count` digits whose number is `whole`, where e or E stands behind them.
+fn mantissa_ahead(text: &[u8], at: usize, count: usize, f: Run, whole: u64) -> Exact
+    requires { ⌜ FewRead 6 (now text) at whole (f .end) (f .value) ⌝ }
+    requires { ⌜ (f .end < length (now text)) × (count ≤ at) × (whole ≤ 20000000005) ⌝ }
+    ensures { λ r. ⌜ exactIs (at + 6) (ended (pointed count whole (wordOf (drop at (now (text .entry))))) (endOf (now (text .entry)) at)) (DecimalsAhead (now (text .entry)) at count whole) r ⌝ }
+{
+    let stop = f.end;
+    if is_e(byte_in(text, stop)) {
+        if count + (stop - at) == 0 {
+            return Exact::Other;
+        }
+        return Exact::Scaled {
+            millionths: f.value * scale(stop - at + 1),
+            end: stop,
+        };
+    }
+    Exact::Other
 }
 
 // The same as `fraction`.
 fn decimals_ahead(text: &[u8], at: usize, count: usize, whole: u64) -> Exact
     requires { ⌜ (at + 6 < length (now text)) × (count ≤ at) × (whole ≤ 20000000005) ⌝ }
-    ensures { λ r. ⌜ exactIs (at + 6) (ended (pointed count whole (wordOf (drop at (now (text .entry))))) (endOf (now (text .entry)) at)) r ⌝ }
+    ensures { λ r. ⌜ exactIs (at + 6) (ended (pointed count whole (wordOf (drop at (now (text .entry))))) (endOf (now (text .entry)) at)) (DecimalsAhead (now (text .entry)) at count whole) r ⌝ }
 {
     let f = few(text, at, 6, whole);
     let end = f.end;
-    if 32 < byte_in(text, end) {
-        return Exact::Other;
+    let b = byte_in(text, end);
+    if 32 < b {
+        return mantissa_ahead(text, at, count, f, whole);
     }
     if count + (end - at) == 0 {
         return Exact::Other;
@@ -191,7 +238,7 @@ fn decimals_ahead(text: &[u8], at: usize, count: usize, whole: u64) -> Exact
 // The same as `measure`.
 fn measure_ahead(text: &[u8], at: usize) -> Exact
     requires { ⌜ at + 11 < length (now text) ⌝ }
-    ensures { λ r. ⌜ exactIs (at + 11) (ended (magnitudeOf (wordOf (drop at (now (text .entry))))) (endOf (now (text .entry)) at)) r ⌝ }
+    ensures { λ r. ⌜ exactIs (at + 11) (ended (magnitudeOf (wordOf (drop at (now (text .entry))))) (endOf (now (text .entry)) at)) (MantissaAhead (now (text .entry)) at) r ⌝ }
 {
     let w = few(text, at, 4, 0);
     let end = w.end;
@@ -218,13 +265,23 @@ pub fn quick_number_at(text: &[u8], at: usize) -> Number
 {
     if 12 < text.len() - at {
         let b = byte_in(text, at);
-        if let Exact::Of { millionths, end } = measure_ahead(text, at + sign_length(b)) {
-            if millionths <= 2_000_000_000 {
-                return Number::Value {
-                    value: signed_of(b == 45, millionths),
-                    end: end,
-                };
+        let start = at + sign_length(b);
+        match measure_ahead(text, start) {
+            Exact::Of { millionths, end } => {
+                if millionths <= 2_000_000_000 {
+                    return Number::Value {
+                        value: signed_of(b == 45, millionths),
+                        end: end,
+                    };
+                }
             }
+            Exact::Scaled { millionths, end } => return settled(
+                text,
+                at,
+                b,
+                shifted(text, start, millionths, end),
+            ),
+            Exact::Other => {}
         }
     }
     number_at(text, at)

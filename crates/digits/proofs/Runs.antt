@@ -98,6 +98,10 @@ module _ (s : List ℕ) (at i a : ℕ) (g : Going s at i a) where
       }
 
 -- ---- the first few, after those of w
+take-front : (s : List ℕ) (i room k d : ℕ) → room ≡ suc k → i < length s → d ≡ digitOf (getD s i 0) → d ≤ 9
+    → take room (run (drop i s)) ≡ getD s i 0 ∷ take k (run (drop (i + 1) s))
+take-front s i room k d z h e l = rw (z, run-yes s i d h e l) refl
+
 pub record Few (most : ℕ) (s : List ℕ) (at w i a room : ℕ) : Type 0 where
   pub within : i + room ≤ length s
   pub end-is : i + length (take room (run (drop i s))) ≡ at + length (take most (run (drop at s)))
@@ -120,7 +124,7 @@ module _ (most : ℕ) (s : List ℕ) (at w i a room : ℕ) (g : Few most s at w 
 
   module _ (k d : ℕ) (z : room ≡ suc k) (h : i < length s) (e : d ≡ digitOf (getD s i 0)) (l : d ≤ 9) where
     front : take room (run (drop i s)) ≡ getD s i 0 ∷ take k (run (drop (i + 1) s))
-    front = rw (z, run-yes s i d h e l) refl
+    front = take-front s i room k d z h e l
 
     value : natOf (a * 10 + d) (take k (run (drop (i + 1) s))) ≡ natOf w (take most (run (drop at s)))
     value =
@@ -142,6 +146,34 @@ module _ (most : ℕ) (s : List ℕ) (at w i a room : ℕ) (g : Few most s at w 
           end-is = let q = rw front at (g .end-is) in omega arith;
           value-is = value;
         }
+
+-- ---- the same, capped
+pub record FirstDigits (most : ℕ) (s : List ℕ) (at w i a room : ℕ) : Type 0 where
+  pub within : i + room ≤ length s
+  pub small : a ≤ 20000000005
+  pub value-is : cap (natOf a (take room (run (drop i s)))) ≡ cap (natOf w (take most (run (drop at s))))
+
+module _ (most : ℕ) (s : List ℕ) (at w i a room : ℕ) (g : FirstDigits most s at w i a room) where
+  first-stops : take room (run (drop i s)) ≡ [] → a ≡ cap (natOf w (take most (run (drop at s))))
+  first-stops r = let q = rw r at (g .value-is) in let k = g .small in omega arith
+
+  pub first-full : room ≡ 0 → a ≡ cap (natOf w (take most (run (drop at s))))
+  first-full z = first-stops (rw z refl)
+
+  pub first-stop : run (drop i s) ≡ [] → a ≡ cap (natOf w (take most (run (drop at s))))
+  first-stop r = first-stops (rw r (take-nil {A = ℕ} room))
+
+  pub first-turn : (k d a' : ℕ) → room ≡ suc k → i < length s → d ≡ digitOf (getD s i 0) → d ≤ 9 → a' ≡ cap (a * 10 + d) → FirstDigits most s at w (i + 1) a' k
+  first-turn k d a' z h e l f =
+      let v : a' ≡ cap (a * 10 + (getD s i 0 - 48)) = f ∙ ap (λ (n : ℕ). cap (a * 10 + n)) (digit-yes (getD s i 0) d e l .1) in
+      record {
+        within = let x = g .within in omega arith;
+        small = omega arith;
+        value-is =
+            ap (λ (n : ℕ). cap (natOf n (take k (run (drop (i + 1) s))))) v
+            ∙ cap-natOf (a * 10 + (getD s i 0 - 48)) (take k (run (drop (i + 1) s)))
+            ∙ (rw (take-front s i room k d z h e l) at (g .value-is));
+      }
 
 -- each of the digits is one
 digit-in : (n : ℕ) (l : List ℕ) → n < length (run l) → isDigit (first (drop n l)) ≡ true

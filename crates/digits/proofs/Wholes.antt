@@ -65,7 +65,7 @@ module _ (s : List ℕ) (at most end value : ℕ) (w : WholeRead s at end value)
       found h v = unfold rowOf in rw (h, v) refl
 
 -- what a row says of its word
-row-false : (k : ℕ) (w : List ℕ) → rowOf k w ≡ wrong 6 → whole k w ≡ false
+pub row-false : (k : ℕ) (w : List ℕ) → rowOf k w ≡ wrong 6 → whole k w ≡ false
 unfolding rowOf
 row-false k w h =
     ⊎-elim
@@ -73,7 +73,7 @@ row-false k w h =
     (λ (t : whole k w ≡ false). t)
     (test (whole k w))
 
-row-true : (k v : ℕ) (w : List ℕ) → rowOf k w ≡ says v → (whole k w ≡ true) × (natOf 0 w ≡ v)
+pub row-true : (k v : ℕ) (w : List ℕ) → rowOf k w ≡ says v → (whole k w ≡ true) × (natOf 0 w ≡ v)
 unfolding rowOf
 row-true k v w h =
     ⊎-elim

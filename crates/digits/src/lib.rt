@@ -4,8 +4,9 @@ pub mod name;
 
 ghost use mathlib.Core.Path.{_≡_};
 ghost use Prim.Native.Nat.{ℕ, _+_, _*_, _^_, _≤_, _<_};
-ghost use lib.ListN.{length, drop};
+ghost use lib.ListN.{length, take, drop};
 ghost use Rattle.text.specs.Words.{wordOf};
+ghost use Rattle.digits.specs.Digits.{natOf};
 ghost use Rattle.digits.specs.Straight.{first, over, digitOf, cap, run, WholeRead, FewRead};
 
 pub struct Run {
@@ -108,6 +109,27 @@ pub fn few(text: &[u8], at: usize, most: usize, whole: u64) -> Run
         room -= 1;
     }
     Run { end: i, value: a }
+}
+
+// The number of the first digits from `at`, as many as `most`, after those of `value`, no more than the cap.
+pub fn first_digits(text: &[u8], at: usize, most: usize, value: u64) -> u64
+    requires { ⌜ at + most ≤ length (now text) ⌝ }
+    requires { ⌜ value ≤ 20000000005 ⌝ }
+    ensures { λ r. ⌜ r ≡ cap (natOf value (take most (run (drop at (now (text .entry)))))) ⌝ }
+{
+    let mut i = at;
+    let mut a = value;
+    let mut room = most;
+    while 0 < room {
+        let d = digit(text[i]);
+        if 9 < d {
+            return a;
+        }
+        a = push(a, wide(d));
+        i += 1;
+        room -= 1;
+    }
+    a
 }
 
 // Where the digits from `at` end.

@@ -24,7 +24,7 @@ pub enum Row {
 }
 
 // The number of a word of 1 to `most` digits.
-fn row_at(text: &[u8], at: usize, most: usize) -> Row
+pub fn row_at(text: &[u8], at: usize, most: usize) -> Row
     requires { ⌜ (at ≤ length (now text)) × (most ≤ 10) ⌝ }
     ensures { λ r. ⌜ saidRow r ≡ ended (rowOf most (wordOf (drop at (now (text .entry))))) (endOf (now (text .entry)) at) ⌝ }
 {

@@ -16,7 +16,7 @@ use Rattle.digits.specs.Said.{Said, says, wrong}
 use Rattle.digits.specs.Said as said
 use Rattle.digits.specs.Degree.{off, degreeOf, smoothingOf, nameOf}
 use Rattle.digits.specs.Digits.{natOf, whole, negative}
-use Rattle.decimals.specs.Number.{unsigned, decimal, numerator, denominator, nearest, signed, numberOf}
+use Rattle.decimals.specs.Number.{unsigned, mantissa, exponent, isExponent, decimal, signed, valueOf, numberOf}
 use Rattle.forms.specs.Reference.{isReference, refer, referenceOf}
 use Rattle.forms.specs.Corner.{Corner, Counts, Parts, split, formed, patterned, cornerOf}
 use Rattle.keywords.specs.Keywords.{statementOf}
@@ -57,8 +57,9 @@ said-on f (wrong n) h = h
 number-well : (w : List ℕ) → saidWell (numberOf w) ≡ true
 unfolding numberOf
 number-well w =
-    let m = nearest (numerator (unsigned w)) (denominator (unsigned w)) in
-    two-tests (leb (length w) 64 && decimal (unsigned w)) (leb m 2000000000) 7 (signed (negative w) m) refl
+    let u = unsigned w in
+    let m = valueOf u in
+    two-tests (leb (length w) 64 && (decimal (mantissa u) && isExponent (exponent u))) (leb m 2000000000) 7 (signed (negative w) m) refl
 
 reference-well : (n : ℕ) (w : List ℕ) → saidWell (referenceOf n w) ≡ true
 unfolding referenceOf

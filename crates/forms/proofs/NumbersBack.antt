@@ -11,10 +11,11 @@ use native.Mathlib.Omega.{arith}
 use Rattle.lists.proofs.Tests.{and-left, and-right}
 use Rattle.digits.specs.Said.{Said, says, wrong, must}
 use Rattle.digits.specs.Digits.{isDigit, digits, natOf, negative}
-use Rattle.decimals.specs.Number.{before, after, decimal, numerator, denominator, nearest, unsigned, signed, inRange, numberOf}
+use Rattle.decimals.specs.Number.{mantissa, exponent, isExponent, decimal, numerator, denominator, nearest, unsigned, signed, inRange, valueOf, numberOf}
 use Rattle.forms.specs.Written.{short, full, writtenWhole, writtenMillionths, writtenNumber}
 use Rattle.forms.specs.Fits.{numberFits}
 use Rattle.digits.proofs.Rows.{natOf-append}
+use Rattle.decimals.proofs.Mantissas.{decimal-plain}
 use Rattle.decimals.proofs.Decimals.{before-point, after-point}
 use Rattle.forms.proofs.Numerals.{full-digits, full-length, full-value, short-digits, short-length, short-value}
 use Rattle.digits.proofs.Saids.{must-says}
@@ -73,7 +74,9 @@ module _ (m : ℕ) (h : m ≤ 2000000000) where
 
   back : (w : List ℕ) (c : Bool) → unsigned w ≡ writtenMillionths m → negative w ≡ c → length w ≤ 64 → numberOf w ≡ says (signed c m)
   unfolding numberOf
-  back w c e₁ e₂ l = rw (e₁, e₂, le-leb (length w) 64 l, body-decimal, body-value, le-leb m 2000000000 h) refl
+  back w c e₁ e₂ l =
+      let p = decimal-plain (writtenMillionths m) body-decimal in
+      rw (e₁, e₂, p .0, p .1, le-leb (length w) 64 l, body-decimal, body-value, le-leb m 2000000000 h) refl
 
   pub millionths-back : numberOf (writtenMillionths m) ≡ says (pos m)
   millionths-back = back (writtenMillionths m) false (plain .0) (plain .1) (let z = body-length in omega arith)
@@ -99,8 +102,8 @@ pub number-fits : (w : List ℕ) (z : ℤ) → numberOf w ≡ says z → numberF
 unfolding numberOf
 number-fits w z h =
     let u : List ℕ = unsigned w in
-    let m : ℕ = nearest (numerator u) (denominator u) in
-    let p = must-says (leb (length w) 64 && decimal u) 6 (inRange (negative w) m) z h in
+    let m : ℕ = valueOf u in
+    let p = must-says (leb (length w) 64 && (decimal (mantissa u) && isExponent (exponent u))) 6 (inRange (negative w) m) z h in
     let q = must-says (leb m 2000000000) 7 (says (signed (negative w) m)) z (p .1) in
     let e : signed (negative w) m ≡ z = (let y = q .1 in cc) in
     ap (λ (x : ℤ). leb (natAbs x) 2000000000) (sym e) ∙ ap (λ (n : ℕ). leb n 2000000000) (signed-abs (negative w) m) ∙ q .0

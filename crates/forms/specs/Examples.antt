@@ -1,4 +1,4 @@
--- Cases that follow from 01's forms of words: rows of one table with one claim. 01's own cases at the edges are the table of the crate cases.
+-- Cases that follow from 01's forms of words and from 02, Q-2: rows of one table with one claim. 01's own cases at the edges are the table of the crate cases.
 use Prim.Native.Nat.{ℕ}
 use Prim.{tt}
 use mathlib.Core.List.{List, [], _∷_, _++_}
@@ -99,6 +99,73 @@ table =
     number (append (replicate 64 48) (49 ∷ [])) (wrong 6) ∷
     number (replicate 64 57) (wrong 7) ∷
     number (replicate 65 57) (wrong 6) ∷
+    -- ---- numbers that end in an exponent
+    -- 1.2e-05
+    number (49 ∷ 46 ∷ 50 ∷ 101 ∷ 45 ∷ 48 ∷ 53 ∷ []) (says (pos 12)) ∷
+    -- 0.4999995e-0
+    number (48 ∷ 46 ∷ 52 ∷ 57 ∷ 57 ∷ 57 ∷ 57 ∷ 57 ∷ 53 ∷ 101 ∷ 45 ∷ 48 ∷ []) (says (pos 500000)) ∷
+    -- 4.9999999e-7
+    number (52 ∷ 46 ∷ 57 ∷ 57 ∷ 57 ∷ 57 ∷ 57 ∷ 57 ∷ 57 ∷ 101 ∷ 45 ∷ 55 ∷ []) (says (pos 0)) ∷
+    -- 5e-7
+    number (53 ∷ 101 ∷ 45 ∷ 55 ∷ []) (says (pos 1)) ∷
+    -- -5e-7
+    number (45 ∷ 53 ∷ 101 ∷ 45 ∷ 55 ∷ []) (says (negsuc 0)) ∷
+    -- 49999999999999999999e-26
+    number (52 ∷ 57 ∷ 57 ∷ 57 ∷ 57 ∷ 57 ∷ 57 ∷ 57 ∷ 57 ∷ 57 ∷ 57 ∷ 57 ∷ 57 ∷ 57 ∷ 57 ∷ 57 ∷ 57 ∷ 57 ∷ 57 ∷ 57 ∷ 101 ∷ 45 ∷ 50 ∷ 54 ∷ []) (says (pos 0)) ∷
+    -- 0.00000000000000000000000000005e22
+    number (48 ∷ 46 ∷ 48 ∷ 48 ∷ 48 ∷ 48 ∷ 48 ∷ 48 ∷ 48 ∷ 48 ∷ 48 ∷ 48 ∷ 48 ∷ 48 ∷ 48 ∷ 48 ∷ 48 ∷ 48 ∷ 48 ∷ 48 ∷ 48 ∷ 48 ∷ 48 ∷ 48 ∷ 48 ∷ 48 ∷ 48 ∷ 48 ∷ 48 ∷ 48 ∷ 53 ∷ 101 ∷ 50 ∷ 50 ∷ []) (says (pos 1)) ∷
+    -- 0.00000000000000000000000000005e23
+    number (48 ∷ 46 ∷ 48 ∷ 48 ∷ 48 ∷ 48 ∷ 48 ∷ 48 ∷ 48 ∷ 48 ∷ 48 ∷ 48 ∷ 48 ∷ 48 ∷ 48 ∷ 48 ∷ 48 ∷ 48 ∷ 48 ∷ 48 ∷ 48 ∷ 48 ∷ 48 ∷ 48 ∷ 48 ∷ 48 ∷ 48 ∷ 48 ∷ 48 ∷ 48 ∷ 53 ∷ 101 ∷ 50 ∷ 51 ∷ []) (says (pos 5)) ∷
+    -- 0e999
+    number (48 ∷ 101 ∷ 57 ∷ 57 ∷ 57 ∷ []) (says (pos 0)) ∷
+    -- -0e-999
+    number (45 ∷ 48 ∷ 101 ∷ 45 ∷ 57 ∷ 57 ∷ 57 ∷ []) (says (pos 0)) ∷
+    -- 1e-999
+    number (49 ∷ 101 ∷ 45 ∷ 57 ∷ 57 ∷ 57 ∷ []) (says (pos 0)) ∷
+    -- 1e999
+    number (49 ∷ 101 ∷ 57 ∷ 57 ∷ 57 ∷ []) (wrong 7) ∷
+    -- 0.0000000000000000000000000000000000001e40
+    number (48 ∷ 46 ∷ 48 ∷ 48 ∷ 48 ∷ 48 ∷ 48 ∷ 48 ∷ 48 ∷ 48 ∷ 48 ∷ 48 ∷ 48 ∷ 48 ∷ 48 ∷ 48 ∷ 48 ∷ 48 ∷ 48 ∷ 48 ∷ 48 ∷ 48 ∷ 48 ∷ 48 ∷ 48 ∷ 48 ∷ 48 ∷ 48 ∷ 48 ∷ 48 ∷ 48 ∷ 48 ∷ 48 ∷ 48 ∷ 48 ∷ 48 ∷ 48 ∷ 48 ∷ 49 ∷ 101 ∷ 52 ∷ 48 ∷ []) (says (pos 1000000000)) ∷
+    -- 2.0000000004e3
+    number (50 ∷ 46 ∷ 48 ∷ 48 ∷ 48 ∷ 48 ∷ 48 ∷ 48 ∷ 48 ∷ 48 ∷ 48 ∷ 52 ∷ 101 ∷ 51 ∷ []) (says (pos 2000000000)) ∷
+    -- 20000000004e-7
+    number (50 ∷ 48 ∷ 48 ∷ 48 ∷ 48 ∷ 48 ∷ 48 ∷ 48 ∷ 48 ∷ 48 ∷ 52 ∷ 101 ∷ 45 ∷ 55 ∷ []) (says (pos 2000000000)) ∷
+    -- 2.0000000005e3
+    number (50 ∷ 46 ∷ 48 ∷ 48 ∷ 48 ∷ 48 ∷ 48 ∷ 48 ∷ 48 ∷ 48 ∷ 48 ∷ 53 ∷ 101 ∷ 51 ∷ []) (wrong 7) ∷
+    -- 1.e3
+    number (49 ∷ 46 ∷ 101 ∷ 51 ∷ []) (says (pos 1000000000)) ∷
+    -- .5E-01
+    number (46 ∷ 53 ∷ 69 ∷ 45 ∷ 48 ∷ 49 ∷ []) (says (pos 50000)) ∷
+    -- -1E+3
+    number (45 ∷ 49 ∷ 69 ∷ 43 ∷ 51 ∷ []) (says (negsuc 999999999)) ∷
+    -- .e3
+    number (46 ∷ 101 ∷ 51 ∷ []) (wrong 6) ∷
+    -- e3
+    number (101 ∷ 51 ∷ []) (wrong 6) ∷
+    -- +e3
+    number (43 ∷ 101 ∷ 51 ∷ []) (wrong 6) ∷
+    -- 1e
+    number (49 ∷ 101 ∷ []) (wrong 6) ∷
+    -- 1e+
+    number (49 ∷ 101 ∷ 43 ∷ []) (wrong 6) ∷
+    -- 1e1000
+    number (49 ∷ 101 ∷ 49 ∷ 48 ∷ 48 ∷ 48 ∷ []) (wrong 6) ∷
+    -- 1e1.0
+    number (49 ∷ 101 ∷ 49 ∷ 46 ∷ 48 ∷ []) (wrong 6) ∷
+    -- 1e3e3
+    number (49 ∷ 101 ∷ 51 ∷ 101 ∷ 51 ∷ []) (wrong 6) ∷
+    -- 1e+-3
+    number (49 ∷ 101 ∷ 43 ∷ 45 ∷ 51 ∷ []) (wrong 6) ∷
+    -- 64 bytes with the exponent, and 65; out of range too
+    number (append (replicate 61 48) (49 ∷ 101 ∷ 51 ∷ [])) (says (pos 1000000000)) ∷
+    number (append (replicate 62 48) (49 ∷ 101 ∷ 51 ∷ [])) (wrong 6) ∷
+    number (append (replicate 60 57) (101 ∷ 57 ∷ 57 ∷ 57 ∷ [])) (wrong 7) ∷
+    number (append (replicate 61 57) (101 ∷ 57 ∷ 57 ∷ 57 ∷ [])) (wrong 6) ∷
+    -- 1e0 is no reference, corner, degree or smoothing number
+    reference 4 (49 ∷ 101 ∷ 48 ∷ []) (wrong 6) ∷
+    corner (record { vt = true; vn = true }) (49 ∷ 101 ∷ 48 ∷ []) (wrong 6) ∷
+    degree (49 ∷ 101 ∷ 48 ∷ []) (wrong 6) ∷
+    smoothing (49 ∷ 101 ∷ 48 ∷ []) (wrong 6) ∷
     -- ---- further references
     -- 1 of 4
     reference 4 (49 ∷ []) (says 1) ∷

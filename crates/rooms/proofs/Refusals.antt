@@ -13,7 +13,7 @@ use Rattle.digits.specs.Said as said
 use Rattle.lists.specs.Lists.{same}
 use Rattle.digits.specs.Digits.{natOf, whole, negative}
 use Rattle.digits.specs.Degree.{degreeOf, smoothingOf, nameOf, off}
-use Rattle.decimals.specs.Number.{unsigned, decimal, numerator, denominator, nearest, signed, numberOf}
+use Rattle.decimals.specs.Number.{unsigned, mantissa, exponent, isExponent, decimal, signed, valueOf, numberOf}
 use Rattle.forms.specs.Reference.{isReference, refer, referenceOf}
 use Rattle.forms.specs.Corner.{Corner, Counts, Parts, split, patterned, cornerOf}
 use Rattle.keywords.specs.declared.Argument.{Argument}
@@ -68,8 +68,8 @@ number-said : (w : List ℕ) → mistaken (numberOf w) ≡ false
 unfolding numberOf
 number-said w =
     let u : List ℕ = unsigned w in
-    let m : ℕ = nearest (numerator u) (denominator u) in
-    twice (leb (length w) 64 && decimal u) (leb m 2000000000) 7 (signed (negative w) m) refl
+    let m : ℕ = valueOf u in
+    twice (leb (length w) 64 && (decimal (mantissa u) && isExponent (exponent u))) (leb m 2000000000) 7 (signed (negative w) m) refl
 
 reference-said : (n : ℕ) (w : List ℕ) → mistaken (referenceOf n w) ≡ false
 unfolding referenceOf

@@ -1,7 +1,9 @@
 -- Six decimals and no digit after them are whole millionths.
+use lib.ListN.{drop}
 use native.Mathlib.Omega.{arith}
 use denote.Ref.{now}
 use Rattle.digits.proofs.Runs.{few-near}
+use Rattle.digits.proofs.Fronts.{low-stops}
 use Rattle.decimals.proofs.Exact.{decimals-fit, decimals-of}
 use borrow.Author.Needs.{needs}
 use Rattle.decimals.proofs.number.decimals_ahead.Statement.{statement}
@@ -19,6 +21,14 @@ byte-in-requires c κs =
     let n = few-near 6 (now (a .args .text)) (a .args .at) (a .args .whole) (c .few .result .end) (c .few .result .value) (c .few .ensures) in
     let p = a .pre .0 in
     omega arith
+
+mantissa-ahead-requires : tie.Need-mantissa-ahead-requires
+mantissa-ahead-requires c κs =
+    let w = c .before .before in
+    let a = w .before .before in
+    let n = few-near 6 (now (a .args .text)) (a .args .at) (a .args .whole) (w .few .result .end) (w .few .result .value) (w .few .ensures) in
+    let p = a .pre .0 in
+    (w .few .ensures, (omega arith, a .pre .1, a .pre .2))
 
 returns : tie.Need-returns
 returns c = search needs
@@ -45,14 +55,18 @@ mul-t12 : tie.Need-mul-t12
 mul-t12 c =
     let a = c .before .before .before .before .before .before .before in
     let w = c .before .before .before .before .before in
-    let q = decimals-fit (now (a .args .text)) (a .args .at) (a .args .whole) (w .few .result .end) (w .few .result .value) (w .few .ensures) (c .before .before .before .before .byte-in .result) (c .before .before .before .before .byte-in .ensures) (c .before .before .before .if1 .left) (c .before .scale .result) (c .before .scale .ensures) (a .pre .2) in
+    let b = c .before .before .before .before in
+    let q = decimals-fit (now (a .args .text)) (a .args .at) (a .args .whole) (w .few .result .end) (w .few .result .value) (w .few .ensures) (low-stops (drop (w .few .result .end) (now (a .args .text))) (b .byte-in .result) (b .byte-in .ensures) (c .before .before .before .if1 .left)) (c .before .scale .result) (c .before .scale .ensures) (a .pre .2) in
     omega arith
 
 returns-3 : tie.Need-returns-3
 returns-3 c =
     let a = c .before .before .before .before .before .before .before in
-    let w = c .before .before .before .before .before in (
-      decimals-of (now (a .args .text)) (a .args .at) (a .args .whole) (w .few .result .end) (w .few .result .value) (w .few .ensures) (c .before .before .before .before .byte-in .result) (c .before .before .before .before .byte-in .ensures) (c .before .before .before .if1 .left) (c .before .scale .result) (c .before .scale .ensures) (a .args .count) (c .before .before .if2 .left),
+    let w = c .before .before .before .before .before in
+    let b = c .before .before .before .before in
+    let l = c .before .before .before .if1 .left in
+    let e = b .byte-in .ensures in (
+      decimals-of (now (a .args .text)) (a .args .at) (a .args .whole) (w .few .result .end) (w .few .result .value) (w .few .ensures) (low-stops (drop (w .few .result .end) (now (a .args .text))) (b .byte-in .result) (b .byte-in .ensures) (c .before .before .before .if1 .left)) (c .before .scale .result) (c .before .scale .ensures) (a .args .count) (omega arith) (c .before .before .if2 .left),
       few-near 6 (now (a .args .text)) (a .args .at) (a .args .whole) (w .few .result .end) (w .few .result .value) (w .few .ensures),
     )
 
@@ -62,6 +76,7 @@ decimals-ahead-spec =
     (tie.spec
     few-requires
     byte-in-requires
+    mantissa-ahead-requires
     returns
     sub-if2
     add-if2

@@ -8,10 +8,11 @@ use Rattle.text.specs.Words.{wordOf}
 use Rattle.text.specs.Rest.{endOf}
 use Rattle.digits.specs.Said.{ended}
 use Rattle.digits.specs.Digits.{isDigit}
-use Rattle.decimals.specs.Straight.{pointed, magnitudeOf}
+use Rattle.decimals.specs.Straight.{pointed, magnitudeOf, DecimalsAhead, MantissaAhead}
 use Rattle.digits.proofs.Fronts.{low-stops}
-use Rattle.digits.proofs.Runs.{few-near}
+use Rattle.digits.proofs.Runs.{few-near, few-all}
 use Rattle.decimals.proofs.Numbers.{measure-point}
+use Rattle.decimals.proofs.Ahead.{with-decimals}
 use Rattle.decimals.proofs.Exact.{exact-on, four, bare-of}
 use borrow.Author.Needs.{needs}
 use Rattle.decimals.proofs.number.measure_ahead.Statement.{statement}
@@ -55,9 +56,11 @@ returns c =
     let n = few-near 4 s (a .args .at) 0 (w .few .result .end) (w .few .result .value) (w .few .ensures) in
     let f = four s (a .args .at) (w .few .result .end) (w .few .result .value) (w .few .ensures) (ap isDigit (sym (b .byte-in .ensures) ∙ c .before .if1 .taken)) in
     let x = ended (pointed (w .few .result .end - a .args .at) (w .few .result .value) (wordOf (drop (w .few .result .end + 1) s))) (endOf s (w .few .result .end + 1)) in
-    exact-on (w .few .result .end + 1 + 6) (a .args .at + 11) x (ended (magnitudeOf (wordOf (drop (a .args .at) s))) (endOf s (a .args .at))) (c .decimals-ahead .result)
+    exact-on (w .few .result .end + 1 + 6) (a .args .at + 11) x (ended (magnitudeOf (wordOf (drop (a .args .at) s))) (endOf s (a .args .at))) (DecimalsAhead s (w .few .result .end + 1) (w .few .result .end - a .args .at) (w .few .result .value)) (MantissaAhead s (a .args .at)) (c .decimals-ahead .result)
     (measure-point s (a .args .at) (w .few .result .end) (w .few .result .value) f (b .byte-in .result) (b .byte-in .ensures) (c .before .if1 .taken) x refl)
-    (omega arith) (c .decimals-ahead .ensures)
+    (omega arith)
+    (with-decimals s (a .args .at) (w .few .result .end) (w .few .result .value) f (few-all 4 s (a .args .at) 0 (w .few .result .end) (w .few .result .value) (w .few .ensures) (ap isDigit (sym (b .byte-in .ensures) ∙ c .before .if1 .taken))) (b .byte-in .result) (b .byte-in .ensures) (c .before .if1 .taken))
+    (c .decimals-ahead .ensures)
 
 returns-2 : tie.Need-returns-2
 returns-2 c = search needs

@@ -1,7 +1,6 @@
 -- The sign apart, what was read straight ahead is the magnitude, and within the range it is exact.
-use Prim.Native.Nat.{_+_, _*_}
-use mathlib.Core.Path.{subst, _∙_}
-use mathlib.Core.Bool.{cond}
+use Prim.Native.Nat.{ℕ, _+_, _*_}
+use mathlib.Core.Path.{subst, ap, _∙_}
 use lib.Dec.{eqb}
 use lib.ListN.{drop}
 use native.Mathlib.Omega.{arith}
@@ -11,10 +10,12 @@ use mir.Syntax.{w32}
 use Rattle.text.specs.Words.{wordOf}
 use Rattle.text.specs.Rest.{endOf}
 use Rattle.digits.specs.Said.{ended}
-use Rattle.decimals.specs.Straight.{magnitudeOf}
-use Rattle.decimals.specs.Answers.{saidNumber, exactIs}
+use Rattle.decimals.specs.Straight.{magnitudeOf, sizeOf, MantissaAhead}
+use Rattle.decimals.specs.Answers.{saidMagnitude, exactIs}
 use Rattle.decimals.proofs.Numbers.{sign-most, number-read}
+use Rattle.decimals.proofs.Decimals.{size-plain, size-scaled}
 use Rattle.decimals.proofs.Exact.{settle-exact}
+use Rattle.decimals.proofs.Ahead.{ahead-no-decimal}
 use borrow.Author.Needs.{needs}
 use Rattle.decimals.proofs.number.quick_number_at.Statement.{statement}
 use Rattle.decimals.proofs.number.quick_number_at.Tie as tie
@@ -33,8 +34,8 @@ byte-in-requires c κs = search needs
 sign-length-requires : tie.Need-sign-length-requires
 sign-length-requires c κs = search needs
 
-add-measure-ahead : tie.Need-add-measure-ahead
-add-measure-ahead c =
+add-start : tie.Need-add-start
+add-start c =
     let m = sign-most (c .before .byte-in .result) (c .sign-length .result) (c .sign-length .ensures) in
     let p = c .before .before .if1 .taken in
     omega arith
@@ -59,14 +60,45 @@ returns c =
     let s = now (a .args .text) in
     let at = a .args .at + n .sign-length .result in
     let q =
-    subst (exactIs (at + 11) (ended (magnitudeOf (wordOf (drop at s))) (endOf s at))) (c .before .before .before .millionths .given .1) (c .before .before .before .before .before .measure-ahead .ensures) in
+    subst (exactIs (at + 11) (ended (magnitudeOf (wordOf (drop at s))) (endOf s at)) (MantissaAhead s at)) (c .before .before .before .millionths .given .1) (c .before .before .before .before .before .measure-ahead .ensures) in
     let m = c .before .before .before .millionths .given .0 .0 in
     let end = c .before .before .before .millionths .given .0 .1 .0 in
     let l = sign-most (b .byte-in .result) (n .sign-length .result) (n .sign-length .ensures) in
     let far = q .1 in
-    number-read (now (a .args .text)) (a .args .at) (b .byte-in .result) (n .sign-length .result) (a .pre) (b .byte-in .ensures) (n .sign-length .ensures) (10 * m) end (q .0) (omega arith) _
+    number-read (now (a .args .text)) (a .args .at) (b .byte-in .result) (n .sign-length .result) (a .pre) (b .byte-in .ensures) (n .sign-length .ensures) (10 * m) end (size-plain (wordOf (drop at s)) (10 * m) end (endOf s at) (q .0)) (omega arith) _
     (settle-exact (eqb (b .byte-in .result) 45) m end _ (c .before .if2 .taken)
     (toZ-ofZ {w = w32} {z = c .signed-of .result} (record { sfits = c .signed-of .ok }) ∙ c .signed-of .ensures))
+
+enum-known-millionths-2 : tie.Need-enum-known-millionths-2
+enum-known-millionths-2 c = search needs
+
+shifted-requires : tie.Need-shifted-requires
+shifted-requires c κs =
+    let m = c .before .before .before in
+    let n = m .before in
+    let a = n .before .before .before .before in
+    let s = now (a .args .text) in
+    let at = a .args .at + n .sign-length .result in
+    subst (exactIs (at + 11) (ended (magnitudeOf (wordOf (drop at s))) (endOf s at)) (MantissaAhead s at)) (c .before .millionths2 .given .1) (m .measure-ahead .ensures)
+
+settled-requires : tie.Need-settled-requires
+settled-requires c κs =
+    let m = c .before .before .before .before in
+    let n = m .before in
+    let b = n .before in
+    let a = b .before .before .before in
+    let s = now (a .args .text) in
+    let at = a .args .at + n .sign-length .result in
+    let k = c .before .before .millionths2 .given in
+    let q =
+    subst (exactIs (at + 11) (ended (magnitudeOf (wordOf (drop at s))) (endOf s at)) (MantissaAhead s at)) (k .1) (m .measure-ahead .ensures) in (
+      (a .pre, b .byte-in .ensures),
+      size-scaled (wordOf (drop at s)) (endOf s at) (saidMagnitude (c .shifted .result)) (ahead-no-decimal s at (k .0 .0) (k .0 .1 .0) q) (c .shifted .ensures)
+          ∙ ap (λ (i : ℕ). ended (sizeOf (wordOf (drop (a .args .at + i) s))) (endOf s (a .args .at + i))) (n .sign-length .ensures),
+    )
+
+returns-2 : tie.Need-returns-2
+returns-2 c = search needs
 
 enum-told : tie.Need-enum-told
 enum-told c = search needs
@@ -74,8 +106,8 @@ enum-told c = search needs
 number-at-requires : tie.Need-number-at-requires
 number-at-requires c κs = search needs
 
-returns-2 : tie.Need-returns-2
-returns-2 c = search needs
+returns-3 : tie.Need-returns-3
+returns-3 c = search needs
 
 pub quick-number-at-spec : {M : Type 1} → statement M
 quick-number-at-spec =
@@ -84,11 +116,15 @@ quick-number-at-spec =
     sub-if1
     byte-in-requires
     sign-length-requires
-    add-measure-ahead
+    add-start
     measure-ahead-requires
     enum-known-millionths
     signed-of-requires
     returns
+    enum-known-millionths-2
+    shifted-requires
+    settled-requires
+    returns-2
     enum-told
     number-at-requires
-    returns-2)
+    returns-3)
