@@ -25,7 +25,7 @@ MEGABYTE = 1_000_000
 SIZES = [1, 2, 4, 8, 16]
 READERS = ["kuhlabires", "tinyobjloader", "assimp"]
 SAMPLERS = ["kuhlabires", "sisl", "gsl"]
-BATCH = {"alone": 1024, "run": 1001, "grid": 101 * 101}  # as points.c has them
+BATCH = {"alone": 1024, "steps": 1024, "run": 1001, "grid": 101 * 101}  # as points.c has them
 PACKAGES = ["libtinyobjloader-dev", "libassimp-dev", "libsisl-dev", "libgsl-dev", "valgrind", "gcc", "g++", "cargo"]
 
 
@@ -202,7 +202,7 @@ def points_words(folder, sampler, basis, surface, segments, mode, count):
     return [folder / "points", sampler, basis, surface, segments, mode, count]
 
 
-SHAPES = ((0, 1, ["alone", "run"]), (0, 16, ["alone", "run"]), (1, 1, ["alone", "grid"]), (1, 4, ["alone", "grid"]))
+SHAPES = ((0, 1, ["alone", "steps", "run"]), (0, 16, ["alone", "steps", "run"]), (1, 1, ["alone", "grid"]), (1, 4, ["alone", "grid"]))
 
 
 def shape_name(basis, surface, segments):
@@ -221,6 +221,8 @@ def points_rows(folder, rounds):
     for surface, segments, modes in SHAPES:
         for basis in ("bezier", "bspline"):
             for mode in modes:
+                if mode == "steps" and basis == "bspline":
+                    continue
                 times, cost = {s: [] for s in SAMPLERS}, {}
                 for _ in range(rounds):
                     for sampler in SAMPLERS:
@@ -249,7 +251,7 @@ def function_rows(folder, counted):
     for kind, path, length in counted:
         spent = by_function(reading_words(folder, "kuhlabires", path, 1, 1))
         row(f"{kind}, a byte", ", ".join(f"{name} {count / length:.1f}" for name, count in spent if length < 10 * count))
-    for name, surface, segments, mode in (("curve of 4 controls, alone", 0, 1, "alone"), ("curve of 49 controls, alone", 0, 16, "alone"),
+    for name, surface, segments, mode in (("curve of 4 controls, alone", 0, 1, "alone"), ("curve of 4 controls, steps", 0, 1, "steps"), ("curve of 49 controls, alone", 0, 16, "alone"),
                                           ("curve of 49 controls, run", 0, 16, "run"), ("surface of 4 x 4 controls, alone", 1, 1, "alone")):
         batch = BATCH[mode]
         spent = by_function(points_words(folder, "kuhlabires", "bezier", surface, segments, mode, 20 * batch))

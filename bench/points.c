@@ -5,8 +5,9 @@
  *
  * LIBRARY is kuhlabires, sisl or gsl, BASIS bezier or bspline, SURFACE 0 or 1. The curve is cubic, the surface bicubic, with 3 SEGMENTS + 1
  * controls along each direction: so many Bezier segments, or a B-spline with clamped whole knots. MODE alone asks for each point by a call of its
- * own, in no order; run for 1,001 points in one call, grid for 101 times 101, by what the library has for it. MODE outside is of kuhlabires alone:
- * each call asks before the range, so that it is refused as soon as the element is held against the rules.
+ * own, in no order; run for 1,001 points in one call, grid for 101 times 101, by what the library has for it. MODE steps asks for each point at a
+ * 64th of a segment of a Bezier curve, by a call of its own. MODE outside is of kuhlabires alone: each call asks before the range, so that it is
+ * refused as soon as the element is held against the rules.
  * `points difference BASIS SURFACE SEGMENTS MODE 0` prints how far the answers of the libraries lie apart at most.
  */
 #include <gsl/gsl_bspline.h>
@@ -25,7 +26,7 @@
 #define STEPS 1000
 #define SIDE 101
 
-static int surface, segments, bspline, outside;
+static int surface, segments, bspline, outside, steps;
 static int side, controls, parameters, knots, end; /* along one direction; controls of all */
 static double knot[MOST_SIDE + 4], control[3 * MOST_CONTROLS];
 static int32_t spread[SPREAD];     /* parameters in no order .. */
@@ -69,6 +70,17 @@ static void make_kuhlabires(void)
     free(text);
 }
 
+/* Point j of the steps, one segment after the other. */
+static uint32_t segment_of(int j)
+{
+    return (uint32_t)(j / 64 % segments);
+}
+
+static uint32_t step_of(int j)
+{
+    return (uint32_t)(j % 64);
+}
+
 static void keep(int j, kuhlabires_point point)
 {
     answer[3 * j] = point.x;
@@ -79,6 +91,10 @@ static void keep(int j, kuhlabires_point point)
 static void alone_kuhlabires(int n)
 {
     for (int j = 0; j < n; j++) {
+        if (steps) {
+            keep(j, kuhlabires_cubic_at(used, KUHLABIRES_LEND(&tables), 1, segment_of(j), step_of(j)));
+            continue;
+        }
         int32_t t = outside ? -1 : spread[j];
         keep(j, surface ? kuhlabires_point_on_surface(used, KUHLABIRES_LEND(&tables), 1, t, spread[SPREAD - 1 - j])
                         : kuhlabires_point_on_curve(used, KUHLABIRES_LEND(&tables), 1, t));
@@ -249,7 +265,7 @@ static void make_shape(void)
 static int batch(int which, const char *mode)
 {
     outside = !strcmp(mode, "outside");
-    if (outside || !strcmp(mode, "alone")) {
+    if (outside || steps || !strcmp(mode, "alone")) {
         library[which].alone(SPREAD);
         return SPREAD;
     }
@@ -286,6 +302,9 @@ int main(int count, char **arguments)
     surface = atoi(arguments[3]);
     segments = atoi(arguments[4]);
     make_shape();
+    steps = !strcmp(arguments[5], "steps");
+    for (int j = 0; steps && j < SPREAD; j++)
+        spread_real[j] = segment_of(j) + step_of(j) / 64.0;
     if (!strcmp(arguments[1], "difference")) {
         printf("difference %.9f\n", difference(arguments[5]));
         return 0;

@@ -8,6 +8,7 @@
  * and of the text, the tables and the used counts that one of these left:
  *     C curve     element, t
  *     F surface   element, s, t
+ *     B cubic     element, segment, j
  *     N run       element, steps, point table's length, place
  *     P polyline  element, tolerance, point table's length, place
  *     K corner    element, corner
@@ -184,9 +185,10 @@ static void set(void) {
 
 static void point(char letter) {
     uint32_t element = (uint32_t)number();
-    int32_t s = letter == 'F' ? (int32_t)number() : 0, t = (int32_t)number();
-    kuhlabires_point p = letter == 'F' ? kuhlabires_point_on_surface(used, LEND(&tables), element, s, t)
-                                       : kuhlabires_point_on_curve(used, LEND(&tables), element, t);
+    uint32_t s = letter == 'C' ? 0 : (uint32_t)number(), t = (uint32_t)number();
+    kuhlabires_point p = letter == 'F'   ? kuhlabires_point_on_surface(used, LEND(&tables), element, (int32_t)s, (int32_t)t)
+                         : letter == 'B' ? kuhlabires_cubic_at(used, LEND(&tables), element, s, t)
+                                         : kuhlabires_point_on_curve(used, LEND(&tables), element, (int32_t)t);
     say_head(letter, all_unchanged());
     say_number(p.refusal);
     say_number(p.axes);
@@ -272,6 +274,7 @@ int main(void) {
         case 'O': read_in_rooms(); break;
         case 'T': tidy_text(); break;
         case 'S': set(); break;
+        case 'B':
         case 'C':
         case 'F': point(letter); break;
         case 'N': run(); break;

@@ -259,6 +259,26 @@ static void polyline(const struct tables *t, kuhlabires_used used, uint32_t numb
     }
 }
 
+/* Every step: of a cubic Bezier 19 at most, its point between its controls, and the last of a segment the first of the next; 18 of any other curve. */
+static void cubic(const struct tables *t, kuhlabires_used used, uint32_t number, uint32_t corners, uint32_t body) {
+    size_t at = KUHLABIRES_BODY_WIDTH * (size_t)(body - 1);
+    int is_cubic = entry(t, BODIES, at + KUHLABIRES_BODY_TYPE) == KUHLABIRES_BEZIER && entry(t, BODIES, at + KUHLABIRES_BODY_U_DEGREE) == 3;
+    uint32_t segments = entry(t, BODIES, at + KUHLABIRES_BODY_U_PARAMETERS) - 1;
+    kuhlabires_point last = {.refusal = 19};
+    for (uint32_t g = 0; g < segments && g < 4; g++) {
+        for (uint32_t j = 0; j <= KUHLABIRES_CUBIC_STEPS; j++) {
+            kuhlabires_point p = kuhlabires_cubic_at(used, LEND(t), number, g, j);
+            HOLD(is_cubic ? p.refusal == 0 || refused_point(p, 19) : refused_point(p, 18));
+            if (p.refusal == 0) within(t, used, number, corners, p);
+            if (is_cubic && g > 0 && j == 0) HOLD(memcmp(&p, &last, sizeof p) == 0);
+            last = p;
+        }
+    }
+    uint32_t none = is_cubic ? 19 : 18;
+    HOLD(refused_point(kuhlabires_cubic_at(used, LEND(t), number, segments, 0), none));
+    HOLD(refused_point(kuhlabires_cubic_at(used, LEND(t), number, 0, KUHLABIRES_CUBIC_STEPS + 1), none));
+}
+
 /* The same points, however the caller has doubles rounded. */
 static void rounded(const struct tables *t, kuhlabires_used used, uint32_t number, int64_t u, int64_t v, kuhlabires_point curve, kuhlabires_point surface) {
     static const unsigned other[] = {_MM_ROUND_DOWN, _MM_ROUND_UP, _MM_ROUND_TOWARD_ZERO};
@@ -292,6 +312,7 @@ static void sampled(const struct tables *t, kuhlabires_used used, uint32_t numbe
             HOLD(refused_point(curve_at(t, used, number, limits[0] - 1), 19) && refused_point(curve_at(t, used, number, limits[1] + 1), 19));
             if (j == 0) run(t, used, number, curve.axes, limits[0], limits[1]);
             if (j == 0) polyline(t, used, number, curve.axes, limits[0], limits[1]);
+            if (j == 0) cubic(t, used, number, corners, body);
         }
         if (is_surface && surface.refusal == 0) within(t, used, number, corners, surface);
     }
@@ -328,6 +349,8 @@ static void broken(struct block text, const struct tables *whole, kuhlabires_use
         struct block points = lend(4 * 12);
         for (uint32_t number = 0; number <= used.elements + 1; number++) {
             kuhlabires_point p = kuhlabires_point_on_curve(counts, LEND(&t), number, 0);
+            HOLD(p.refusal == 0 ? p.axes == 2 || p.axes == 3 : refused_point(p, p.refusal));
+            p = kuhlabires_cubic_at(counts, LEND(&t), number, 0, 32);
             HOLD(p.refusal == 0 ? p.axes == 2 || p.axes == 3 : refused_point(p, p.refusal));
             p = kuhlabires_point_on_surface(counts, LEND(&t), number, 0, 0);
             HOLD(p.refusal == 0 ? p.axes == 3 : refused_point(p, p.refusal));

@@ -55,6 +55,7 @@ def ask(rng, stream, most):
         s, t = held(parameter(rng, start, end)), held(parameter(rng, v_start, v_end))
         if kind in (CURV, CURV2) or rng.random() < 0.3:
             stream.curve(element, s)
+            stream.cubic(element, rng.choice((0, 0, 0, 1, 2, 7, UINT32 - 1, UINT32)), rng.choice((0, 64, *[rng.randint(0, 64)] * 5, 65, UINT32)))
             axes = 2 if kind == CURV2 else 3
             steps = rng.choice((0, 1, 2, 7, 30, 65_537, UINT32))
             needs = axes * (steps + 1) if steps < 65_536 else 9

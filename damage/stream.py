@@ -15,7 +15,7 @@ sys.path.append(str(SECOND))
 from polyline import polyline
 from reader import corner_of, group_of, material_of, read
 from records import SIGNED, TABLES, Refused, Used, zeros
-from sampler import RefusedPoint, point_on_curve, point_on_surface, run_on_curve
+from sampler import RefusedPoint, cubic_at, point_on_curve, point_on_surface, run_on_curve
 from tidier import TooLong, tidy
 
 FILLER = b"\xa5"
@@ -106,6 +106,9 @@ class Stream:
 
     def surface(self, element, s, t):
         self.point("F", (element, s, t), point_on_surface(self.used, self.tables, element, s, t))
+
+    def cubic(self, element, segment, j):
+        self.point("B", (element, segment, j), cubic_at(self.used, self.tables, element, segment, j))
 
     def run(self, element, steps, length, at):
         filler = array("i", FILLER * 4)[0]

@@ -44,7 +44,7 @@ holds wing-polyline 0 target/points examples/foam-wing.obj 1 polyline 500
 holds seat-polyline-curv2 0 target/points examples/seat.obj 2 polyline 10000
 holds archive 0 python3 bench/archive.py second/cases/000
 for arguments in "" "check" "points examples/plate.obj 1" "points examples/plate.obj one 8" "polyline examples/foam-wing.obj 1" \
-    "polyline examples/foam-wing.obj 1 fine" "polyline examples/foam-wing.obj 1 0.0000005" "polyline examples/foam-wing.obj 1 3000" "tidy no-such-file.obj" "paint examples/plate.obj"; do
+    "polyline examples/foam-wing.obj 1 fine" "polyline examples/foam-wing.obj 1 0.0000005" "polyline examples/foam-wing.obj 1 3000" "cubic examples/chair-rail.obj" "tidy no-such-file.obj" "paint examples/plate.obj"; do
     got=0
     # shellcheck disable=SC2086
     "$command" $arguments > /dev/null 2>&1 || got=$?

@@ -32,6 +32,8 @@ extern "C" {
 #define KUHLABIRES_MOST_STEPS 65536u
 /* The most points of a polyline: 12 halvings, and the start. */
 #define KUHLABIRES_MOST_POLYLINE_POINTS 4097u
+/* The steps of a segment of a cubic: j is 0 to 64. */
+#define KUHLABIRES_CUBIC_STEPS 64u
 
 /* ---- The eleven tables: how many entries one record has, and where each of its numbers stands in it ---- */
 
@@ -123,8 +125,8 @@ enum kuhlabires_refusal {
     KUHLABIRES_RECORDS_BREAK_RULES = 15,    /* a record of the element, or a vertex it names, breaks a rule or passes the used or lent entries */
     KUHLABIRES_OUTPUT_LACKS_ROOM = 16,      /* the tidy text passes the lent buffer or 16,777,216 bytes; a run or a polyline passes the point table */
     KUHLABIRES_NO_SUCH_ELEMENT = 17,        /* no element of that number, or one of another kind */
-    KUHLABIRES_NOT_SAMPLED = 18,            /* the body is rational, cardinal or taylor */
-    KUHLABIRES_PARAMETER_OUTSIDE = 19       /* outside start..end; a run of 0 or over 65,536 steps; a negative tolerance */
+    KUHLABIRES_NOT_SAMPLED = 18,            /* the body is rational, cardinal or taylor; for a step of a cubic of another type or degree */
+    KUHLABIRES_PARAMETER_OUTSIDE = 19       /* outside start..end; a run of 0 or over 65,536 steps; a negative tolerance; no such step or segment of a cubic */
 };
 
 /* ---- Records that pass by value ---- */
@@ -217,6 +219,12 @@ kuhlabires_tidying kuhlabires_tidy(const uint8_t *text, size_t text_length, KUHL
 
 /* The point at t of the curv or curv2 of that number. Refuses 17, 15, 18, 19. */
 kuhlabires_point kuhlabires_point_on_curve(kuhlabires_used used, KUHLABIRES_TABLES_IN, uint32_t element, int32_t t);
+
+/*
+ * The point at j/64 of a segment of the curv or curv2 of that number, a cubic Bezier; segments count from 0, j is 0 to 64. From one table of weights:
+ * the sum is divided once, and each coordinate is within half a millionth of the exact value. Refuses 17, 15, 18, 19.
+ */
+kuhlabires_point kuhlabires_cubic_at(kuhlabires_used used, KUHLABIRES_TABLES_IN, uint32_t element, uint32_t segment, uint32_t j);
 
 /* The point at s along u and t along v of the surf of that number. Refuses 17, 15, 18, 19. */
 kuhlabires_point kuhlabires_point_on_surface(kuhlabires_used used, KUHLABIRES_TABLES_IN, uint32_t element, int32_t s, int32_t t);

@@ -2,17 +2,18 @@
 
 import random
 import sys
+from fractions import Fraction
 from pathlib import Path
 
 from damage import cases
-from exact import exact_on_curve, exact_on_surface, within
+from exact import exact_in_segment, exact_on_curve, exact_on_surface, within
 from packed import ROOMS, files, sampled_cases
 from polyline import DEPTH, is_straight, middle_of, polyline, polyline_parameters
 from reader import corner_of, group_of, material_of, read
-from records import CURV, CURV2, SURF, TABLES, TEXT_LIMIT, Read, Refused, Used
+from records import BEZIER, CURV, CURV2, SURF, TABLES, TEXT_LIMIT, Read, Refused, Used
 from rules import body_of, element_record, obeys
 from sampler import (
-    RefusedPoint, point_on_curve, point_on_surface, run_on_curve, run_parameters,
+    CUBIC_TABLE, RefusedPoint, cubic_at, point_on_curve, point_on_surface, run_on_curve, run_parameters,
 )
 from spelling import spelled
 from texts import text
@@ -184,7 +185,8 @@ def called(data, used, tables, call):
         if isinstance(answer, RefusedPoint):
             return f"refused {answer.number}"
         return " ".join(map(str, ["filled", answer.count, *answer.points]))
-    answer = {"curve": point_on_curve, "surface": point_on_surface}[name](used, tables, *numbers)
+    ask = {"curve": point_on_curve, "surface": point_on_surface, "cubic": cubic_at}[name]
+    answer = ask(used, tables, *numbers)
     if isinstance(answer, RefusedPoint):
         return f"refused {answer.number}"
     return " ".join(map(str, answer))
@@ -242,7 +244,40 @@ def check_bounds(rng, used, tables):
             return f"element {element}: a run differs from its points"
         if kind != SURF and not polyline_holds(rng, used, tables, element, body):
             return f"element {element}: a polyline breaks a rule"
+        cubic = kind != SURF and body.type == BEZIER and body.degrees[0] == 3
+        if cubic and not cubics_agree(used, tables, element, body):
+            return f"element {element}: a step of a cubic is wrong"
+        if not cubic and cubic_at(used, tables, element, 0, 0) != RefusedPoint(17 if kind == SURF else 18):
+            return f"element {element}: a step of no cubic"
     return None
+
+
+def cubics_agree(used, tables, element, body):
+    """Every step of a cubic: 19 exactly outside the range; within half a millionth of the exact value; at
+    a whole millionth that value is the other path's, and the other path's point at most two millionths off."""
+    start, end = body.range[:2]
+    for segment, (first, last) in enumerate(zip(body.u_parameters, body.u_parameters[1:])):
+        for j in range(65):
+            t = first + Fraction(j * (last - first), 64)
+            point = cubic_at(used, tables, element, segment, j)
+            if not start <= t <= end:
+                if point != RefusedPoint(19):
+                    return False
+                continue
+            value = exact_in_segment(tables, element, segment, Fraction(j, 64))
+            if isinstance(point, RefusedPoint) or not within(point, value, 1):
+                return False
+            if t.denominator == 1:
+                other = point_on_curve(used, tables, element, int(t))
+                if value != exact_on_curve(tables, element, int(t)) or max(map(abs, (a - b for a, b in zip(point, other)))) > 2:
+                    return False
+    past = len(body.u_parameters) - 1
+    return all(cubic_at(used, tables, element, *asked) == RefusedPoint(19) for asked in ((0, 65), (past, 0)))
+
+
+def check_table(tally):
+    """Each row of the 65 sums to 262,144."""
+    tally.hold("rows of cubics", [sum(row) for row in CUBIC_TABLE], [262_144] * 65)
 
 
 def run_agrees(rng, used, tables, element, body):
@@ -357,6 +392,7 @@ def check_broken(rng, answer):
         point_on_surface(used, tables, element, 0, 0)
         run_on_curve(used, tables, element, 2, [0] * 9, 0)
         polyline(used, tables, element, 100_000_000, [0] * 9, 0)
+        cubic_at(used, tables, element, 0, 32)
     return check_bounds(rng, used, tables) if whole else None
 
 
@@ -412,6 +448,7 @@ def main():
     check_program(tally)
     check_points(tally)
     check_depth(tally)
+    check_table(tally)
     check_tidied(tally, CASES / "tidy")
     check_tidied(tally, EXAMPLES)
     check_valid(tally, 2, SELF_CHECKS // 4)

@@ -14,15 +14,14 @@ def weights(type_, degree, parameters, t):
     """The weight of every control along one direction."""
     place = place_of(type_, degree, parameters, t)
     if type_ == BEZIER:
-        return bernstein(degree, parameters, place, t)
+        start, end = parameters[place], parameters[place + 1]
+        return bernstein(degree, len(parameters) - 1, place, Fraction(t - start, end - start))
     return cox_de_boor(degree, parameters, place, t)
 
 
-def bernstein(n, parameters, g, t):
+def bernstein(n, segments, g, q):
     """Segment g has controls gn to gn+n; controls outside it weigh 0."""
-    start, end = parameters[g], parameters[g + 1]
-    q = Fraction(t - start, end - start)
-    found = [Fraction(0)] * (n * (len(parameters) - 1) + 1)
+    found = [Fraction(0)] * (n * segments + 1)
     for i in range(n + 1):
         found[g * n + i] = comb(n, i) * q ** i * (1 - q) ** (n - i)
     return found
@@ -48,6 +47,16 @@ def exact_on_curve(tables, element, t):
     """One fraction for each axis, of an element that obeys the rules."""
     body = body_of(tables, element)
     weight = weights(body.type, body.degrees[0], body.u_parameters, t)
+    return [
+        sum(w * number for w, number in zip(weight, numbers) if w)
+        for numbers in control_numbers(tables, element)
+    ]
+
+
+def exact_in_segment(tables, element, segment, q):
+    """The same at q of a given segment of a Bezier curve."""
+    body = body_of(tables, element)
+    weight = bernstein(body.degrees[0], len(body.u_parameters) - 1, segment, q)
     return [
         sum(w * number for w, number in zip(weight, numbers) if w)
         for numbers in control_numbers(tables, element)

@@ -18,7 +18,7 @@ from polyline import polyline
 from reader import read
 from records import CURV, CURV2, SURF, TABLES, Read, Refused, zeros
 from rules import body_of, element_record
-from sampler import RefusedPoint, point_on_curve, point_on_surface, run_on_curve
+from sampler import RefusedPoint, cubic_at, point_on_curve, point_on_surface, run_on_curve
 
 SECOND = Path(__file__).resolve().parent
 CASES = SECOND / "cases"
@@ -94,16 +94,17 @@ def filled(answer, written, table):
 def answers(used, tables, element, steps, s, t, tolerance):
     """What the program writes of one element."""
     curve = point_on_curve(used, tables, element, s)
+    cubic = cubic_at(used, tables, element, 0, steps)
     surface = point_on_surface(used, tables, element, s, t)
     table = [7] * POINTS
     run = run_on_curve(used, tables, element, steps, table, PLACE)
     line = polyline(used, tables, element, tolerance, table, PLACE)
     points = [
         f"refused {point.number}" if isinstance(point, RefusedPoint) else " ".join(map(str, point))
-        for point in (curve, surface)
+        for point in (curve, cubic, surface)
     ]
     return (
-        f" | curve {points[0]} | surface {points[1]}"
+        f" | curve {points[0]} | cubic {points[1]} | surface {points[2]}"
         f" | run {filled(run, lambda r: r.numbers, table)}"
         f" | polyline {filled(line, lambda r: r.count, table)}"
     )

@@ -3,12 +3,15 @@
     point_on_curve(used, tables, element, t)
     point_on_surface(used, tables, element, u, v)
     run_on_curve(used, tables, element, steps, points, at)
+    cubic_at(used, tables, element, segment, j)
 
 The tables are arbitrary: whatever lies in them is answered, refusals in the
 order 17, 15, 18, 19, 16.  Nothing lent is changed; a run gives back the point
 table as it would stand afterwards.
 """
 
+from fractions import Fraction
+from math import comb
 from typing import NamedTuple
 
 from records import BEZIER, BSPLINE, CURV, CURV2, SURF, TABLES
@@ -38,11 +41,15 @@ class RefusedPoint(NamedTuple):
 MOST_STEPS = 65_536
 
 
+def nearest(sum_, d):
+    """sum / D to the nearest whole number, ties away from zero."""
+    size = (2 * abs(sum_) + d) // (2 * d)
+    return -size if sum_ < 0 else size
+
+
 def between(a, b, p, d):
-    """(a(D-p) + bp)/D to the nearest whole number, ties away from zero."""
-    sum_ = a * (d - p) + b * p
-    nearest = (2 * abs(sum_) + d) // (2 * d)
-    return -nearest if sum_ < 0 else nearest
+    """(a(D-p) + bp)/D, rounded."""
+    return nearest(a * (d - p) + b * p, d)
 
 
 def place_of(type_, degree, parameters, t):
@@ -183,3 +190,29 @@ def run_on_curve(used, tables, element, steps, points, at):
     for t in run_parameters(*body.range[:2], steps):
         filled += curve_point(body, axes, t)
     return Filled(needed, points[:at] + filled + points[at + needed:])
+
+
+# Cubics in 64 steps
+
+CUBIC_TABLE = [[comb(3, i) * j ** i * (64 - j) ** (3 - i) for i in range(4)] for j in range(65)]
+
+
+def cubic_at(used, tables, element, segment, j):
+    """The point at j/64 of a segment, segments counted from 0; the sum is divided once."""
+    refused = refusal(used, tables, element, (CURV, CURV2))
+    if refused:
+        return refused
+    body = body_of(tables, element)
+    if body.type != BEZIER or body.degrees[0] != 3:
+        return RefusedPoint(18)
+    if j > 64 or segment >= len(body.u_parameters) - 1:
+        return RefusedPoint(19)
+    first, last = body.u_parameters[segment:segment + 2]
+    start, end = body.range[:2]
+    if not start <= first + Fraction(j, 64) * (last - first) <= end:
+        return RefusedPoint(19)
+    point = [
+        nearest(sum(w * c for w, c in zip(CUBIC_TABLE[j], numbers[3 * segment:])), 262_144)
+        for numbers in control_numbers(tables, element)
+    ]
+    return Space(*point) if len(point) == 3 else Plane(*point)

@@ -2,8 +2,8 @@
 use crate::show;
 use crate::{tell, Failure};
 use kuhlabires::{
-    group_of, material_of, point_on_surface, read, run_on_curve, tidy_text, Body, Decimal, Element, Kind, Refusal,
-    Tables, MOST_BYTES, MOST_POLYLINE_POINTS, MOST_STEPS,
+    cubic_at, group_of, material_of, point_on_surface, read, run_on_curve, tidy_text, Body, Decimal, Element, Kind,
+    Refusal, Tables, CUBIC_STEPS, MOST_BYTES, MOST_POLYLINE_POINTS, MOST_STEPS,
 };
 use std::ffi::OsStr;
 use std::fs::File;
@@ -208,6 +208,31 @@ pub fn polyline(input: Input, element: u32, tolerance: i32, out: &mut dyn Write)
         _ => 3,
     };
     Ok(write_points(&numbers[..axes * points], axes, out)?)
+}
+
+// Every step of every segment that lies in the range; a segment that begins where another ended gives that point once more.
+pub fn cubic(input: Input, element: u32, out: &mut dyn Write) -> Result<(), Failure> {
+    let tables = tables_of(&input)?;
+    let body = tables.element(element).and_then(|asked| tables.body(asked.body));
+    let segments = body.map_or(1, |body| body.u_parameters.saturating_sub(1).max(1));
+    let mut last = Refusal { number: 19, place: 0 };
+    let mut none = true;
+    for segment in 0..segments {
+        for j in 0..=CUBIC_STEPS {
+            match cubic_at(&tables, element, segment, j) {
+                Ok(point) => {
+                    writeln!(out, "{segment} {j} {point}")?;
+                    none = false;
+                }
+                Err(refusal) => last = refusal,
+            }
+        }
+    }
+    if none {
+        tell(format_args!("{}: element {element}: refused {}: {}\n", input.name, last.number, last.words()));
+        return Err(Failure::Refused);
+    }
+    Ok(())
 }
 
 // On a surface the parameters of a run, along u and along v.

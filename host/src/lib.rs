@@ -36,6 +36,9 @@ pub const MOST_STEPS: u32 = 65_536;
 /// The most points of a polyline: 12 halvings, and the start.
 pub const MOST_POLYLINE_POINTS: usize = 4_097;
 
+/// The steps of a segment of a cubic.
+pub const CUBIC_STEPS: u32 = 64;
+
 /// How many entries of each table the text can need: reading it into tables of at least these lengths never gives 14. All together are at
 /// most 22 for each word of the text, so at most 11 for each byte and 11 more. A text over [`MOST_BYTES`] needs none: it is refused.
 pub fn rooms_of(text: &[u8]) -> Rooms {
@@ -71,6 +74,13 @@ pub fn tidy_text(text: &[u8]) -> Result<Vec<u8>, Refusal> {
 /// The point at `t` of the `curv` or `curv2` of that number, from 1 over all elements. Refuses 17, 15, 18, 19, in this order.
 pub fn point_on_curve(tables: &Tables, element: u32, t: i32) -> Result<Point, Refusal> {
     point(raw::point_on_curve(tables, element, t))
+}
+
+/// The point at `j`/64 of a segment of the `curv` or `curv2` of that number, a cubic Bezier; segments count from 0. From one table of weights:
+/// each coordinate is within half a millionth of the exact value. Refuses 17, 15, 18, 19, in this order: 18 also for another type or degree,
+/// 19 for `j` over 64, no such segment, or a step outside the range.
+pub fn cubic_at(tables: &Tables, element: u32, segment: u32, j: u32) -> Result<Point, Refusal> {
+    point(raw::cubic_at(tables, element, segment, j))
 }
 
 /// The point at `s` along u and `t` along v of the `surf` of that number. Refuses 17, 15, 18, 19, in this order.

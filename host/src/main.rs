@@ -21,11 +21,14 @@ kuhlabires: reads, tidies and samples Wavefront .obj files
     kuhlabires polyline FILE ELEMENT TOLERANCE
                                             few points of a curv or curv2 where it is straight: an interval is
                                             halved, at most 12 times, until its middle lies that near to the chord
+    kuhlabires cubic FILE ELEMENT           points of a curv or curv2 that is a cubic bezier: the 64 steps of each
+                                            segment inside its range
     kuhlabires --help
 
 FILE is a path, or - for standard input. ELEMENT is a number as `elements` lists it. STEPS is 1 to 65536.
 TOLERANCE has at most six decimals, in the units of the file: 0.0005 is 500 millionths.
-Points are written one a line, x y z, for a curv2 u v; those of a surf row by row, u varying fastest.
+Points are written one a line, x y z, for a curv2 u v; those of a surf row by row, u varying fastest; those of
+a cubic after the segment, from 0, and the step, 0 to 64.
 Where standard error is a terminal, it is told there that a large file is worked on; with --quiet it is not.
 The exit status is 0; 1 where the file or the call is refused; 2 for bad usage or a file that cannot be opened.
 ";
@@ -74,10 +77,15 @@ fn run(arguments: &[OsString], out: &mut dyn Write) -> Result<(), Failure> {
             let (element, tolerance) = (number("ELEMENT", element)?, millionths("TOLERANCE", tolerance)?);
             commands::polyline(open()?, element, tolerance, out)
         }
+        ["cubic", _, element] => {
+            let element = number("ELEMENT", element)?;
+            commands::cubic(open()?, element, out)
+        }
         [] => Err(Failure::Usage("no command".into())),
         [command @ ("check" | "tidy" | "elements"), ..] => Err(Failure::Usage(format!("{command} takes a FILE"))),
         ["points", ..] => Err(Failure::Usage("points takes a FILE, an ELEMENT and STEPS".into())),
         ["polyline", ..] => Err(Failure::Usage("polyline takes a FILE, an ELEMENT and a TOLERANCE".into())),
+        ["cubic", ..] => Err(Failure::Usage("cubic takes a FILE and an ELEMENT".into())),
         [other, ..] => Err(Failure::Usage(format!("no command {other}"))),
     }
 }

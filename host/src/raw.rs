@@ -70,6 +70,7 @@ boundary! {
     kuhlabires_read(text: *const u8, text_length: usize; *mut i32, *mut u32;) -> Reading;
     kuhlabires_tidy(text: *const u8, text_length: usize; *mut i32, *mut u32; out: *mut u8, out_length: usize) -> Tidying;
     kuhlabires_point_on_curve(used: Used; *const i32, *const u32; element: u32, t: i32) -> Point;
+    kuhlabires_cubic_at(used: Used; *const i32, *const u32; element: u32, segment: u32, j: u32) -> Point;
     kuhlabires_point_on_surface(used: Used; *const i32, *const u32; element: u32, s: i32, t: i32) -> Point;
     kuhlabires_run_on_curve(
         used: Used; *const i32, *const u32;
@@ -155,6 +156,10 @@ pub fn tidy(text: &[u8], tables: &mut Tables, out: &mut [u8]) -> Tidying {
 
 pub fn point_on_curve(tables: &Tables, element: u32, t: i32) -> Point {
     with_tables!(as_ptr, tables, kuhlabires_point_on_curve(tables.used; element, t))
+}
+
+pub fn cubic_at(tables: &Tables, element: u32, segment: u32, j: u32) -> Point {
+    with_tables!(as_ptr, tables, kuhlabires_cubic_at(tables.used; element, segment, j))
 }
 
 pub fn point_on_surface(tables: &Tables, element: u32, s: i32, t: i32) -> Point {

@@ -40,8 +40,8 @@ impl Refusal {
             15 => "a record of the element, names aside, or a vertex that it names breaks a rule or passes the used or lent entries",
             16 => "the tidy text passes the lent buffer or 16,777,216 bytes (at place 0); a run or a polyline passes the lent point table",
             17 => "no element of that number, or one of another kind",
-            18 => "the body is rational, cardinal or taylor",
-            19 => "a parameter outside start..end; a run of 0 or over 65,536 steps; a negative tolerance",
+            18 => "the body is rational, cardinal or taylor; for a cubic in steps also of another type or degree",
+            19 => "a parameter outside start..end; a run of 0 or over 65,536 steps; a negative tolerance; no such step or segment of a cubic, or one outside start..end",
             _ => "no number of refusal",
         }
     }

@@ -56,6 +56,18 @@ fn a_polyline_fills_its_part_alone() {
 }
 
 #[test]
+fn a_cubic_is_sampled_in_steps() {
+    let tables = read_whole(CURVE);
+    for j in 0..=CUBIC_STEPS {
+        assert_eq!(cubic_at(&tables, 1, 0, j), Ok(Point::Space { x: 46_875 * j as i32, y: 0, z: 0 }));
+    }
+    assert_eq!(cubic_at(&tables, 1, 0, 65), Err(Refusal { number: 19, place: 0 }));
+    assert_eq!(cubic_at(&tables, 1, 1, 0), Err(Refusal { number: 19, place: 0 }));
+    assert_eq!(cubic_at(&tables, 2, 0, 0), Err(Refusal { number: 17, place: 0 }));
+    assert_eq!(cubic_at(&read_whole(SURFACE), 1, 0, 0), Err(Refusal { number: 17, place: 0 }));
+}
+
+#[test]
 fn a_surface_is_sampled() {
     let tables = read_whole(SURFACE);
     assert_eq!(

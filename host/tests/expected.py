@@ -17,7 +17,7 @@ from polyline import polyline  # noqa: E402
 from reader import group_of, material_of, read  # noqa: E402
 from records import CURV2, KINDS, SURF, TABLES, TYPES, Refused  # noqa: E402
 from rules import body_of, element_record  # noqa: E402
-from sampler import MOST_STEPS, Filled, RefusedPoint, point_on_surface, run_on_curve, run_parameters  # noqa: E402
+from sampler import MOST_STEPS, Filled, RefusedPoint, cubic_at, point_on_surface, run_on_curve, run_parameters  # noqa: E402
 from tidier import tidy  # noqa: E402
 
 ROOMS = [65_536] * 11
@@ -137,11 +137,21 @@ def cut(name, text, used, tables, element, tolerance):
     return "".join(point(numbers[k:k + axes]) + "\n" for k in range(0, len(numbers), axes))
 
 
+def cubic(name, text, used, tables, element):
+    element = int(element)
+    body = element <= used.elements and element_record(tables, element)[3]
+    segments = max(1, len(body_of(tables, element).u_parameters) - 1) if body else 1
+    asked = [(g, j, cubic_at(used, tables, element, g, j)) for g in range(segments) for j in range(65)]
+    given = [f"{g} {j} {point(answer)}\n" for g, j, answer in asked if not isinstance(answer, RefusedPoint)]
+    number = asked[-1][2].number if not given else 0
+    return "".join(given) or f"{name}: element {element}: refused {number}: {WORDS[number]}\n"
+
+
 def tidied(name, text, used, tables):
     return tidy(text, ROOMS, 65_536).text.decode()
 
 
-COMMANDS = {"check": check, "tidy": tidied, "elements": elements, "points": points, "polyline": cut}
+COMMANDS = {"check": check, "tidy": tidied, "elements": elements, "points": points, "polyline": cut, "cubic": cubic}
 
 
 def written(command, name, *rest):

@@ -4,6 +4,7 @@ ghost use Rattle.tables.specs.Tables.{tables};
 ghost use Rattle.tables.specs.Asking.{cornerOf, groupOf, materialOf};
 ghost use Rattle.sampler.specs.Answers.{pointOnCurve, pointOnSurface, runInto};
 ghost use Rattle.polyline.specs.Answers.{polylineInto};
+ghost use Rattle.cubics.specs.Answers.{cubicAt};
 ghost use Rattle.rooms.specs.Rooms.{roomsOfText};
 ghost use Rattle.reader.specs.Reading.{readInto};
 ghost use Rattle.tidy_file.specs.Tidying.{tidyInto};
@@ -213,6 +214,46 @@ pub extern "C" fn kuhlabires_point_on_surface(
         element,
         s,
         t,
+    ))
+}
+
+// The point at j/64 of a segment of the curv or curv2 of that number, a cubic Bezier; segments count from 0.
+#[no_mangle]
+pub extern "C" fn kuhlabires_cubic_at(
+    used: Used,
+    v: &[i32],
+    vt: &[i32],
+    vn: &[i32],
+    vp: &[i32],
+    corners: &[u32],
+    elements: &[u32],
+    bodies: &[u32],
+    ranges: &[i32],
+    parameters: &[i32],
+    loops: &[u32],
+    spans: &[i32],
+    element: u32,
+    segment: u32,
+    j: u32,
+) -> Point
+    ensures { λ r. ⌜ r ≡ pointIn (cubicAt used (tables (now (v .entry)) (now (vt .entry)) (now (vn .entry)) (now (vp .entry)) (now (corners .entry)) (now (elements .entry)) (now (bodies .entry)) (now (ranges .entry)) (now (parameters .entry)) (now (loops .entry)) (now (spans .entry))) element segment j .outcome) ⌝ }
+{
+    answers::point_of(cubics::cubic_at(
+        used,
+        v,
+        vt,
+        vn,
+        vp,
+        corners,
+        elements,
+        bodies,
+        ranges,
+        parameters,
+        loops,
+        spans,
+        element,
+        segment,
+        j,
     ))
 }
 

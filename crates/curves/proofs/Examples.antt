@@ -12,7 +12,7 @@ use Rattle.whole.specs.Round.{rounded, between}
 use Rattle.whole.specs.Fractions.{Frac, whole, _+ᶠ_, _-ᶠ_, _*ᶠ_, power, over, sumTo}
 use Rattle.lists.specs.Lists.{all}
 use Rattle.curves.specs.Directions.{Basis, bezier, bspline, Direction, Rules, at, lastWhere, segment, span, chosen}
-use Rattle.curves.specs.Exact.{choose, along, bernstein, bezierWeight, splineWeight, weightAt, curveExact, surfaceExact}
+use Rattle.curves.specs.Exact.{choose, along, bernstein, segmentWeight, bezierWeight, splineWeight, weightAt, curveExact, surfaceExact}
 use Rattle.curves.specs.Sampled.{pyramid, lowAt, highAt, partAt, gapAt, firstControl, curveSampled, surfaceSampled}
 
 abbrev eqZ : ℤ → ℤ → Bool
@@ -75,7 +75,7 @@ cases =
     ∷ []
 
 curves-hold : all holds cases ≡ true
-unfolding cases curveSampled curveExact pyramid lowAt highAt partAt gapAt firstControl chosen segment span lastWhere weightAt bezierWeight bernstein along choose splineWeight power over sumTo whole _+ᶠ_ _-ᶠ_ _*ᶠ_ between rounded
+unfolding cases curveSampled curveExact pyramid lowAt highAt partAt gapAt firstControl chosen segment span lastWhere weightAt segmentWeight bezierWeight bernstein along choose splineWeight power over sumTo whole _+ᶠ_ _-ᶠ_ _*ᶠ_ between rounded
 curves-hold = refl
 
 -- 2 by 2 controls, half way along u and a quarter along v: (0 + 10) / 2 · 3/4 + (4 + 20) / 2 · 1/4
@@ -87,7 +87,7 @@ line e = record { basis = bezier; degree = 1; controls = 2; parameters = pos 0 �
 
 surface-holds : (surfaceSampled (line (pos 2)) (line (pos 4)) (pos 1) (pos 1) grid ≡ pos 7)
     × (surfaceExact (line (pos 2)) (line (pos 4)) (pos 1) (pos 1) grid .top *ℤ pos 4 ≡ pos 27 *ℤ pos (surfaceExact (line (pos 2)) (line (pos 4)) (pos 1) (pos 1) grid .bot))
-unfolding surfaceSampled surfaceExact curveSampled pyramid lowAt highAt partAt gapAt firstControl chosen segment lastWhere weightAt bezierWeight bernstein along choose power over sumTo whole _+ᶠ_ _-ᶠ_ _*ᶠ_ between rounded
+unfolding surfaceSampled surfaceExact curveSampled pyramid lowAt highAt partAt gapAt firstControl chosen segment lastWhere weightAt segmentWeight bezierWeight bernstein along choose power over sumTo whole _+ᶠ_ _-ᶠ_ _*ᶠ_ between rounded
 surface-holds = (refl, refl)
 
 -- the rules can be met, and the bound is: at degree 1 the point is half a millionth off
@@ -101,5 +101,5 @@ half-way = record { many = lit≤ tt; count = refl; rising = rises; low = leZ-ye
 
 bound-met : (let f : Frac = curveExact (line (pos 2)) (pos 1) (at (pos 0 ∷ pos 1 ∷ [])) in
     2 * natAbs (curveSampled (line (pos 2)) (pos 1) (at (pos 0 ∷ pos 1 ∷ [])) *ℤ pos (f .bot) -ℤ f .top) ≡ 1 * f .bot)
-unfolding curveSampled curveExact pyramid lowAt highAt partAt gapAt firstControl chosen segment lastWhere weightAt bezierWeight bernstein along choose power over sumTo whole _+ᶠ_ _-ᶠ_ _*ᶠ_ between rounded
+unfolding curveSampled curveExact pyramid lowAt highAt partAt gapAt firstControl chosen segment lastWhere weightAt segmentWeight bezierWeight bernstein along choose power over sumTo whole _+ᶠ_ _-ᶠ_ _*ᶠ_ between rounded
 bound-met = refl

@@ -9,20 +9,39 @@ use borrow.Author.Tests.{le-leb, lt-leb}
 use lib.Dec.{leb}
 use lib.ListN.{length}
 use lib.IntN.{ℤ, pos, natAbs, _-ℤ_}
-use Rattle.whole.specs.Fractions.{over}
+use Rattle.whole.specs.Fractions.{Frac, whole, _*ᶠ_, over, sumTo}
 use Rattle.whole.proofs.Order.{up, up-refl, up-trans, up-abs, up-wide, up-part}
 use Rattle.whole.proofs.FracLaws.{Is, is-conv, is-whole, is-over}
 use Rattle.lists.proofs.Tests.{and-second}
 use Rattle.curves.specs.Directions.{Basis, bezier, bspline, Direction, at, segment, span, chosen, BezierRules, SplineRules, Rules}
-use Rattle.curves.specs.Exact.{along, bezierWeight, splineWeight, weightAt}
+use Rattle.curves.specs.Exact.{along, segmentWeight, bezierWeight, splineWeight, weightAt}
 use Rattle.curves.specs.Sampled.{pyramid, lowAt, highAt, partAt, gapAt, firstControl, curveSampled}
 use Rattle.curves.proofs.Chosen.{Holds, segment-below, segment-holds, span-below, span-from, span-holds}
 use Rattle.curves.proofs.Bernstein.{share, casteljau-near, power-above, bernstein-is}
 use Rattle.curves.proofs.SplineScheme.{OnSpan, part, gap, part-le, gap-pos, portion, all, all-above, near}
 use Rattle.curves.proofs.SplineWeights.{outside, inside}
-use Rattle.curves.proofs.Weights.{Sampler, window-sampler}
+use Rattle.curves.proofs.Scheme.{weigh}
+use Rattle.curves.proofs.Weights.{Sampler, window-is, window-sampler}
 
--- ---- Bezier: segment g, on which t is p parts of D
+-- ---- Bezier: at q of segment g, which is p parts of D
+module _ (q : Frac) (p D : ℕ) (l : p ≤ D) (f : Is q (pos p) D) (g : ℕ) where
+  in-segment : (n j : ℕ) → j ≤ n → Is (segmentWeight q g n (g * n + j)) (pos (share p D n j)) (D ^ n)
+  unfolding segmentWeight
+  in-segment n j h =
+      let e : g * n + j - g * n ≡ j = omega arith in
+      rw (le-leb (g * n) (g * n + j) (omega arith), le-leb (g * n + j) (g * n + n) (omega arith), e) (bernstein-is q p D l f n j h)
+
+  off-segment : (n i : ℕ) → (i < g * n) ⊎ (g * n + n < i) → Is (segmentWeight q g n i) (pos 0) 1
+  unfolding segmentWeight
+  off-segment n i (inl h) = rw (lt-leb (g * n) i h) (is-whole (pos 0) 1)
+  off-segment n i (inr h) = rw (and-second (leb (g * n) i) (lt-leb i (g * n + n) h)) (is-whole (pos 0) 1)
+
+  -- the exact value there is the sum of the segment's controls by Bernstein's parts
+  pub segment-is : (n k : ℕ) → g * n + n < k → (c : ℕ → ℤ)
+      → Is (sumTo k (λ i. segmentWeight q g n i *ᶠ whole (c i))) (weigh (suc n) (share p D n) (λ j. c (g * n + j))) (D ^ n)
+  segment-is n k h c = window-is k (g * n) n (segmentWeight q g n) (share p D n) (D ^ n) h (in-segment n) (off-segment n) c
+
+-- segment g, on which t is p parts of D
 module _ (x : ℕ → ℤ) (t : ℤ) (g : ℕ) (h : Holds x t g) where
   abbrev p : ℕ
   p = natAbs (t -ℤ x g)
@@ -36,27 +55,18 @@ module _ (x : ℕ → ℤ) (t : ℤ) (g : ℕ) (h : Holds x t g) where
   pub p-within : p ≤ D
   p-within = up-part (up (h .low)) (up (h .high))
 
-  along-is : Is (along x t g) (pos p) D
+  pub along-is : Is (along x t g) (pos p) D
   unfolding along
   along-is =
       subst₂ (λ a b. Is (over a b) (pos p) D) (sym (up-abs (up (h .low)))) (sym (up-abs {a = x g} {b = x (suc g)} (up-trans (up (h .low)) (up (h .high)))))
       (is-conv (ap pos (mul-one p)) (mul-one D) (is-over (pos p) D 1 D-above))
 
-  in-segment : (n j : ℕ) → j ≤ n → Is (bezierWeight x t g n (g * n + j)) (pos (share p D n j)) (D ^ n)
-  unfolding bezierWeight
-  in-segment n j l =
-      let e : g * n + j - g * n ≡ j = omega arith in
-      rw (le-leb (g * n) (g * n + j) (omega arith), le-leb (g * n + j) (g * n + n) (omega arith), e) (bernstein-is (along x t g) p D p-within along-is n j l)
-
-  off-segment : (n i : ℕ) → (i < g * n) ⊎ (g * n + n < i) → Is (bezierWeight x t g n i) (pos 0) 1
-  unfolding bezierWeight
-  off-segment n i (inl l) = rw (lt-leb (g * n) i l) (is-whole (pos 0) 1)
-  off-segment n i (inr l) = rw (and-second (leb (g * n) i) (lt-leb i (g * n + n) l)) (is-whole (pos 0) 1)
-
   segment-sampler : (n k : ℕ) → g * n + n < k → Sampler k (bezierWeight x t g n) n (λ c. pyramid (λ r j. p) (λ r j. D) n (λ j. c (g * n + j)))
+  unfolding bezierWeight
   segment-sampler n k l =
-      window-sampler k (g * n) n (bezierWeight x t g n) (share p D n) (D ^ n) (pyramid (λ r j. p) (λ r j. D) n) l (power-above D n D-above)
-      (in-segment n) (off-segment n) (casteljau-near p D D-above p-within n)
+      window-sampler k (g * n) n (segmentWeight (along x t g) g n) (share p D n) (D ^ n) l
+      (in-segment (along x t g) p D p-within along-is g n) (off-segment (along x t g) p D p-within along-is g n)
+      (pyramid (λ r j. p) (λ r j. D) n) (power-above D n D-above) (casteljau-near p D D-above p-within n)
 
 pub segment-controls : {n k : ℕ} {x : List ℤ} {t : ℤ} → BezierRules n k x t → segment (at x) (length x) t * n + n < k
 segment-controls {n} {k} {x} {t} r =
@@ -79,8 +89,8 @@ module _ (x : ℕ → ℤ) (t : ℤ) (s n : ℕ) (o : OnSpan x t s n) where
 
   span-sampler : (k : ℕ) → s - n + n < k → Sampler k (splineWeight x t s n) n (λ c. pyramid (part x t s) (gap x t s) n (λ j. c (s - n + j)))
   span-sampler k l =
-      window-sampler k (s - n) n (splineWeight x t s n) (portion x t s n) (all x t s n) (pyramid (part x t s) (gap x t s) n) l (all-above x t s n o n (le-refl n))
-      in-span off-span (near x t s n o n (le-refl n))
+      window-sampler k (s - n) n (splineWeight x t s n) (portion x t s n) (all x t s n) l in-span off-span
+      (pyramid (part x t s) (gap x t s) n) (all-above x t s n o n (le-refl n)) (near x t s n o n (le-refl n))
 
 pub span-controls : {n k : ℕ} {x : List ℤ} {t : ℤ} → SplineRules n k x t → span (at x) n k t - n + n < k
 span-controls r = omega (arith, span-below r, span-from r)

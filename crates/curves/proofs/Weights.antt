@@ -81,10 +81,15 @@ ones (suc m) w = ap (λ z. z +ℤ pos (w m) *ℤ pos 1) (ones m w) ∙ ring (pos
 total-window : (first n : ℕ) (w : ℕ → ℕ) (m : ℕ) → first + n < m → total m (part first n w) ≡ total (suc n) w
 total-window first n w m h = ap natAbs (sym (ones m (part first n w)) ∙ weigh-window first n w (λ i. pos 1) m h ∙ ones (suc n) w)
 
-module _ (m first n : ℕ) (f : ℕ → Frac) (w : ℕ → ℕ) (Q : ℕ) (S : (ℕ → ℤ) → ℤ) (fits : first + n < m) (some : 0 < Q)
+-- the exact value as W / Q
+weighed-is : (m Q : ℕ) (u : ℕ → Frac) (w : ℕ → ℕ) → ((i : ℕ) → i < m → Is (u i) (pos (w i)) Q) → (c : ℕ → ℤ) → Is (sumTo m (λ i. u i *ᶠ whole (c i))) (weigh m w c) Q
+weighed-is m Q u w are c =
+    is-sum m Q (λ i. u i *ᶠ whole (c i)) (λ i. pos (w i) *ℤ c i)
+    (λ i l. is-conv (ring (pos (w i) ∷ c i ∷ []) (λ w c. w ⊗ (c ⊗ K (pos 1)) ≐ w ⊗ c) tt) (mul-one Q) (is-times (are i l) (is-whole (c i) 1)))
+
+module _ (m first n : ℕ) (f : ℕ → Frac) (w : ℕ → ℕ) (Q : ℕ) (fits : first + n < m)
     (inside : (j : ℕ) → j ≤ n → Is (f (first + j)) (pos (w j)) Q)
-    (outside : (i : ℕ) → (i < first) ⊎ (first + n < i) → Is (f i) (pos 0) 1)
-    (near : (c : ℕ → ℤ) → Near (suc n) w c Q n (S c)) where
+    (outside : (i : ℕ) → (i < first) ⊎ (first + n < i) → Is (f i) (pos 0) 1) where
   is-part : (i : ℕ) → Is (f i) (pos (part first n w i)) Q
   is-part i = go (decLe first i) (decLe i (first + n))
     where
@@ -99,22 +104,25 @@ module _ (m first n : ℕ) (f : ℕ → Frac) (w : ℕ → ℕ) (Q : ℕ) (S : (
       go (yes h) (no l) = out (inr (omega arith)) (part-beyond first n w i (omega arith))
       go (no h) l = out (inl (omega arith)) (part-below first n w i (omega arith))
 
-  pub window-sampler : Sampler m f n (λ c. S (λ j. c (first + j)))
-  window-sampler = record {
-    parts = part first n w;
-    all = Q;
-    some = some;
-    are = λ i l. is-part i;
-    make = total-window first n w m fits ∙ near (λ i. pos 0) .whole;
-    near = λ c. rw (weigh-window first n w c m fits) (near (λ j. c (first + j)) .close);
-  }
+  -- the sum over all controls is the window's
+  pub window-is : (c : ℕ → ℤ) → Is (sumTo m (λ i. f i *ᶠ whole (c i))) (weigh (suc n) w (λ j. c (first + j))) Q
+  window-is c = is-conv (weigh-window first n w c m fits) refl (weighed-is m Q f (part first n w) (λ i l. is-part i) c)
+
+  module _ (S : (ℕ → ℤ) → ℤ) (some : 0 < Q) (near : (c : ℕ → ℤ) → Near (suc n) w c Q n (S c)) where
+    pub window-sampler : Sampler m f n (λ c. S (λ j. c (first + j)))
+    window-sampler = record {
+      parts = part first n w;
+      all = Q;
+      some = some;
+      are = λ i l. is-part i;
+      make = total-window first n w m fits ∙ near (λ i. pos 0) .whole;
+      near = λ c. rw (weigh-window first n w c m fits) (near (λ j. c (first + j)) .close);
+    }
 
 -- ---- the exact values as W / Q
 module _ {m : ℕ} {u : ℕ → Frac} {k : ℕ} {f : (ℕ → ℤ) → ℤ} (a : Sampler m u k f) where
   pub curve-is : (c : ℕ → ℤ) → Is (sumTo m (λ i. u i *ᶠ whole (c i))) (weigh m (a .parts) c) (a .all)
-  curve-is c =
-      is-sum m (a .all) (λ i. u i *ᶠ whole (c i)) (λ i. pos (a .parts i) *ℤ c i)
-      (λ i l. is-conv (ring (pos (a .parts i) ∷ c i ∷ []) (λ w c. w ⊗ (c ⊗ K (pos 1)) ≐ w ⊗ c) tt) (mul-one (a .all)) (is-times (a .are i l) (is-whole (c i) 1)))
+  curve-is c = weighed-is m (a .all) u (a .parts) (a .are) c
 
   pub weights-are : Is (sumTo m u) (pos (a .all)) (a .all)
   unfolding sum total

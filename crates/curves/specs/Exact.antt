@@ -20,10 +20,13 @@ along x t g = over (t -ℤ x g) (x (suc g) -ℤ x g)
 unfoldable pub bernstein : (q : Frac) (n i : ℕ) → Frac
 bernstein q n i = whole (pos (choose n i)) *ᶠ power q i *ᶠ power (whole (pos 1) -ᶠ q) (n - i)
 
--- "segment g .. has controls gn to gn+n"; "controls outside it weigh 0"
+-- at q of segment g: "segment g .. has controls gn to gn+n"; "controls outside it weigh 0"
+unfoldable pub segmentWeight : (q : Frac) (g n i : ℕ) → Frac
+segmentWeight q g n i =
+    cond (leb (g * n) i && leb i (g * n + n)) (bernstein q n (i - g * n)) (whole (pos 0))
+
 unfoldable pub bezierWeight : (x : ℕ → ℤ) (t : ℤ) (g n i : ℕ) → Frac
-bezierWeight x t g n i =
-    cond (leb (g * n) i && leb i (g * n + n)) (bernstein (along x t g) n (i - g * n)) (whole (pos 0))
+bezierWeight x t g n i = segmentWeight (along x t g) g n i
 
 -- `splineWeight x t s r i` is N(i,r). "N(i,0) is 1 where x_i to x_(i+1) is the span chosen above for t, else 0. N(i,r) is N(i,r-1)(t-x_i)/(x_(i+r)-x_i)
 -- plus N(i+1,r-1)(x_(i+r+1)-t)/(x_(i+r+1)-x_(i+1)); of these two, one whose divisor is 0 counts as 0."
@@ -43,6 +46,10 @@ weightAt d t i =
 -- "a coordinate's exact value is the sum, over all controls, of weight times the control's number on that axis"
 unfoldable pub curveExact : Direction → (t : ℤ) → (ℕ → ℤ) → Frac
 curveExact d t c = sumTo (d .controls) (λ i. weightAt d t i *ᶠ whole (c i))
+
+-- the same sum at q of segment g of a Bezier curve, where the segment is given and not chosen: 02, Q-14, "at j/64 of a segment"
+unfoldable pub segmentExact : Direction → (g : ℕ) (q : Frac) → (ℕ → ℤ) → Frac
+segmentExact d g q c = sumTo (d .controls) (λ i. segmentWeight q g (d .degree) i *ᶠ whole (c i))
 
 -- "On a surface the control at i along u and j along v weighs i's u weight .. times j's v weight, each with its own direction's parameters and t"
 unfoldable pub surfaceExact : (u v : Direction) (s t : ℤ) → (ℕ → ℕ → ℤ) → Frac

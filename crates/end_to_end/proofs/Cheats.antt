@@ -31,7 +31,7 @@ use Rattle.tidying.specs.Tidied.{tidied}
 use Rattle.tidying.specs.Printed.{tidyText}
 use Rattle.tidy_file.specs.declared.Tidied.the-variants.{Written, TooLong}
 use Rattle.curves.specs.Directions.{chosen, segment, lastWhere}
-use Rattle.curves.specs.Exact.{choose, along, bernstein, bezierWeight, weightAt, curveExact}
+use Rattle.curves.specs.Exact.{choose, along, bernstein, segmentWeight, bezierWeight, weightAt, curveExact}
 use Rattle.basis.specs.Widest.{widest}
 use Rattle.rules.specs.Rules.{obeys, elementObeys}
 use Rattle.rules.specs.Numbers.{small, smallRun}
@@ -163,11 +163,11 @@ abbrev fraction : ℤ → Frac
 fraction z = record { top = z; bot = 1 }
 
 at-start : exact (pos 0) ≡ fraction (pos 0)
-unfolding curveExact weightAt bezierWeight bernstein along choose chosen segment lastWhere sumTo power over whole _+ᶠ_ _-ᶠ_ _*ᶠ_ controlOf
+unfolding curveExact weightAt segmentWeight bezierWeight bernstein along choose chosen segment lastWhere sumTo power over whole _+ᶠ_ _-ᶠ_ _*ᶠ_ controlOf
 at-start = refl
 
 at-end : exact (pos 1) ≡ fraction (pos 2)
-unfolding curveExact weightAt bezierWeight bernstein along choose chosen segment lastWhere sumTo power over whole _+ᶠ_ _-ᶠ_ _*ᶠ_ controlOf
+unfolding curveExact weightAt segmentWeight bezierWeight bernstein along choose chosen segment lastWhere sumTo power over whole _+ᶠ_ _-ᶠ_ _*ᶠ_ controlOf
 at-end = refl
 
 -- a whole number within half of another is that one

@@ -51,7 +51,7 @@ all-passed surface used t number some in-use kind obeyed plain type =
     sym (none-given surface used t number some in-use l kind obeyed (plain-carried (bodyOf t number .rational) (bodyOf t number .basis) plain type))
 
 module _ {used : Used} {t : Tables} {number : ℕ} (c : Curve used t number) where
-  curve-given : refusalOf false used t number ≡ 0
+  pub curve-given : refusalOf false used t number ≡ 0
   curve-given = all-passed false used t number (c .some) (c .in-use) (curve-wanted (elementOf t number .kind) (c .kind)) (c .obeyed) (c .plain) (c .type)
 
   -- the rounded rule is near the exact value, at every parameter of the range

@@ -33,7 +33,7 @@ module _ (t : Tables) (e : Element) (b : Body) (p : ℤ) (axis : ℕ) where
   abbrev along : Along
   along = alongOf (b .basis) (b .«degree_u») (b .«count_u»)
 
-  plane-control : eqb (e .kind) 5 ≡ true → (i : ℕ) → controlAt (t .vp) (t .corners) (e .first) (1 + axis) i ≡ controlOf t e axis i
+  pub plane-control : eqb (e .kind) 5 ≡ true → (i : ℕ) → controlAt (t .vp) (t .corners) (e .first) (1 + axis) i ≡ controlOf t e axis i
   unfolding controlAt controlOf
   plane-control h i = rw h
 

@@ -30,7 +30,7 @@ pub enum Ran {
 }
 
 // 17, 15 and 18, in this order; 0 where none of them is given.
-fn refusal(
+pub fn refusal(
     surface: bool,
     used: Used,
     v: &[i32],

@@ -1,5 +1,6 @@
 // Texts, and the points on each of their elements, in tables of 16,384 entries. A case is a line and then the text: the text's length, the steps of a run, a
 // number of element, and what the case shows, which is written again before the answers for that number and the next two. The parameters asked for are the first two numbers of the text's first vn, the tolerance of a polyline is its third.
+// The step of a cubic is that of segment 0 whose number is the run's steps.
 use case_files::least;
 use case_files::line_end;
 use case_files::number_at;
@@ -191,6 +192,24 @@ fn sample(
         spans,
         element,
         s,
+    ));
+    put(b" | cubic");
+    put_point(cubics::cubic_at(
+        used,
+        v,
+        vt,
+        vn,
+        vp,
+        corners,
+        elements,
+        bodies,
+        ranges,
+        parameters,
+        loops,
+        spans,
+        element,
+        0,
+        steps,
     ));
     put(b" | surface");
     put_point(sampler::point_on_surface(

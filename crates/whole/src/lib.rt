@@ -2,10 +2,10 @@
 ghost use mathlib.Core.Path.{_≡_};
 ghost use Prim.Native.Nat.{_*_, _^_, _≤_, _<_};
 ghost use lib.IntN.{pos, natAbs, _-ℤ_, _*ℤ_};
-ghost use Rattle.whole.specs.Round.{between, nearest, signed, Small};
+ghost use Rattle.whole.specs.Round.{between, rounded, nearest, signed, Small};
 
 // k times a.
-fn weighted(a: i32, k: u64) -> i64
+pub fn weighted(a: i32, k: u64) -> i64
     requires { ⌜ Small a × (k ≤ 4000000000) ⌝ }
     ensures { λ r. ⌜ (r ≡ a *ℤ pos k) × (natAbs r ≤ 2000000000 * k) ⌝ }
 {
@@ -36,13 +36,21 @@ fn nearest(m: u64, d: u64) -> u64
     (2 * m + d) / (2 * d)
 }
 
+// n / d to the nearest whole number, ties away from zero.
+pub fn rounded(n: i64, d: u64) -> i32
+    requires { ⌜ (0 < d) × (d ≤ 4000000000) × (natAbs n ≤ 2000000000 * d) ⌝ }
+    ensures { λ r. ⌜ (r ≡ rounded n d) × Small r ⌝ }
+{
+    with_sign(n < 0, nearest(size(n), d))
+}
+
 // Between a and b at p parts of d.
 pub fn between(a: i32, b: i32, p: u64, d: u64) -> i32
     requires { ⌜ Small a × Small b × (p ≤ d) × (0 < d) × (d ≤ 4000000000) ⌝ }
     ensures { λ r. ⌜ (r ≡ between a b p d) × Small r ⌝ }
 {
     let n = weighted(a, d - p) + weighted(b, p);
-    with_sign(n < 0, nearest(size(n), d))
+    rounded(n, d)
 }
 
 // How far b is from a.

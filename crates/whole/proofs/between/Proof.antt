@@ -1,6 +1,6 @@
--- The sum's size is at most that of the larger number times d, so every step fits; its sign and its size make the rounded number (`rounded-signed`).
+-- The sum's size is at most that of the larger number times d, so every step fits, and the sum is rounded.
 use borrow.Author.Needs.{needs}
-use mathlib.Core.Path.{_≡_, _∙_}
+use mathlib.Core.Path.{_≡_}
 use Prim.Native.Nat.{_-_, _*_, _≤_}
 use native.Mathlib.Omega.{arith}
 use lib.IntN.{natAbs, pos, _+ℤ_, _*ℤ_}
@@ -10,7 +10,6 @@ use mir.Facts.{toZ-ofZ}
 use Rattle.whole.specs.Round.{between}
 use Rattle.whole.proofs.IntLaws.{abs-+}
 use Rattle.whole.proofs.Bits.{fits-abs, read-back}
-use Rattle.whole.proofs.Rounding.{rounded-signed}
 use Rattle.whole.proofs.between.Statement.{statement}
 use Rattle.whole.proofs.between.Tie as tie
 
@@ -38,31 +37,22 @@ add-n c =
     rw (read-back w64 (c .before .weighted .result) (omega arith), read-back w64 (c .weighted2 .result) (omega arith))
     (fits-abs w64 (c .before .weighted .result +ℤ c .weighted2 .result) (omega (arith, sum-size c)))
 
-size-requires : tie.Need-size-requires
-size-requires c κs = rw (sum-is c) (omega (arith, sum-size c))
-
-nearest-requires : tie.Need-nearest-requires
-nearest-requires c κs =
-    let s = c .before .before .before in
-    (s .pre .3, s .pre .4, rw (c .size .ensures, sum-is (c .before)) (sum-size (c .before)))
-
-with-sign-requires : tie.Need-with-sign-requires
-with-sign-requires c κs = search needs
+rounded-requires : tie.Need-rounded-requires
+rounded-requires c κs =
+    let s = c .before .before in
+    (s .pre .3, s .pre .4, rw (sum-is c) (sum-size c))
 
 returns : tie.Need-returns
 unfolding between
 returns c =
-    let n = c .before in
-    let z = n .before in
-    let w = z .before in
+    let w = c .before in
     let s = w .before .before in
-    rw (read-back w32 (c .with-sign .result) (omega arith)) (
-      rw (n .nearest .ensures .0, z .size .ensures, sum-is w, w .before .weighted .ensures .0, w .weighted2 .ensures .0, toZ-ofZ (s .fits .a), toZ-ofZ (s .fits .b)) at (c .with-sign .ensures .0)
-          ∙ rounded-signed (s .args .a *ℤ pos (s .args .d - s .args .p) +ℤ s .args .b *ℤ pos (s .args .p)) (s .args .d),
-      c .with-sign .ensures .1,
+    rw (read-back w32 (c .rounded .result) (omega arith)) (
+      rw (sum-is w, w .before .weighted .ensures .0, w .weighted2 .ensures .0, toZ-ofZ (s .fits .a), toZ-ofZ (s .fits .b)) at (c .rounded .ensures .0),
+      c .rounded .ensures .1,
     )
 
 pub between-spec : {M : Type 1} → statement M
 between-spec =
     tie.close
-    (tie.spec sub-weighted weighted-requires weighted-requires-2 add-n size-requires nearest-requires with-sign-requires returns)
+    (tie.spec sub-weighted weighted-requires weighted-requires-2 add-n rounded-requires returns)

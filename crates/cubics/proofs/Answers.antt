@@ -1,0 +1,117 @@
+-- The answers by the tests that lead to each, what a cubic that is granted gives, and the points of the parts that are lent as those of the tables.
+use mathlib.Core.Path.{_≡_, refl, sym, ap, ap₂, _∙_, subst}
+use mathlib.Core.Bool.{Bool, true, false, cond, _&&_}
+use mathlib.Core.List.{List}
+use Prim.Native.Nat.{ℕ, suc, _+_, _*_, _-_, _≤_, _<_}
+use native.Mathlib.Omega.{arith}
+use borrow.Author.Tests.{ne-eqb, leb-true, eqb-true}
+use lib.Dec.{leb, eqb}
+use lib.ListN.{length}
+use lib.IntN.{ℤ, pos, _*ℤ_}
+use lib.Signed.{_≤ℤ_, ≤ℤ-refl}
+use Rattle.lists.proofs.Tests.{and-left, and-right}
+use Rattle.whole.specs.Round.{Small}
+use Rattle.tables.specs.Tables.{Tables}
+use Rattle.tables.specs.Records.{parametersU}
+use Rattle.tables.specs.declared.Body.{Body}
+use Rattle.tables.specs.declared.Used.{Used}
+use Rattle.tables.specs.declared.Element.{Element}
+use Rattle.curves.specs.Directions.{at, BezierRules}
+use Rattle.rows.specs.Controls.{controlAt, Held}
+use Rattle.rows.specs.declared.Along.{Along}
+use Rattle.rows.proofs.Places.{bezierOnly}
+use Rattle.rows.proofs.Grids.{held-part}
+use Rattle.sampler.specs.Points.{alongOf, controlOf}
+use Rattle.sampler.specs.Answers.{sampledResult, elementOf, bodyOf, refusalOf, inside}
+use Rattle.sampler.specs.declared.Sampled.the-variants as sampled
+use Rattle.sampler.proofs.Obeyed.{Curved}
+use Rattle.sampler.proofs.Entries.{space-eq, plane-control, space-control}
+use Rattle.cubics.specs.Weights.{cubicSampled}
+use Rattle.cubics.specs.Answers.{cubic, parameter64, reached, cubicPoint, cubicAt}
+use Rattle.cubics.specs.Inner.{axisBy, pointBy}
+
+-- ---- the points
+same-controls : (g j : ℕ) (c d : ℕ → ℤ) → ((i : ℕ) → c i ≡ d i) → cubicSampled g j c ≡ cubicSampled g j d
+unfolding cubicSampled
+same-controls g j c d h = rw (h (g * 3), h (g * 3 + 1), h (g * 3 + 2), h (g * 3 + 3))
+
+module _ (t : Tables) (e : Element) (b : Body) (g j : ℕ) where
+  plane : eqb (e .kind) 5 ≡ true → (axis : ℕ) → axisBy (t .vp) (t .corners) (e .first) g j (1 + axis) ≡ cubicSampled g j (controlOf t e axis)
+  plane h axis = same-controls g j (controlAt (t .vp) (t .corners) (e .first) (1 + axis)) (controlOf t e axis) (plane-control t e b (pos 0) axis h)
+
+  space : eqb (e .kind) 5 ≡ false → (axis : ℕ) → axisBy (t .v) (t .corners) (e .first) g j axis ≡ cubicSampled g j (controlOf t e axis)
+  space h axis = same-controls g j (controlAt (t .v) (t .corners) (e .first) axis) (controlOf t e axis) (space-control t e b (pos 0) axis h)
+
+  by-kind : (q : Bool) → eqb (e .kind) 5 ≡ q → sampledResult (pointBy (e .kind) (t .v) (t .vp) (t .corners) (e .first) g j) ≡ cubicPoint t e g j
+  unfolding pointBy cubicPoint
+  by-kind true h = rw h (ap sampledResult (ap₂ sampled.Plane (plane h 0) (plane h 1)))
+  by-kind false h = rw h (ap sampledResult (space-eq (space h 0) (space h 1) (space h 2)))
+
+  pub point-is : sampledResult (pointBy (e .kind) (t .v) (t .vp) (t .corners) (e .first) g j) ≡ cubicPoint t e g j
+  point-is = by-kind (eqb (e .kind) 5) refl
+
+-- ---- the answers
+module _ (used : Used) (t : Tables) (number g j : ℕ) where
+  pub refused : {r : ℕ} → r ≡ refusalOf false used t number → (r ≡ 0 → ⊥) → sampledResult (sampled.Refused r) ≡ cubicAt used t number g j
+  unfolding cubicAt
+  refused {r} e h = rw (sym e, ne-eqb r 0 h)
+
+  module _ (granted : refusalOf false used t number ≡ 0) where
+    pub not-cubic : cubic (bodyOf t number .basis) (bodyOf t number .«degree_u») ≡ false → sampledResult (sampled.Refused 18) ≡ cubicAt used t number g j
+    unfolding cubicAt
+    not-cubic h = rw (granted, h)
+
+    module _ (is : cubic (bodyOf t number .basis) (bodyOf t number .«degree_u») ≡ true) where
+      pub not-reached : reached (parametersU t (bodyOf t number)) (bodyOf t number .«start_u») (bodyOf t number .«end_u») g j ≡ false
+          → sampledResult (sampled.Refused 19) ≡ cubicAt used t number g j
+      unfolding cubicAt
+      not-reached h = rw (granted, is, h)
+
+      pub handed-out : reached (parametersU t (bodyOf t number)) (bodyOf t number .«start_u») (bodyOf t number .«end_u») g j ≡ true
+          → cubicPoint t (elementOf t number) g j ≡ cubicAt used t number g j
+      unfolding cubicAt
+      handed-out h = rw (granted, is, h)
+
+-- ---- what the tests say
+pub cubic-type : (type degree : ℕ) → cubic type degree ≡ true → type ≡ 1
+cubic-type type degree h = eqb-true type 1 (and-left (eqb type 1) (eqb degree 3) h)
+
+pub cubic-degree : (type degree : ℕ) → cubic type degree ≡ true → degree ≡ 3
+cubic-degree type degree h = eqb-true degree 3 (and-right (eqb type 1) (eqb degree 3) h)
+
+module _ (x : List ℤ) (start end : ℤ) (g j : ℕ) (h : reached x start end g j ≡ true) where
+  counts : (leb j 64 && leb (g + 2) (length x)) ≡ true
+  unfolding reached
+  counts = and-left (leb j 64 && leb (g + 2) (length x)) (inside (pos 64 *ℤ start) (pos 64 *ℤ end) (parameter64 x g j)) h
+
+  pub step-there : j ≤ 64
+  step-there = leb-true j 64 (and-left (leb j 64) (leb (g + 2) (length x)) counts)
+
+  pub segment-there : g + 2 ≤ length x
+  segment-there = leb-true (g + 2) (length x) (and-right (leb j 64) (leb (g + 2) (length x)) counts)
+
+-- ---- a cubic that is granted
+module _ {t : Tables} {e : Element} {b : Body} (c : Curved t e b) (type : b .basis ≡ 1) (degree : b .«degree_u» ≡ 3) where
+  abbrev along : Along
+  along = alongOf (b .basis) (b .«degree_u») (b .«count_u»)
+
+  pub rules : (p : ℤ) → b .«start_u» ≤ℤ p → p ≤ℤ b .«end_u» → BezierRules 3 (along .controls) (parametersU t b) p
+  rules p l h =
+      subst (λ (n : ℕ). BezierRules n (along .controls) (parametersU t b) p) degree
+      (bezierOnly along (parametersU t b) p (rw type refl) (c .along .ranged .sound p l h .rules))
+
+  at-start : BezierRules 3 (along .controls) (parametersU t b) (b .«start_u»)
+  at-start = rules (b .«start_u») (≤ℤ-refl (b .«start_u»)) (c .along .ranged .ordered)
+
+  -- the four controls of a segment are among the controls
+  pub controls-there : (g : ℕ) → g + 2 ≤ length (parametersU t b) → g * 3 + 4 ≤ along .controls
+  controls-there g l = go (along .controls) (length (parametersU t b)) l (at-start .count)
+    where
+      go : (k p : ℕ) → g + 2 ≤ p → k ≡ 3 * (p - 1) + 1 → g * 3 + 4 ≤ k
+      go k p l h = omega arith
+
+  pub controls-held : (g : ℕ) → g + 2 ≤ length (parametersU t b) → Held (cond (eqb (e .kind) 5) (t .vp) (t .v)) (t .corners) (e .first) 0 (g * 3 + 4)
+  controls-held g l = held-part 0 (g * 3 + 4) (c .held) (omega arith) (controls-there g l)
+
+pub small-parameters : {t : Tables} {e : Element} {b : Body} → Curved t e b → (i : ℕ) → i < length (parametersU t b) → Small (at (parametersU t b) i)
+small-parameters {b = b} c = c .along .ranged .sound (b .«start_u») (≤ℤ-refl (b .«start_u»)) (c .along .ranged .ordered) .small

@@ -1,0 +1,32 @@
+-- What the functions below the entry point promise: three numbers, and a point from the parts that are lent.
+use mathlib.Core.Bool.{cond}
+use mathlib.Core.Path.{_≡_}
+use mathlib.Core.List.{List}
+use Prim.Native.Nat.{ℕ}
+use lib.Dec.{eqb}
+use lib.IntN.{ℤ}
+use Rattle.whole.specs.Round.{Small}
+use Rattle.rows.specs.Controls.{controlAt}
+use Rattle.sampler.specs.declared.Sampled.{Sampled}
+use Rattle.sampler.specs.declared.Sampled.the-variants as sampled
+use Rattle.cubics.specs.Weights.{cubicSampled}
+use Rattle.cubics.specs.declared.Triple.{Triple}
+
+-- three numbers, each of them in range
+pub record Has (p : Triple) (x y z : ℤ) : Type 0 where
+  pub x-is : p .x ≡ x
+  pub y-is : p .y ≡ y
+  pub z-is : p .z ≡ z
+  pub x-small : Small (p .x)
+  pub y-small : Small (p .y)
+  pub z-small : Small (p .z)
+
+-- one coordinate, from number `entry` of each vertex that is named
+abbrev pub axisBy : List ℤ → List ℕ → (first g j entry : ℕ) → ℤ
+axisBy values corners first g j entry = cubicSampled g j (controlAt values corners first entry)
+
+unfoldable pub pointBy : (kind : ℕ) → List ℤ → List ℤ → List ℕ → (first g j : ℕ) → Sampled
+pointBy kind v vp corners first g j =
+    cond (eqb kind 5)
+    (sampled.Plane (axisBy vp corners first g j 1) (axisBy vp corners first g j 2))
+    (sampled.Space (axisBy v corners first g j 0) (axisBy v corners first g j 1) (axisBy v corners first g j 2))

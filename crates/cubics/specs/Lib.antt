@@ -1,0 +1,4 @@
+pub mod Weights
+pub mod Answers
+pub mod Inner
+pub mod Near
