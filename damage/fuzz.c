@@ -201,6 +201,34 @@ static kuhlabires_point curve_at(const struct tables *t, kuhlabires_used used, u
     return kuhlabires_point_on_curve(used, LEND(t), number, (int32_t)at);
 }
 
+/* Whether the point is control k of the element. */
+static int is_control(const struct tables *t, kuhlabires_used used, uint32_t number, uint32_t k, kuhlabires_point p) {
+    kuhlabires_corner c = kuhlabires_corner_of(used, TABLE(t, ELEMENTS, const uint32_t), TABLE(t, CORNERS, const uint32_t), number, k);
+    HOLD(c.v >= 1);
+    size_t at = 4 * (size_t)(c.v - 1);
+    if (p.axes == 2) return (int32_t)entry(t, VP, at + 1) == p.x && (int32_t)entry(t, VP, at + 2) == p.y;
+    return (int32_t)entry(t, V, at) == p.x && (int32_t)entry(t, V, at + 1) == p.y && (int32_t)entry(t, V, at + 2) == p.z;
+}
+
+/* At the start or end of a Bezier segment a point is that control, on a surface where both parameters are. */
+static void segment_ends(const struct tables *t, kuhlabires_used used, uint32_t number, uint32_t body, const int64_t limits[4], int is_surface) {
+    size_t at = KUHLABIRES_BODY_WIDTH * (size_t)(body - 1);
+    if (entry(t, BODIES, at + KUHLABIRES_BODY_TYPE) != KUHLABIRES_BEZIER || entry(t, BODIES, at + KUHLABIRES_BODY_RATIONAL) != 0) return;
+    uint32_t m = entry(t, BODIES, at + KUHLABIRES_BODY_U_DEGREE), n = entry(t, BODIES, at + KUHLABIRES_BODY_V_DEGREE);
+    uint32_t first = entry(t, BODIES, at + KUHLABIRES_BODY_FIRST_PARAMETER), p = entry(t, BODIES, at + KUHLABIRES_BODY_U_PARAMETERS);
+    uint32_t q = is_surface ? entry(t, BODIES, at + KUHLABIRES_BODY_V_PARAMETERS) : 1;
+    for (uint32_t h = 0; h < q && h < 9; h++) {
+        int64_t v = is_surface ? (int32_t)entry(t, PARAMETERS, first + p + h) : 0;
+        if (is_surface && (v < limits[2] || limits[3] < v)) continue;
+        for (uint32_t g = 0; g < p && g < 9; g++) {
+            int64_t u = (int32_t)entry(t, PARAMETERS, first + g);
+            if (u < limits[0] || limits[1] < u) continue;
+            kuhlabires_point made = is_surface ? kuhlabires_point_on_surface(used, LEND(t), number, (int32_t)u, (int32_t)v) : curve_at(t, used, number, u);
+            HOLD(made.refusal == 0 && is_control(t, used, number, h * n * (m * (p - 1) + 1) + g * m, made));
+        }
+    }
+}
+
 static void run(const struct tables *t, kuhlabires_used used, uint32_t number, uint32_t axes, int64_t start, int64_t end) {
     const uint32_t steps = 3;
     const size_t place = 1, needed = (size_t)axes * (steps + 1);
@@ -313,8 +341,12 @@ static void sampled(const struct tables *t, kuhlabires_used used, uint32_t numbe
             if (j == 0) run(t, used, number, curve.axes, limits[0], limits[1]);
             if (j == 0) polyline(t, used, number, curve.axes, limits[0], limits[1]);
             if (j == 0) cubic(t, used, number, corners, body);
+            if (j == 0) segment_ends(t, used, number, body, limits, 0);
         }
-        if (is_surface && surface.refusal == 0) within(t, used, number, corners, surface);
+        if (is_surface && surface.refusal == 0) {
+            within(t, used, number, corners, surface);
+            if (j == 0) segment_ends(t, used, number, body, limits, 1);
+        }
     }
     for (uint32_t k = 0; k <= corners; k++) {
         kuhlabires_corner c = kuhlabires_corner_of(used, TABLE(t, ELEMENTS, const uint32_t), TABLE(t, CORNERS, const uint32_t), number, k);

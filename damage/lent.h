@@ -12,7 +12,7 @@
 #include <string.h>
 #include <valgrind/memcheck.h>
 
-enum { TABLES = 11, V = 0, VP = 3, CORNERS = 4, ELEMENTS = 5, BODIES = 6, RANGES = 7, FILLER = 0xa5 };
+enum { TABLES = 11, V = 0, VP = 3, CORNERS = 4, ELEMENTS = 5, BODIES = 6, RANGES = 7, PARAMETERS = 8, FILLER = 0xa5 };
 
 #if defined(__has_feature)
 #if __has_feature(address_sanitizer)

@@ -12,6 +12,7 @@ import sys
 SECOND = Path(__file__).resolve().parent.parent / "second"
 sys.path.append(str(SECOND))
 
+from outline import inside
 from polyline import polyline
 from reader import corner_of, group_of, material_of, read
 from records import SIGNED, TABLES, Refused, Used, zeros
@@ -101,11 +102,19 @@ class Stream:
         padded = [c & 0xFFFF_FFFF for c in (*coordinates, 0, 0, 0)[:3]]
         self.ask(letter, number, (numbers(*request),), numbers(number, axes, *padded))
 
+    def outlined(self, element, parameters, point):
+        """The point wanted keeps to the outline of its controls, so that the library's does where it is the same."""
+        if not isinstance(point, RefusedPoint) and not inside(self.tables, element, parameters, point):
+            raise ValueError(f"{self.label}: the point of element {element} at {parameters} leaves its controls' outline")
+        return point
+
     def curve(self, element, t):
-        self.point("C", (element, t), point_on_curve(self.used, self.tables, element, t))
+        point = point_on_curve(self.used, self.tables, element, t)
+        self.point("C", (element, t), self.outlined(element, (t,), point))
 
     def surface(self, element, s, t):
-        self.point("F", (element, s, t), point_on_surface(self.used, self.tables, element, s, t))
+        point = point_on_surface(self.used, self.tables, element, s, t)
+        self.point("F", (element, s, t), self.outlined(element, (s, t), point))
 
     def cubic(self, element, segment, j):
         self.point("B", (element, segment, j), cubic_at(self.used, self.tables, element, segment, j))

@@ -8,6 +8,7 @@ from pathlib import Path
 from damage import cases
 from exact import exact_in_segment, exact_on_curve, exact_on_surface, within
 from packed import ROOMS, files, sampled_cases
+from outline import inside
 from polyline import DEPTH, is_straight, middle_of, polyline, polyline_parameters
 from reader import corner_of, group_of, material_of, read
 from records import BEZIER, CURV, CURV2, SURF, TABLES, TEXT_LIMIT, Read, Refused, Used
@@ -240,6 +241,8 @@ def check_bounds(rng, used, tables):
             value = exact_on_curve(tables, element, u)
         if not within(point, value, degree):
             return f"element {element}: {point} is not within {degree}/2 of {value}"
+        if not inside(tables, element, (u, v) if kind == SURF else (u,), point):
+            return f"element {element}: {point} leaves the outline of its controls"
         if kind != SURF and not run_agrees(rng, used, tables, element, body):
             return f"element {element}: a run differs from its points"
         if kind != SURF and not polyline_holds(rng, used, tables, element, body):

@@ -3,7 +3,7 @@ use crate::show;
 use crate::{tell, Failure};
 use kuhlabires::{
     cubic_at, group_of, material_of, point_on_surface, read, run_on_curve, tidy_text, Body, Decimal, Element, Kind,
-    Refusal, Tables, CUBIC_STEPS, MOST_BYTES, MOST_POLYLINE_POINTS, MOST_STEPS,
+    Outline, Refusal, Tables, CUBIC_STEPS, MOST_BYTES, MOST_POLYLINE_POINTS, MOST_STEPS,
 };
 use std::ffi::OsStr;
 use std::fs::File;
@@ -121,6 +121,9 @@ pub fn elements(input: Input, out: &mut dyn Write) -> Result<(), Failure> {
         write!(out, "{number} {keyword}, {}", counted(element.corners, "corner"))?;
         if let Some(body) = tables.body(element.body) {
             write!(out, ", {}", body_of(element, body))?;
+        }
+        if let Some(Outline { least, greatest }) = tables.outline(number) {
+            write!(out, ", controls from {least} to {greatest}")?;
         }
         if element.smoothing != 0 {
             write!(out, ", smoothing {}", element.smoothing)?;

@@ -195,6 +195,26 @@ pub enum Point {
     Plane { u: i32, v: i32 },
 }
 
+impl Point {
+    // Each coordinate of the two points by the choice given, which is `min` or `max`.
+    pub(crate) fn each(self, other: Point, choice: fn(i32, i32) -> i32) -> Point {
+        match (self, other) {
+            (Point::Space { x, y, z }, Point::Space { x: a, y: b, z: c }) => {
+                Point::Space { x: choice(x, a), y: choice(y, b), z: choice(z, c) }
+            }
+            (Point::Plane { u, v }, Point::Plane { u: a, v: b }) => Point::Plane { u: choice(u, a), v: choice(v, b) },
+            _ => self,
+        }
+    }
+}
+
+/// The least and the greatest coordinates of an element's controls: every point of a curve or a surface lies between them.
+#[derive(Clone, Copy, Debug, PartialEq, Eq)]
+pub struct Outline {
+    pub least: Point,
+    pub greatest: Point,
+}
+
 /// A number in millionths, written with six places.
 #[derive(Clone, Copy, Debug, PartialEq, Eq)]
 pub struct Decimal(pub i32);

@@ -1,6 +1,6 @@
 //! The eleven tables, in memory of the caller's own size.
 use crate::records::*;
-use crate::rooms_of;
+use crate::{corner_of, rooms_of};
 
 /// The eleven tables and how many of their records are used. Reading fills them; all else only looks.
 ///
@@ -89,6 +89,28 @@ impl Tables {
     /// All elements with their numbers.
     pub fn elements(&self) -> impl Iterator<Item = (u32, Element)> + '_ {
         (1..=self.used.elements).map_while(|number| Some((number, self.element(number)?)))
+    }
+
+    /// The outline of the controls of the `curv`, `curv2` or `surf` of that number; `None` for any other element, and where a control is not there.
+    pub fn outline(&self, number: u32) -> Option<Outline> {
+        let element = self.element(number)?;
+        let kind = element.kind.filter(|kind| kind.is_curve() || *kind == Kind::Surf)?;
+        let control = |k: u32| {
+            let v = corner_of(self, number, k).v;
+            if kind == Kind::Curv2 {
+                self.parameter_vertex(v).map(|p| Point::Plane { u: p.u, v: p.v })
+            } else {
+                self.vertex(v).map(|p| Point::Space { x: p.x, y: p.y, z: p.z })
+            }
+        };
+        let first = control(0)?;
+        (1..element.corners).try_fold(Outline { least: first, greatest: first }, |outline, k| {
+            let point = control(k)?;
+            Some(Outline {
+                least: outline.least.each(point, i32::min),
+                greatest: outline.greatest.each(point, i32::max),
+            })
+        })
     }
 
     /// The body of that number, from 1, with its range.

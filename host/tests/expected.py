@@ -16,7 +16,7 @@ sys.path.insert(0, str(ROOT / "second"))
 from polyline import polyline  # noqa: E402
 from reader import group_of, material_of, read  # noqa: E402
 from records import CURV2, KINDS, SURF, TABLES, TYPES, Refused  # noqa: E402
-from rules import body_of, element_record  # noqa: E402
+from rules import body_of, control_numbers, element_record  # noqa: E402
 from sampler import MOST_STEPS, Filled, RefusedPoint, cubic_at, point_on_surface, run_on_curve, run_parameters  # noqa: E402
 from tidier import tidy  # noqa: E402
 
@@ -83,13 +83,18 @@ def body_words(tables, element, kind):
     return words + (", " + counted(parts, "loop part") if parts else "")
 
 
+def outline_words(tables, element):
+    axes = control_numbers(tables, element)
+    return f"controls from {point(map(min, axes))} to {point(map(max, axes))}"
+
+
 def elements(name, text, used, tables):
     table = dict(zip(TABLES, tables))["elements"]
     lines = []
     for number in range(1, used.elements + 1):
         kind, _, corners, body, smoothing = element_record(tables, number)[:5]
         parts = [f"{number} {KINDS[kind]}", counted(corners, "corner")]
-        parts += [body_words(tables, number, kind)] if body else []
+        parts += [body_words(tables, number, kind), outline_words(tables, number)] if body else []
         parts += [f"smoothing {smoothing}"] if smoothing else []
         for word, asked in (("group", group_of), ("material", material_of)):
             names = asked(text, table, used.elements, number).replace(b"\\", b" ").decode().split()

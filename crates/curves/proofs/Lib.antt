@@ -12,3 +12,4 @@ pub mod WeightsOne
 pub mod Within
 pub mod NoJump
 pub mod Examples
+pub mod Outline

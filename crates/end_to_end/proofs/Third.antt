@@ -62,7 +62,7 @@ module _ (s : List ℕ) (S : Tables) (u : Used) (h : readInto s S .answer ≡ re
   a-curve number c k =
       record { some = c .some; in-use = c .in-use; kind = k; obeyed = its-obeyed number (c .some) (c .in-use); plain = c .plain; type = c .type }
 
-  a-surface : (number : ℕ) → Plain u t number → elementOf t number .kind ≡ surfaceKind → Surface u t number
+  pub a-surface : (number : ℕ) → Plain u t number → elementOf t number .kind ≡ surfaceKind → Surface u t number
   a-surface number c k =
       record { some = c .some; in-use = c .in-use; kind = k; obeyed = its-obeyed number (c .some) (c .in-use); plain = c .plain; type = c .type }
 

@@ -21,13 +21,14 @@ use Rattle.tables.specs.declared.Used.{Used}
 use Rattle.tables.specs.declared.Element.{Element}
 use Rattle.rules.specs.Rules.{obeys, curvesBefore}
 use Rattle.rules.proofs.Element.{obeys-facts}
+use Rattle.curves.specs.Directions.{Rules}
 use Rattle.curves.specs.Exact.{curveExact}
 use Rattle.curves.proofs.CurveNear.{curve-near}
 use Rattle.runs.specs.Runs.{joined, listed, parameterAt}
 use Rattle.sampler.specs.Points.{directionU, controlOf, axesOf, curveAt, runNumbers}
 use Rattle.sampler.specs.Answers.{SampledResult, RanResult, wanted, carried, elementOf, bodyOf, refusalOf, filledRun, curvePoint, pointOnCurve, runInto}
 use Rattle.sampler.specs.Demand3.{sampling, Curve, OnCurve, CurveAnswer, PointsOnCurves, RunAnswer, RunsOnCurves}
-use Rattle.sampler.proofs.Obeyed.{granted, curved}
+use Rattle.sampler.proofs.Obeyed.{granted, Curved, curved}
 use Rattle.sampler.proofs.Refusals.{none-given}
 use Rattle.sampler.proofs.Runners.{filled-is}
 use Rattle.runs.proofs.Steps.{parameter-from, parameter-upto}
@@ -54,14 +55,20 @@ module _ {used : Used} {t : Tables} {number : ℕ} (c : Curve used t number) whe
   pub curve-given : refusalOf false used t number ≡ 0
   curve-given = all-passed false used t number (c .some) (c .in-use) (curve-wanted (elementOf t number .kind) (c .kind)) (c .obeyed) (c .plain) (c .type)
 
+  pub curve-facts : Curved t (elementOf t number) (bodyOf t number)
+  curve-facts = curved used t number (granted false used t number curve-given)
+
+  pub curve-rules : (p : ℤ) → bodyOf t number .«start_u» ≤ℤ p → p ≤ℤ bodyOf t number .«end_u» → Rules (directionU t (bodyOf t number)) p
+  curve-rules p a b = curve-facts .along .ranged .sound p a b .rules
+
   -- the rounded rule is near the exact value, at every parameter of the range
   curve-close : (p : ℤ) → bodyOf t number .«start_u» ≤ℤ p → p ≤ℤ bodyOf t number .«end_u» → (axis : ℕ) → OnCurve t number p axis (curveAt t (elementOf t number) (bodyOf t number) p axis)
   unfolding curveAt
   curve-close p a b axis =
-      curve-near (directionU t (bodyOf t number)) p (curved used t number (granted false used t number curve-given) .along .ranged .sound p a b .rules) (controlOf t (elementOf t number) axis)
+      curve-near (directionU t (bodyOf t number)) p (curve-rules p a b) (controlOf t (elementOf t number) axis)
 
-  ordered : bodyOf t number .«start_u» ≤ℤ bodyOf t number .«end_u»
-  ordered = curved used t number (granted false used t number curve-given) .along .ranged .ordered
+  pub ordered : bodyOf t number .«start_u» ≤ℤ bodyOf t number .«end_u»
+  ordered = curve-facts .along .ranged .ordered
 
 -- ---- lists by their places
 joined-at : (w : ℕ) (f : ℕ → List ℤ) → ((i : ℕ) → length (f i) ≡ w) → (n j k : ℕ) → j < n → k < w → getD (joined n f) (w * j + k) (pos 0) ≡ getD (f j) k (pos 0)
@@ -101,16 +108,22 @@ pub curve-coordinates : {used : Used} {t : Tables} {number : ℕ} → Curve used
 curve-coordinates {used} {t} {number} c p a b =
     ap (λ (r : SampledResult). r .outcome .coordinates) (answer-is c p a b) ∙ coordinates-are t (elementOf t number) (bodyOf t number) p (eqb (elementOf t number .kind) 5) refl .0
 
+-- each coordinate that is handed out is the rounded rule's
+pub curve-coordinate : {used : Used} {t : Tables} {number : ℕ} → Curve used t number → (p : ℤ) → bodyOf t number .«start_u» ≤ℤ p → p ≤ℤ bodyOf t number .«end_u»
+    → (axis : ℕ) → axis < axesOf (elementOf t number)
+    → getD (pointOnCurve used t number p .outcome .coordinates) axis (pos 0) ≡ curveAt t (elementOf t number) (bodyOf t number) p axis
+curve-coordinate {used} {t} {number} c p a b axis h =
+    ap (λ (q : List ℤ). getD q axis (pos 0)) (curve-coordinates c p a b) ∙ listed-at (axesOf (elementOf t number)) axis (curveAt t (elementOf t number) (bodyOf t number) p) h
+
 pub points-on-curves : PointsOnCurves sampling
 points-on-curves used t number p c a b =
     let e = elementOf t number in
     let m = bodyOf t number in
     let s = answer-is c p a b in
-    let l = curve-coordinates c p a b in
     record {
       given = ap (λ (r : SampledResult). r .outcome .number) s ∙ coordinates-are t e m p (eqb (e .kind) 5) refl .1;
-      axes = ap length l ∙ listed-length (axesOf e) (curveAt t e m p);
-      near = λ axis h. subst (OnCurve t number p axis) (sym (ap (λ (q : List ℤ). getD q axis (pos 0)) l ∙ listed-at (axesOf e) axis (curveAt t e m p) h)) (curve-close c p a b axis);
+      axes = ap length (curve-coordinates c p a b) ∙ listed-length (axesOf e) (curveAt t e m p);
+      near = λ axis h. subst (OnCurve t number p axis) (sym (curve-coordinate c p a b axis h)) (curve-close c p a b axis);
     }
 
 -- ---- a run
@@ -139,9 +152,9 @@ module _ {used : Used} {t : Tables} {number : ℕ} (c : Curve used t number) (st
   unfolding runNumbers
   numbers-long = joined-length (axesOf e) (steps + 1) f long
 
-  there : (j axis : ℕ) → j ≤ steps → axis < axesOf e
+  pub run-coordinate : (j axis : ℕ) → j ≤ steps → axis < axesOf e
       → getD (runInto used t number steps at points .points) (at + (axesOf e * j + axis)) (pos 0) ≡ curveAt t e m (parameterAt (m .«start_u») (m .«end_u») steps j) axis
-  there j axis h k =
+  run-coordinate j axis h k =
       let rest = drop (axesOf e * (steps + 1)) (drop at points) in
       let i = axesOf e * j + axis in
       let front : length (take at points) ≡ at = length-take-le at points (omega arith) in
@@ -158,7 +171,7 @@ runs-on-curves used t number steps at points c some most room =
     record {
       given = ap (λ (r : RanResult). r .outcome .number) (filled c steps at points some most room);
       count = ap (λ (r : RanResult). r .outcome .count) (filled c steps at points some most room);
-      near = λ j axis h k. subst (OnCurve t number (parameterAt (m .«start_u») (m .«end_u») steps j) axis) (sym (there c steps at points some most room j axis h k))
+      near = λ j axis h k. subst (OnCurve t number (parameterAt (m .«start_u») (m .«end_u») steps j) axis) (sym (run-coordinate c steps at points some most room j axis h k))
           (curve-close c (parameterAt (m .«start_u») (m .«end_u») steps j) (parameter-from (m .«start_u») (m .«end_u») (ordered c) steps j)
           (parameter-upto (m .«start_u») (m .«end_u») (ordered c) steps j h) axis);
     }

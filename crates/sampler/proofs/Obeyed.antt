@@ -144,12 +144,14 @@ pub record Lent (t : Tables) (e : Element) : Type 0 where
 -- a curve that is granted
 pub record Curved (t : Tables) (e : Element) (b : Body) : Type 0 where
   pub lent : Lent t e
+  pub counted : e .count ≡ alongOf (b .basis) (b .«degree_u») (b .«count_u») .controls
   pub held : Held (cond (eqb (e .kind) 5) (t .vp) (t .v)) (t .corners) (e .first) 0 (alongOf (b .basis) (b .«degree_u») (b .«count_u») .controls)
   pub along : Directed (t .parameters) (b .«first_parameter») (b .basis) (b .«degree_u») (b .«count_u») (b .«start_u») (b .«end_u»)
 
 -- a surface that is granted
 pub record Surfaced (t : Tables) (e : Element) (b : Body) : Type 0 where
   pub lent : Lent t e
+  pub counted : e .count ≡ alongOf (b .basis) (b .«degree_u») (b .«count_u») .controls * alongOf (b .basis) (b .«degree_v») (b .«count_v») .controls
   pub held : Held (t .v) (t .corners) (e .first) 0 (alongOf (b .basis) (b .«degree_u») (b .«count_u») .controls * alongOf (b .basis) (b .«degree_v») (b .«count_v») .controls)
   pub along-u : Directed (t .parameters) (b .«first_parameter») (b .basis) (b .«degree_u») (b .«count_u») (b .«start_u») (b .«end_u»)
   pub along-v : Directed (t .parameters) (b .«first_parameter» + b .«count_u») (b .basis) (b .«degree_v») (b .«count_v») (b .«start_v») (b .«end_v»)
@@ -179,6 +181,7 @@ curved used t number g =
     ∙ same-controls (b .basis) (b .«degree_u») (b .«count_u») (g .type) in
     record {
       lent = lent-of r;
+      counted = same;
       held = subst (λ (q : ℕ). Held (cond (eqb (e .kind) 5) (t .vp) (t .v)) (t .corners) (e .first) 0 q) same (held-either used t (e .kind) (e .first) (e .count) (o .corners));
       along = directed (t .parameters) (b .«first_parameter») (b .«count_u») (omega (arith, r .run .lent-ones)) (b .basis) (b .«degree_u») (b .«start_u») (b .«end_u») (g .type)
           (r .typed .degree-u .most) (r .run .along-u) (λ j l. r .run .small-ones j (omega arith)) enough-there (c .in-order);
@@ -206,6 +209,7 @@ surfaced used t number g =
     ∙ ap₂ (λ (k l : ℕ). k * l) (same-controls (b .basis) (b .«degree_u») (b .«count_u») (g .type)) (same-controls (b .basis) (b .«degree_v») (b .«count_v») (g .type)) in
     record {
       lent = lent-of r;
+      counted = same;
       held = subst (λ (q : ℕ). Held (t .v) (t .corners) (e .first) 0 q) same (held-space used t (e .kind) (e .first) (e .count) (o .corners) (λ k. omega (arith, six)));
       along-u = directed (t .parameters) (b .«first_parameter») (b .«count_u») (omega (arith, r .run .lent-ones)) (b .basis) (b .«degree_u») (b .«start_u») (b .«end_u») (g .type)
           (r .typed .degree-u .most) (r .run .along-u) (λ j l. r .run .small-ones j (omega arith)) enough-u (c .along-u);

@@ -2,7 +2,7 @@
 use mathlib.Core.Path.{_≡_, refl, sym, ap, _∙_, subst}
 use mathlib.Core.Bool.{true}
 use mathlib.Core.List.{List}
-use Prim.Native.Nat.{ℕ}
+use Prim.Native.Nat.{ℕ, _<_}
 use borrow.Author.Tests.{eq-eqb}
 use lib.ListN.{length, getD}
 use lib.IntN.{ℤ, pos}
@@ -12,6 +12,7 @@ use Rattle.tables.specs.Tables.{Tables}
 use Rattle.tables.specs.declared.Body.{Body}
 use Rattle.tables.specs.declared.Used.{Used}
 use Rattle.tables.specs.declared.Element.{Element}
+use Rattle.curves.specs.Directions.{Rules}
 use Rattle.curves.proofs.SurfaceNear.{surface-near}
 use Rattle.runs.specs.Runs.{listed}
 use Rattle.sampler.specs.Points.{directionU, directionV, gridOf, surfaceAt}
@@ -31,15 +32,21 @@ module _ {used : Used} {t : Tables} {number : ℕ} (c : Surface used t number) w
   surface-given : refusalOf true used t number ≡ 0
   surface-given = all-passed true used t number (c .some) (c .in-use) (eq-eqb (e .kind) 6 (c .kind)) (c .obeyed) (c .plain) (c .type)
 
-  facts : Surfaced t e b
-  facts = surfaced used t number (granted true used t number surface-given)
+  pub surface-facts : Surfaced t e b
+  surface-facts = surfaced used t number (granted true used t number surface-given)
 
   module _ (p q : ℤ) (p-from : b .«start_u» ≤ℤ p) (p-upto : p ≤ℤ b .«end_u») (q-from : b .«start_v» ≤ℤ q) (q-upto : q ≤ℤ b .«end_v») where
+    pub surface-rules-u : Rules (directionU t b) p
+    surface-rules-u = surface-facts .along-u .ranged .sound p p-from p-upto .rules
+
+    pub surface-rules-v : Rules (directionV t b) q
+    surface-rules-v = surface-facts .along-v .ranged .sound q q-from q-upto .rules
+
     -- the rounded rule is near the exact value, at every two parameters of the ranges
     surface-close : (axis : ℕ) → OnSurface t number p q axis (surfaceAt t e b p q axis)
     unfolding surfaceAt
     surface-close axis =
-        surface-near (directionU t b) (directionV t b) p q (facts .along-u .ranged .sound p p-from p-upto .rules) (facts .along-v .ranged .sound q q-from q-upto .rules) (gridOf t e b axis)
+        surface-near (directionU t b) (directionV t b) p q surface-rules-u surface-rules-v (gridOf t e b axis)
 
     answer-is : pointOnSurface used t number p q ≡ surfacePoint t e b p q
     unfolding pointOnSurface
@@ -59,13 +66,18 @@ not-refused : (t : Tables) (e : Element) (b : Body) (p q : ℤ) → surfacePoint
 unfolding surfacePoint
 not-refused t e b p q = refl
 
+-- each coordinate that is handed out is the rounded rule's
+pub surface-coordinate : {used : Used} {t : Tables} {number : ℕ} → Surface used t number → (p q : ℤ)
+    → bodyOf t number .«start_u» ≤ℤ p → p ≤ℤ bodyOf t number .«end_u» → bodyOf t number .«start_v» ≤ℤ q → q ≤ℤ bodyOf t number .«end_v»
+    → (axis : ℕ) → axis < 3 → getD (pointOnSurface used t number p q .outcome .coordinates) axis (pos 0) ≡ surfaceAt t (elementOf t number) (bodyOf t number) p q axis
+surface-coordinate {used} {t} {number} c p q f g h k axis m =
+    ap (λ (i : List ℤ). getD i axis (pos 0)) (surface-coordinates c p q f g h k) ∙ listed-at 3 axis (surfaceAt t (elementOf t number) (bodyOf t number) p q) m
+
 pub points-on-surfaces : PointsOnSurfaces sampling
 points-on-surfaces used t number p q c f g h k =
     let s = answer-is c p q f g h k in
-    let l = surface-coordinates c p q f g h k in
-    let z : ℕ → ℤ = surfaceAt t (elementOf t number) (bodyOf t number) p q in
     record {
       given = ap (λ (r : SampledResult). r .outcome .number) s ∙ not-refused t (elementOf t number) (bodyOf t number) p q;
-      axes = ap length l ∙ listed-length 3 z;
-      near = λ axis m. subst (OnSurface t number p q axis) (sym (ap (λ (i : List ℤ). getD i axis (pos 0)) l ∙ listed-at 3 axis z m)) (surface-close c p q f g h k axis);
+      axes = ap length (surface-coordinates c p q f g h k) ∙ listed-length 3 (surfaceAt t (elementOf t number) (bodyOf t number) p q);
+      near = λ axis m. subst (OnSurface t number p q axis) (sym (surface-coordinate c p q f g h k axis m)) (surface-close c p q f g h k axis);
     }
