@@ -167,7 +167,7 @@ def counted(stream, totals):
 
 LETTERS = {
     "R": "read", "O": "rooms and read", "T": "tidy", "C": "point_on_curve", "F": "point_on_surface", "N": "run_on_curve",
-    "P": "polyline", "K": "corner_of", "G": "group_of", "M": "material_of",
+    "P": "polyline", "B": "cubic_at", "K": "corner_of", "G": "group_of", "M": "material_of",
 }
 
 
