@@ -3,7 +3,7 @@
  * A request is a letter, its numbers (64 bits each, least byte first), and bytes:
  *     R read      text length, eleven table lengths; the text
  *     O rooms     text length; the text. It is read into tables of the lengths that kuhlabires_rooms gives
- *     T tidy      text length, eleven table lengths, buffer length; the text
+ *     T tidy      text length, eleven table lengths, buffer length, number of the weights; the text
  *     S set       text length, nine used counts, eleven table lengths; the text, the tables' bytes. No answer
  * and of the text, the tables and the used counts that one of these left:
  *     C curve     element, t
@@ -151,12 +151,13 @@ static void tidy_text(void) {
     size_t length = number(), lengths[TABLES];
     take_lengths(lengths);
     struct block out = lend(number());
+    uint32_t weights = (uint32_t)number();
     forget();
     take_text(length);
     tables = lend_tables(lengths);
     for (int i = 0; i < TABLES; i++) not_to_be_looked_at(tables.of[i]);
     not_to_be_looked_at(out);
-    kuhlabires_tidying r = kuhlabires_tidy(text.data, text.size, LEND(&tables), out.data, out.size);
+    kuhlabires_tidying r = kuhlabires_tidy(text.data, text.size, weights, LEND(&tables), out.data, out.size);
     used = r.used;
     left_as_it_was(out, r.length, out.size);
     say_head('T', unchanged(text, text_before) && tables_intact(&tables) && intact(out));

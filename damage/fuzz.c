@@ -61,8 +61,8 @@ static kuhlabires_reading read_into(struct block text, const struct tables *t) {
     return r;
 }
 
-static kuhlabires_tidying tidy_into(struct block text, const struct tables *t, struct block out) {
-    kuhlabires_tidying r = kuhlabires_tidy(text.data, text.size, LEND(t), out.data, out.size);
+static kuhlabires_tidying tidy_into(struct block text, uint32_t weights, const struct tables *t, struct block out) {
+    kuhlabires_tidying r = kuhlabires_tidy(text.data, text.size, weights, LEND(t), out.data, out.size);
     HOLD(intact(text) && tables_intact(t) && intact(out));
     HOLD(r.length <= out.size && all_from(out, r.length, FILLER));
     if (r.refusal != 0) HOLD(r.length == 0);
@@ -76,8 +76,10 @@ static void refused(struct block text, kuhlabires_reading first) {
     kuhlabires_reading r = read_into(text, &t);
     HOLD(r.refusal == 14 ? r.place <= first.place : r.refusal == first.refusal && r.place == first.place);
     struct block out = lend(text.size);
-    kuhlabires_tidying tidied = tidy_into(text, &t, out);
-    HOLD(tidied.refusal == r.refusal && tidied.place == r.place && same_used(tidied.used, NONE));
+    for (uint32_t weights = 0; weights < 3; weights++) {
+        kuhlabires_tidying tidied = tidy_into(text, weights, &t, out);
+        HOLD(tidied.refusal == r.refusal && tidied.place == r.place && same_used(tidied.used, NONE));
+    }
     take_back(out);
     take_tables_back(&t);
 }
@@ -135,33 +137,34 @@ static int same_element(struct block a, const struct tables *ta, struct block b,
                       kuhlabires_material_of(b.data, b.size, used, TABLE(tb, ELEMENTS, const uint32_t), number));
 }
 
-/* The tidy text reads to the same tables, names aside, and is its own tidy text; it is written exactly where it finds room. */
-static void tidied(struct block text, const struct tables *whole, kuhlabires_used used) {
+/* The tidy text by a choice of weights, nothing where it is too long: it reads to the same tables, names aside, and is its own tidy text; it is written
+   exactly where it finds room. */
+static struct block tidied(struct block text, uint32_t weights, const struct tables *whole, kuhlabires_used used) {
     size_t lengths[TABLES];
     entries_of(used, lengths);
     struct tables t = lend_tables(lengths);
     struct block wide = lend(16 * text.size + 4096);
-    kuhlabires_tidying r = tidy_into(text, &t, wide);
+    kuhlabires_tidying r = tidy_into(text, weights, &t, wide);
     HOLD(r.place == 0 && same_used(r.used, used) && same_tables(whole, &t));
     if (r.refusal == 16 && wide.size > KUHLABIRES_MOST_BYTES) {
         take_back(wide);
         take_tables_back(&t);
-        return;
+        return lend(0);
     }
     HOLD(r.refusal == 0);
 
     struct block tidy = lend(r.length);
-    HOLD(tidy_into(text, &t, tidy).refusal == 0 && memcmp(tidy.data, wide.data, r.length) == 0);
+    HOLD(tidy_into(text, weights, &t, tidy).refusal == 0 && memcmp(tidy.data, wide.data, r.length) == 0);
     for (size_t room = r.length; room > 0; room -= room / 4) {
         struct block narrow = lend(--room);
-        kuhlabires_tidying full = tidy_into(text, &t, narrow);
+        kuhlabires_tidying full = tidy_into(text, weights, &t, narrow);
         HOLD(full.refusal == 16 && full.place == 0 && same_used(full.used, used) && same_tables(whole, &t));
         take_back(narrow);
     }
 
     struct tables again = lend_tables(lengths);
     struct block twice = lend(r.length);
-    r = tidy_into(tidy, &again, twice);
+    r = tidy_into(tidy, weights, &again, twice);
     HOLD(r.refusal == 0 && same_used(r.used, used) && r.length == twice.size);
     HOLD(memcmp(tidy.data, twice.data, twice.size) == 0);
     for (int i = 0; i < TABLES; i++)
@@ -169,11 +172,38 @@ static void tidied(struct block text, const struct tables *whole, kuhlabires_use
     for (uint32_t number = 1; number <= used.elements; number++) HOLD(same_element(text, whole, tidy, &again, used, number));
 
     take_back(twice);
-    take_back(tidy);
     take_back(wide);
     take_tables_back(&again);
     take_tables_back(&t);
+    return tidy;
 }
+
+static size_t unit_weights(const struct tables *t, kuhlabires_used used) {
+    size_t many = 0;
+    for (size_t at = 3; at < KUHLABIRES_V_WIDTH * (size_t)used.v; at += KUHLABIRES_V_WIDTH) many += entry(t, V, at) == 1000000;
+    return many;
+}
+
+/* Of the two forms each, tidied by the other choice, is the other; they differ by the weights left off; a number that is no choice is 0. */
+static void both_forms(struct block text, const struct tables *whole, kuhlabires_used used) {
+    struct block forms[] = {tidied(text, KUHLABIRES_WEIGHTS_WHEN_NEEDED, whole, used), tidied(text, KUHLABIRES_WEIGHTS_ALWAYS, whole, used)};
+    size_t lengths[TABLES];
+    entries_of(used, lengths);
+    for (uint32_t weights = 0; weights < 3; weights++) {
+        struct block from = forms[weights == 0], wanted = forms[weights == 1];
+        if (wanted.size == 0 || from.size == 0) continue;
+        struct tables t = lend_tables(lengths);
+        struct block out = lend(wanted.size);
+        kuhlabires_tidying r = tidy_into(from, weights, &t, out);
+        HOLD(r.refusal == 0 && r.length == wanted.size && memcmp(out.data, wanted.data, wanted.size) == 0);
+        take_back(out);
+        take_tables_back(&t);
+    }
+    HOLD(forms[1].size == 0 || forms[1].size == forms[0].size + 9 * unit_weights(whole, used));
+    take_back(forms[0]);
+    take_back(forms[1]);
+}
+
 
 /* ---- Sampling ---- */
 
@@ -419,7 +449,7 @@ int LLVMFuzzerTestOneInput(const uint8_t *data, size_t size) {
         refused(text, r);
     } else {
         just_room(text, &whole, r.used);
-        tidied(text, &whole, r.used);
+        both_forms(text, &whole, r.used);
         for (uint32_t number = 1; number <= r.used.elements; number++) sampled(&whole, r.used, number);
         broken(text, &whole, r.used);
     }

@@ -102,10 +102,11 @@ def one(rng, stream, data):
     stream.read(data, rooms(rng, needs))
     if stream.used.elements:
         ask(rng, stream, 3)
-    wide = tidy(data, needs, AMPLE)
-    length = 0 if isinstance(wide, Refused) else len(wide.text)
-    stream.tidy(data, rooms(rng, needs), buffer(rng, length))
-    stream.tidy(data, needs, length)
+    for weights in (rng.choice((0, 0, 2, 0xFFFF_FFFF)), 1):
+        wide = tidy(data, needs, AMPLE, weights == 1)
+        length = 0 if isinstance(wide, Refused) else len(wide.text)
+        stream.tidy(data, rooms(rng, needs), buffer(rng, length), weights)
+        stream.tidy(data, needs, length, weights)
     if isinstance(wide, Refused):
         return
     ask(rng, stream, 3)

@@ -135,7 +135,8 @@ def large(seed, makers, commands, totals):
             stream.label = kind
             stream.in_rooms(data, needed(data))
             stream.read(data, lent)
-            stream.tidy(data, lent, room)
+            for weights in (0, 1):
+                stream.tidy(data, lent, room, weights)
             ask(rng, stream, 2)
             for length in (3 * 65_537, 3 * 65_537 - 1):
                 stream.run(1, 65_536, length, 0)

@@ -71,8 +71,9 @@ class Stream:
             numbers(number, place, *self.used), entries(self.tables),
         )
 
-    def tidy(self, text, rooms, room):
-        answer = tidy(text, rooms, room)
+    def tidy(self, text, rooms, room, weights):
+        """Of the weights' numbers 1 is always; any other is when needed."""
+        answer = tidy(text, rooms, room, weights == 1)
         written, number, place = b"", 0, 0
         self.text = text
         if isinstance(answer, Refused):
@@ -85,7 +86,7 @@ class Stream:
             else:
                 written = answer.text
         self.ask(
-            "T", number, (numbers(len(text), *rooms, room), text),
+            "T", number, (numbers(len(text), *rooms, room, weights), text),
             numbers(number, place, len(written), *self.used), entries(self.tables),
             written, FILLER * (room - len(written)),
         )

@@ -37,6 +37,7 @@ while read -r name status arguments; do
     holds "$name" "$status" "$command" $arguments < /dev/null
 done < host/tests/calls.txt
 holds plate-tidy 0 "$command" tidy - < examples/plate.obj
+holds plate-weights 0 "$command" tidy --weights - < examples/plate.obj
 holds rail-points 0 target/points examples/chair-rail.obj 1 16
 holds wing-points 0 target/points examples/foam-wing.obj 1 100
 holds seat-points-curv2 0 target/points examples/seat.obj 1 5
@@ -44,7 +45,7 @@ holds wing-polyline 0 target/points examples/foam-wing.obj 1 polyline 500
 holds seat-polyline-curv2 0 target/points examples/seat.obj 2 polyline 10000
 holds archive 0 python3 bench/archive.py second/cases/000
 for arguments in "" "check" "points examples/plate.obj 1" "points examples/plate.obj one 8" "polyline examples/foam-wing.obj 1" \
-    "polyline examples/foam-wing.obj 1 fine" "polyline examples/foam-wing.obj 1 0.0000005" "polyline examples/foam-wing.obj 1 3000" "cubic examples/chair-rail.obj" "tidy no-such-file.obj" "paint examples/plate.obj"; do
+    "polyline examples/foam-wing.obj 1 fine" "polyline examples/foam-wing.obj 1 0.0000005" "polyline examples/foam-wing.obj 1 3000" "cubic examples/chair-rail.obj" "tidy no-such-file.obj" "check examples/plate.obj --weights" "paint examples/plate.obj"; do
     got=0
     # shellcheck disable=SC2086
     "$command" $arguments > /dev/null 2>&1 || got=$?

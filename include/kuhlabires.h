@@ -129,6 +129,12 @@ enum kuhlabires_refusal {
     KUHLABIRES_PARAMETER_OUTSIDE = 19       /* outside start..end; a run of 0 or over 65,536 steps; a negative tolerance; no such step or segment of a cubic */
 };
 
+/* Whether the tidy text has the w of a v, its weight, where it is 1.000000 too. A number that is not one of these counts as 0. */
+enum kuhlabires_weights {
+    KUHLABIRES_WEIGHTS_WHEN_NEEDED = 0,
+    KUHLABIRES_WEIGHTS_ALWAYS = 1
+};
+
 /* ---- Records that pass by value ---- */
 
 /* How many records of each table are used, but for the corners, which count numbers. Ranges share the bodies' count, spans the loops'. */
@@ -212,10 +218,10 @@ kuhlabires_room kuhlabires_rooms(const uint8_t *text, size_t text_length);
 kuhlabires_reading kuhlabires_read(const uint8_t *text, size_t text_length, KUHLABIRES_TABLES_OUT);
 
 /*
- * Reads a text into the tables and writes its tidy text to the front of out. Of out only the first length bytes are written, and none where it is
- * refused. After 16 the tables stay filled; after any other refusal all are 0.
+ * Reads a text into the tables and writes its tidy text, its weights as the number says, to the front of out. Of out only the first length bytes are
+ * written, and none where it is refused. After 16 the tables stay filled; after any other refusal all are 0.
  */
-kuhlabires_tidying kuhlabires_tidy(const uint8_t *text, size_t text_length, KUHLABIRES_TABLES_OUT, uint8_t *out, size_t out_length);
+kuhlabires_tidying kuhlabires_tidy(const uint8_t *text, size_t text_length, uint32_t weights, KUHLABIRES_TABLES_OUT, uint8_t *out, size_t out_length);
 
 /* The point at t of the curv or curv2 of that number. Refuses 17, 15, 18, 19. */
 kuhlabires_point kuhlabires_point_on_curve(kuhlabires_used used, KUHLABIRES_TABLES_IN, uint32_t element, int32_t t);

@@ -118,7 +118,7 @@ def check_size(tally):
 
 
 VERTEX = b"v 0 0 0\n"
-TIDY_VERTEX = b"v 0.000000 0.000000 0.000000 1.000000\n"
+TIDY_VERTEX = b"v 0.000000 0.000000 0.000000\n"
 NAMES = b"v 0 0 0\ng " + b" ".join([b"n" * 255] * 255)
 # what the program prints at its own limits
 PROGRAM_TEXTS = (
@@ -128,8 +128,8 @@ PROGRAM_TEXTS = (
     ("65,537 bytes", VERTEX + b"#" * (65_537 - len(VERTEX)), b"refused 1 at 0\n"),
     ("65,537 bad bytes", b"\x01" * 65_537, b"refused 1 at 0\n"),
     ("4,097 vertices", VERTEX * 4_097, b"refused 14 at 32768\n"),
-    ("a text of 64 KiB", VERTEX * 1_724, TIDY_VERTEX * 1_724),
-    ("a text too long", VERTEX * 1_725, b"refused 16 at 0\n"),
+    ("a text of 64 KiB", VERTEX * 2_259, TIDY_VERTEX * 2_259),
+    ("a text too long", VERTEX * 2_260, b"refused 16 at 0\n"),
     ("a long group", NAMES + b"\np 1\n", TIDY_VERTEX + NAMES[8:] + b"\np 1\n"),
 )
 
@@ -335,26 +335,35 @@ def check_one(rng, data, rooms):
     if isinstance(answer, Refused):
         if not 2 <= answer.number <= 14 or not 0 <= answer.place <= len(data):
             return f"odd refusal {answer}"
-        if tidy(data, rooms, TEXT_LIMIT) != answer:
+        if any(tidy(data, rooms, TEXT_LIMIT, every_w) != answer for every_w in (False, True)):
             return "tidying refuses otherwise"
         return None
     used, tables = answer
     if [len(numbers) for numbers in tables] != list(rooms):
         return "a table's length changed"
-    tidied = tidy(data, rooms, TEXT_LIMIT)
-    text = tidied.text
+    for every_w in (False, True):
+        wrong = check_form(data, rooms, answer, every_w)
+        if wrong:
+            return wrong
+    return check_bounds(rng, used, tables)
+
+
+def check_form(data, rooms, answer, every_w):
+    """None, or what is wrong with the tidy text in one of its two forms."""
+    used, tables = answer
+    text = tidy(data, rooms, TEXT_LIMIT, every_w).text
     again = read(text, rooms)
     if isinstance(again, Refused):
         return f"the tidy text is refused: {again}"
     if agreement(data, used, tables) != agreement(text, *again):
         return "the tidy text reads to other tables"
-    if tidy_text(text, *again) != text:
+    if any(tidy_text(text, *again, form) != tidy_text(data, used, tables, form) for form in (False, True)):
         return "the tidy text of the tidy text differs"
-    if not isinstance(tidy(data, rooms, len(text)), Written):
+    if not isinstance(tidy(data, rooms, len(text), every_w), Written):
         return "a text that just fits is not written"
-    if text and tidy(data, rooms, len(text) - 1) != TooLong(used, tables):
+    if text and tidy(data, rooms, len(text) - 1, every_w) != TooLong(used, tables):
         return "a text that does not fit is written"
-    return check_bounds(rng, used, tables)
+    return None
 
 
 def broken(rng, used, tables):
@@ -430,16 +439,17 @@ def check_valid(tally, seed, count):
 
 
 def check_tidied(tally, folder):
-    """Texts that are read, each with its tidy text beside it where one is kept."""
+    """Texts that are read, each with its tidy text beside it where one is kept, and with the form that has every w."""
     rng = random.Random(0)
     rooms = [PROGRAM_ROOM] * len(TABLES)
     for path in sorted(folder.glob("*.obj")):
         data = path.read_bytes()
         tally.hold(f"{path.name} is read", isinstance(read(data, rooms), Read), True)
         tally.hold(path.name, check_one(rng, data, rooms), None)
-        wanted = path.with_suffix(".tidy")
-        if wanted.exists():
-            tally.hold(wanted.name, tidy(data, rooms, 65_536).text, wanted.read_bytes())
+        for every_w, ending in ((False, ".tidy"), (True, "-every-w.tidy")):
+            wanted = path.with_name(path.stem + ending)
+            if wanted.exists():
+                tally.hold(wanted.name, tidy(data, rooms, 65_536, every_w).text, wanted.read_bytes())
 
 
 def main():

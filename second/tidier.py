@@ -1,7 +1,10 @@
 """The tidy text of an accepted file.
 
-    tidy(data, rooms, buffer) -> Written | TooLong | Refused
+    tidy(data, rooms, buffer, every_w) -> Written | TooLong | Refused
     printed(data) -> bytes                  what the program `tidy` prints
+
+A v is written without its w where that is 1.000000, or by the caller's choice,
+`every_w`, with it.
 
 Run as a script it is that program, from standard input to standard output.
 """
@@ -46,8 +49,9 @@ def corner_word(v, vt, vn):
 
 
 class Tidier:
-    def __init__(self, text, used, tables):
+    def __init__(self, text, used, tables, every_w):
         self.text = text
+        self.every_w = every_w
         self.used = used
         self.tables = dict(zip(TABLES, tables))
         self.lines = []
@@ -64,8 +68,8 @@ class Tidier:
             yield numbers[at:at + width]
 
     def whole(self):
-        for xyzw in self.records("v", 4, self.used.v):
-            self.numbers("v", *xyzw)
+        for *xyz, w in self.records("v", 4, self.used.v):
+            self.numbers("v", *xyz, *([w] if self.every_w or w != ONE else []))
         for uvw in self.records("vt", 3, self.used.vt):
             self.numbers("vt", *uvw)
         for ijk in self.records("vn", 3, self.used.vn):
@@ -128,17 +132,17 @@ class Tidier:
         self.line("end")
 
 
-def tidy_text(text, used, tables):
+def tidy_text(text, used, tables, every_w=False):
     """The tidy text of tables that `read` made of that same text."""
-    return Tidier(text, used, tables).whole()
+    return Tidier(text, used, tables, every_w).whole()
 
 
-def tidy(data, rooms, buffer):
+def tidy(data, rooms, buffer, every_w=False):
     """`buffer` is the length of the buffer that the text must find room in."""
     answer = read(data, rooms)
     if isinstance(answer, Refused):
         return answer
-    text = tidy_text(data, answer.used, answer.tables)
+    text = tidy_text(data, answer.used, answer.tables, every_w)
     if len(text) > buffer or len(text) > TEXT_LIMIT:
         return TooLong(answer.used, answer.tables)
     return Written(text, answer.used, answer.tables)

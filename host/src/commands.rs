@@ -3,7 +3,7 @@ use crate::show;
 use crate::{tell, Failure};
 use kuhlabires::{
     cubic_at, group_of, material_of, point_on_surface, read, run_on_curve, tidy_text, Body, Decimal, Element, Kind,
-    Outline, Refusal, Tables, CUBIC_STEPS, MOST_BYTES, MOST_POLYLINE_POINTS, MOST_STEPS,
+    Outline, Refusal, Tables, Weights, CUBIC_STEPS, MOST_BYTES, MOST_POLYLINE_POINTS, MOST_STEPS,
 };
 use std::ffi::OsStr;
 use std::fs::File;
@@ -109,8 +109,9 @@ pub fn check(input: Input, out: &mut dyn Write) -> Result<(), Failure> {
     Ok(())
 }
 
-pub fn tidy(input: Input, out: &mut dyn Write) -> Result<(), Failure> {
-    let tidied = told(&input, "tidying", || tidy_text(&input.text)).map_err(|refusal| refused(&input, refusal))?;
+pub fn tidy(input: Input, weights: Weights, out: &mut dyn Write) -> Result<(), Failure> {
+    let tidied =
+        told(&input, "tidying", || tidy_text(&input.text, weights)).map_err(|refusal| refused(&input, refusal))?;
     Ok(out.write_all(&tidied)?)
 }
 

@@ -52,20 +52,32 @@ pub fn read(text: &[u8], tables: &mut Tables) -> Result<(), Refusal> {
     unless_refused(answer.refusal, answer.place)
 }
 
+/// Whether the tidy text has the w of a `v`, its weight, where it is 1.000000 too.
+#[derive(Clone, Copy, Debug, Default, PartialEq, Eq)]
+pub enum Weights {
+    #[default]
+    WhenNeeded,
+    Always,
+}
+
 /// Reads a text into the tables and writes its tidy text to the front of `out`; answers the tidy text's length.
 ///
 /// A refusal leaves `out` as it was. After 16, the tidy text does not fit, the tables stay filled; after any other all is 0.
-pub fn tidy(text: &[u8], tables: &mut Tables, out: &mut [u8]) -> Result<usize, Refusal> {
-    let answer = raw::tidy(text, tables, out);
+pub fn tidy(text: &[u8], weights: Weights, tables: &mut Tables, out: &mut [u8]) -> Result<usize, Refusal> {
+    let number = match weights {
+        Weights::WhenNeeded => 0,
+        Weights::Always => 1,
+    };
+    let answer = raw::tidy(text, number, tables, out);
     tables.used = answer.used;
     unless_refused(answer.refusal, answer.place)?;
     Ok(answer.length)
 }
 
 /// The tidy text of a text, in memory of its own: 16 only where it passes 16,777,216 bytes.
-pub fn tidy_text(text: &[u8]) -> Result<Vec<u8>, Refusal> {
+pub fn tidy_text(text: &[u8], weights: Weights) -> Result<Vec<u8>, Refusal> {
     let mut out = vec![0; MOST_BYTES];
-    let length = tidy(text, &mut Tables::for_text(text), &mut out)?;
+    let length = tidy(text, weights, &mut Tables::for_text(text), &mut out)?;
     out.truncate(length);
     out.shrink_to_fit();
     Ok(out)

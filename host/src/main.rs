@@ -3,6 +3,7 @@ mod commands;
 mod decimal;
 mod show;
 
+use kuhlabires::Weights;
 use std::env;
 use std::ffi::OsString;
 use std::fmt::Display;
@@ -15,6 +16,7 @@ kuhlabires: reads, tidies and samples Wavefront .obj files
 
     kuhlabires check FILE                   whether the file is read, and what it holds
     kuhlabires tidy FILE                    its tidy text
+    kuhlabires tidy --weights FILE          the same with the w of every v, 1.000000 too
     kuhlabires elements FILE                its elements, one a line
     kuhlabires points FILE ELEMENT STEPS    points of a curv, curv2 or surf: STEPS steps from its start to its
                                             end, on a surf along u, and along v
@@ -59,15 +61,20 @@ pub fn tell(message: impl Display) {
 
 // A path is any bytes that the system takes, so FILE goes as it came; the other words are compared as text.
 fn run(arguments: &[OsString], out: &mut dyn Write) -> Result<(), Failure> {
-    let told = !arguments.iter().any(|word| word == "--quiet");
-    let arguments: Vec<&OsString> = arguments.iter().filter(|word| *word != "--quiet").collect();
+    let asked = |flag: &str| arguments.iter().any(|word| word == flag);
+    let (told, weights) = (!asked("--quiet"), if asked("--weights") { Weights::Always } else { Weights::WhenNeeded });
+    let arguments: Vec<&OsString> =
+        arguments.iter().filter(|word| *word != "--quiet" && *word != "--weights").collect();
     let texts: Vec<String> = arguments.iter().map(|word| word.to_string_lossy().into_owned()).collect();
     let words: Vec<&str> = texts.iter().map(String::as_str).collect();
     let open = || commands::open(arguments[1], told);
     match words[..] {
         ["--help" | "-h" | "help"] => Ok(out.write_all(HELP.as_bytes())?),
+        [command, ..] if weights == Weights::Always && command != "tidy" => {
+            Err(Failure::Usage(format!("--weights is for tidy, and not for {command}")))
+        }
         ["check", _] => commands::check(open()?, out),
-        ["tidy", _] => commands::tidy(open()?, out),
+        ["tidy", _] => commands::tidy(open()?, weights, out),
         ["elements", _] => commands::elements(open()?, out),
         ["points", _, element, steps] => {
             let (element, steps) = (number("ELEMENT", element)?, number("STEPS", steps)?);

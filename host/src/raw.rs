@@ -68,7 +68,7 @@ macro_rules! boundary {
 
 boundary! {
     kuhlabires_read(text: *const u8, text_length: usize; *mut i32, *mut u32;) -> Reading;
-    kuhlabires_tidy(text: *const u8, text_length: usize; *mut i32, *mut u32; out: *mut u8, out_length: usize) -> Tidying;
+    kuhlabires_tidy(text: *const u8, text_length: usize, weights: u32; *mut i32, *mut u32; out: *mut u8, out_length: usize) -> Tidying;
     kuhlabires_point_on_curve(used: Used; *const i32, *const u32; element: u32, t: i32) -> Point;
     kuhlabires_cubic_at(used: Used; *const i32, *const u32; element: u32, segment: u32, j: u32) -> Point;
     kuhlabires_point_on_surface(used: Used; *const i32, *const u32; element: u32, s: i32, t: i32) -> Point;
@@ -150,8 +150,8 @@ pub fn read(text: &[u8], tables: &mut Tables) -> Reading {
     with_tables!(as_mut_ptr, tables, kuhlabires_read(text.as_ptr(), text.len();))
 }
 
-pub fn tidy(text: &[u8], tables: &mut Tables, out: &mut [u8]) -> Tidying {
-    with_tables!(as_mut_ptr, tables, kuhlabires_tidy(text.as_ptr(), text.len(); out.as_mut_ptr(), out.len()))
+pub fn tidy(text: &[u8], weights: u32, tables: &mut Tables, out: &mut [u8]) -> Tidying {
+    with_tables!(as_mut_ptr, tables, kuhlabires_tidy(text.as_ptr(), text.len(), weights; out.as_mut_ptr(), out.len()))
 }
 
 pub fn point_on_curve(tables: &Tables, element: u32, t: i32) -> Point {

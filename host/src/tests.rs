@@ -150,17 +150,46 @@ fn the_empty_text_is_read() {
 #[test]
 fn a_text_is_tidied() {
     let text = b"# plate\nv 0 0 0\nv 1.5 0 0\nv 1.5 .25 0\ng top\nf -3 -2 -1\n";
-    let tidied = b"v 0.000000 0.000000 0.000000 1.000000\nv 1.500000 0.000000 0.000000 1.000000\nv 1.500000 0.250000 0.000000 1.000000\ng top\nf 1 2 3\n";
-    assert_eq!(tidy_text(text).as_deref(), Ok(&tidied[..]));
-    assert_eq!(tidy_text(tidied).as_deref(), Ok(&tidied[..]));
-    assert_eq!(tidy_text(b"f 1 1 1\n"), Err(Refusal { number: 8, place: 2 }));
+    let short =
+        b"v 0.000000 0.000000 0.000000\nv 1.500000 0.000000 0.000000\nv 1.500000 0.250000 0.000000\ng top\nf 1 2 3\n";
+    let long = b"v 0.000000 0.000000 0.000000 1.000000\nv 1.500000 0.000000 0.000000 1.000000\nv 1.500000 0.250000 0.000000 1.000000\ng top\nf 1 2 3\n";
+    for from in [&text[..], short, long] {
+        assert_eq!(tidy_text(from, Weights::WhenNeeded).as_deref(), Ok(&short[..]));
+        assert_eq!(tidy_text(from, Weights::Always).as_deref(), Ok(&long[..]));
+    }
+    assert_eq!(Weights::default(), Weights::WhenNeeded);
+    assert_eq!(tidy_text(b"f 1 1 1\n", Weights::WhenNeeded), Err(Refusal { number: 8, place: 2 }));
 }
 
 #[test]
 fn a_tidy_text_without_room_leaves_the_buffer() {
     let mut tables = Tables::for_text(CURVE);
     let mut out = [9; 4];
-    assert_eq!(tidy(CURVE, &mut tables, &mut out), Err(Refusal { number: 16, place: 0 }));
+    assert_eq!(tidy(CURVE, Weights::WhenNeeded, &mut tables, &mut out), Err(Refusal { number: 16, place: 0 }));
     assert_eq!(out, [9; 4]);
     assert_eq!(tables, read_whole(CURVE));
+}
+
+#[test]
+fn the_room_of_a_tidy_text_is_that_of_the_form_chosen() {
+    let text = b"v 1 2 3\n";
+    let mut out = [9; 29];
+    assert_eq!(
+        tidy(text, Weights::Always, &mut Tables::for_text(text), &mut out),
+        Err(Refusal { number: 16, place: 0 })
+    );
+    assert_eq!(out, [9; 29]);
+    assert_eq!(tidy(text, Weights::WhenNeeded, &mut Tables::for_text(text), &mut out), Ok(29));
+    assert_eq!(&out, b"v 1.000000 2.000000 3.000000\n");
+}
+
+// A number that is no choice counts as 0.
+#[test]
+fn any_other_number_leaves_the_weights_off() {
+    let text = b"v 1 2 3\nv 1 2 3 4\n";
+    for number in [0, 2, u32::MAX] {
+        let mut out = [9; 99];
+        let answer = raw::tidy(text, number, &mut Tables::for_text(text), &mut out);
+        assert_eq!(&out[..answer.length], b"v 1.000000 2.000000 3.000000\nv 1.000000 2.000000 3.000000 4.000000\n");
+    }
 }

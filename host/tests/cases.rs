@@ -1,6 +1,6 @@
 //! The cases of `second/cases`, answers worked out by hand, through the static library: reading with the rooms that a case names, and with the
 //! rooms that the text is found to need; tidying against the texts beside.
-use kuhlabires::{read, rooms_of, tidy_text, Rooms, Tables, Used};
+use kuhlabires::{read, rooms_of, tidy_text, Rooms, Tables, Used, Weights};
 use std::fs;
 use std::path::{Path, PathBuf};
 
@@ -85,13 +85,19 @@ fn every_tidy_text_is_the_one_beside() {
         if path.extension().map_or(true, |extension| extension != "obj") {
             continue;
         }
-        let wanted = fs::read(path.with_extension("tidy")).unwrap();
         let text = fs::read(&path).unwrap();
-        assert_eq!(tidy_text(&text).as_deref(), Ok(&wanted[..]), "{}", path.display());
-        assert_eq!(tidy_text(&wanted).as_deref(), Ok(&wanted[..]), "{} once more", path.display());
-        held += 1;
+        for (weights, ending) in [(Weights::WhenNeeded, ""), (Weights::Always, "-every-w")] {
+            let name = format!("{}{ending}.tidy", path.file_stem().unwrap().to_str().unwrap());
+            let Ok(wanted) = fs::read(path.with_file_name(name)) else {
+                assert_eq!(weights, Weights::Always, "{} has no tidy text", path.display());
+                continue;
+            };
+            assert_eq!(tidy_text(&text, weights).as_deref(), Ok(&wanted[..]), "{}", path.display());
+            assert_eq!(tidy_text(&wanted, weights).as_deref(), Ok(&wanted[..]), "{} once more", path.display());
+            held += 1;
+        }
     }
-    assert!(held > 0, "no tidy texts");
+    assert!(held > 7, "only {held} tidy texts");
 }
 
 #[test]

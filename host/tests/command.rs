@@ -74,7 +74,7 @@ fn a_file_name_is_any_bytes() {
     let made = Made::new(std::ffi::OsStr::from_bytes(b"na\xffme.obj"), b"v 1 2 3\np 1\n");
     let output = command().arg("tidy").arg(&made.0).output().unwrap();
     assert_eq!(output.status.code(), Some(0), "{}", told(&output));
-    assert_eq!(output.stdout, b"v 1.000000 2.000000 3.000000 1.000000\np 1\n");
+    assert_eq!(output.stdout, b"v 1.000000 2.000000 3.000000\np 1\n");
 }
 
 #[test]

@@ -152,8 +152,8 @@ def cubic(name, text, used, tables, element):
     return "".join(given) or f"{name}: element {element}: refused {number}: {WORDS[number]}\n"
 
 
-def tidied(name, text, used, tables):
-    return tidy(text, ROOMS, 65_536).text.decode()
+def tidied(name, text, used, tables, *flags):
+    return tidy(text, ROOMS, 65_536, "--weights" in flags).text.decode()
 
 
 COMMANDS = {"check": check, "tidy": tidied, "elements": elements, "points": points, "polyline": cut, "cubic": cubic}

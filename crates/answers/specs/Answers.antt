@@ -2,12 +2,14 @@
 use Prim.Native.Nat.{ℕ, _+_}
 use mathlib.Core.List.{List}
 use mathlib.Core.Bool.{cond}
-use lib.Dec.{leb}
+use lib.Dec.{leb, eqb}
 use lib.ListN.{length, getD, take, drop}
 use lib.IntN.{pos}
 use Rattle.tables.specs.Asking.{elementOf}
 use Rattle.tables.specs.declared.Used.{Used}
 use Rattle.reader.specs.Reading.{ReadOutcome}
+use Rattle.tidying.specs.declared.Weights.{Weights}
+use Rattle.tidying.specs.declared.Weights.the-variants.{WhenNeeded, Always}
 use Rattle.tidy_file.specs.Tidying.{TidyOutcome}
 use Rattle.sampler.specs.Answers.{PointOutcome, RunOutcome}
 use Rattle.polyline.specs.Answers.{PolylineOutcome}
@@ -23,6 +25,10 @@ readIn o = record { refusal = o .number; place = o .place; used = o .used }
 
 abbrev pub tidyIn : TidyOutcome → TidyAnswer
 tidyIn o = record { refusal = o .number; place = o .place; length = o .length; used = o .used }
+
+-- the choice of weights that another language names by a number: 1 is always; 0 is when needed, and so is every other number
+abbrev pub weightsIn : ℕ → Weights
+weightsIn n = cond (eqb n 1) Always WhenNeeded
 
 -- "surf and curv give x y z, curv2 u v": so many axes, and zeros for what is not given
 abbrev pub pointIn : PointOutcome → Point

@@ -1,17 +1,18 @@
-// The answers as C and Rust get them: each case of an answer as a record of numbers.
+// The answers as C and Rust get them: each case of an answer as a record of numbers; and a choice that they name by a number.
 ghost use mathlib.Core.Path.{_≡_};
 ghost use Rattle.model.specs.Layout.{noneUsed};
 ghost use Rattle.reader.specs.Reading.{readOutcome};
 ghost use Rattle.tidy_file.specs.Tidying.{tidyOutcome};
 ghost use Rattle.sampler.specs.Answers.{pointOutcome, runOutcome};
 ghost use Rattle.polyline.specs.Answers.{polylineOutcome};
-ghost use Rattle.answers.specs.Answers.{readIn, tidyIn, pointIn, runIn, polylineIn, partIn};
+ghost use Rattle.answers.specs.Answers.{readIn, tidyIn, weightsIn, pointIn, runIn, polylineIn, partIn};
 use polyline::PolylineResult;
 use reader::Reading;
 use sampler::Ran;
 use sampler::Sampled;
 use tables::Used;
 use tidy_file::Tidied;
+use tidying::Weights;
 
 // What reading comes to: the used counts, or a refusal at a place where `refusal` is not 0.
 #[repr(C)]
@@ -92,6 +93,16 @@ pub fn read_of(answer: Reading) -> ReadAnswer
             used: nothing_used(),
         },
     }
+}
+
+// The choice of weights of that number: 1 is always, any other is when needed.
+pub fn weights_of(number: u32) -> Weights
+    ensures { λ r. ⌜ r ≡ weightsIn number ⌝ }
+{
+    if number == 1 {
+        return Weights::Always;
+    }
+    Weights::WhenNeeded
 }
 
 pub fn tidy_of(answer: Tidied) -> TidyAnswer

@@ -8,7 +8,7 @@ ghost use Rattle.cubics.specs.Answers.{cubicAt};
 ghost use Rattle.rooms.specs.Rooms.{roomsOfText};
 ghost use Rattle.reader.specs.Reading.{readInto};
 ghost use Rattle.tidy_file.specs.Tidying.{tidyInto};
-ghost use Rattle.answers.specs.Answers.{readIn, tidyIn, pointIn, runIn, polylineIn, groupIn, materialIn, bytesIn};
+ghost use Rattle.answers.specs.Answers.{readIn, tidyIn, weightsIn, pointIn, runIn, polylineIn, groupIn, materialIn, bytesIn};
 use answers::Part;
 use answers::Point;
 use answers::PolylinePoints;
@@ -61,10 +61,11 @@ pub extern "C" fn kuhlabires_read(
     ))
 }
 
-// Reads a text into the lent tables and writes its tidy text to the front of `out`.
+// Reads a text into the lent tables and writes its tidy text to the front of `out`; `weights` is 1 where a w of 1.000000 is written too.
 #[no_mangle]
 pub extern "C" fn kuhlabires_tidy(
     text: &[u8],
+    weights: u32,
     v: &mut [i32],
     vt: &mut [i32],
     vn: &mut [i32],
@@ -78,10 +79,11 @@ pub extern "C" fn kuhlabires_tidy(
     spans: &mut [i32],
     out: &mut [u8],
 ) -> TidyAnswer
-    ensures { λ r. ⌜ (r ≡ tidyIn (tidyInto (now (text .entry)) (tables (now (v .entry)) (now (vt .entry)) (now (vn .entry)) (now (vp .entry)) (now (corners .entry)) (now (elements .entry)) (now (bodies .entry)) (now (ranges .entry)) (now (parameters .entry)) (now (loops .entry)) (now (spans .entry))) (now (out .entry)) .outcome)) × ((tables (now (v .exit)) (now (vt .exit)) (now (vn .exit)) (now (vp .exit)) (now (corners .exit)) (now (elements .exit)) (now (bodies .exit)) (now (ranges .exit)) (now (parameters .exit)) (now (loops .exit)) (now (spans .exit))) ≡ tidyInto (now (text .entry)) (tables (now (v .entry)) (now (vt .entry)) (now (vn .entry)) (now (vp .entry)) (now (corners .entry)) (now (elements .entry)) (now (bodies .entry)) (now (ranges .entry)) (now (parameters .entry)) (now (loops .entry)) (now (spans .entry))) (now (out .entry)) .tables) × (now (out .exit) ≡ tidyInto (now (text .entry)) (tables (now (v .entry)) (now (vt .entry)) (now (vn .entry)) (now (vp .entry)) (now (corners .entry)) (now (elements .entry)) (now (bodies .entry)) (now (ranges .entry)) (now (parameters .entry)) (now (loops .entry)) (now (spans .entry))) (now (out .entry)) .out) ⌝ }
+    ensures { λ r. ⌜ (r ≡ tidyIn (tidyInto (weightsIn weights) (now (text .entry)) (tables (now (v .entry)) (now (vt .entry)) (now (vn .entry)) (now (vp .entry)) (now (corners .entry)) (now (elements .entry)) (now (bodies .entry)) (now (ranges .entry)) (now (parameters .entry)) (now (loops .entry)) (now (spans .entry))) (now (out .entry)) .outcome)) × ((tables (now (v .exit)) (now (vt .exit)) (now (vn .exit)) (now (vp .exit)) (now (corners .exit)) (now (elements .exit)) (now (bodies .exit)) (now (ranges .exit)) (now (parameters .exit)) (now (loops .exit)) (now (spans .exit))) ≡ tidyInto (weightsIn weights) (now (text .entry)) (tables (now (v .entry)) (now (vt .entry)) (now (vn .entry)) (now (vp .entry)) (now (corners .entry)) (now (elements .entry)) (now (bodies .entry)) (now (ranges .entry)) (now (parameters .entry)) (now (loops .entry)) (now (spans .entry))) (now (out .entry)) .tables) × (now (out .exit) ≡ tidyInto (weightsIn weights) (now (text .entry)) (tables (now (v .entry)) (now (vt .entry)) (now (vn .entry)) (now (vp .entry)) (now (corners .entry)) (now (elements .entry)) (now (bodies .entry)) (now (ranges .entry)) (now (parameters .entry)) (now (loops .entry)) (now (spans .entry))) (now (out .entry)) .out) ⌝ }
 {
     answers::tidy_of(tidy_file::tidy(
         text,
+        answers::weights_of(weights),
         v,
         vt,
         vn,

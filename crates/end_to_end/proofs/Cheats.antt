@@ -27,6 +27,7 @@ use Rattle.model.specs.Read.{read, readOf, statement}
 use Rattle.model.specs.Layout.{tablesOf, usedOf, nothing}
 use Rattle.all_lines.specs.declared.Reading.the-variants as reading
 use Rattle.reader.specs.Reading.{roomsOf}
+use Rattle.tidying.specs.declared.Weights.{Weights}
 use Rattle.tidying.specs.Tidied.{tidied}
 use Rattle.tidying.specs.Printed.{tidyText}
 use Rattle.tidy_file.specs.declared.Tidied.the-variants.{Written, TooLong}
@@ -114,18 +115,18 @@ fixed-counts reads tidies h d =
     omega arith
 
 -- ---- tidiers
-copies-its-input : (reads : Reader) (tidies : Tidier) → CopiesItsInput tidies → Demand2 reads tidies → ⊥
+copies-its-input : (c : Weights) (reads : Reader) (tidies : Tidier) → CopiesItsInput c tidies → Demand2 reads tidies → ⊥
 unfolding tidyText tidied
-copies-its-input reads tidies h d =
-    let w = d .writes (10 ∷ []) lent [] nothing line-read (omega arith) (omega arith) in
+copies-its-input c reads tidies h d =
+    let w = d .writes c (10 ∷ []) lent [] nothing line-read (omega arith) (omega arith) in
     let z : _≡_ {A = ℕ} 0 1 = ap length (h (10 ∷ []) lent [] 0 (usedOf nothing) w) in
     omega arith
 
-turns-all-away : (reads : Reader) (tidies : Tidier) → TurnsAllAway tidies → Demand2 reads tidies → ⊥
+turns-all-away : (c : Weights) (reads : Reader) (tidies : Tidier) → TurnsAllAway c tidies → Demand2 reads tidies → ⊥
 unfolding tidyText tidied
-turns-all-away reads tidies h d =
+turns-all-away c reads tidies h d =
     let r = h [] lent [] in
-    let e : TooLong (r .0) ≡ Written 0 (usedOf nothing) = sym (r .1) ∙ d .writes [] lent [] nothing none-read (omega arith) (omega arith) in
+    let e : TooLong (r .0) ≡ Written 0 (usedOf nothing) = sym (r .1) ∙ d .writes c [] lent [] nothing none-read (omega arith) (omega arith) in
     let z : _≡_ {A = ℕ} 0 1 = cc in
     omega arith
 

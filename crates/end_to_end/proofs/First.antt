@@ -12,6 +12,7 @@ use Rattle.model.specs.Layout.{tablesOf, usedOf}
 use Rattle.all_lines.specs.declared.Reading.the-variants as reading
 use Rattle.reader.specs.Reading.{roomsOf, readOutcome, Result, readInto}
 use Rattle.reader.specs.Reading as reader
+use Rattle.tidying.specs.declared.Weights.{Weights}
 use Rattle.tidying.specs.Printed.{tidyText}
 use Rattle.tidy_file.specs.Tidying.{tidyOutcome, TidyResult, hasRoom, written, answered, tidyInto}
 use Rattle.sampler.specs.Demand3.{sampling}
@@ -25,9 +26,9 @@ read-outcome : (R : Rooms) (x : Answer) → reader.answered R x .outcome ≡ rea
 read-outcome R (read m) = refl
 read-outcome R (refused n p) = refl
 
-tidy-outcome : (R : Rooms) (x : Answer) (a : List ℕ) → answered R x a .outcome ≡ tidyOutcome (answered R x a .answer)
-tidy-outcome R (refused n p) a = refl
-tidy-outcome R (read m) a = go (tidyText m) (usedOf m) (tablesOf R m) (hasRoom (tidyText m) a) refl
+tidy-outcome : (c : Weights) (R : Rooms) (x : Answer) (a : List ℕ) → answered c R x a .outcome ≡ tidyOutcome (answered c R x a .answer)
+tidy-outcome c R (refused n p) a = refl
+tidy-outcome c R (read m) a = go (tidyText c m) (usedOf m) (tablesOf R m) (hasRoom (tidyText c m) a) refl
   where
     go : (w : List ℕ) (u : Used) (t : Tables) (b : Bool) → hasRoom w a ≡ b → written w u t a .outcome ≡ tidyOutcome (written w u t a .answer)
     go w u t true e = rw e refl
@@ -38,7 +39,7 @@ unfolding readInto tidyInto
 outcomes =
     record {
       reading = λ s S. read-outcome (roomsOf S) (readOf (roomsOf S) s);
-      tidying = λ s S a. tidy-outcome (roomsOf S) (readOf (roomsOf S) s) a;
+      tidying = λ c s S a. tidy-outcome c (roomsOf S) (readOf (roomsOf S) s) a;
       curve = λ u t number p. curve-sound u t number p .outcome;
       surface = λ u t number p q. surface-sound u t number p q .outcome;
       run = λ u t number steps at points. run-sound u t number steps at points .outcome;
@@ -55,18 +56,18 @@ first =
             tables = ap (λ (r : Result). r .tables) e ∙ nothing-zeros S;
             counts = ap (λ (r : Result). r .outcome .used) e;
           };
-      refuses = λ s S a n p h. ap (λ (r : TidyResult). r .answer) (tidy-is s S a (refused n p) (turned-down s S n p h));
-      refused-tidying = λ s S a n p h.
-          let d = refused-file s S a n p h in
-          let e = tidy-is s S a (refused n p) (d .is-refused) in
+      refuses = λ c s S a n p h. ap (λ (r : TidyResult). r .answer) (tidy-is c s S a (refused n p) (turned-down s S n p h));
+      refused-tidying = λ c s S a n p h.
+          let d = refused-file c s S a n p h in
+          let e = tidy-is c s S a (refused n p) (d .is-refused) in
           record {
             read = ap (λ (r : Result). r .answer) (read-is s S (refused n p) (d .is-refused));
             tables = d .tables ∙ nothing-zeros S;
             counts = ap (λ (r : TidyResult). r .outcome .used) e;
             out = d .kept;
           };
-      long-tidying = λ s S a u h.
-          let l = long-file s S a u h in
+      long-tidying = λ c s S a u h.
+          let l = long-file c s S a u h in
           let e = read-is s S (read (l .model)) (l .is-read) in
           record {
             read = ap (λ (r : Result). r .answer) e ∙ ap (λ (w : Used). reading.Read w) (l .counts);

@@ -19,6 +19,7 @@ use Rattle.model.specs.Layout.{tablesOf, usedOf, nothing}
 use Rattle.all_lines.specs.declared.Reading.the-variants as reading
 use Rattle.reader.specs.Reading.{roomsOf, Result, readInto}
 use Rattle.reader.specs.Reading as reader
+use Rattle.tidying.specs.declared.Weights.{Weights}
 use Rattle.tidying.specs.Printed.{tidyText}
 use Rattle.tidy_file.specs.declared.Tidied.{Tidied}
 use Rattle.tidy_file.specs.declared.Tidied.the-variants.{Written, TooLong, Refused}
@@ -127,59 +128,59 @@ module _ (w : List ℕ) (used : Used) (t : Tables) (a : List ℕ) where
       go false e = apart-long used n p (sym (its-answer _ (written-with false e) (Refused n p) h))
 
 -- ---- tidying
-pub record Tidy (s : List ℕ) (S : Tables) (a : List ℕ) (n : ℕ) (u : Used) : Type 0 where
+pub record Tidy (c : Weights) (s : List ℕ) (S : Tables) (a : List ℕ) (n : ℕ) (u : Used) : Type 0 where
   pub model : Model
   pub is-read : readOf (roomsOf S) s ≡ read model
-  pub tables : tidyInto s S a .tables ≡ tablesOf (roomsOf S) model
-  pub rest : Wrote (tidyText model) (usedOf model) a n u (tidyInto s S a .out)
+  pub tables : tidyInto c s S a .tables ≡ tablesOf (roomsOf S) model
+  pub rest : Wrote (tidyText c model) (usedOf model) a n u (tidyInto c s S a .out)
 
-pub record Long (s : List ℕ) (S : Tables) (a : List ℕ) (u : Used) : Type 0 where
+pub record Long (c : Weights) (s : List ℕ) (S : Tables) (a : List ℕ) (u : Used) : Type 0 where
   pub model : Model
   pub is-read : readOf (roomsOf S) s ≡ read model
-  pub tables : tidyInto s S a .tables ≡ tablesOf (roomsOf S) model
+  pub tables : tidyInto c s S a .tables ≡ tablesOf (roomsOf S) model
   pub counts : usedOf model ≡ u
-  pub kept : tidyInto s S a .out ≡ a
+  pub kept : tidyInto c s S a .out ≡ a
 
-pub record Down (s : List ℕ) (S : Tables) (a : List ℕ) (n p : ℕ) : Type 0 where
+pub record Down (c : Weights) (s : List ℕ) (S : Tables) (a : List ℕ) (n p : ℕ) : Type 0 where
   pub is-refused : readOf (roomsOf S) s ≡ refused n p
-  pub tables : tidyInto s S a .tables ≡ tablesOf (roomsOf S) nothing
-  pub kept : tidyInto s S a .out ≡ a
+  pub tables : tidyInto c s S a .tables ≡ tablesOf (roomsOf S) nothing
+  pub kept : tidyInto c s S a .out ≡ a
 
-module _ (s : List ℕ) (S : Tables) (a : List ℕ) where
-  pub tidy-is : (x : Answer) → readOf (roomsOf S) s ≡ x → tidyInto s S a ≡ answered (roomsOf S) x a
+module _ (c : Weights) (s : List ℕ) (S : Tables) (a : List ℕ) where
+  pub tidy-is : (x : Answer) → readOf (roomsOf S) s ≡ x → tidyInto c s S a ≡ answered c (roomsOf S) x a
   unfolding tidyInto
-  tidy-is x e = ap (λ (y : Answer). answered (roomsOf S) y a) e
+  tidy-is x e = ap (λ (y : Answer). answered c (roomsOf S) y a) e
 
   abbrev of : Model → TidyResult
-  of m = written (tidyText m) (usedOf m) (tablesOf (roomsOf S) m) a
+  of m = written (tidyText c m) (usedOf m) (tablesOf (roomsOf S) m) a
 
-  told : (x : Answer) → readOf (roomsOf S) s ≡ x → (d : Tidied) → tidyInto s S a .answer ≡ d → answered (roomsOf S) x a .answer ≡ d
+  told : (x : Answer) → readOf (roomsOf S) s ≡ x → (d : Tidied) → tidyInto c s S a .answer ≡ d → answered c (roomsOf S) x a .answer ≡ d
   told x e d h = sym (ap (λ (r : TidyResult). r .answer) (tidy-is x e)) ∙ h
 
-  its-tables : (m : Model) → readOf (roomsOf S) s ≡ read m → tidyInto s S a .tables ≡ tablesOf (roomsOf S) m
-  its-tables m e = ap (λ (r : TidyResult). r .tables) (tidy-is (read m) e) ∙ keeps-tables (tidyText m) (usedOf m) (tablesOf (roomsOf S) m) a
+  its-tables : (m : Model) → readOf (roomsOf S) s ≡ read m → tidyInto c s S a .tables ≡ tablesOf (roomsOf S) m
+  its-tables m e = ap (λ (r : TidyResult). r .tables) (tidy-is (read m) e) ∙ keeps-tables (tidyText c m) (usedOf m) (tablesOf (roomsOf S) m) a
 
-  pub tidied-file : (n : ℕ) (u : Used) → tidyInto s S a .answer ≡ Written n u → Tidy s S a n u
+  pub tidied-file : (n : ℕ) (u : Used) → tidyInto c s S a .answer ≡ Written n u → Tidy c s S a n u
   tidied-file n u h = go (readOf (roomsOf S) s) refl
     where
-      go : (x : Answer) → readOf (roomsOf S) s ≡ x → Tidy s S a n u
+      go : (x : Answer) → readOf (roomsOf S) s ≡ x → Tidy c s S a n u
       go (refused k p) e = apart-refused n u k p (told (refused k p) e (Written n u) h)
       go (read m) e =
-          let out : tidyInto s S a .out ≡ of m .out = ap (λ (r : TidyResult). r .out) (tidy-is (read m) e) in
+          let out : tidyInto c s S a .out ≡ of m .out = ap (λ (r : TidyResult). r .out) (tidy-is (read m) e) in
           record {
             model = m;
             is-read = e;
             tables = its-tables m e;
-            rest = rw out (wrote (tidyText m) (usedOf m) (tablesOf (roomsOf S) m) a n u (told (read m) e (Written n u) h));
+            rest = rw out (wrote (tidyText c m) (usedOf m) (tablesOf (roomsOf S) m) a n u (told (read m) e (Written n u) h));
           }
 
-  pub long-file : (u : Used) → tidyInto s S a .answer ≡ TooLong u → Long s S a u
+  pub long-file : (u : Used) → tidyInto c s S a .answer ≡ TooLong u → Long c s S a u
   long-file u h = go (readOf (roomsOf S) s) refl
     where
-      go : (x : Answer) → readOf (roomsOf S) s ≡ x → Long s S a u
+      go : (x : Answer) → readOf (roomsOf S) s ≡ x → Long c s S a u
       go (refused k p) e = apart-long u k p (told (refused k p) e (TooLong u) h)
       go (read m) e =
-          let l = too-long (tidyText m) (usedOf m) (tablesOf (roomsOf S) m) a u (told (read m) e (TooLong u) h) in
+          let l = too-long (tidyText c m) (usedOf m) (tablesOf (roomsOf S) m) a u (told (read m) e (TooLong u) h) in
           record {
             model = m;
             is-read = e;
@@ -188,11 +189,11 @@ module _ (s : List ℕ) (S : Tables) (a : List ℕ) where
             kept = ap (λ (r : TidyResult). r .out) (tidy-is (read m) e) ∙ l .1;
           }
 
-  pub refused-file : (n p : ℕ) → tidyInto s S a .answer ≡ Refused n p → Down s S a n p
+  pub refused-file : (n p : ℕ) → tidyInto c s S a .answer ≡ Refused n p → Down c s S a n p
   refused-file n p h = go (readOf (roomsOf S) s) refl
     where
-      go : (x : Answer) → readOf (roomsOf S) s ≡ x → Down s S a n p
-      go (read m) e = never-refused (tidyText m) (usedOf m) (tablesOf (roomsOf S) m) a n p (told (read m) e (Refused n p) h)
+      go : (x : Answer) → readOf (roomsOf S) s ≡ x → Down c s S a n p
+      go (read m) e = never-refused (tidyText c m) (usedOf m) (tablesOf (roomsOf S) m) a n p (told (read m) e (Refused n p) h)
       go (refused k q) e =
           let f : Refused k q ≡ Refused n p = told (refused k q) e (Refused n p) h in
           record {

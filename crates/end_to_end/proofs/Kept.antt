@@ -6,6 +6,7 @@ use lib.IntN.{ℤ}
 use Rattle.tables.specs.Tables.{Tables}
 use Rattle.tables.specs.declared.Used.{Used}
 use Rattle.reader.specs.Reading.{readInto}
+use Rattle.tidying.specs.declared.Weights.{Weights}
 use Rattle.tidy_file.specs.Tidying.{tidyInto}
 use Rattle.sampler.specs.Answers.{pointOnCurve, pointOnSurface, runInto}
 use Rattle.sampler.specs.Demand3.{sampling}
@@ -19,8 +20,8 @@ module _ {reads : Reader} {tidies : Tidier} {samples : Sampler} (h : Promised re
   read-at : (s : List ℕ) (S : Tables) → reads s S ≡ readInto s S
   read-at s S = h .read s S
 
-  tidy-at : (s : List ℕ) (S : Tables) (a : List ℕ) → tidies s S a ≡ tidyInto s S a
-  tidy-at s S a = h .tidy s S a
+  tidy-at : (c : Weights) (s : List ℕ) (S : Tables) (a : List ℕ) → tidies c s S a ≡ tidyInto c s S a
+  tidy-at c s S a = h .tidy c s S a
 
   curve-at : (u : Used) (t : Tables) (number : ℕ) (p : ℤ) → samples .curve u t number p ≡ pointOnCurve u t number p
   curve-at u t number p = h .curve u t number p
@@ -35,7 +36,7 @@ module _ {reads : Reader} {tidies : Tidier} {samples : Sampler} (h : Promised re
   the-reader = fun-ext (λ s. fun-ext (λ S. read-at s S))
 
   the-tidier : tidies ≡ tidyInto
-  the-tidier = fun-ext (λ s. fun-ext (λ S. fun-ext (λ a. tidy-at s S a)))
+  the-tidier = fun-ext (λ c. fun-ext (λ s. fun-ext (λ S. fun-ext (λ a. tidy-at c s S a))))
 
   the-curves : samples .curve ≡ pointOnCurve
   the-curves = fun-ext (λ u. fun-ext (λ t. fun-ext (λ number. fun-ext (λ p. curve-at u t number p))))

@@ -16,6 +16,7 @@ use Rattle.model.specs.Read.{read, refused, readOf}
 use Rattle.model.specs.Layout.{tablesOf, usedOf}
 use Rattle.all_lines.specs.declared.Reading.the-variants as reading
 use Rattle.reader.specs.Reading.{roomsOf, Result, readInto}
+use Rattle.tidying.specs.declared.Weights.{Weights}
 use Rattle.tidying.specs.Printed.{tidyText}
 use Rattle.tidying.specs.Agree.{TablesAgree}
 use Rattle.tidying.proofs.TidyTables.{tidy-tables, same-tidy-tables}
@@ -36,9 +37,9 @@ module _ (s : List ℕ) (S : Tables) (m : Model) (h : readOf (roomsOf S) s ≡ r
 moved : (s t : List ℕ) (S S' T T' : Tables) (u u' w w' : Used) → S ≡ S' → T ≡ T' → u ≡ u' → w ≡ w' → TablesAgree s S u t T w → TablesAgree s S' u' t T' w'
 moved s t S S' T T' u u' w w' e f g h a = rw (← e, ← f, ← g, ← h) a
 
-module _ (s : List ℕ) (S : Tables) (a : List ℕ) (n : ℕ) (u : Used) (h : tidyInto s S a .answer ≡ Written n u) where
-  abbrev file : Tidy s S a n u
-  file = tidied-file s S a n u h
+module _ (c : Weights) (s : List ℕ) (S : Tables) (a : List ℕ) (n : ℕ) (u : Used) (h : tidyInto c s S a .answer ≡ Written n u) where
+  abbrev file : Tidy c s S a n u
+  file = tidied-file c s S a n u h
 
   abbrev m : Model
   m = file .model
@@ -46,39 +47,39 @@ module _ (s : List ℕ) (S : Tables) (a : List ℕ) (n : ℕ) (u : Used) (h : ti
   pub its-counts : readInto s S .answer ≡ reading.Read u
   its-counts = its-answer s S m (file .is-read) ∙ ap (λ (w : Used). reading.Read w) (file .rest .counts)
 
-  pub read-back : (T : Tables) → roomsOf T ≡ roomsOf S → ReadBack readInto (take n (tidyInto s S a .out)) T s (tidyInto s S a .tables) u
+  pub read-back : (T : Tables) → roomsOf T ≡ roomsOf S → ReadBack readInto (take n (tidyInto c s S a .out)) T s (tidyInto c s S a .tables) u
   read-back T e =
-      let b = tidy-tables (roomsOf S) s m (file .is-read) (file .rest .short) in
+      let b = tidy-tables c (roomsOf S) s m (file .is-read) (file .rest .short) in
       let k = b .0 in
-      let again : readOf (roomsOf T) (tidyText m) ≡ read k = ap (λ (R : Rooms). readOf R (tidyText m)) e ∙ b .1 in
+      let again : readOf (roomsOf T) (tidyText c m) ≡ read k = ap (λ (R : Rooms). readOf R (tidyText c m)) e ∙ b .1 in
       let counts : usedOf k ≡ u = b .2 .used ∙ file .rest .counts in
-      let filled : tablesOf (roomsOf S) k ≡ readInto (tidyText m) T .tables = sym (its-tables (tidyText m) T k again ∙ ap (λ (R : Rooms). tablesOf R k) e) in
-      subst (λ (w : List ℕ). ReadBack readInto w T s (tidyInto s S a .tables) u) (sym (file .rest .text))
+      let filled : tablesOf (roomsOf S) k ≡ readInto (tidyText c m) T .tables = sym (its-tables (tidyText c m) T k again ∙ ap (λ (R : Rooms). tablesOf R k) e) in
+      subst (λ (w : List ℕ). ReadBack readInto w T s (tidyInto c s S a .tables) u) (sym (file .rest .text))
       (record {
-        answer = its-answer (tidyText m) T k again ∙ ap (λ (w : Used). reading.Read w) counts;
-        tables = moved (tidyText m) s (tablesOf (roomsOf S) k) (readInto (tidyText m) T .tables) (tablesOf (roomsOf S) m) (tidyInto s S a .tables) (usedOf k) u (usedOf m) u filled (sym (file .tables)) counts (file .rest .counts) (b .2);
+        answer = its-answer (tidyText c m) T k again ∙ ap (λ (w : Used). reading.Read w) counts;
+        tables = moved (tidyText c m) s (tablesOf (roomsOf S) k) (readInto (tidyText c m) T .tables) (tablesOf (roomsOf S) m) (tidyInto c s S a .tables) (usedOf k) u (usedOf m) u filled (sym (file .tables)) counts (file .rest .counts) (b .2);
       })
 
 -- ---- 16 is exact
-module _ (s : List ℕ) (S : Tables) (a : List ℕ) (m : Model) (h : readOf (roomsOf S) s ≡ read m) where
-  with-room : (b : Bool) → hasRoom (tidyText m) a ≡ b
-      → tidyInto s S a .answer ≡ cond b (Written (length (tidyText m)) (usedOf m)) (TooLong (usedOf m))
-  with-room true e = ap (λ (r : TidyResult). r .answer) (tidy-is s S a (read m) h) ∙ rw e refl
-  with-room false e = ap (λ (r : TidyResult). r .answer) (tidy-is s S a (read m) h) ∙ rw e refl
+module _ (c : Weights) (s : List ℕ) (S : Tables) (a : List ℕ) (m : Model) (h : readOf (roomsOf S) s ≡ read m) where
+  with-room : (b : Bool) → hasRoom (tidyText c m) a ≡ b
+      → tidyInto c s S a .answer ≡ cond b (Written (length (tidyText c m)) (usedOf m)) (TooLong (usedOf m))
+  with-room true e = ap (λ (r : TidyResult). r .answer) (tidy-is c s S a (read m) h) ∙ rw e refl
+  with-room false e = ap (λ (r : TidyResult). r .answer) (tidy-is c s S a (read m) h) ∙ rw e refl
 
-  pub fits : length (tidyText m) ≤ length a → length (tidyText m) ≤ 16777216 → tidyInto s S a .answer ≡ Written (length (tidyText m)) (usedOf m)
-  fits f g = with-room true (and-both (le-leb (length (tidyText m)) (length a) f) (le-leb (length (tidyText m)) 16777216 g))
+  pub fits : length (tidyText c m) ≤ length a → length (tidyText c m) ≤ 16777216 → tidyInto c s S a .answer ≡ Written (length (tidyText c m)) (usedOf m)
+  fits f g = with-room true (and-both (le-leb (length (tidyText c m)) (length a) f) (le-leb (length (tidyText c m)) 16777216 g))
 
-  pub passes : (length a < length (tidyText m)) ⊎ (16777216 < length (tidyText m)) → tidyInto s S a .answer ≡ TooLong (usedOf m)
-  passes (inl f) = with-room false (and-first (leb (length (tidyText m)) 16777216) (lt-leb (length (tidyText m)) (length a) f))
-  passes (inr f) = with-room false (and-second (leb (length (tidyText m)) (length a)) (lt-leb (length (tidyText m)) 16777216 f))
+  pub passes : (length a < length (tidyText c m)) ⊎ (16777216 < length (tidyText c m)) → tidyInto c s S a .answer ≡ TooLong (usedOf m)
+  passes (inl f) = with-room false (and-first (leb (length (tidyText c m)) 16777216) (lt-leb (length (tidyText c m)) (length a) f))
+  passes (inr f) = with-room false (and-second (leb (length (tidyText c m)) (length a)) (lt-leb (length (tidyText c m)) 16777216 f))
 
-  pub its-form : (n : ℕ) (u : Used) → tidyInto s S a .answer ≡ Written n u → take n (tidyInto s S a .out) ≡ tidyText m
+  pub its-form : (n : ℕ) (u : Used) → tidyInto c s S a .answer ≡ Written n u → take n (tidyInto c s S a .out) ≡ tidyText c m
   its-form n u g =
-      let f = tidied-file s S a n u g in
+      let f = tidied-file c s S a n u g in
       let e : read (f .model) ≡ read m = sym (f .is-read) ∙ h in
       let k : f .model ≡ m = cc in
-      f .rest .text ∙ ap tidyText k
+      f .rest .text ∙ ap (tidyText c) k
 
 pub second : Demand2 readInto tidyInto
 second =
@@ -88,27 +89,27 @@ second =
       writes = fits;
       sixteen = passes;
       form = its-form;
-      written = λ s S a n u h.
-          let f = tidied-file s S a n u h in
+      written = λ c s S a n u h.
+          let f = tidied-file c s S a n u h in
           record {
-            read = its-counts s S a n u h;
+            read = its-counts c s S a n u h;
             tables = f .tables ∙ sym (its-tables s S (f .model) (f .is-read));
             room = f .rest .room;
             behind = f .rest .behind;
-            back = read-back s S a n u h;
+            back = read-back c s S a n u h;
           };
-      agree = λ s t S T a b n k u w h g e.
-          let f = tidied-file s S a n u h in
-          let d = tidied-file t T b k w g in
-          let both = same-tidy-tables (roomsOf S) (roomsOf T) s t (f .model) (d .model) (f .is-read) (d .is-read) (f .rest .short) (d .rest .short) in
-          moved s t (tablesOf (roomsOf S) (f .model)) (tidyInto s S a .tables) (tablesOf (roomsOf T) (d .model)) (tidyInto t T b .tables) (usedOf (f .model)) u (usedOf (d .model)) w
+      agree = λ c s t S T a b n k u w h g e.
+          let f = tidied-file c s S a n u h in
+          let d = tidied-file c t T b k w g in
+          let both = same-tidy-tables c (roomsOf S) (roomsOf T) s t (f .model) (d .model) (f .is-read) (d .is-read) (f .rest .short) (d .rest .short) in
+          moved s t (tablesOf (roomsOf S) (f .model)) (tidyInto c s S a .tables) (tablesOf (roomsOf T) (d .model)) (tidyInto c t T b .tables) (usedOf (f .model)) u (usedOf (d .model)) w
           (sym (f .tables)) (sym (d .tables)) (f .rest .counts) (d .rest .counts) (both .0 (sym (f .rest .text) ∙ e ∙ d .rest .text));
-      same = λ s t S T a b n k u w h g e.
-          let f = tidied-file s S a n u h in
-          let d = tidied-file t T b k w g in
-          let both = same-tidy-tables (roomsOf S) (roomsOf T) s t (f .model) (d .model) (f .is-read) (d .is-read) (f .rest .short) (d .rest .short) in
+      same = λ c s t S T a b n k u w h g e.
+          let f = tidied-file c s S a n u h in
+          let d = tidied-file c t T b k w g in
+          let both = same-tidy-tables c (roomsOf S) (roomsOf T) s t (f .model) (d .model) (f .is-read) (d .is-read) (f .rest .short) (d .rest .short) in
           f .rest .text
-          ∙ both .1 (moved s t (tidyInto s S a .tables) (tablesOf (roomsOf S) (f .model)) (tidyInto t T b .tables) (tablesOf (roomsOf T) (d .model)) u (usedOf (f .model)) w (usedOf (d .model))
+          ∙ both .1 (moved s t (tidyInto c s S a .tables) (tablesOf (roomsOf S) (f .model)) (tidyInto c t T b .tables) (tablesOf (roomsOf T) (d .model)) u (usedOf (f .model)) w (usedOf (d .model))
           (f .tables) (d .tables) (sym (f .rest .counts)) (sym (d .rest .counts)) e)
           ∙ sym (d .rest .text);
     }

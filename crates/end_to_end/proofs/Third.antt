@@ -23,6 +23,7 @@ use Rattle.sampler.proofs.Demanded.{curve-coordinates, points-on-curves, filled
 use Rattle.sampler.proofs.OnSurfaces.{surface-coordinates, points-on-surfaces}
 use Rattle.tidy_file.specs.declared.Tidied.the-variants.{Written}
 use Rattle.tidy_file.specs.Tidying.{tidyInto}
+use Rattle.tidying.specs.declared.Weights.{Weights}
 use Rattle.tidying.specs.Printed.{tidyText}
 use Rattle.joining.specs.Joined as joined
 use Rattle.joining.proofs.Never15.{used-elements, obeyed, sampling-never-15}
@@ -99,18 +100,18 @@ own s S u m h e =
 sampled : (u w x y : Used) (S S' T T' : Tables) → u ≡ w → x ≡ y → S ≡ S' → T ≡ T' → joined.SampledAlike u S x T → SampledAlike sampling w S' y T'
 sampled u w x y S S' T T' e f g h a = rw (← e, ← f, ← g, ← h) (record { curves = a .curves; surfaces = a .surfaces; runs = a .runs })
 
-alike : (s : List ℕ) (S : Tables) (a : List ℕ) (n : ℕ) (u : Used) → tidyInto s S a .answer ≡ Written n u
-    → (T : Tables) → roomsOf T ≡ roomsOf S → SampledAlike sampling u (tidyInto s S a .tables) u (readInto (take n (tidyInto s S a .out)) T .tables)
-alike s S a n u h T e =
-    let f = tidied-file s S a n u h in
+alike : (c : Weights) (s : List ℕ) (S : Tables) (a : List ℕ) (n : ℕ) (u : Used) → tidyInto c s S a .answer ≡ Written n u
+    → (T : Tables) → roomsOf T ≡ roomsOf S → SampledAlike sampling u (tidyInto c s S a .tables) u (readInto (take n (tidyInto c s S a .out)) T .tables)
+alike c s S a n u h T e =
+    let f = tidied-file c s S a n u h in
     let m = f .model in
-    let b = tidied-samples-alike (roomsOf S) s m (f .is-read) (f .rest .short) in
+    let b = tidied-samples-alike c (roomsOf S) s m (f .is-read) (f .rest .short) in
     let k = b .0 in
-    let again : readOf (roomsOf T) (tidyText m) ≡ read k = ap (λ (R : Rooms). readOf R (tidyText m)) e ∙ b .1 in
-    let filled : tablesOf (roomsOf S) k ≡ readInto (tidyText m) T .tables = sym (its-tables (tidyText m) T k again ∙ ap (λ (R : Rooms). tablesOf R k) e) in
-    let text : tidyText m ≡ take n (tidyInto s S a .out) = sym (f .rest .text) in
-    let counts : usedOf k ≡ u = counted (take n (tidyInto s S a .out)) T u k (subst (λ (w : List ℕ). readOf (roomsOf T) w ≡ read k) text again) (read-back s S a n u h T e .answer) in
-    sampled (usedOf m) u (usedOf k) u (tablesOf (roomsOf S) m) (tidyInto s S a .tables) (tablesOf (roomsOf S) k) (readInto (take n (tidyInto s S a .out)) T .tables)
+    let again : readOf (roomsOf T) (tidyText c m) ≡ read k = ap (λ (R : Rooms). readOf R (tidyText c m)) e ∙ b .1 in
+    let filled : tablesOf (roomsOf S) k ≡ readInto (tidyText c m) T .tables = sym (its-tables (tidyText c m) T k again ∙ ap (λ (R : Rooms). tablesOf R k) e) in
+    let text : tidyText c m ≡ take n (tidyInto c s S a .out) = sym (f .rest .text) in
+    let counts : usedOf k ≡ u = counted (take n (tidyInto c s S a .out)) T u k (subst (λ (w : List ℕ). readOf (roomsOf T) w ≡ read k) text again) (read-back c s S a n u h T e .answer) in
+    sampled (usedOf m) u (usedOf k) u (tablesOf (roomsOf S) m) (tidyInto c s S a .tables) (tablesOf (roomsOf S) k) (readInto (take n (tidyInto c s S a .out)) T .tables)
     (f .rest .counts) counts (sym (f .tables)) (filled ∙ ap (λ (w : List ℕ). readInto w T .tables) text) (b .2)
   where
     counted : (w : List ℕ) (T : Tables) (u : Used) (k : Model) → readOf (roomsOf T) w ≡ read k → readInto w T .answer ≡ reading.Read u → usedOf k ≡ u

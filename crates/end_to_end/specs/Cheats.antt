@@ -7,6 +7,7 @@ use lib.IntN.{ℤ, pos, _+ℤ_}
 use Rattle.tables.specs.Tables.{Tables}
 use Rattle.tables.specs.declared.Used.{Used}
 use Rattle.all_lines.specs.declared.Reading.the-variants as reading
+use Rattle.tidying.specs.declared.Weights.{Weights}
 use Rattle.tidy_file.specs.declared.Tidied.the-variants.{Written, TooLong}
 use Rattle.sampler.specs.Points.{axesOf}
 use Rattle.sampler.specs.Answers.{elementOf}
@@ -31,12 +32,12 @@ TouchesNoTable reads = (s : List ℕ) (S : Tables) → reads s S .tables ≡ S
 abbrev pub FixedCounts : Reader → Type 0
 FixedCounts reads = (s t : List ℕ) (S : Tables) (u w : Used) → reads s S .answer ≡ reading.Read u → reads t S .answer ≡ reading.Read w → u ≡ w
 
--- "A tidier that copies its input"; "One that turns all away"
-abbrev pub CopiesItsInput : Tidier → Type 0
-CopiesItsInput tidies = (s : List ℕ) (S : Tables) (a : List ℕ) (n : ℕ) (u : Used) → tidies s S a .answer ≡ Written n u → take n (tidies s S a .out) ≡ s
+-- "A tidier that copies its input"; "One that turns all away": by a choice of weights
+abbrev pub CopiesItsInput : Weights → Tidier → Type 0
+CopiesItsInput c tidies = (s : List ℕ) (S : Tables) (a : List ℕ) (n : ℕ) (u : Used) → tidies c s S a .answer ≡ Written n u → take n (tidies c s S a .out) ≡ s
 
-abbrev pub TurnsAllAway : Tidier → Type 0
-TurnsAllAway tidies = (s : List ℕ) (S : Tables) (a : List ℕ) → (u : Used) × (tidies s S a .answer ≡ TooLong u)
+abbrev pub TurnsAllAway : Weights → Tidier → Type 0
+TurnsAllAway c tidies = (s : List ℕ) (S : Tables) (a : List ℕ) → (u : Used) × (tidies c s S a .answer ≡ TooLong u)
 
 -- "A sampler that refuses all, or gives one fixed point": the same at every parameter
 abbrev pub RefusesAll : Sampler → Type 0
@@ -63,8 +64,8 @@ pub record Stopped : Type 0 where
   pub fixed-tables : (reads : Reader) (tidies : Tidier) → FixedTables reads → Demand2 reads tidies → ⊥
   pub touches-no-table : (reads : Reader) (tidies : Tidier) → TouchesNoTable reads → Demand2 reads tidies → ⊥
   pub fixed-counts : (reads : Reader) (tidies : Tidier) → FixedCounts reads → Demand2 reads tidies → ⊥
-  pub copies-its-input : (reads : Reader) (tidies : Tidier) → CopiesItsInput tidies → Demand2 reads tidies → ⊥
-  pub turns-all-away : (reads : Reader) (tidies : Tidier) → TurnsAllAway tidies → Demand2 reads tidies → ⊥
+  pub copies-its-input : (c : Weights) (reads : Reader) (tidies : Tidier) → CopiesItsInput c tidies → Demand2 reads tidies → ⊥
+  pub turns-all-away : (c : Weights) (reads : Reader) (tidies : Tidier) → TurnsAllAway c tidies → Demand2 reads tidies → ⊥
   pub refuses-all : (reads : Reader) (tidies : Tidier) (samples : Sampler) → RefusesAll samples → Outcomes reads tidies samples → Demand3 reads tidies samples → ⊥
   pub fixed-point : (reads : Reader) (tidies : Tidier) (samples : Sampler) → FixedPoint samples → Demand3 reads tidies samples → ⊥
   pub repeats-first : (reads : Reader) (tidies : Tidier) (samples : Sampler) → RepeatsFirst samples → Demand3 reads tidies samples → ⊥

@@ -8,6 +8,7 @@ use Rattle.tables.specs.declared.Used.{Used}
 use Rattle.model.specs.Layout.{noneUsed}
 use Rattle.all_lines.specs.declared.Reading.the-variants as reading
 use Rattle.reader.specs.Reading.{readOutcome, Result}
+use Rattle.tidying.specs.declared.Weights.{Weights}
 use Rattle.tidy_file.specs.declared.Tidied.the-variants as tidying
 use Rattle.tidy_file.specs.Tidying.{tidyOutcome, TidyResult}
 use Rattle.sampler.specs.declared.Sampled.the-variants as sampled
@@ -18,7 +19,7 @@ use Rattle.end_to_end.specs.EntryPoints.{Reader, Tidier, Sampler}
 -- "Any answer that is an enum has a definition that gives this paper's number and values for each of the enum's cases": each answer with those of its case
 pub record Outcomes (reads : Reader) (tidies : Tidier) (samples : Sampler) : Type 0 where
   pub reading : (s : List ℕ) (S : Tables) → reads s S .outcome ≡ readOutcome (reads s S .answer)
-  pub tidying : (s : List ℕ) (S : Tables) (a : List ℕ) → tidies s S a .outcome ≡ tidyOutcome (tidies s S a .answer)
+  pub tidying : (c : Weights) (s : List ℕ) (S : Tables) (a : List ℕ) → tidies c s S a .outcome ≡ tidyOutcome (tidies c s S a .answer)
   pub curve : (u : Used) (t : Tables) (number : ℕ) (p : ℤ) → samples .curve u t number p .outcome ≡ pointOutcome (samples .curve u t number p .answer)
   pub surface : (u : Used) (t : Tables) (number : ℕ) (p q : ℤ) → samples .surface u t number p q .outcome ≡ pointOutcome (samples .surface u t number p q .answer)
   pub run : (u : Used) (t : Tables) (number steps at : ℕ) (points : List ℤ)
@@ -56,9 +57,9 @@ pub record RefusedRun (lent : List ℤ) (n : ℕ) (r : RanResult) : Type 0 where
 pub record Demand1 (reads : Reader) (tidies : Tidier) (samples : Sampler) : Type 0 where
   pub outcomes : Outcomes reads tidies samples
   pub refused-reading : (s : List ℕ) (S : Tables) (n p : ℕ) → reads s S .answer ≡ reading.Refused n p → RefusedReading S n (reads s S)
-  pub refuses : (s : List ℕ) (S : Tables) (a : List ℕ) (n p : ℕ) → reads s S .answer ≡ reading.Refused n p → tidies s S a .answer ≡ tidying.Refused n p
-  pub refused-tidying : (s : List ℕ) (S : Tables) (a : List ℕ) (n p : ℕ) → tidies s S a .answer ≡ tidying.Refused n p → RefusedTidying reads s S a n p (tidies s S a)
-  pub long-tidying : (s : List ℕ) (S : Tables) (a : List ℕ) (u : Used) → tidies s S a .answer ≡ tidying.TooLong u → LongTidying reads s S a u (tidies s S a)
+  pub refuses : (c : Weights) (s : List ℕ) (S : Tables) (a : List ℕ) (n p : ℕ) → reads s S .answer ≡ reading.Refused n p → tidies c s S a .answer ≡ tidying.Refused n p
+  pub refused-tidying : (c : Weights) (s : List ℕ) (S : Tables) (a : List ℕ) (n p : ℕ) → tidies c s S a .answer ≡ tidying.Refused n p → RefusedTidying reads s S a n p (tidies c s S a)
+  pub long-tidying : (c : Weights) (s : List ℕ) (S : Tables) (a : List ℕ) (u : Used) → tidies c s S a .answer ≡ tidying.TooLong u → LongTidying reads s S a u (tidies c s S a)
   pub refused-curve : (u : Used) (t : Tables) (number : ℕ) (p : ℤ) (n : ℕ) → samples .curve u t number p .answer ≡ sampled.Refused n → Between 15 19 n
   pub refused-surface : (u : Used) (t : Tables) (number : ℕ) (p q : ℤ) (n : ℕ) → samples .surface u t number p q .answer ≡ sampled.Refused n → Between 15 19 n
   pub refused-run : (u : Used) (t : Tables) (number steps at : ℕ) (points : List ℤ) (n : ℕ) → samples .run u t number steps at points .answer ≡ ran.Refused n

@@ -11,6 +11,7 @@ use Rattle.model.specs.Read.{read, refused, readOf}
 use Rattle.model.specs.Layout.{tablesOf, usedOf}
 use Rattle.all_lines.specs.declared.Reading.the-variants as reading
 use Rattle.reader.specs.Reading.{roomsOf, Result}
+use Rattle.tidying.specs.declared.Weights.{Weights}
 use Rattle.tidying.specs.Printed.{tidyText}
 use Rattle.tidying.specs.Agree.{TablesAgree}
 use Rattle.tidy_file.specs.declared.Tidied.the-variants.{Written, TooLong}
@@ -41,16 +42,16 @@ pub record Demand2 (reads : Reader) (tidies : Tidier) : Type 0 where
   -- "A file is accepted exactly when it obeys the OBJ rules as set down in document 01 and its records find room."
   pub accepts : (s : List ℕ) (S : Tables) (m : Model) → readOf (roomsOf S) s ≡ read m → AcceptedReading S m (reads s S)
   pub refuses : (s : List ℕ) (S : Tables) (n p : ℕ) → readOf (roomsOf S) s ≡ refused n p → reads s S .answer ≡ reading.Refused n p
-  -- "Tidying writes an accepted file in one fixed form"; 16 exactly where its text passes the lent buffer or 16,777,216 bytes
-  pub writes : (s : List ℕ) (S : Tables) (a : List ℕ) (m : Model) → readOf (roomsOf S) s ≡ read m → length (tidyText m) ≤ length a → length (tidyText m) ≤ 16777216
-      → tidies s S a .answer ≡ Written (length (tidyText m)) (usedOf m)
-  pub sixteen : (s : List ℕ) (S : Tables) (a : List ℕ) (m : Model) → readOf (roomsOf S) s ≡ read m → (length a < length (tidyText m)) ⊎ (16777216 < length (tidyText m))
-      → tidies s S a .answer ≡ TooLong (usedOf m)
-  pub form : (s : List ℕ) (S : Tables) (a : List ℕ) (m : Model) → readOf (roomsOf S) s ≡ read m → (n : ℕ) (u : Used) → tidies s S a .answer ≡ Written n u
-      → take n (tidies s S a .out) ≡ tidyText m
-  pub written : (s : List ℕ) (S : Tables) (a : List ℕ) (n : ℕ) (u : Used) → tidies s S a .answer ≡ Written n u → WrittenTidying reads s S a n u (tidies s S a)
-  -- "Two accepted files that can be tidied get the same tidy text exactly when their tables agree in that sense."
-  pub agree : (s t : List ℕ) (S T : Tables) (a b : List ℕ) (n k : ℕ) (u w : Used) → tidies s S a .answer ≡ Written n u → tidies t T b .answer ≡ Written k w
-      → take n (tidies s S a .out) ≡ take k (tidies t T b .out) → TablesAgree s (tidies s S a .tables) u t (tidies t T b .tables) w
-  pub same : (s t : List ℕ) (S T : Tables) (a b : List ℕ) (n k : ℕ) (u w : Used) → tidies s S a .answer ≡ Written n u → tidies t T b .answer ≡ Written k w
-      → TablesAgree s (tidies s S a .tables) u t (tidies t T b .tables) w → take n (tidies s S a .out) ≡ take k (tidies t T b .out)
+  -- "Tidying writes an accepted file in one fixed form", one for each choice of weights; 16 exactly where its text passes the lent buffer or 16,777,216 bytes
+  pub writes : (c : Weights) (s : List ℕ) (S : Tables) (a : List ℕ) (m : Model) → readOf (roomsOf S) s ≡ read m → length (tidyText c m) ≤ length a → length (tidyText c m) ≤ 16777216
+      → tidies c s S a .answer ≡ Written (length (tidyText c m)) (usedOf m)
+  pub sixteen : (c : Weights) (s : List ℕ) (S : Tables) (a : List ℕ) (m : Model) → readOf (roomsOf S) s ≡ read m → (length a < length (tidyText c m)) ⊎ (16777216 < length (tidyText c m))
+      → tidies c s S a .answer ≡ TooLong (usedOf m)
+  pub form : (c : Weights) (s : List ℕ) (S : Tables) (a : List ℕ) (m : Model) → readOf (roomsOf S) s ≡ read m → (n : ℕ) (u : Used) → tidies c s S a .answer ≡ Written n u
+      → take n (tidies c s S a .out) ≡ tidyText c m
+  pub written : (c : Weights) (s : List ℕ) (S : Tables) (a : List ℕ) (n : ℕ) (u : Used) → tidies c s S a .answer ≡ Written n u → WrittenTidying reads s S a n u (tidies c s S a)
+  -- "Two accepted files that can be tidied get the same tidy text exactly when their tables agree in that sense.": within one choice
+  pub agree : (c : Weights) (s t : List ℕ) (S T : Tables) (a b : List ℕ) (n k : ℕ) (u w : Used) → tidies c s S a .answer ≡ Written n u → tidies c t T b .answer ≡ Written k w
+      → take n (tidies c s S a .out) ≡ take k (tidies c t T b .out) → TablesAgree s (tidies c s S a .tables) u t (tidies c t T b .tables) w
+  pub same : (c : Weights) (s t : List ℕ) (S T : Tables) (a b : List ℕ) (n k : ℕ) (u w : Used) → tidies c s S a .answer ≡ Written n u → tidies c t T b .answer ≡ Written k w
+      → TablesAgree s (tidies c s S a .tables) u t (tidies c t T b .tables) w → take n (tidies c s S a .out) ≡ take k (tidies c t T b .out)

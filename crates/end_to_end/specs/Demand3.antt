@@ -13,6 +13,7 @@ use Rattle.model.specs.Model.{curve, curve2, surface, Body, Model}
 use Rattle.model.specs.Read.{read, readOf}
 use Rattle.all_lines.specs.declared.Reading.the-variants as reading
 use Rattle.reader.specs.Reading.{roomsOf}
+use Rattle.tidying.specs.declared.Weights.{Weights}
 use Rattle.tidy_file.specs.declared.Tidied.the-variants.{Written}
 use Rattle.runs.specs.Runs.{listed}
 use Rattle.sampler.specs.Points.{axesOf, curveAt, surfaceAt, runNumbers}
@@ -82,5 +83,5 @@ pub record Demand3 (reads : Reader) (tidies : Tidier) (samples : Sampler) : Type
   pub filled : (s : List ℕ) (S : Tables) (u : Used) → reads s S .answer ≡ reading.Read u → PointsIn samples u (reads s S .tables)
   pub own : (s : List ℕ) (S : Tables) (u : Used) (m : Model) → reads s S .answer ≡ reading.Read u → readOf (roomsOf S) s ≡ read m → PointsOf samples u (reads s S .tables) m
   -- a file and its tidy text are sampled alike
-  pub alike : (s : List ℕ) (S : Tables) (a : List ℕ) (n : ℕ) (u : Used) → tidies s S a .answer ≡ Written n u
-      → (T : Tables) → roomsOf T ≡ roomsOf S → SampledAlike samples u (tidies s S a .tables) u (reads (take n (tidies s S a .out)) T .tables)
+  pub alike : (c : Weights) (s : List ℕ) (S : Tables) (a : List ℕ) (n : ℕ) (u : Used) → tidies c s S a .answer ≡ Written n u
+      → (T : Tables) → roomsOf T ≡ roomsOf S → SampledAlike samples u (tidies c s S a .tables) u (reads (take n (tidies c s S a .out)) T .tables)

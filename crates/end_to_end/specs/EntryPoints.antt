@@ -1,8 +1,9 @@
--- A reader and a tidier: the answer, the tables and the buffer that each leaves for every text and all that is lent. A `Sampler` is the same for points and runs.
+-- A reader and a tidier: the answer, the tables and the buffer that each leaves for every text and all that is lent; a tidier for each choice of weights. A `Sampler` is the same for points and runs.
 use Prim.Native.Nat.{ℕ}
 use mathlib.Core.List.{List}
 use Rattle.tables.specs.Tables.{Tables}
 use Rattle.reader.specs.Reading.{Result}
+use Rattle.tidying.specs.declared.Weights.{Weights}
 use Rattle.tidy_file.specs.Tidying.{TidyResult}
 pub use Rattle.sampler.specs.Demand3.{Sampler}
 
@@ -10,4 +11,4 @@ abbrev pub Reader : Type 0
 Reader = List ℕ → Tables → Result
 
 abbrev pub Tidier : Type 0
-Tidier = List ℕ → Tables → List ℕ → TidyResult
+Tidier = Weights → List ℕ → Tables → List ℕ → TidyResult

@@ -19,6 +19,7 @@ use Rattle.model.specs.Model.{Vertices, Free, curve, curve2, surface, Direction
 use Rattle.model.specs.Statements.{body, parameters}
 use Rattle.model.specs.Parse.{WordForm, a-number, controlForm, formOf, a-body, parm, Value, number, corner, Seen, degreesNeeded, inForce, degreeIn, rangeWords, fewestControls}
 use Rattle.model.specs.Layout.{flag}
+use Rattle.tidying.specs.declared.Weights.the-variants as weights
 use Rattle.tidying.specs.Printed.{rangeOf}
 use Rattle.tidying.proofs.Words.{Fitting}
 use Rattle.tidying.proofs.Shapes.{fitting-is}
@@ -92,8 +93,8 @@ parameters-of d z a =
     let f = a x 0 in
     let n = suc (length (map number z)) in
     record {
-      two = (let k = leb-true 3 n (f .many) in let l = length-map z number in omega arith);
-      small = numbers-all (seenOf x 0) 1 z (fitting-is (seenOf x 0) (formOf parm n) (λ j. a-number) 1 (map number z) (λ j l. rw (ne-eqb j 0 (λ e. omega arith)) refl) (f .fits .1));
+      two = (let k = leb-true 3 n (f .many weights.Always) in let l = length-map z number in omega arith);
+      small = numbers-all (seenOf x 0) 1 z (fitting-is (seenOf x 0) (formOf parm n) (λ j. a-number) 1 (map number z) (λ j l. rw (ne-eqb j 0 (λ e. omega arith)) refl) (f .fits weights.Always .1));
     }
 
 pub parameters-obey : (surf : Bool) (l : List ℤ) (used first : ℕ) (us vs : List ℤ) → first + (length us + length vs) ≤ used → Stands l first (us ++ vs)
@@ -127,9 +128,9 @@ controls-of x n b cs f =
     let r = map number (rangeOf k b) in
     let c = map corner cs in
     let l : length r ≡ rangeWords k = length-map (rangeOf k b) number ∙ range-length k b in
-    let q = fitting-after (seenOf x n) (formOf (a-body k) (length (r ++ c))) 0 r c (f .fits) in
+    let q = fitting-after (seenOf x n) (formOf (a-body k) (length (r ++ c))) 0 r c (f .fits weights.Always) in
     record {
-      least = (let i = leb-true (rangeWords k + fewestControls k) (length (r ++ c)) (f .many) in let j = length-append r c in let h = length-map cs corner in omega arith);
+      least = (let i = leb-true (rangeWords k + fewestControls k) (length (r ++ c)) (f .many weights.Always) in let j = length-append r c in let h = length-map cs corner in omega arith);
       fits = fitting-is (seenOf x n) (formOf (a-body k) (length (r ++ c))) (λ j. controlForm k) (rangeWords k) c (λ j h. rw (le-ltb j (rangeWords k) h) refl)
           (subst (λ (i : ℕ). Fitting (seenOf x n) (formOf (a-body k) (length (r ++ c))) i c) (let e : 0 + length r ≡ rangeWords k = omega arith in e) q);
     }

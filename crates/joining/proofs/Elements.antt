@@ -20,6 +20,7 @@ use Rattle.model.specs.Statements.{smoothing}
 use Rattle.model.specs.Room.{summed, ofKind}
 use Rattle.model.specs.Layout.{cornerRow, cornerRows, kindNumber, bodyNumber, elementRow, elementRows, bodiesOf}
 use Rattle.model.proofs.Rows.{elementRows-length, elementRows-append, cornerRows-length, bodies-length}
+use Rattle.tidying.specs.declared.Weights.the-variants as weights
 use Rattle.tidying.proofs.Good.{Always, GoodNames, GoodKind, plus, GoodElements}
 use Rattle.tidying.proofs.Keep.{after, after-is, curves-add}
 use Rattle.rules.specs.Corners.{cornersObey}
@@ -33,7 +34,7 @@ pub record Good (x : Vertices) (es : List Element) (i : ℕ) (a : Among es i) : 
   pub smoothing : leb (a .one .names .smoothing) 65535 ≡ true
 
 smoothing-most : (x : Vertices) (s : ℕ) → Always (smoothing s) → leb s 65535 ≡ true
-smoothing-most x s a = let f = a x 0 .fits .0 in let e = f .1 in ap (λ (k : ℕ). leb k 65535) (let z : s ≡ f .0 = cc in z) ∙ f .2
+smoothing-most x s a = let f = a x 0 .fits weights.Always .0 in let e = f .1 in ap (λ (k : ℕ). leb k 65535) (let z : s ≡ f .0 = cc in z) ∙ f .2
 
 pub good-element : (x : Vertices) (es : List Element) (l : Option Word) (i : ℕ) → GoodElements x 0 none es l → (a : Among es i) → Good x es i a
 good-element x es l i g a =

@@ -21,6 +21,7 @@ use Rattle.model.specs.Statements.{loop}
 use Rattle.model.specs.Parse.{WordForm, a-number, a-curve, number, whole, Seen}
 use Rattle.model.specs.Room.{summed}
 use Rattle.model.specs.Layout.{firstPart, beginning, partRow, partRows, loopRow, spanRow}
+use Rattle.tidying.specs.declared.Weights.the-variants as weights
 use Rattle.tidying.proofs.Values.{partValues}
 use Rattle.tidying.proofs.Words.{Fits, Fitting}
 use Rattle.tidying.proofs.Shapes.{fits-is}
@@ -129,8 +130,8 @@ fine-parts : (x : Vertices) (n : ℕ) (l : Loop) → Fine x n (loop l) → all (
 fine-parts x n l f = go (l .hole) f
   where
     go : (h : Bool) → Fine x n (loop (record { hole = h; parts = l .parts })) → all (partOk n) (l .parts) ≡ true
-    go true f = parts-kept (seenOf x n) 0 (l .parts) refl (f .fits)
-    go false f = parts-kept (seenOf x n) 0 (l .parts) refl (f .fits)
+    go true f = parts-kept (seenOf x n) 0 (l .parts) refl (f .fits weights.Always)
+    go false f = parts-kept (seenOf x n) 0 (l .parts) refl (f .fits weights.Always)
 
 on-ok : (n : ℕ) (ps : List Part) → all (partOk n) ps ≡ true → all (begunOk n) (map goesOn ps) ≡ true
 on-ok n [] h = refl

@@ -17,6 +17,7 @@ use Rattle.model.specs.Statements.{element}
 use Rattle.model.specs.Parse.{WordForm, a-corner, corner, Seen, parts, fewest}
 use Rattle.model.specs.Layout.{shapeNumber, kindNumber, bodyNumber, bodiesOf}
 use Rattle.model.proofs.Rows.{summed-append}
+use Rattle.tidying.specs.declared.Weights.the-variants as weights
 use Rattle.tidying.proofs.Words.{Fits, Fitting}
 use Rattle.tidying.proofs.Standing.{seenOf, uniform, Fine}
 use Rattle.tidying.proofs.Good.{GoodKind}
@@ -99,10 +100,10 @@ module _ (u : Used) (t : Tables) (m : Model) (L : Laid u t m) (K : Kept m) where
     plain-corners n k f =
         let p = pattern-of k in
         its-corners (shapeNumber k)
-        (let l = p .least in let b = leb-true (fewest k) (length (map corner (e .corners))) (f .many) in let c = length-map (e .corners) corner in omega arith)
+        (let l = p .least in let b = leb-true (fewest k) (length (map corner (e .corners))) (f .many weights.Always) in let c = length-map (e .corners) corner in omega arith)
         (f .whole)
         (λ j h. corner-kept (shapeNumber k) (fewest k) (parts k) p (getD (e .corners) j noCorner)
-        (corner-fits (seenOf x n) (parts k) (getD (e .corners) j noCorner) (fitting-at (seenOf x n) (a-corner (parts k)) 0 (e .corners) j (f .fits) h)))
+        (corner-fits (seenOf x n) (parts k) (getD (e .corners) j noCorner) (fitting-at (seenOf x n) (a-corner (parts k)) 0 (e .corners) j (f .fits weights.Always) h)))
 
     pub plain-obeys : (n : ℕ) (k : Shape) → e .kind ≡ plain k → Good x es i a → obeys u t n i ≡ true
     plain-obeys n k q g =

@@ -124,6 +124,6 @@ unfolding Agree
 agree-back m k a = sym a
 
 pub tidied-samples-alike : TidiedSamplesAlike
-tidied-samples-alike R s m h l =
-    let r = tidy-read R s m h l in
+tidied-samples-alike c R s m h l =
+    let r = tidy-read c R s m h l in
     (r .0, r .1, agree-samples R m (r .0) (agree-back m (r .0) (r .2)))

@@ -18,6 +18,7 @@ use Rattle.model.specs.Model.{VertexKind, geometric, texture, normal, parametri
 use Rattle.model.specs.Statements.{vertex}
 use Rattle.model.specs.Parse.{number, countedVertex, numbersOf, a-number, Seen, recordOf, given}
 use Rattle.model.specs.Layout.{itself}
+use Rattle.tidying.specs.declared.Weights.the-variants as weights
 use Rattle.tidying.specs.Printed.{coordinates}
 use Rattle.tidying.proofs.Words.{Fitting}
 use Rattle.tidying.proofs.Standing.{seenOf}
@@ -54,10 +55,10 @@ small-run l first z n e s h =
 
 -- ---- one record
 pub record VertexKept (k : VertexKind) (z : List ℤ) : Type 0 where
-  pub some : countedVertex k (length (coordinates k z)) ≡ true
+  pub some : countedVertex k (length (coordinates weights.Always k z)) ≡ true
   pub wide : length z ≡ length (recordOf k [])
   pub small : all numberFits z ≡ true
-  pub whole : recordOf k (coordinates k z) ≡ z
+  pub whole : recordOf k (coordinates weights.Always k z) ≡ z
 
 three-small : (n : ℕ) → n ≤ 3 → numberFits (pos n) ≡ true
 three-small n h = le-leb n 2000000000 (omega arith)
@@ -71,13 +72,13 @@ record-small parametric z c h = and-both (three-small (length z) (leb-true (leng
 pub vertex-kept : (k : VertexKind) (z : List ℤ) → Always (vertex k z) → VertexKept k z
 vertex-kept k z a =
     let f = a (start .model .vertices) 0 in
-    let c : countedVertex k (length (coordinates k z)) ≡ true = ap (countedVertex k) (sym (length-map (coordinates k z) number)) ∙ f .many in
-    let s = numbers-all (seenOf (start .model .vertices) 0) 0 (coordinates k z) (f .fits) in
+    let c : countedVertex k (length (coordinates weights.Always k z)) ≡ true = ap (countedVertex k) (sym (length-map (coordinates weights.Always k z) number)) ∙ f .many weights.Always in
+    let s = numbers-all (seenOf (start .model .vertices) 0) 0 (coordinates weights.Always k z) (f .fits weights.Always) in
     record {
       some = c;
-      wide = ap length (sym (f .whole)) ∙ record-length k (coordinates k z) c;
-      small = ap (all numberFits) (sym (f .whole)) ∙ record-small k (coordinates k z) c s;
-      whole = f .whole;
+      wide = ap length (sym (f .whole weights.Always)) ∙ record-length k (coordinates weights.Always k z) c;
+      small = ap (all numberFits) (sym (f .whole weights.Always)) ∙ record-small k (coordinates weights.Always k z) c s;
+      whole = f .whole weights.Always;
     }
 
 -- ---- record i of a table
@@ -138,7 +139,7 @@ module _ (l : List ℤ) (zs : List (List ℤ)) (g : GoodVertices parametric zs) 
   control-obeys used n u a b h =
       let v = vertex-at parametric l zs (n - 1) g s (omega arith) in
       let z = v .one in
-      let q = subst Given (v .kept .whole) (given-of (coordinates parametric z) (v .kept .some)) in
+      let q = subst Given (v .kept .whole) (given-of (coordinates weights.Always parametric z) (v .kept .some)) in
       let at : (k : ℕ) → k < 4 → valueAt 4 l (n - 1) k ≡ getD z k (pos 0) = λ k r. stands-at l (4 * (n - 1)) z k (pos 0) (v .stands) (let w = v .kept .wide in omega arith) in
       let e₀ = at 0 (omega arith) in
       let e₂ = at 2 (omega arith) in

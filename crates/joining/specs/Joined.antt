@@ -17,6 +17,7 @@ use Rattle.model.specs.Model.{curve, curve2, surface, Body, free, Element, Mode
 use Rattle.model.specs.Room.{Rooms}
 use Rattle.model.specs.Read.{read, readOf}
 use Rattle.model.specs.Layout.{tablesOf, usedOf}
+use Rattle.tidying.specs.declared.Weights.{Weights}
 use Rattle.tidying.specs.Printed.{tidyText}
 use Rattle.rules.specs.Rules.{obeys, curvesBefore}
 use Rattle.runs.specs.Runs.{parameterAt}
@@ -102,8 +103,8 @@ pub record SampledAlike (u : Used) (t : Tables) (v : Used) (w : Tables) : Type 0
   pub surfaces : (number : ℕ) (p q : ℤ) → pointOnSurface u t number p q ≡ pointOnSurface v w number p q
   pub runs : (number steps at : ℕ) (points : List ℤ) → runInto u t number steps at points ≡ runInto v w number steps at points
 
--- the tidy text of an accepted text, where it is no longer than a text may be, is read, and sampled alike
+-- the tidy text of an accepted text by each choice of weights, where it is no longer than a text may be, is read, and sampled alike
 abbrev pub TidiedSamplesAlike : Type 0
 TidiedSamplesAlike =
-    (R : Rooms) (s : List ℕ) (m : Model) → readOf R s ≡ read m → length (tidyText m) ≤ 16777216
-    → (k : Model) × (readOf R (tidyText m) ≡ read k) × SampledAlike (usedOf m) (tablesOf R m) (usedOf k) (tablesOf R k)
+    (c : Weights) (R : Rooms) (s : List ℕ) (m : Model) → readOf R s ≡ read m → length (tidyText c m) ≤ 16777216
+    → (k : Model) × (readOf R (tidyText c m) ≡ read k) × SampledAlike (usedOf m) (tablesOf R m) (usedOf k) (tablesOf R k)

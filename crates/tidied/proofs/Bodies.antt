@@ -24,6 +24,7 @@ use Rattle.model.specs.Model.{Shape, point, line, face, Free, curve, curve2, su
 use Rattle.model.specs.Statements.{type, degree, body, loop, end}
 use Rattle.model.specs.Room.{partCount}
 use Rattle.model.specs.Layout.{cornerRow, shapeNumber, freeNumber, firstPart, flag, bodyRow, rangeRow, loopRows, spanRows}
+use Rattle.tidying.specs.declared.Weights.{Weights}
 use Rattle.tidying.specs.Tidied as tidied
 use Rattle.tidying.specs.Tidied.{unsettled, unfilled, atLine, elementLines}
 use Rattle.tidying.specs.Printed as printing
@@ -101,9 +102,9 @@ range-is curve2 p l b = refl
 range-is surface p l b = refl
 
 -- ---- "parm u, parm v"
-parameters-are : (P : List ℤ) (p l : ℕ) (b : Body) (r : List ℤ) → drop p P ≡ (b .us ++ b .vs) ++ r → (f : Free)
-    → parameterLines P (freeNumber f) (laidBody p l b) ≡ map printed (tidied.parameterLines f b)
-parameters-are P p l b r e f =
+parameters-are : (W : Weights) (P : List ℤ) (p l : ℕ) (b : Body) (r : List ℤ) → drop p P ≡ (b .us ++ b .vs) ++ r → (f : Free)
+    → parameterLines P (freeNumber f) (laidBody p l b) ≡ map (printed W) (tidied.parameterLines f b)
+parameters-are W P p l b r e f =
     let a : drop p P ≡ b .us ++ (b .vs ++ r) = e ∙ append-assoc (b .us) (b .vs) r in
     let u : take (length (b .us)) (drop p P) ≡ b .us = ap (take (length (b .us))) a ∙ take-at (b .us) (b .vs ++ r) (length (b .us)) refl in
     let d : drop (p + length (b .us)) P ≡ b .vs ++ r = sym (drop-drop (length (b .us)) p P) ∙ ap (drop (length (b .us))) a ∙ drop-at (b .us) (b .vs ++ r) (length (b .us)) refl in
@@ -111,21 +112,21 @@ parameters-are P p l b r e f =
     go f u v
   where
     go : (f : Free) → take (length (b .us)) (drop p P) ≡ b .us → take (length (b .vs)) (drop (p + length (b .us)) P) ≡ b .vs
-        → parameterLines P (freeNumber f) (laidBody p l b) ≡ map printed (tidied.parameterLines f b)
+        → parameterLines P (freeNumber f) (laidBody p l b) ≡ map (printed W) (tidied.parameterLines f b)
     go curve u v = ap (λ (z : List ℤ). parameterLine DirectionU z ∷ []) u
     go curve2 u v = ap (λ (z : List ℤ). parameterLine DirectionU z ∷ []) u
     go surface u v = ap₂ (λ (z y : List ℤ). parameterLine DirectionU z ∷ parameterLine DirectionV y ∷ []) u v
 
 -- ---- loops: a body with none has first loop part 0
-loops-in : (L : List ℕ) (S : List ℤ) (p l : ℕ) (b : Body) (r : List ℕ) (z : List ℤ) → Parted (b .loops)
-    → drop (2 * l) L ≡ loopRows b ++ r → drop (2 * l) S ≡ spanRows b ++ z → bodyLoops L S (laidBody p l b) ≡ map printed (map loop (b .loops))
-loops-in L S p l b r z g e f = go (partCount b) refl
+loops-in : (W : Weights) (L : List ℕ) (S : List ℤ) (p l : ℕ) (b : Body) (r : List ℕ) (z : List ℤ) → Parted (b .loops)
+    → drop (2 * l) L ≡ loopRows b ++ r → drop (2 * l) S ≡ spanRows b ++ z → bodyLoops L S (laidBody p l b) ≡ map (printed W) (map loop (b .loops))
+loops-in W L S p l b r z g e f = go (partCount b) refl
   where
-    go : (k : ℕ) → k ≡ partCount b → loopLines k (drop (2 * firstPart l k) L) (drop (2 * firstPart l k) S) ≡ map printed (map loop (b .loops))
-    go zero q = loops-are (b .loops) g zero q (drop (length (loopRows b)) L) z
+    go : (k : ℕ) → k ≡ partCount b → loopLines k (drop (2 * firstPart l k) L) (drop (2 * firstPart l k) S) ≡ map (printed W) (map loop (b .loops))
+    go zero q = loops-are W (b .loops) g zero q (drop (length (loopRows b)) L) z
     go (suc k) q =
         let t : firstPart l (suc k) ≡ l = ap (λ (x : Bool). cond x 0 l) (ne-eqb (suc k) 0 (λ j. omega arith)) in
-        ap (λ (i : ℕ). loopLines (suc k) (drop (2 * i) L) (drop (2 * i) S)) t ∙ ap₂ (loopLines (suc k)) e f ∙ loops-are (b .loops) g (suc k) q r z
+        ap (λ (i : ℕ). loopLines (suc k) (drop (2 * i) L) (drop (2 * i) S)) t ∙ ap₂ (loopLines (suc k)) e f ∙ loops-are W (b .loops) g (suc k) q r z
 
 -- ---- all its lines
 abbrev pub laidElement : ℕ → ℕ → ℕ → ℕ → ℕ → ℕ → ℕ → ℕ → ℕ → laid.Element
@@ -142,12 +143,12 @@ laidElement kind first count number smoothing i j m n =
       «material_length» = n;
     }
 
-module _ (C B : List ℕ) (G P : List ℤ) (L : List ℕ) (S : List ℤ) (s i j m n : ℕ) (c : ℕ) (cs : List Corner) (rC : List ℕ) (eC : drop c C ≡ flat cornerRow cs ++ rC) where
+module _ (W : Weights) (C B : List ℕ) (G P : List ℤ) (L : List ℕ) (S : List ℤ) (s i j m n : ℕ) (c : ℕ) (cs : List Corner) (rC : List ℕ) (eC : drop c C ≡ flat cornerRow cs ++ rC) where
   corner-words : map writtenCorner (cornersFrom (length cs) (drop c C)) ≡ map writtenCorner cs
   corner-words = ap (λ (q : List ℕ). map writtenCorner (cornersFrom (length cs) q)) eC ∙ ap (map writtenCorner) (corners-are cs rC)
 
   -- p, l, f
-  pub own-plain : (k : Shape) → ownLines C B G P L S (laidElement (shapeNumber k) c (length cs) 0 s i j m n) ≡ map printed (elementLines (plain k) cs)
+  pub own-plain : (k : Shape) → ownLines C B G P L S (laidElement (shapeNumber k) c (length cs) 0 s i j m n) ≡ map (printed W) (elementLines (plain k) cs)
   own-plain point = ap (λ (w : List (List ℕ)). (keywordOf (printing.shapeKeyword point) ∷ w) ∷ []) corner-words
   own-plain line = ap (λ (w : List (List ℕ)). (keywordOf (printing.shapeKeyword line) ∷ w) ∷ []) corner-words
   own-plain face = ap (λ (w : List (List ℕ)). (keywordOf (printing.shapeKeyword face) ∷ w) ∷ []) corner-words
@@ -155,7 +156,7 @@ module _ (C B : List ℕ) (G P : List ℤ) (L : List ℕ) (S : List ℤ) (s i j 
   -- curv, curv2, surf: the body after b others, its parameters after p, its parts after l
   pub own-free : (b p l : ℕ) (x : Body) (rB : List ℕ) (rG rP : List ℤ) (rL : List ℕ) (rS : List ℤ) → drop (9 * b) B ≡ bodyRow p l x ++ rB → drop (4 * b) G ≡ rangeRow x ++ rG
       → drop p P ≡ (x .us ++ x .vs) ++ rP → drop (2 * l) L ≡ loopRows x ++ rL → drop (2 * l) S ≡ spanRows x ++ rS → Parted (x .loops)
-      → ownLines C B G P L S (laidElement (freeNumber (x .free)) c (length cs) (suc b) s i j m n) ≡ map printed (elementLines (free x) cs)
+      → ownLines C B G P L S (laidElement (freeNumber (x .free)) c (length cs) (suc b) s i j m n) ≡ map (printed W) (elementLines (free x) cs)
   own-free b p l x rB rG rP rL rS eB eG eP eL eS g =
       let y = laidBody p l x in
       let e = laidElement (freeNumber (x .free)) c (length cs) (suc b) s i j m n in
@@ -164,22 +165,22 @@ module _ (C B : List ℕ) (G P : List ℤ) (L : List ℕ) (S : List ℤ) (s i j 
       let d : suc b - 1 ≡ b = omega arith in
       let t : bodyIn B G (suc b - 1) ≡ y = ap (bodyIn B G) d ∙ body-is B G b p l x rB rG eB eG in
       let a = type-words p l x in
-      let o : w ≡ printed (body (atLine x) cs) = own-line in
-      let q = parameters-are P p l x rP eP (x .free) in
-      let k = loops-in L S p l x rL rS g eL eS in
+      let o : w ≡ printed W (body (atLine x) cs) = own-line in
+      let q = parameters-are W P p l x rP eP (x .free) in
+      let k = loops-in W L S p l x rL rS g eL eS in
       ap₂ (λ (u : Bool) (v : written.Body). cond u (formLines v ++ (elementWords C v e ∷ (parameterLines P (freeNumber (x .free)) v ++ (bodyLoops L S v ++ endLine ∷ [])))) (elementWords C v e ∷ [])) h t
-      ∙ ap₂ (λ (u v : List (List ℕ)). (keywordOf BodyType ∷ u) ∷ printed (degree (x .degree-u) (x .degree-v)) ∷ v ∷ (parameterLines P (freeNumber (x .free)) y ++ (bodyLoops L S y ++ endLine ∷ []))) a o
-      ∙ ap₂ (λ (u v : List (List (List ℕ))). printed (type (x .rational) (x .basis)) ∷ printed (degree (x .degree-u) (x .degree-v)) ∷ printed (body (atLine x) cs) ∷ (u ++ (v ++ endLine ∷ []))) q k
-      ∙ ap (λ (u : List (List (List ℕ))). printed (type (x .rational) (x .basis)) ∷ printed (degree (x .degree-u) (x .degree-v)) ∷ printed (body (atLine x) cs) ∷ u)
-      (ap (λ (u : List (List (List ℕ))). map printed (tidied.parameterLines (x .free) x) ++ u) (sym (map-append printed (map loop (x .loops)) (end ∷ [])))
-      ∙ sym (map-append printed (tidied.parameterLines (x .free) x) (map loop (x .loops) ++ end ∷ [])))
+      ∙ ap₂ (λ (u v : List (List ℕ)). (keywordOf BodyType ∷ u) ∷ printed W (degree (x .degree-u) (x .degree-v)) ∷ v ∷ (parameterLines P (freeNumber (x .free)) y ++ (bodyLoops L S y ++ endLine ∷ []))) a o
+      ∙ ap₂ (λ (u v : List (List (List ℕ))). printed W (type (x .rational) (x .basis)) ∷ printed W (degree (x .degree-u) (x .degree-v)) ∷ printed W (body (atLine x) cs) ∷ (u ++ (v ++ endLine ∷ []))) q k
+      ∙ ap (λ (u : List (List (List ℕ))). printed W (type (x .rational) (x .basis)) ∷ printed W (degree (x .degree-u) (x .degree-v)) ∷ printed W (body (atLine x) cs) ∷ u)
+      (ap (λ (u : List (List (List ℕ))). map (printed W) (tidied.parameterLines (x .free) x) ++ u) (sym (map-append (printed W) (map loop (x .loops)) (end ∷ [])))
+      ∙ sym (map-append (printed W) (tidied.parameterLines (x .free) x) (map loop (x .loops) ++ end ∷ [])))
     where
       high : (f : Free) → leb curveKind (freeNumber f) ≡ true
       high curve = refl
       high curve2 = refl
       high surface = refl
 
-      own-line : elementWords C (laidBody p l x) (laidElement (freeNumber (x .free)) c (length cs) (suc b) s i j m n) ≡ printed (body (atLine x) cs)
+      own-line : elementWords C (laidBody p l x) (laidElement (freeNumber (x .free)) c (length cs) (suc b) s i j m n) ≡ printed W (body (atLine x) cs)
       own-line =
           let a : take (rangeCount (freeNumber (x .free))) (rangeNumbers (laidBody p l x)) ≡ rangeOf (x .free) (atLine x) = range-is (x .free) p l x in
           ap₂ (λ (u : List (List ℕ)) (v : List (List ℕ)). keywordOf (kindKeyword (freeNumber (x .free))) ∷ (u ++ v)) (ap (map writtenNumber) a) corner-words

@@ -12,6 +12,7 @@ use Rattle.model.specs.Model.{Body, Kind, plain, free}
 use Rattle.model.specs.Room.{ofKind, partCount}
 use Rattle.model.specs.Layout.{cornerRow, kindNumber, bodyNumber, bodyRow, rangeRow, bodyOf, bodyRows, parameterRow, loopRows, spanRows}
 use Rattle.model.proofs.Rows.{loopRows-length, spanRows-length}
+use Rattle.tidying.specs.declared.Weights.{Weights}
 use Rattle.tidying.specs.Tidied.{elementLines}
 use Rattle.tidying.specs.Printed.{printed}
 use Rattle.tidying.proofs.SameElements.{PartedKind}
@@ -56,12 +57,12 @@ module _ (C B : List ℕ) (G P : List ℤ) (L : List ℕ) (S : List ℤ) (zB : L
         spans = at S (2 * l + 2 * partCount x) (2 * (l + partCount x)) (flat spanRows bs ++ zS) (omega arith) (on S (2 * l) (2 * partCount x) (spanRows x) (flat spanRows bs) zS (omega arith) (h .spans));
       }
 
-  pub own-are : (s i j m n c b p l : ℕ) (k : Kind) (cs : List Corner) (rC : List ℕ) (bs : List Body) → drop c C ≡ flat cornerRow cs ++ rC → BodiesLeft b p l (bodyOf k ++ bs) → PartedKind k
-      → ownLines C B G P L S (laidElement (kindNumber k) c (length cs) (bodyNumber k b) s i j m n) ≡ map printed (elementLines k cs)
-  own-are s i j m n c b p l (plain k) cs rC bs e h g = own-plain C B G P L S s i j m n c cs rC e k
-  own-are s i j m n c b p l (free x) cs rC bs e h g =
+  pub own-are : (W : Weights) (s i j m n c b p l : ℕ) (k : Kind) (cs : List Corner) (rC : List ℕ) (bs : List Body) → drop c C ≡ flat cornerRow cs ++ rC → BodiesLeft b p l (bodyOf k ++ bs) → PartedKind k
+      → ownLines C B G P L S (laidElement (kindNumber k) c (length cs) (bodyNumber k b) s i j m n) ≡ map (printed W) (elementLines k cs)
+  own-are W s i j m n c b p l (plain k) cs rC bs e h g = own-plain W C B G P L S s i j m n c cs rC e k
+  own-are W s i j m n c b p l (free x) cs rC bs e h g =
       let p' = p + (length (x .us) + length (x .vs)) in
-      own-free C B G P L S s i j m n c cs rC e b p l x (bodyRows p' (l + partCount x) bs ++ zB) (flat rangeRow bs ++ zG) (flat parameterRow bs ++ zP) (flat loopRows bs ++ zL) (flat spanRows bs ++ zS)
+      own-free W C B G P L S s i j m n c cs rC e b p l x (bodyRows p' (l + partCount x) bs ++ zB) (flat rangeRow bs ++ zG) (flat parameterRow bs ++ zP) (flat loopRows bs ++ zL) (flat spanRows bs ++ zS)
       (h .bodies) (h .ranges)
       (h .parameters ∙ append-assoc (parameterRow x) (flat parameterRow bs) zP)
       (h .loops ∙ append-assoc (loopRows x) (flat loopRows bs) zL)

@@ -22,6 +22,7 @@ use Rattle.model.specs.Statements as statements
 use Rattle.model.specs.Room.{ofKind, partCount}
 use Rattle.model.specs.Layout.{runOf, listed, cornerRows, kindNumber, bodyNumber, elementRow, elementRows, bodiesOf}
 use Rattle.model.proofs.Rows.{corners-length}
+use Rattle.tidying.specs.declared.Weights.{Weights}
 use Rattle.tidying.specs.Tidied.{groupLines, smoothingLines, materialLines, elementLines, elementsLines}
 use Rattle.tidying.specs.Printed.{printed}
 use Rattle.tidying.proofs.Values.{map-append}
@@ -39,10 +40,10 @@ abbrev named : ℕ → ℕ → ℕ → ℕ → Names → laid.Element
 named kind first count number n =
     laidElement kind first count number (n .smoothing) (runOf (n .group) .place) (runOf (n .group) .length) (runOf (listed (n .material)) .place) (runOf (listed (n .material)) .length)
 
-smoothing-lines : (m n : ℕ) → smoothed m n ≡ map printed (smoothingLines m n)
-smoothing-lines m n = go (eqb m n)
+smoothing-lines : (W : Weights) (m n : ℕ) → smoothed m n ≡ map (printed W) (smoothingLines m n)
+smoothing-lines W m n = go (eqb m n)
   where
-    go : (t : Bool) → cond t [] ((keywordOf Smoothing ∷ writtenWhole n ∷ []) ∷ []) ≡ map printed (cond t [] (statements.smoothing n ∷ []))
+    go : (t : Bool) → cond t [] ((keywordOf Smoothing ∷ writtenWhole n ∷ []) ∷ []) ≡ map (printed W) (cond t [] (statements.smoothing n ∷ []))
     go true = refl
     go false = refl
 
@@ -57,7 +58,7 @@ module _ {A : Type 0} where
       map-append f a (b ++ (c ++ (d ++ r)))
       ∙ ap (λ (q : List C). map f a ++ q) (map-append f b (c ++ (d ++ r)) ∙ ap (λ (q : List C). map f b ++ q) (map-append f c (d ++ r) ∙ ap (λ (q : List C). map f c ++ q) (map-append f d r)))
 
-module _ (s : List ℕ) (used : Used) (E C B : List ℕ) (G P : List ℤ) (L : List ℕ) (S : List ℤ) (zE zC zB : List ℕ) (zG zP : List ℤ) (zL : List ℕ) (zS : List ℤ) where
+module _ (W : Weights) (s : List ℕ) (used : Used) (E C B : List ℕ) (G P : List ℤ) (L : List ℕ) (S : List ℤ) (zE zC zB : List ℕ) (zG zP : List ℤ) (zL : List ℕ) (zS : List ℤ) where
   -- the elements left, after i others; c numbers of corners, b bodies, p parameters and l parts stand before theirs
   pub record Left (i c b p l : ℕ) (es : List Element) : Type 0 where
     pub count : i + length es ≡ used .elements
@@ -82,9 +83,9 @@ module _ (s : List ℕ) (used : Used) (E C B : List ℕ) (G P : List ℤ) (L : L
         let w : elementIn E i ≡ named (kindNumber (e .kind)) c (length (e .corners)) (bodyNumber (e .kind) b) (e .names) = rw (n 0, n 1, n 2, n 3, n 4, n 5, n 6, n 7, n 8) refl in
         ap₂ (λ (t : Bool) (j : ℕ). cond t (elementIn E j) noElement) is-held q ∙ w
 
-    pub own-lines : PartedAll (e ∷ es) → ownLines C B G P L S (named (kindNumber (e .kind)) c (length (e .corners)) (bodyNumber (e .kind) b) (e .names)) ≡ map printed (elementLines (e .kind) (e .corners))
+    pub own-lines : PartedAll (e ∷ es) → ownLines C B G P L S (named (kindNumber (e .kind)) c (length (e .corners)) (bodyNumber (e .kind) b) (e .names)) ≡ map (printed W) (elementLines (e .kind) (e .corners))
     own-lines g =
-        own-are C B G P L S zB zG zP zL zS (e .names .smoothing) (runOf (e .names .group) .place) (runOf (e .names .group) .length)
+        own-are C B G P L S zB zG zP zL zS W (e .names .smoothing) (runOf (e .names .group) .place) (runOf (e .names .group) .length)
         (runOf (listed (e .names .material)) .place) (runOf (listed (e .names .material)) .length) c b p l (e .kind) (e .corners) (flat cornerRows es ++ zC) (bodiesOf es)
         (h .corners ∙ append-assoc (cornerRows e) (flat cornerRows es) zC) (h .bodies) (g .0)
 
@@ -100,15 +101,15 @@ module _ (s : List ℕ) (used : Used) (E C B : List ℕ) (G P : List ℤ) (L : L
 
   names-lines : (k f c b k' f' c' b' : ℕ) (m n : Names) → NamesStand s m → NamesStand s n → stays (m .material) (n .material) ≡ true
       → namesLines s (named k f c b m) (named k' f' c' b' n)
-      ≡ map printed (groupLines (m .group) (n .group)) ++ (map printed (smoothingLines (m .smoothing) (n .smoothing)) ++ map printed (materialLines (m .material) (n .material)))
+      ≡ map (printed W) (groupLines (m .group) (n .group)) ++ (map (printed W) (smoothingLines (m .smoothing) (n .smoothing)) ++ map (printed W) (materialLines (m .material) (n .material)))
   names-lines k f c b k' f' c' b' m n x y t =
-      ap₂ (λ (u v : List (List (List ℕ))). u ++ v) (sym (group-lines s (m .group) (n .group) (x .group) (y .group)))
-      (ap₂ (λ (u v : List (List (List ℕ))). u ++ v) (smoothing-lines (m .smoothing) (n .smoothing)) (sym (material-lines s (m .material) (n .material) t (x .material) (y .material))))
+      ap₂ (λ (u v : List (List (List ℕ))). u ++ v) (sym (group-lines s W (m .group) (n .group) (x .group) (y .group)))
+      (ap₂ (λ (u v : List (List (List ℕ))). u ++ v) (smoothing-lines W (m .smoothing) (n .smoothing)) (sym (material-lines s W (m .material) (n .material) t (x .material) (y .material))))
 
   -- all that are left, after an element of the names n
   pub elements-are : (i c b p l : ℕ) (n : Names) (es : List Element) (kind first count number : ℕ) → elementOf used E i ≡ named kind first count number n
       → NamesStand s n → NamesGo s (n .material) es → PartedAll es → Left i c b p l es
-      → elementsFrom s used E C B G P L S (length es) i ≡ map printed (elementsLines n es)
+      → elementsFrom s used E C B G P L S (length es) i ≡ map (printed W) (elementsLines n es)
   elements-are i c b p l n [] kind first count number q x y g h = refl
   elements-are i c b p l n (e ∷ es) kind first count number q x y g h =
       let w = element-is i c b p l e es h in
@@ -120,11 +121,11 @@ module _ (s : List ℕ) (used : Used) (E C B : List ℕ) (G P : List ℤ) (L : L
       let d = elementLines (e .kind) (e .corners) in
       let r = elementsLines (e .names) es in
       let rest = elementsFrom s used E C B G P L S (length es) (i + 1) in
-      let rec : rest ≡ map printed r =
+      let rec : rest ≡ map (printed W) r =
       elements-are (i + 1) (c + 3 * length (e .corners)) (b + ofKind (λ x. 1) (e .kind)) (p + ofKind (λ (x : Body). length (x .us) + length (x .vs)) (e .kind)) (l + ofKind partCount (e .kind))
       (e .names) es k' c (length (e .corners)) b' w (y .0) (y .2) (g .1) (left-on i c b p l e es h) in
       ap₂ (λ (u v : laid.Element). (namesLines s u v ++ ownLines C B G P L S v) ++ rest) q w
       ∙ ap₂ (λ (u v : List (List (List ℕ))). (u ++ v) ++ rest) (names-lines kind first count number k' c (length (e .corners)) b' n (e .names) x (y .0) (y .1)) (own-lines i c b p l e es h g)
-      ∙ ap (λ (u : List (List (List ℕ))). ((map printed a ++ (map printed o ++ map printed m)) ++ map printed d) ++ u) rec
-      ∙ regroup (map printed a) (map printed o) (map printed m) (map printed d) (map printed r)
-      ∙ sym (map-five printed a o m d r)
+      ∙ ap (λ (u : List (List (List ℕ))). ((map (printed W) a ++ (map (printed W) o ++ map (printed W) m)) ++ map (printed W) d) ++ u) rec
+      ∙ regroup (map (printed W) a) (map (printed W) o) (map (printed W) m) (map (printed W) d) (map (printed W) r)
+      ∙ sym (map-five (printed W) a o m d r)

@@ -14,6 +14,7 @@ use Rattle.model.specs.Statements.{group, material}
 use Rattle.model.specs.Layout.{runOf, listed}
 use Rattle.model.specs.Room.{Rooms}
 use Rattle.model.specs.Read.{read, readOf}
+use Rattle.tidying.specs.declared.Weights.{Weights}
 use Rattle.tidying.specs.Tidied.{sameWords, groupLines, materialLines}
 use Rattle.tidying.specs.Printed.{printed}
 use Rattle.tidying.specs.Agree.{wordsAt}
@@ -32,19 +33,19 @@ written-after (w ∷ ws) = ap (λ (l : List ℕ). 32 ∷ (w ++ l)) (written-afte
 pub written-spaced : (k : List ℕ) (ws : List (List ℕ)) → writtenLine (k ∷ ws) ≡ k ++ (spaced ws ++ 10 ∷ [])
 written-spaced k ws = ap (λ (l : List ℕ). k ++ l) (written-after ws)
 
-group-if : (t : Bool) (w : List Word) → map printed (cond t [] (group w ∷ [])) ≡ cond t [] ((keywordOf Group ∷ bytesOf w) ∷ [])
-group-if true w = refl
-group-if false w = refl
+group-if : (c : Weights) (t : Bool) (w : List Word) → map (printed c) (cond t [] (group w ∷ [])) ≡ cond t [] ((keywordOf Group ∷ bytesOf w) ∷ [])
+group-if c true w = refl
+group-if c false w = refl
 
 -- a material that is set stays set, so that a usemtl line has its one word
-material-if : (o x : Option Word) → stays o x ≡ true
-    → map printed (materialLines o x) ≡ cond (sameWords (listed o) (listed x)) [] ((keywordOf Material ∷ bytesOf (listed x)) ∷ [])
-material-if none none h = refl
-material-if (some v) none h = never h
-material-if none (some w) h = refl
-material-if (some v) (some w) h = go (sameWords (v ∷ []) (w ∷ []))
+material-if : (c : Weights) (o x : Option Word) → stays o x ≡ true
+    → map (printed c) (materialLines o x) ≡ cond (sameWords (listed o) (listed x)) [] ((keywordOf Material ∷ bytesOf (listed x)) ∷ [])
+material-if c none none h = refl
+material-if c (some v) none h = never h
+material-if c none (some w) h = refl
+material-if c (some v) (some w) h = go (sameWords (v ∷ []) (w ∷ []))
   where
-    go : (t : Bool) → map printed (cond t [] (material w ∷ [])) ≡ cond t [] ((keywordOf Material ∷ w .bytes ∷ []) ∷ [])
+    go : (t : Bool) → map (printed c) (cond t [] (material w ∷ [])) ≡ cond t [] ((keywordOf Material ∷ w .bytes ∷ []) ∷ [])
     go true = refl
     go false = refl
 
@@ -53,15 +54,15 @@ module _ (s : List ℕ) where
   abbrev pub standing : List Word → List (List ℕ)
   standing ws = wordsAt s (runOf ws .place) (runOf ws .length)
 
-  pub group-lines : (v w : List Word) → Stands s v → Stands s w → map printed (groupLines v w) ≡ cond (sameBytes (standing v) (standing w)) [] ((keywordOf Group ∷ standing w) ∷ [])
-  group-lines v w p q =
-      group-if (sameWords v w) w
+  pub group-lines : (c : Weights) (v w : List Word) → Stands s v → Stands s w → map (printed c) (groupLines v w) ≡ cond (sameBytes (standing v) (standing w)) [] ((keywordOf Group ∷ standing w) ∷ [])
+  group-lines c v w p q =
+      group-if c (sameWords v w) w
       ∙ ap₂ (λ (t : Bool) (b : List (List ℕ)). cond t [] ((keywordOf Group ∷ b) ∷ [])) (named-same s v w p q) (sym q)
 
-  pub material-lines : (o x : Option Word) → stays o x ≡ true → Stands s (listed o) → Stands s (listed x)
-      → map printed (materialLines o x) ≡ cond (sameBytes (standing (listed o)) (standing (listed x))) [] ((keywordOf Material ∷ standing (listed x)) ∷ [])
-  material-lines o x h p q =
-      material-if o x h
+  pub material-lines : (c : Weights) (o x : Option Word) → stays o x ≡ true → Stands s (listed o) → Stands s (listed x)
+      → map (printed c) (materialLines o x) ≡ cond (sameBytes (standing (listed o)) (standing (listed x))) [] ((keywordOf Material ∷ standing (listed x)) ∷ [])
+  material-lines c o x h p q =
+      material-if c o x h
       ∙ ap₂ (λ (t : Bool) (b : List (List ℕ)). cond t [] ((keywordOf Material ∷ b) ∷ [])) (named-same s (listed o) (listed x) p q) (sym q)
 
   -- ---- an accepted text: the names of each element stand in it, and no material is taken away

@@ -23,6 +23,7 @@ use Rattle.keywords.specs.Keywords.{keywordOf}
 use Rattle.keywords.specs.declared.Statement.{Statement}
 use Rattle.keywords.specs.declared.Statement.the-variants.{Smoothing}
 use Rattle.model.specs.Model.{parametric}
+use Rattle.tidying.specs.declared.Weights.{Weights}
 use Rattle.tidying.specs.Printed.{coordinates, degreeWords}
 use Rattle.emitting.specs.Emitting.{Emitted}
 use Rattle.emitting.specs.Emitting.{spaced}
@@ -110,30 +111,30 @@ take-both (suc a) (suc b) zero xs e = absurd (omega arith)
 take-both (suc a) (suc b) (suc m) [] e = refl
 take-both {A} (suc a) (suc b) (suc m) (x ∷ xs) e = ap (λ (t : List A). x ∷ t) (take-both a b m xs (omega arith))
 
-counted-in : (l : List ℤ) (w m : ℕ) → 1 ≤ w → m ≡ min (natAbs (getD l 0 (pos 0))) (w - 1) → coordinates parametric (take w l) ≡ take m (drop 1 l)
-counted-in [] w m h e = ap (coordinates parametric) (take-nil w) ∙ sym (take-nil m)
-counted-in (x ∷ l) zero m h e = absurd (omega arith)
-counted-in (x ∷ l) (suc w) m h e = take-both (natAbs x) w m l (omega arith)
+counted-in : (c : Weights) (l : List ℤ) (w m : ℕ) → 1 ≤ w → m ≡ min (natAbs (getD l 0 (pos 0))) (w - 1) → coordinates c parametric (take w l) ≡ take m (drop 1 l)
+counted-in c [] w m h e = ap (coordinates c parametric) (take-nil w) ∙ sym (take-nil m)
+counted-in c (x ∷ l) zero m h e = absurd (omega arith)
+counted-in c (x ∷ l) (suc w) m h e = take-both (natAbs x) w m l (omega arith)
 
 -- a record that begins with how many of its numbers were given
-pub counted-row : (l : List ℤ) (i w m : ℕ) → 1 ≤ w → m ≡ min (natAbs (getD l i (pos 0))) (w - 1) → take m (drop (i + 1) l) ≡ rowNumbers true (take w (drop i l))
-counted-row l i w m h e =
+pub counted-row : (c : Weights) (l : List ℤ) (i w m : ℕ) → 1 ≤ w → m ≡ min (natAbs (getD l i (pos 0))) (w - 1) → take m (drop (i + 1) l) ≡ rowNumbers true c (take w (drop i l))
+counted-row c l i w m h e =
     let k : i + 0 ≡ i = omega arith in
     let g : getD (drop i l) 0 (pos 0) ≡ getD l i (pos 0) = getD-drop i l 0 (pos 0) ∙ ap (λ (j : ℕ). getD l j (pos 0)) k in
     let f : m ≡ min (natAbs (getD (drop i l) 0 (pos 0))) (w - 1) = e ∙ ap (λ (z : ℤ). min (natAbs z) (w - 1)) (sym g) in
-    ap (λ (t : List ℤ). take m t) (sym (drop-drop 1 i l)) ∙ sym (counted-in (drop i l) w m h f)
+    ap (λ (t : List ℤ). take m t) (sym (drop-drop 1 i l)) ∙ sym (counted-in c (drop i l) w m h f)
 
-pub rows-turn : (k : Statement) (c : Bool) (w : ℕ) (l : List ℤ) (i n : ℕ) → 0 < n
-    → writtenLines (vertexRows k c w n (drop i l))
-    ≡ writtenLine (keywordOf k ∷ map writtenNumber (rowNumbers c (take w (drop i l)))) ++ writtenLines (vertexRows k c w (n - 1) (drop (i + w) l))
-rows-turn k c w l i zero h = absurd (omega arith)
-rows-turn k c w l i (suc n) h =
-    ap₂ (λ (m : ℕ) (t : List ℤ). writtenLine (keywordOf k ∷ map writtenNumber (rowNumbers c (take w (drop i l)))) ++ writtenLines (vertexRows k c w m t))
+pub rows-turn : (k : Statement) (c : Bool) (a : Weights) (w : ℕ) (l : List ℤ) (i n : ℕ) → 0 < n
+    → writtenLines (vertexRows k c a w n (drop i l))
+    ≡ writtenLine (keywordOf k ∷ map writtenNumber (rowNumbers c a (take w (drop i l)))) ++ writtenLines (vertexRows k c a w (n - 1) (drop (i + w) l))
+rows-turn k c a w l i zero h = absurd (omega arith)
+rows-turn k c a w l i (suc n) h =
+    ap₂ (λ (m : ℕ) (t : List ℤ). writtenLine (keywordOf k ∷ map writtenNumber (rowNumbers c a (take w (drop i l)))) ++ writtenLines (vertexRows k c a w m t))
     (let e : n ≡ suc n - 1 = omega arith in e) (drop-drop w i l)
 
-pub rows-none : (k : Statement) (c : Bool) (w : ℕ) (l : List ℤ) (n : ℕ) → n ≤ 0 → writtenLines (vertexRows k c w n l) ≡ []
-rows-none k c w l zero h = refl
-rows-none k c w l (suc n) h = absurd (omega arith)
+pub rows-none : (k : Statement) (c : Bool) (a : Weights) (w : ℕ) (l : List ℤ) (n : ℕ) → n ≤ 0 → writtenLines (vertexRows k c a w n l) ≡ []
+rows-none k c a w l zero h = refl
+rows-none k c a w l (suc n) h = absurd (omega arith)
 
 -- ---- corners
 pub first-read : (l : List ℕ) (i : ℕ) → getD (drop i l) 0 0 ≡ getD l i 0

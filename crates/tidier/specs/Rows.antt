@@ -16,17 +16,19 @@ use Rattle.keywords.specs.declared.Statement.the-variants.{BodyType, Degree, Po
 use Rattle.tables.specs.Records.{cornerWidth, loopWidth, spanWidth, bodyIn, pointKind, lineKind, faceKind, curveKind, curve2Kind, surfaceKind}
 use Rattle.tables.specs.declared.Element.{Element}
 use Rattle.tables.specs.declared.Body.{Body}
-use Rattle.model.specs.Model.{parametric}
+use Rattle.model.specs.Model.{geometric, parametric}
+use Rattle.tidying.specs.declared.Weights.{Weights}
 use Rattle.tidying.specs.Printed.{coordinates, degreeWords, loopKeyword}
 
--- ---- "All v, vt, vn (every coordinate), vp (those given)": n records of w numbers, which begin, or not, with how many were given
-abbrev pub rowNumbers : Bool → List ℤ → List ℤ
-rowNumbers true z = coordinates parametric z
-rowNumbers false z = z
+-- ---- "All v, vt, vn (every coordinate), vp (those given)": n records of w numbers, which begin, or not, with how many were given; of a v the weight by the
+-- caller's choice
+abbrev pub rowNumbers : Bool → Weights → List ℤ → List ℤ
+rowNumbers true c z = coordinates c parametric z
+rowNumbers false c z = coordinates c geometric z
 
-abbrev pub vertexRows : Statement → Bool → ℕ → ℕ → List ℤ → List (List (List ℕ))
-vertexRows k counted w zero l = []
-vertexRows k counted w (suc n) l = (keywordOf k ∷ map writtenNumber (rowNumbers counted (take w l))) ∷ vertexRows k counted w n (drop w l)
+abbrev pub vertexRows : Statement → Bool → Weights → ℕ → ℕ → List ℤ → List (List (List ℕ))
+vertexRows k counted c w zero l = []
+vertexRows k counted c w (suc n) l = (keywordOf k ∷ map writtenNumber (rowNumbers counted c (take w l))) ∷ vertexRows k counted c w n (drop w l)
 
 -- ---- an element's own line: its keyword, "two numbers" of range on a curve, four on a surface, its corners
 abbrev pub kindKeyword : ℕ → Statement

@@ -14,6 +14,8 @@ use Rattle.tables.specs.Records.{vWidth, vtWidth, vnWidth, vpWidth}
 use Rattle.tables.specs.Asking.{elementOf}
 use Rattle.tables.specs.declared.Used.{Used}
 use Rattle.tables.specs.declared.Element.{Element}
+use Rattle.tidying.specs.declared.Weights.{Weights}
+use Rattle.tidying.specs.declared.Weights.the-variants.{Always}
 use Rattle.tidying.specs.Agree.{wordsAt}
 use Rattle.emitting.specs.Naming.{sameBytes}
 use Rattle.tidier.specs.Rows.{vertexRows, ownLines}
@@ -45,15 +47,15 @@ elementsFrom s used elements corners bodies ranges parameters loops spans (suc n
     ++ elementsFrom s used elements corners bodies ranges parameters loops spans n (number + 1)
 
 -- "All v, vt, vn (every coordinate), vp (those given)"
-abbrev pub verticesFrom : Used → List ℤ → List ℤ → List ℤ → List ℤ → List (List (List ℕ))
-verticesFrom used v vt vn vp =
-    vertexRows Vertex false vWidth (used .v) v
-    ++ (vertexRows TextureVertex false vtWidth (used .vt) vt
-    ++ (vertexRows VertexNormal false vnWidth (used .vn) vn
-    ++ vertexRows ParameterVertex true vpWidth (used .vp) vp))
+abbrev pub verticesFrom : Weights → Used → List ℤ → List ℤ → List ℤ → List ℤ → List (List (List ℕ))
+verticesFrom c used v vt vn vp =
+    vertexRows Vertex false c vWidth (used .v) v
+    ++ (vertexRows TextureVertex false Always vtWidth (used .vt) vt
+    ++ (vertexRows VertexNormal false Always vnWidth (used .vn) vn
+    ++ vertexRows ParameterVertex true c vpWidth (used .vp) vp))
 
-unfoldable pub tidyFrom : List ℕ → Used → Tables → List ℕ
-tidyFrom s used t =
+unfoldable pub tidyFrom : Weights → List ℕ → Used → Tables → List ℕ
+tidyFrom c s used t =
     writtenLines
-    (verticesFrom used (t .v) (t .vt) (t .vn) (t .vp)
+    (verticesFrom c used (t .v) (t .vt) (t .vn) (t .vp)
     ++ elementsFrom s used (t .elements) (t .corners) (t .bodies) (t .ranges) (t .parameters) (t .loops) (t .spans) (used .elements) 0)

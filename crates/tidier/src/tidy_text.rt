@@ -9,8 +9,10 @@ ghost use Rattle.emitting.specs.Emitting.{emission, emittedWhole, Emitted};
 ghost use Rattle.tidier.specs.TidyFrom.{verticesFrom, tidyFrom};
 use crate::elements;
 use crate::vertices;
+use tidying::Weights;
 
 fn all_vertices(
+    weights: Weights,
     table: &[u8; 528],
     used: tables::Used,
     v: &[i32],
@@ -22,11 +24,12 @@ fn all_vertices(
 ) -> usize
     requires { ⌜ now table ≡ keywordTable ⌝ }
     requires { ⌜ at ≤ 16777217 ⌝ }
-    ensures { λ r. ⌜ Emitted at (writtenLines (verticesFrom used (now (v .entry)) (now (vt .entry)) (now (vn .entry)) (now (vp .entry)))) (now (out .entry)) (now (out .exit)) r ⌝ }
+    ensures { λ r. ⌜ Emitted at (writtenLines (verticesFrom weights used (now (v .entry)) (now (vt .entry)) (now (vn .entry)) (now (vp .entry)))) (now (out .entry)) (now (out .exit)) r ⌝ }
 {
     let second = vertices::vertex_lines(
         keywords::Statement::Vertex,
         false,
+        weights,
         table,
         v,
         4,
@@ -37,6 +40,7 @@ fn all_vertices(
     let third = vertices::vertex_lines(
         keywords::Statement::TextureVertex,
         false,
+        Weights::Always,
         table,
         vt,
         3,
@@ -47,6 +51,7 @@ fn all_vertices(
     let fourth = vertices::vertex_lines(
         keywords::Statement::VertexNormal,
         false,
+        Weights::Always,
         table,
         vn,
         3,
@@ -57,6 +62,7 @@ fn all_vertices(
     vertices::vertex_lines(
         keywords::Statement::ParameterVertex,
         true,
+        weights,
         table,
         vp,
         4,
@@ -69,6 +75,7 @@ fn all_vertices(
 // The tidy text of what the tables hold, from the front of `out` on, word by word where there is room; the names in it are those of `text`.
 fn emit_tidy(
     text: &[u8],
+    weights: Weights,
     used: tables::Used,
     v: &[i32],
     vt: &[i32],
@@ -83,11 +90,11 @@ fn emit_tidy(
     spans: &[i32],
     out: &mut [u8],
 ) -> usize
-    ensures { λ r. ⌜ Emitted 0 (tidyFrom (now (text .entry)) used (tables (now (v .entry)) (now (vt .entry)) (now (vn .entry)) (now (vp .entry)) (now (corners .entry)) (now (elements .entry)) (now (bodies .entry)) (now (ranges .entry)) (now (parameters .entry)) (now (parts .entry)) (now (spans .entry)))) (now (out .entry)) (now (out .exit)) r ⌝ }
+    ensures { λ r. ⌜ Emitted 0 (tidyFrom weights (now (text .entry)) used (tables (now (v .entry)) (now (vt .entry)) (now (vn .entry)) (now (vp .entry)) (now (corners .entry)) (now (elements .entry)) (now (bodies .entry)) (now (ranges .entry)) (now (parameters .entry)) (now (parts .entry)) (now (spans .entry)))) (now (out .entry)) (now (out .exit)) r ⌝ }
 {
     let table = keywords::keyword_table();
     let arguments = keywords::argument_table();
-    let first = all_vertices(&table, used, v, vt, vn, vp, out, 0);
+    let first = all_vertices(weights, &table, used, v, vt, vn, vp, out, 0);
     elements::elements_lines(
         &table,
         &arguments,
@@ -108,6 +115,7 @@ fn emit_tidy(
 // The length of the tidy text, 16,777,217 for every one that is too long.
 fn measure(
     text: &[u8],
+    weights: Weights,
     used: tables::Used,
     v: &[i32],
     vt: &[i32],
@@ -121,11 +129,12 @@ fn measure(
     parts: &[u32],
     spans: &[i32],
 ) -> usize
-    ensures { λ r. ⌜ r ≡ min (length (tidyFrom (now (text .entry)) used (tables (now (v .entry)) (now (vt .entry)) (now (vn .entry)) (now (vp .entry)) (now (corners .entry)) (now (elements .entry)) (now (bodies .entry)) (now (ranges .entry)) (now (parameters .entry)) (now (parts .entry)) (now (spans .entry))))) 16777217 ⌝ }
+    ensures { λ r. ⌜ r ≡ min (length (tidyFrom weights (now (text .entry)) used (tables (now (v .entry)) (now (vt .entry)) (now (vn .entry)) (now (vp .entry)) (now (corners .entry)) (now (elements .entry)) (now (bodies .entry)) (now (ranges .entry)) (now (parameters .entry)) (now (parts .entry)) (now (spans .entry))))) 16777217 ⌝ }
 {
     let mut none = [0u8; 1];
     emit_tidy(
         text,
+        weights,
         used,
         v,
         vt,
@@ -146,6 +155,7 @@ fn measure(
 // that it passes stays as it was.
 pub fn write_tidy(
     text: &[u8],
+    weights: Weights,
     used: tables::Used,
     v: &[i32],
     vt: &[i32],
@@ -160,10 +170,11 @@ pub fn write_tidy(
     spans: &[i32],
     out: &mut [u8],
 ) -> usize
-    ensures { λ r. ⌜ emission r (now (out .exit)) ≡ emittedWhole 0 (tidyFrom (now (text .entry)) used (tables (now (v .entry)) (now (vt .entry)) (now (vn .entry)) (now (vp .entry)) (now (corners .entry)) (now (elements .entry)) (now (bodies .entry)) (now (ranges .entry)) (now (parameters .entry)) (now (parts .entry)) (now (spans .entry)))) (now (out .entry)) ⌝ }
+    ensures { λ r. ⌜ emission r (now (out .exit)) ≡ emittedWhole 0 (tidyFrom weights (now (text .entry)) used (tables (now (v .entry)) (now (vt .entry)) (now (vn .entry)) (now (vp .entry)) (now (corners .entry)) (now (elements .entry)) (now (bodies .entry)) (now (ranges .entry)) (now (parameters .entry)) (now (parts .entry)) (now (spans .entry)))) (now (out .entry)) ⌝ }
 {
     let length = measure(
         text,
+        weights,
         used,
         v,
         vt,
@@ -180,6 +191,7 @@ pub fn write_tidy(
     if length <= emitting::room_in(out.len()) {
         return emit_tidy(
             text,
+            weights,
             used,
             v,
             vt,

@@ -10,6 +10,7 @@ ghost use Rattle.keywords.specs.Keywords.{keywordTable, keywordOf};
 ghost use Rattle.emitting.specs.Emitting.{Emitted};
 ghost use Rattle.emitting.specs.Emitting.{spaced};
 ghost use Rattle.tidier.specs.Rows.{rowNumbers, vertexRows};
+use tidying::Weights;
 
 // Up to `count` numbers from `first` on, each with a space before it.
 pub fn emit_numbers(values: &[i32], first: usize, count: usize, out: &mut [u8], at: usize) -> usize
@@ -64,6 +65,7 @@ fn given_count(values: &[i32], width: usize, first: usize) -> usize
 fn row_line(
     statement: keywords::Statement,
     counted: bool,
+    weights: Weights,
     table: &[u8; 528],
     values: &[i32],
     width: usize,
@@ -73,19 +75,21 @@ fn row_line(
 ) -> usize
     requires { ⌜ now table ≡ keywordTable ⌝ }
     requires { ⌜ (1 ≤ width) × (width ≤ 4) × (first ≤ 17179869180) ⌝ }
-    ensures { λ r. ⌜ Emitted at (writtenLine (keywordOf statement ∷ map writtenNumber (rowNumbers counted (take width (drop first (now (values .entry))))))) (now (out .entry)) (now (out .exit)) r ⌝ }
+    ensures { λ r. ⌜ Emitted at (writtenLine (keywordOf statement ∷ map writtenNumber (rowNumbers counted weights (take width (drop first (now (values .entry))))))) (now (out .entry)) (now (out .exit)) r ⌝ }
 {
     if counted {
         let count = given_count(values, width, first);
         return number_line(statement, table, values, first + 1, count, out, at);
     }
-    number_line(statement, table, values, first, width, out, at)
+    let count = tidying::weighted_count(weights, values, width, first);
+    number_line(statement, table, values, first, count, out, at)
 }
 
 // The lines of `used` records of `width` numbers.
 pub fn vertex_lines(
     statement: keywords::Statement,
     counted: bool,
+    weights: Weights,
     table: &[u8; 528],
     values: &[i32],
     width: usize,
@@ -95,13 +99,23 @@ pub fn vertex_lines(
 ) -> usize
     requires { ⌜ now table ≡ keywordTable ⌝ }
     requires { ⌜ (1 ≤ width) × (width ≤ 4) × (at ≤ 16777217) ⌝ }
-    ensures { λ r. ⌜ Emitted at (writtenLines (vertexRows statement counted width used (now (values .entry)))) (now (out .entry)) (now (out .exit)) r ⌝ }
+    ensures { λ r. ⌜ Emitted at (writtenLines (vertexRows statement counted weights width used (now (values .entry)))) (now (out .entry)) (now (out .exit)) r ⌝ }
 {
     let mut first = 0;
     let mut left = used as usize;
     let mut end = at;
     while 0 < left {
-        end = row_line(statement, counted, table, values, width, first, out, end);
+        end = row_line(
+            statement,
+            counted,
+            weights,
+            table,
+            values,
+            width,
+            first,
+            out,
+            end,
+        );
         first += width;
         left -= 1;
     }

@@ -15,6 +15,7 @@ use Rattle.model.specs.Read.{Answer, read, refused, readOf}
 use Rattle.model.specs.Layout.{tablesOf, usedOf}
 use Rattle.emitting.specs.Emitting.{emission, emittedWhole}
 use Rattle.emitting.proofs.Emissions.{emitted-whole, whole-kept}
+use Rattle.tidying.specs.declared.Weights.{Weights}
 use Rattle.tidier.specs.TidyFrom.{tidyFrom}
 use Rattle.tidied.proofs.TidyFrom.{tidy-from}
 use Rattle.reader.specs.Reading.{Result, result, roomsOf, readInto}
@@ -68,23 +69,23 @@ abbrev passedOn : Reading → Tables → List ℕ → TidyResult
 passedOn (reading.Read n) t out = tidyResult (TooLong n) t out
 passedOn (reading.Refused n p) t out = tidyResult (Refused n p) t out
 
-module _ (s : List ℕ) (t u : Tables) (out : List ℕ) where
+module _ (c : Weights) (s : List ℕ) (t u : Tables) (out : List ℕ) where
   from-read : (n : Used) (x : Answer) → readOf (roomsOf t) s ≡ x → result (reading.Read n) u ≡ reader.answered (roomsOf t) x
-      → written (tidyFrom s n u) n u out ≡ answered (roomsOf t) x out
+      → written (tidyFrom c s n u) n u out ≡ answered c (roomsOf t) x out
   from-read n (read m) e f =
-      ap₂ (λ (k : Used) (y : Tables). written (tidyFrom s k y) k y out) (ap (λ (r : Result). usedIn n (r .answer)) f) (ap (λ (r : Result). r .tables) f)
-      ∙ ap (λ (w : List ℕ). written w (usedOf m) (tablesOf (roomsOf t) m) out) (tidy-from (roomsOf t) s m e)
+      ap₂ (λ (k : Used) (y : Tables). written (tidyFrom c s k y) k y out) (ap (λ (r : Result). usedIn n (r .answer)) f) (ap (λ (r : Result). r .tables) f)
+      ∙ ap (λ (w : List ℕ). written w (usedOf m) (tablesOf (roomsOf t) m) out) (tidy-from c (roomsOf t) s m e)
   from-read n (refused k p) e f = never (sym (ap (λ (r : Result). isRead (r .answer)) f))
 
-  from-refused : (k p : ℕ) (x : Answer) → result (reading.Refused k p) u ≡ reader.answered (roomsOf t) x → tidyResult (Refused k p) u out ≡ answered (roomsOf t) x out
+  from-refused : (k p : ℕ) (x : Answer) → result (reading.Refused k p) u ≡ reader.answered (roomsOf t) x → tidyResult (Refused k p) u out ≡ answered c (roomsOf t) x out
   from-refused k p (read m) f = never (ap (λ (r : Result). isRead (r .answer)) f)
   from-refused k p (refused n q) f = ap (λ (r : Result). passedOn (r .answer) (r .tables) out) f
 
   module _ (a : Reading) (is : result a u ≡ readInto s t) where
-    pub tidied-read : (n : Used) → a ≡ reading.Read n → (r : Tidied) (m : List ℕ) → tidyResult r u m ≡ written (tidyFrom s n u) n u out → tidyResult r u m ≡ tidyInto s t out
+    pub tidied-read : (n : Used) → a ≡ reading.Read n → (r : Tidied) (m : List ℕ) → tidyResult r u m ≡ written (tidyFrom c s n u) n u out → tidyResult r u m ≡ tidyInto c s t out
     unfolding readInto tidyInto
     tidied-read n k r m f = f ∙ from-read n (readOf (roomsOf t) s) refl (subst (λ (b : Reading). result b u ≡ readInto s t) k is)
 
-    pub tidied-refused : (n p : ℕ) → a ≡ reading.Refused n p → tidyResult (Refused n p) u out ≡ tidyInto s t out
+    pub tidied-refused : (n p : ℕ) → a ≡ reading.Refused n p → tidyResult (Refused n p) u out ≡ tidyInto c s t out
     unfolding readInto tidyInto
     tidied-refused n p k = from-refused n p (readOf (roomsOf t) s) (subst (λ (b : Reading). result b u ≡ readInto s t) k is)

@@ -9,6 +9,7 @@ use Rattle.tables.specs.declared.Used.{Used}
 use Rattle.model.specs.Room.{Rooms}
 use Rattle.model.specs.Read.{Answer, read, refused, readOf}
 use Rattle.model.specs.Layout.{tablesOf, usedOf, noneUsed, nothing}
+use Rattle.tidying.specs.declared.Weights.{Weights}
 use Rattle.tidying.specs.Printed.{tidyText}
 use Rattle.reader.specs.Reading.{roomsOf}
 use Rattle.tidy_file.specs.declared.Tidied.{Tidied}
@@ -49,10 +50,10 @@ written w used t out =
     (record { answer = TooLong used; outcome = record { number = 16; place = 0; length = 0; used = used }; tables = t; out = out })
 
 -- "A refusal zeroes every lent table and every count."
-abbrev pub answered : Rooms → Answer → List ℕ → TidyResult
-answered R (read m) out = written (tidyText m) (usedOf m) (tablesOf R m) out
-answered R (refused n p) out = record { answer = Refused n p; outcome = record { number = n; place = p; length = 0; used = noneUsed }; tables = tablesOf R nothing; out = out }
+abbrev pub answered : Weights → Rooms → Answer → List ℕ → TidyResult
+answered c R (read m) out = written (tidyText c m) (usedOf m) (tablesOf R m) out
+answered c R (refused n p) out = record { answer = Refused n p; outcome = record { number = n; place = p; length = 0; used = noneUsed }; tables = tablesOf R nothing; out = out }
 
--- what tidying the text s comes to, with the tables t and the buffer out lent
-unfoldable pub tidyInto : List ℕ → Tables → List ℕ → TidyResult
-tidyInto s t out = answered (roomsOf t) (readOf (roomsOf t) s) out
+-- what tidying the text s comes to by a choice of weights, with the tables t and the buffer out lent
+unfoldable pub tidyInto : Weights → List ℕ → Tables → List ℕ → TidyResult
+tidyInto c s t out = answered c (roomsOf t) (readOf (roomsOf t) s) out

@@ -2,6 +2,7 @@
 use reader::Reading;
 use tables::Used;
 use tidier::tidy_text::write_tidy;
+use tidying::Weights;
 ghost use mathlib.Core.Path.{_≡_};
 ghost use Rattle.tables.specs.Tables.{tables};
 ghost use Rattle.tidier.specs.TidyFrom.{tidyFrom};
@@ -17,6 +18,7 @@ pub enum Tidied {
 // The tidy text of what the tables hold, written where there is room for all of it.
 fn write_whole(
     text: &[u8],
+    weights: Weights,
     used: Used,
     v: &[i32],
     vt: &[i32],
@@ -31,10 +33,11 @@ fn write_whole(
     spans: &[i32],
     out: &mut [u8],
 ) -> Tidied
-    ensures { λ r. ⌜ tidyResult r (tables (now (v .entry)) (now (vt .entry)) (now (vn .entry)) (now (vp .entry)) (now (corners .entry)) (now (elements .entry)) (now (bodies .entry)) (now (ranges .entry)) (now (parameters .entry)) (now (loops .entry)) (now (spans .entry))) (now (out .exit)) ≡ written (tidyFrom (now (text .entry)) used (tables (now (v .entry)) (now (vt .entry)) (now (vn .entry)) (now (vp .entry)) (now (corners .entry)) (now (elements .entry)) (now (bodies .entry)) (now (ranges .entry)) (now (parameters .entry)) (now (loops .entry)) (now (spans .entry)))) used (tables (now (v .entry)) (now (vt .entry)) (now (vn .entry)) (now (vp .entry)) (now (corners .entry)) (now (elements .entry)) (now (bodies .entry)) (now (ranges .entry)) (now (parameters .entry)) (now (loops .entry)) (now (spans .entry))) (now (out .entry)) ⌝ }
+    ensures { λ r. ⌜ tidyResult r (tables (now (v .entry)) (now (vt .entry)) (now (vn .entry)) (now (vp .entry)) (now (corners .entry)) (now (elements .entry)) (now (bodies .entry)) (now (ranges .entry)) (now (parameters .entry)) (now (loops .entry)) (now (spans .entry))) (now (out .exit)) ≡ written (tidyFrom weights (now (text .entry)) used (tables (now (v .entry)) (now (vt .entry)) (now (vn .entry)) (now (vp .entry)) (now (corners .entry)) (now (elements .entry)) (now (bodies .entry)) (now (ranges .entry)) (now (parameters .entry)) (now (loops .entry)) (now (spans .entry)))) used (tables (now (v .entry)) (now (vt .entry)) (now (vn .entry)) (now (vp .entry)) (now (corners .entry)) (now (elements .entry)) (now (bodies .entry)) (now (ranges .entry)) (now (parameters .entry)) (now (loops .entry)) (now (spans .entry))) (now (out .entry)) ⌝ }
 {
     let length = write_tidy(
         text,
+        weights,
         used,
         v,
         vt,
@@ -61,9 +64,10 @@ fn write_whole(
     }
 }
 
-// Reads a text into the lent tables and writes its tidy text from the front of `out` on.
+// Reads a text into the lent tables and writes its tidy text, its weights by the choice, from the front of `out` on.
 pub fn tidy(
     text: &[u8],
+    weights: Weights,
     v: &mut [i32],
     vt: &mut [i32],
     vn: &mut [i32],
@@ -77,7 +81,7 @@ pub fn tidy(
     spans: &mut [i32],
     out: &mut [u8],
 ) -> Tidied
-    ensures { λ r. ⌜ tidyResult r (tables (now (v .exit)) (now (vt .exit)) (now (vn .exit)) (now (vp .exit)) (now (corners .exit)) (now (elements .exit)) (now (bodies .exit)) (now (ranges .exit)) (now (parameters .exit)) (now (loops .exit)) (now (spans .exit))) (now (out .exit)) ≡ tidyInto (now (text .entry)) (tables (now (v .entry)) (now (vt .entry)) (now (vn .entry)) (now (vp .entry)) (now (corners .entry)) (now (elements .entry)) (now (bodies .entry)) (now (ranges .entry)) (now (parameters .entry)) (now (loops .entry)) (now (spans .entry))) (now (out .entry)) ⌝ }
+    ensures { λ r. ⌜ tidyResult r (tables (now (v .exit)) (now (vt .exit)) (now (vn .exit)) (now (vp .exit)) (now (corners .exit)) (now (elements .exit)) (now (bodies .exit)) (now (ranges .exit)) (now (parameters .exit)) (now (loops .exit)) (now (spans .exit))) (now (out .exit)) ≡ tidyInto weights (now (text .entry)) (tables (now (v .entry)) (now (vt .entry)) (now (vn .entry)) (now (vp .entry)) (now (corners .entry)) (now (elements .entry)) (now (bodies .entry)) (now (ranges .entry)) (now (parameters .entry)) (now (loops .entry)) (now (spans .entry))) (now (out .entry)) ⌝ }
 {
     match reader::read(
         text,
@@ -95,6 +99,7 @@ pub fn tidy(
     ) {
         Reading::Read(used) => write_whole(
             text,
+            weights,
             used,
             v,
             vt,

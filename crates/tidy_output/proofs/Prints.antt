@@ -16,6 +16,7 @@ use Rattle.forms.proofs.Numerals.{short-length}
 use Rattle.tables.specs.Tables.{Tables}
 use Rattle.tables.specs.declared.Used.{Used}
 use Rattle.emitting.specs.Emitting.{Emitted}
+use Rattle.tidying.specs.declared.Weights.the-variants.{WhenNeeded}
 use Rattle.tidy_file.specs.Tidying.{TidyResult, tidyResult, tidyInto}
 use Rattle.tidy_file.specs.declared.Tidied.{Tidied}
 use Rattle.tidy_file.specs.declared.Tidied.the-variants.{Written, TooLong, Refused}
@@ -87,7 +88,7 @@ module _ (s : List ℕ) (t : Tables) (out : List ℕ) {r : ℕ} {m : List ℕ} w
   unfolding outputOf
   output-long h p = rw (lt-leb (length s) 65536 h) (ap (λ (x : Printing). output x t) p)
 
-  pub output-short : length s ≤ 65536 → (u : Tables) (a : Tidied) (o : List ℕ) → tidyResult a u o ≡ tidyInto s t out → printing r m ≡ printedIn (answerBytes a o) o
+  pub output-short : length s ≤ 65536 → (u : Tables) (a : Tidied) (o : List ℕ) → tidyResult a u o ≡ tidyInto WhenNeeded s t out → printing r m ≡ printedIn (answerBytes a o) o
       → output (printing r m) u ≡ outputOf s t out
   unfolding outputOf
   output-short h u a o e p = rw (le-leb (length s) 65536 h) (ap (λ (x : Printing). output x u) p ∙ ap printedFor e)

@@ -7,6 +7,7 @@ use lib.ListN.{length, take, drop}
 use Rattle.keywords.specs.Rows.{bytes}
 use Rattle.forms.specs.Written.{writtenWhole}
 use Rattle.tables.specs.Tables.{Tables}
+use Rattle.tidying.specs.declared.Weights.the-variants.{WhenNeeded}
 use Rattle.tidy_file.specs.Tidying.{TidyResult, tidyResult, tidyInto}
 use Rattle.tidy_file.specs.declared.Tidied.{Tidied}
 use Rattle.tidy_file.specs.declared.Tidied.the-variants.{Written, TooLong, Refused}
@@ -45,6 +46,6 @@ output p t = record { printing = p; tables = t }
 abbrev pub printedFor : TidyResult → Output
 printedFor x = output (printedIn (answerBytes (x .answer) (x .out)) (x .out)) (x .tables)
 
--- "The program takes 65,536 bytes; longer prints `refused 1 at 0`": the tables are then as they were
+-- "The program takes 65,536 bytes; longer prints `refused 1 at 0`": the tables are then as they were. Q-11, "By default tidy now leaves w off"
 unfoldable pub outputOf : List ℕ → Tables → List ℕ → Output
-outputOf s t out = printedFor (cond (leb (length s) 65536) (tidyInto s t out) (tidyResult (Refused 1 0) t out))
+outputOf s t out = printedFor (cond (leb (length s) 65536) (tidyInto WhenNeeded s t out) (tidyResult (Refused 1 0) t out))

@@ -1,5 +1,6 @@
 // What the program `tidy` prints for its input: 01, "The tidy text".
 use tidy_file::Tidied;
+use tidying::Weights;
 ghost use mathlib.Core.Path.{_≡_};
 ghost use Prim.Native.Nat.{_≤_, min};
 ghost use lib.ListN.{length};
@@ -93,6 +94,7 @@ pub fn tidy_output(
     }
     let tidied = tidy_file::tidy(
         input,
+        Weights::WhenNeeded,
         v,
         vt,
         vn,

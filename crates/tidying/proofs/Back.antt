@@ -17,6 +17,7 @@ use Rattle.keywords.specs.Arguments.{argumentBytes}
 use Rattle.model.specs.Model.{Vertices, Free, curve, curve2, surface, Part, Body, Open, State, curves}
 use Rattle.model.specs.Statements.{Statement, vertex, element, group, smoothing, material, type, degree, body, parameters, loop, end, passed}
 use Rattle.model.specs.Parse.{fine, hole, Value, number, corner, whole, direction, basis, name, nothing, formOf, allowed, numbersOf, cornersOf, wholesOf, namesOf, partsOf, differing, unlike, narrow, narrowIn, checked, finished, opened, seenIn, parse, inBody, isSurface, saysV, rangeWords, complete}
+use Rattle.tidying.specs.declared.Weights.{Weights}
 use Rattle.tidying.specs.Printed.{coordinates, rangeOf, wordsAfter, directionArgument}
 use Rattle.tidying.proofs.Values.{keyOf, loopKey, valuesIn, partValues, typeValues, degreeValues, written, words-written}
 use Rattle.tidying.proofs.Words.{Small, stand, stands, values-back, direction-is}
@@ -116,7 +117,7 @@ narrowIn-none curve2 x ws cs h = narrow-none x ws cs h
 narrowIn-none surface x ws cs h = refl
 
 -- ---- the statement
-module _ (x : State) (p : ℕ) (ws : List Word) where
+module _ (c : Weights) (x : State) (p : ℕ) (ws : List Word) where
   opened-back : (b : Body) (cs : List Corner) (vs : List Word)
       → Whole (x .model .vertices) (body b cs) → Opens (x .form) b → opened (b .free) x p vs cs (rangeOf (b .free) b) ≡ fine (body b cs)
   opened-back b cs vs h o =
@@ -126,16 +127,16 @@ module _ (x : State) (p : ℕ) (ws : List Word) where
   finished-back none h = never h
   finished-back (some o) h = rw (h .complete, h .counts, h .range) refl
 
-  same-length : (t : Statement) → bytesOf ws ≡ wordsAfter t → length ws ≡ length (valuesIn t)
-  same-length t e = bytes-length ws ∙ ap length (e ∙ words-written t) ∙ length-map (valuesIn t) written
+  same-length : (t : Statement) → bytesOf ws ≡ wordsAfter c t → length ws ≡ length (valuesIn c t)
+  same-length t e = bytes-length ws ∙ ap length (e ∙ words-written c t) ∙ length-map (valuesIn c t) written
     where
       bytes-length : (vs : List Word) → length vs ≡ length (bytesOf vs)
       bytes-length [] = refl
       bytes-length (v ∷ vs) = ap suc (bytes-length vs)
 
-  checked-back : (t : Statement) → bytesOf ws ≡ wordsAfter t → Whole (x .model .vertices) t → Here (x .form) (x .open-body) t
-      → checked (keyOf t) x p ws (stands ws (valuesIn t)) ≡ fine (renamed ws t)
-  checked-back (vertex k z) e w h = rw (stands-same ws (map number (coordinates k z)) (numbers-nameless (coordinates k z)), numbers-of (coordinates k z)) (ap (λ (r : List ℤ). fine (vertex k r)) w)
+  checked-back : (t : Statement) → bytesOf ws ≡ wordsAfter c t → Whole (x .model .vertices) t → Here (x .form) (x .open-body) t
+      → checked (keyOf t) x p ws (stands ws (valuesIn c t)) ≡ fine (renamed ws t)
+  checked-back (vertex k z) e w h = rw (stands-same ws (map number (coordinates c k z)) (numbers-nameless (coordinates c k z)), numbers-of (coordinates c k z)) (ap (λ (r : List ℤ). fine (vertex k r)) (w c))
   checked-back (element k cs) e w h = rw (stands-same ws (map corner cs) (corners-nameless cs), corners-of cs, unlike-none ws cs w) refl
   checked-back (group vs) e w h =
       rw (stands-names ws vs (same-length (group vs) e ∙ length-map vs name), names-of ws) refl
@@ -163,7 +164,7 @@ module _ (x : State) (p : ℕ) (ws : List Word) where
   checked-back end e w h = finished-back (x .open-body) h
   checked-back passed e w h = refl
 
-  allowed-back : (t : Statement) → bytesOf ws ≡ wordsAfter t → Here (x .form) (x .open-body) t → allowed (keyOf t) (x .open-body) ws ≡ true
+  allowed-back : (t : Statement) → bytesOf ws ≡ wordsAfter c t → Here (x .form) (x .open-body) t → allowed (keyOf t) (x .open-body) ws ≡ true
   allowed-back (vertex k z) e h = h
   allowed-back (element k cs) e h = h
   allowed-back (group vs) e h = h
@@ -174,7 +175,7 @@ module _ (x : State) (p : ℕ) (ws : List Word) where
   allowed-back (body b cs) e h = h .0
   allowed-back (parameters d z) e h = go ws e
     where
-      go : (ws : List Word) → bytesOf ws ≡ wordsAfter (parameters d z) → inBody (x .open-body) (λ k. isSurface k || not (saysV ws)) ≡ true
+      go : (ws : List Word) → bytesOf ws ≡ wordsAfter c (parameters d z) → inBody (x .open-body) (λ k. isSurface k || not (saysV ws)) ≡ true
       go [] e = absurd (let y : _≡_ {A = ℕ} 0 1 = cc in omega arith)
       go (w ∷ ws) e =
           let q : w .bytes ≡ argumentBytes (directionArgument d) = cc in
@@ -192,11 +193,11 @@ module _ (x : State) (p : ℕ) (ws : List Word) where
   allowed-back passed e h = h
 
 -- ---- the local lemma of every kind of statement
-pub back : (x : State) (p : ℕ) (ws : List Word) (t : Statement)
-    → Small (seenIn x) → Fine (x .model .vertices) (curves (x .model .elements)) t → Here (x .form) (x .open-body) t → bytesOf ws ≡ wordsAfter t
+pub back : (c : Weights) (x : State) (p : ℕ) (ws : List Word) (t : Statement)
+    → Small (seenIn x) → Fine (x .model .vertices) (curves (x .model .elements)) t → Here (x .form) (x .open-body) t → bytesOf ws ≡ wordsAfter c t
     → parse (keyOf t) x p ws ≡ fine (renamed ws t)
 unfolding parse
-back x p ws t s f h e =
-    let l = same-length x p ws t e in
-    rw (allowed-back x p ws t e h, l, f .many, values-back (seenIn x) (formOf (keyOf t) (length (valuesIn t))) 0 ws (valuesIn t) s (f .fits) (e ∙ words-written t))
-    (checked-back x p ws t e (f .whole) h)
+back c x p ws t s f h e =
+    let l = same-length c x p ws t e in
+    rw (allowed-back c x p ws t e h, l, f .many c, values-back (seenIn x) (formOf (keyOf t) (length (valuesIn c t))) 0 ws (valuesIn c t) s (f .fits c) (e ∙ words-written c t))
+    (checked-back c x p ws t e (f .whole) h)

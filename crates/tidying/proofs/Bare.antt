@@ -15,6 +15,7 @@ use Rattle.model.specs.Model.{Free, Body, plain, Element, Form, Open, State, is
 use Rattle.model.specs.Statements.{Statement, vertex, element, group, smoothing, material, type, degree, body, parameters, loop, end, passed, apply, onOpen, withBody, withParameters, withLoop, closed}
 use Rattle.model.specs.Parse.{outside, inBody}
 use Rattle.model.specs.Room.{summed, ofKind, ofOpen, partCount}
+use Rattle.tidying.specs.declared.Weights.{Weights}
 use Rattle.tidying.specs.Printed.{wordsAfter}
 use Rattle.tidying.specs.Tidied.{sameWords}
 use Rattle.tidying.specs.Agree.{bareWord, bareWords, bareNames, bareElement, bareElements}
@@ -77,23 +78,23 @@ same-words (v ∷ vs) (w ∷ ws) h =
     (same-words vs ws (and-right (same (v .bytes) (w .bytes)) (sameWords vs ws) h))
 
 -- a line's own words for a statement's names
-pub renamed-bare : (ws : List Word) (t : Statement) → bytesOf ws ≡ wordsAfter t → bareStatement (renamed ws t) ≡ bareStatement t
-renamed-bare ws (vertex k z) h = refl
-renamed-bare ws (element k cs) h = refl
-renamed-bare ws (group vs) h = ap group (bare-words ws vs h)
-renamed-bare ws (smoothing n) h = refl
-renamed-bare ws (material v) h = go ws h
+pub renamed-bare : (c : Weights) (ws : List Word) (t : Statement) → bytesOf ws ≡ wordsAfter c t → bareStatement (renamed ws t) ≡ bareStatement t
+renamed-bare c ws (vertex k z) h = refl
+renamed-bare c ws (element k cs) h = refl
+renamed-bare c ws (group vs) h = ap group (bare-words ws vs h)
+renamed-bare c ws (smoothing n) h = refl
+renamed-bare c ws (material v) h = go ws h
   where
     go : (ws : List Word) → bytesOf ws ≡ v .bytes ∷ [] → material (bareWord (firstOr v ws)) ≡ material (bareWord v)
     go [] h = refl
     go (w ∷ ws) h = let e : w .bytes ≡ v .bytes = cc in ap (λ (b : List ℕ). material (record { place = 0; bytes = b })) e
-renamed-bare ws (type r t) h = refl
-renamed-bare ws (degree m n) h = refl
-renamed-bare ws (body b cs) h = refl
-renamed-bare ws (parameters d z) h = refl
-renamed-bare ws (loop l) h = refl
-renamed-bare ws end h = refl
-renamed-bare ws passed h = refl
+renamed-bare c ws (type r t) h = refl
+renamed-bare c ws (degree m n) h = refl
+renamed-bare c ws (body b cs) h = refl
+renamed-bare c ws (parameters d z) h = refl
+renamed-bare c ws (loop l) h = refl
+renamed-bare c ws end h = refl
+renamed-bare c ws passed h = refl
 
 -- ---- applying
 module _ (x : State) where

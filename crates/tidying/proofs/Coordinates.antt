@@ -1,22 +1,24 @@
 -- The record of a vertex, its coordinates written, is read as that record: what is filled in is there, and is left alone.
 use Prim.Native.Nat.{ℕ, zero, suc, _≤_}
-use mathlib.Core.Path.{_≡_, refl, ap, _∙_}
+use mathlib.Core.Path.{_≡_, refl, sym, ap, _∙_}
 use mathlib.Core.List.{List, [], _∷_, _++_, append-nil}
-use mathlib.Core.Bool.{Bool, true}
+use mathlib.Core.Bool.{Bool, true, false}
 use lib.ListN.{length, length-append, length-drop, length-map, drop, drop-of-length-le}
 use lib.Seq.{take-append-seam}
 use lib.Dec.{leb}
-use lib.IntN.{ℤ}
+use lib.IntN.{ℤ, pos, negsuc}
 use native.Mathlib.Omega.{arith}
 use borrow.Author.Tests.{leb-true, eqb-true}
 use Rattle.lists.specs.Lists.{all}
-use Rattle.lists.proofs.Tests.{and-right}
+use Rattle.lists.proofs.Tests.{and-left, and-right, and-both, never}
 use Rattle.lists.proofs.Laws.{all-append}
 use Rattle.forms.specs.Fits.{numberFits}
 use Rattle.model.specs.Model.{VertexKind, geometric, texture, normal, parametric, Vertices}
 use Rattle.model.specs.Statements.{vertex}
 use Rattle.model.specs.Parse.{number, countedVertex, defaults, completed, recordOf}
-use Rattle.tidying.specs.Printed.{coordinates}
+use Rattle.tidying.specs.declared.Weights.{Weights}
+use Rattle.tidying.specs.declared.Weights.the-variants.{WhenNeeded, Always}
+use Rattle.tidying.specs.Printed.{isOne, coordinates}
 use Rattle.tidying.proofs.Shapes.{fit-numbers}
 use Rattle.tidying.proofs.Standing.{seenOf, Fine}
 
@@ -24,6 +26,10 @@ pub all-drop : {A : Type 0} (f : A → Bool) (n : ℕ) (xs : List A) → all f x
 all-drop f zero xs h = h
 all-drop f (suc n) [] h = refl
 all-drop f (suc n) (x ∷ xs) h = all-drop f n xs (and-right (f x) (all f xs) h)
+
+all-front : {A : Type 0} (f : A → Bool) (s t : List A) → all f (s ++ t) ≡ true → all f s ≡ true
+all-front f [] t h = refl
+all-front f (x ∷ s) t h = and-both (and-left (f x) (all f (s ++ t)) h) (all-front f s t (and-right (f x) (all f (s ++ t)) h))
 
 most : (k : VertexKind) (n : ℕ) → countedVertex k n ≡ true → n ≤ length (defaults k)
 most geometric n h = leb-true n 4 (and-right (leb 3 n) (leb n 4) h)
@@ -53,21 +59,43 @@ module _ (k : VertexKind) (z : List ℤ) (c : countedVertex k (length z) ≡ tru
   pub completed-numbers : all numberFits (completed k z) ≡ true
   completed-numbers = all-append numberFits z (drop (length z) (defaults k)) h (all-drop numberFits (length z) (defaults k) (full k .1))
 
--- what is written of a record: as many as may be, each a number, and the record again
-record Written (k : VertexKind) (r : List ℤ) : Type 0 where
-  many : countedVertex k (length (coordinates k r)) ≡ true
-  numbers : all numberFits (coordinates k r) ≡ true
-  whole : recordOf k (coordinates k r) ≡ r
+-- what is written of a record by a choice of weights: as many as may be, each a number, and the record again
+record Written (w : Weights) (k : VertexKind) (r : List ℤ) : Type 0 where
+  many : countedVertex k (length (coordinates w k r)) ≡ true
+  numbers : all numberFits (coordinates w k r) ≡ true
+  whole : recordOf k (coordinates w k r) ≡ r
 
-written-is : (k : VertexKind) (z : List ℤ) → countedVertex k (length z) ≡ true → all numberFits z ≡ true → Written k (recordOf k z)
-written-is geometric z c h =
-    record { many = rw (completed-length geometric z c) refl; numbers = completed-numbers geometric z c h; whole = completed-again geometric z c h }
-written-is texture z c h =
+-- a w that is left off is filled in again
+pub one-again : (z : ℤ) → isOne z ≡ true → pos 1000000 ≡ z
+one-again (pos n) h = ap pos (sym (eqb-true n 1000000 h))
+one-again (negsuc n) h = never h
+
+weighted-is : (w : Weights) (r : List ℤ) → length r ≡ 4 → all numberFits r ≡ true → Written w geometric r
+weighted-is w [] l h = absurd (omega arith)
+weighted-is w (a ∷ []) l h = absurd (omega arith)
+weighted-is w (a ∷ b ∷ []) l h = absurd (omega arith)
+weighted-is w (a ∷ b ∷ c ∷ []) l h = absurd (omega arith)
+weighted-is Always (a ∷ b ∷ c ∷ d ∷ []) l h = record { many = refl; numbers = h; whole = refl }
+weighted-is WhenNeeded (a ∷ b ∷ c ∷ d ∷ []) l h = go (isOne d) refl
+  where
+    go : (t : Bool) → isOne d ≡ t → Written WhenNeeded geometric (a ∷ b ∷ c ∷ d ∷ [])
+    go true e =
+        record {
+          many = rw e refl;
+          numbers = rw e (all-front numberFits (a ∷ b ∷ c ∷ []) (d ∷ []) h);
+          whole = rw e (ap (λ (v : ℤ). a ∷ b ∷ c ∷ v ∷ []) (one-again d e));
+        }
+    go false e = record { many = rw e refl; numbers = rw e h; whole = rw e refl }
+weighted-is w (a ∷ b ∷ c ∷ d ∷ e ∷ r) l h = absurd (omega arith)
+
+written-is : (w : Weights) (k : VertexKind) (z : List ℤ) → countedVertex k (length z) ≡ true → all numberFits z ≡ true → Written w k (recordOf k z)
+written-is w geometric z c h = weighted-is w (completed geometric z) (completed-length geometric z c) (completed-numbers geometric z c h)
+written-is w texture z c h =
     record { many = rw (completed-length texture z c) refl; numbers = completed-numbers texture z c h; whole = completed-again texture z c h }
-written-is normal z c h =
+written-is w normal z c h =
     record { many = rw (completed-length normal z c) refl; numbers = completed-numbers normal z c h; whole = completed-again normal z c h }
-written-is parametric z c h =
-    let e : coordinates parametric (recordOf parametric z) ≡ z = take-append-seam z (drop (length z) (defaults parametric)) in
+written-is w parametric z c h =
+    let e : coordinates w parametric (recordOf parametric z) ≡ z = take-append-seam z (drop (length z) (defaults parametric)) in
     record {
       many = ap (λ (y : List ℤ). countedVertex parametric (length y)) e ∙ c;
       numbers = ap (all numberFits) e ∙ h;
@@ -76,5 +104,8 @@ written-is parametric z c h =
 
 pub vertex-fine : (x : Vertices) (n : ℕ) (k : VertexKind) (z : List ℤ) → countedVertex k (length z) ≡ true → all numberFits z ≡ true → Fine x n (vertex k (recordOf k z))
 vertex-fine x n k z c h =
-    let w = written-is k z c h in
-    record { many = rw (length-map (coordinates k (recordOf k z)) number) (w .many); fits = fit-numbers (seenOf x n) 0 (coordinates k (recordOf k z)) (w .numbers); whole = w .whole }
+    record {
+      many = λ w. rw (length-map (coordinates w k (recordOf k z)) number) (written-is w k z c h .many);
+      fits = λ w. fit-numbers (seenOf x n) 0 (coordinates w k (recordOf k z)) (written-is w k z c h .numbers);
+      whole = λ w. written-is w k z c h .whole;
+    }

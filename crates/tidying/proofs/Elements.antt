@@ -21,8 +21,8 @@ use Rattle.tidying.proofs.Keep.{curves-add}
 use Rattle.tidying.proofs.Goes.{Goes, on, nil, one, holding, vertices, at, groups, smoothings, materials}
 
 always-type : (r : Bool) (t : Basis) → Always (type r t)
-always-type true t x n = record { many = refl; fits = (refl, ((t, refl), tt)); whole = tt }
-always-type false t x n = record { many = refl; fits = ((t, refl), tt); whole = tt }
+always-type true t x n = record { many = λ c. refl; fits = λ c. (refl, ((t, refl), tt)); whole = tt }
+always-type false t x n = record { many = λ c. refl; fits = λ c. ((t, refl), tt); whole = tt }
 
 -- ---- what an end settles, the other way
 record Kept (k : Free) (b : Body) : Type 0 where
@@ -125,7 +125,7 @@ module _ (x : Vertices) (es : List Element) (n : Names) (b : Body) (cs : List Co
       ap₂ (λ (y z : List ℤ). filled y z (b .loops)) (sym (k .us)) (sym (k .vs)) ∙ ap (λ (l : List Loop). filled (u .us) (u .vs) l) (sym (k .loops)) in
       let c : settled (u .free) u ≡ b = ap (λ (j : Free). settled j u) (k .free) ∙ g .settles in
       record {
-        stand = (record { fine = record { many = refl; fits = tt; whole = tt }; here = subst (λ (y : Body). Sound y (length cs)) (sym e) (g .sound) }, tt);
+        stand = (record { fine = record { many = λ c. refl; fits = λ c. tt; whole = tt }; here = subst (λ (y : Body). Sound y (length cs)) (sym e) (g .sound) }, tt);
         ends =
             ap (λ (y : Body). at x (es ++ record { kind = free (settled (y .free) y); corners = cs; names = n } ∷ []) n (formIn b)) e
             ∙ ap (λ (y : Body). at x (es ++ record { kind = free y; corners = cs; names = n } ∷ []) n (formIn b)) c;

@@ -13,6 +13,7 @@ use Rattle.text.specs.Words.{Word}
 use Rattle.model.specs.Model.{VertexKind, geometric, texture, normal, parametric, Vertices, Names, plain, Element, Model, Open, State, isCurve2, curves}
 use Rattle.model.specs.Statements.{Statement, vertex, element, group, smoothing, material, type, degree, body, parameters, loop, end, passed, apply, closed, ended, onOpen, withBody, withParameters, withLoop}
 use Rattle.model.specs.Parse.{whole, outside, inBody, isSurface, isV, within}
+use Rattle.tidying.specs.declared.Weights.the-variants as weights
 use Rattle.tidying.proofs.Standing.{Fine, Ends, Here}
 use Rattle.tidying.proofs.Ready.{Ready}
 use Rattle.tidying.proofs.Good.{Always, GoodVertices, GoodNames, stays, GoodKind, plus, GoodElements, GoodOpen, GoodOption, Good}
@@ -74,8 +75,8 @@ at-most : (m : ℕ) → (i : ℕ) × (whole m ≡ whole i) × (within 1 20 i ≡
 at-most m q = ap (λ (i : ℕ). leb i 20) (let e = q .1 in let z : m ≡ q .0 = cc in z) ∙ and-right (leb 1 (q .0)) (leb (q .0) 20) (q .2)
 
 pub degrees-form : (x : Vertices) (n m k : ℕ) → Fine x n (degree m k) → (leb m 20 ≡ true) × (leb k 20 ≡ true)
-degrees-form x n m zero f = (at-most m (f .fits .0), refl)
-degrees-form x n m (suc k) f = (at-most m (f .fits .0), at-most (suc k) (f .fits .1 .0))
+degrees-form x n m zero f = (at-most m (f .fits weights.Always .0), refl)
+degrees-form x n m (suc k) f = (at-most m (f .fits weights.Always .0), at-most (suc k) (f .fits weights.Always .1 .0))
 
 pub ended-vertices : (o : Option Open) (m : Model) → ended o m .vertices ≡ m .vertices
 ended-vertices none m = refl

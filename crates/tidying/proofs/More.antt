@@ -55,7 +55,7 @@ module _ (x : Vertices) (n : ℕ) where
   always-vertex k z f y m =
       record {
         many = f .many;
-        fits = fitting-any (seenOf x n) (seenOf y m) (formOf (keyOf (vertex k z)) (length (valuesIn (vertex k z)))) 0 (valuesIn (vertex k z)) (λ j. refl) (f .fits);
+        fits = λ c. fitting-any (seenOf x n) (seenOf y m) (formOf (keyOf (vertex k z)) (length (valuesIn c (vertex k z)))) 0 (valuesIn c (vertex k z)) (λ j. refl) (f .fits c);
         whole = f .whole;
       }
 
@@ -63,7 +63,7 @@ module _ (x : Vertices) (n : ℕ) where
   always-group ws f y m =
       record {
         many = f .many;
-        fits = fitting-any (seenOf x n) (seenOf y m) (formOf (keyOf (group ws)) (length (valuesIn (group ws)))) 0 (valuesIn (group ws)) (λ j. refl) (f .fits);
+        fits = λ c. fitting-any (seenOf x n) (seenOf y m) (formOf (keyOf (group ws)) (length (valuesIn c (group ws)))) 0 (valuesIn c (group ws)) (λ j. refl) (f .fits c);
         whole = tt;
       }
 
@@ -77,7 +77,7 @@ module _ (x : Vertices) (n : ℕ) where
   always-parameters d z f y m =
       record {
         many = f .many;
-        fits = fitting-any (seenOf x n) (seenOf y m) (formOf parm (length (valuesIn (parameters d z)))) 0 (valuesIn (parameters d z)) (λ j. either (eqb j 0)) (f .fits);
+        fits = λ c. fitting-any (seenOf x n) (seenOf y m) (formOf parm (length (valuesIn c (parameters d z)))) 0 (valuesIn c (parameters d z)) (λ j. either (eqb j 0)) (f .fits c);
         whole = tt;
       }
     where
@@ -164,6 +164,6 @@ pub fine-up : (x y : Vertices) (m n : ℕ) (t : Statement) → More x y → m �
 fine-up x y m n t u l f =
     record {
       many = f .many;
-      fits = fitting-up (seenOf x m) (seenOf y n) (formOf (keyOf t) (length (valuesIn t))) 0 (valuesIn t) (more-up x y m n u l) (f .fits);
+      fits = λ c. fitting-up (seenOf x m) (seenOf y n) (formOf (keyOf t) (length (valuesIn c t))) 0 (valuesIn c t) (more-up x y m n u l) (f .fits c);
       whole = whole-up x y t u (f .whole);
     }

@@ -27,11 +27,11 @@ degree-in (some cardinal) n = refl
 degree-in (some taylor) n = refl
 
 one-degree : (m : ℕ) → within 1 20 m ≡ true → Always (degree m 0)
-one-degree m h x n = record { many = refl; fits = ((m, refl, h), tt); whole = tt }
+one-degree m h x n = record { many = λ c. refl; fits = λ c. ((m, refl, h), tt); whole = tt }
 
 two-degrees : (m k : ℕ) → within 1 20 m ≡ true → within 1 20 k ≡ true → Always (degree m k)
 two-degrees m zero h i x n = never i
-two-degrees m (suc k) h i x n = record { many = refl; fits = ((m, refl, h), ((suc k, refl, i), tt)); whole = tt }
+two-degrees m (suc k) h i x n = record { many = λ c. refl; fits = λ c. ((m, refl, h), ((suc k, refl, i), tt)); whole = tt }
 
 -- ---- the body that a line opens
 record Reopens (b : Body) : Type 0 where

@@ -34,11 +34,11 @@ module _ (x : State) (p : ℕ) (ws : List Word) (t : Statement) where
   type-fit (y ∷ []) a c f h =
       let e : (y ∷ []) ≡ basis (f .0 .0) ∷ [] = ap (λ (v : Value). v ∷ []) (f .0 .1) in
       put x p ws (type false (f .0 .0)) t (ap (checked cstype x p ws) (sym e) ∙ h)
-      (record { fine = told x p ws (type false (f .0 .0)) (y ∷ []) (sym e) c f tt; here = a })
+      (record { fine = told x p ws (type false (f .0 .0)) (y ∷ []) (λ w. sym e) c f tt; here = a })
   type-fit (y ∷ z ∷ []) a c f h =
       let e : (y ∷ z ∷ []) ≡ nothing ∷ basis (f .1 .0 .0) ∷ [] = ap₂ (λ (v w : Value). v ∷ w ∷ []) (f .0) (f .1 .0 .1) in
       put x p ws (type true (f .1 .0 .0)) t (ap (checked cstype x p ws) (sym e) ∙ h)
-      (record { fine = told x p ws (type true (f .1 .0 .0)) (y ∷ z ∷ []) (sym e) c f tt; here = a })
+      (record { fine = told x p ws (type true (f .1 .0 .0)) (y ∷ z ∷ []) (λ w. sym e) c f tt; here = a })
   type-fit (y ∷ z ∷ w ∷ xs) a c f h =
       absurd (let l = leb-true (suc (suc (suc (length xs)))) 2 (and-right (leb 1 (suc (suc (suc (length xs))))) _ c) in omega arith)
 
@@ -48,7 +48,7 @@ module _ (x : State) (p : ℕ) (ws : List Word) (t : Statement) where
   degree-fits (y ∷ []) a c f h =
       let e : (y ∷ []) ≡ whole (f .0 .0) ∷ [] = ap (λ (v : Value). v ∷ []) (f .0 .1) in
       put x p ws (degree (f .0 .0) 0) t (ap (checked deg x p ws) (sym e) ∙ h)
-      (record { fine = told x p ws (degree (f .0 .0) 0) (y ∷ []) (sym e) c f tt; here = a })
+      (record { fine = told x p ws (degree (f .0 .0) 0) (y ∷ []) (λ w. sym e) c f tt; here = a })
   degree-fits (y ∷ z ∷ []) a c f h = go (f .1 .0 .0) (f .1 .0 .1) (f .1 .0 .2)
     where
       go : (n : ℕ) → z ≡ whole n → within 1 20 n ≡ true → Ready x t
@@ -56,7 +56,7 @@ module _ (x : State) (p : ℕ) (ws : List Word) (t : Statement) where
       go (suc n) q l =
           let e : (y ∷ z ∷ []) ≡ whole (f .0 .0) ∷ whole (suc n) ∷ [] = ap₂ (λ (v w : Value). v ∷ w ∷ []) (f .0 .1) q in
           put x p ws (degree (f .0 .0) (suc n)) t (ap (checked deg x p ws) (sym e) ∙ h)
-          (record { fine = told x p ws (degree (f .0 .0) (suc n)) (y ∷ z ∷ []) (sym e) c f tt; here = a })
+          (record { fine = told x p ws (degree (f .0 .0) (suc n)) (y ∷ z ∷ []) (λ w. sym e) c f tt; here = a })
   degree-fits (y ∷ z ∷ w ∷ xs) a c f h =
       absurd (let l = leb-true (suc (suc (suc (length xs)))) 2 (and-right (leb 1 (suc (suc (suc (length xs))))) _ c) in omega arith)
 
@@ -66,7 +66,7 @@ module _ (x : State) (p : ℕ) (ws : List Word) (t : Statement) where
   smoothing-fits (y ∷ []) a c f h =
       let e : (y ∷ []) ≡ whole (f .0 .0) ∷ [] = ap (λ (v : Value). v ∷ []) (f .0 .1) in
       put x p ws (smoothing (f .0 .0)) t (ap (checked s x p ws) (sym e) ∙ h)
-      (record { fine = told x p ws (smoothing (f .0 .0)) (y ∷ []) (sym e) c f tt; here = a })
+      (record { fine = told x p ws (smoothing (f .0 .0)) (y ∷ []) (λ w. sym e) c f tt; here = a })
   smoothing-fits (y ∷ z ∷ xs) a c f h = absurd (let l = eqb-true (suc (suc (length xs))) 1 c in omega arith)
 
   material-fit : (xs : List Value) → allowed usemtl (x .open-body) ws ≡ true → counted usemtl (length xs) ≡ true
@@ -75,7 +75,7 @@ module _ (x : State) (p : ℕ) (ws : List Word) (t : Statement) where
   material-fit (y ∷ []) a c f h =
       let e : (y ∷ []) ≡ name (f .0 .0) ∷ [] = ap (λ (v : Value). v ∷ []) (f .0 .1) in
       put x p ws (material (f .0 .0)) t (ap (checked usemtl x p ws) (sym e) ∙ h)
-      (record { fine = told x p ws (material (f .0 .0)) (y ∷ []) (sym e) c f tt; here = a })
+      (record { fine = told x p ws (material (f .0 .0)) (y ∷ []) (λ w. sym e) c f tt; here = a })
   material-fit (y ∷ z ∷ xs) a c f h = absurd (let l = eqb-true (suc (suc (length xs))) 1 c in omega arith)
 
   end-fit : (o : Option Open) → x .open-body ≡ o → finished o p ≡ fine t → Ready x t
@@ -85,7 +85,7 @@ module _ (x : State) (p : ℕ) (ws : List Word) (t : Statement) where
       let p₁ = must-fine (countsAgree (o .body .free) (o .body) (length (o .controls))) 12 p _ t (p₀ .1) in
       let p₂ = must-fine (inRange (o .body .free) (o .body)) 13 p _ t (p₁ .1) in
       put x p ws end t (p₂ .1)
-      (record { fine = record { many = refl; fits = tt; whole = tt }; here = subst Ends (sym q) (record { complete = p₀ .0; counts = p₁ .0; range = p₂ .0 }) })
+      (record { fine = record { many = λ w. refl; fits = λ w. tt; whole = tt }; here = subst Ends (sym q) (record { complete = p₀ .0; counts = p₁ .0; range = p₂ .0 }) })
 
   first-direction : (us : List Word) (xs : List Value) → counted parm (length xs) ≡ true → valuesOf (seenIn x) (formOf parm (length us)) 0 us ≡ fine xs
       → (d : Direction) × (saysV us ≡ isV (some d)) × (xs ≡ direction d ∷ drop 1 xs)
@@ -145,7 +145,7 @@ module _ (x : State) (p : ℕ) (ws : List Word) (t : Statement) where
   kinds g xs w = group-fit x p ws xs (w .many) t (w .allowed) (w .fits) (w .checked)
   kinds s xs w = smoothing-fits xs (w .allowed) (w .counted) (w .fits) (w .checked)
   kinds usemtl xs w = material-fit xs (w .allowed) (w .counted) (w .fits) (w .checked)
-  kinds over xs w = put x p ws passed t (w .checked) (record { fine = record { many = refl; fits = tt; whole = tt }; here = w .allowed })
+  kinds over xs w = put x p ws passed t (w .checked) (record { fine = record { many = λ w. refl; fits = λ w. tt; whole = tt }; here = w .allowed })
 
   pub fit : (k : Keyword) → all isToken (bytesOf ws) ≡ true → parse k x p ws ≡ fine t → Ready x t
   fit k a h = let w = way k a h in kinds k (w .0) (w .1)

@@ -180,8 +180,8 @@ always-none x =
       vp = tt;
       elements = refl;
       names = record {
-        group = λ y n. record { many = refl; fits = tt; whole = tt };
-        smoothing = λ y n. record { many = refl; fits = ((0, refl, refl), tt); whole = tt };
+        group = λ y n. record { many = λ w. refl; fits = λ w. tt; whole = tt };
+        smoothing = λ y n. record { many = λ w. refl; fits = λ w. ((0, refl, refl), tt); whole = tt };
         material = tt;
       };
       form = record { u = refl; v = refl };

@@ -16,6 +16,7 @@ use Rattle.forms.specs.Corner.{Corner, alike}
 use Rattle.model.specs.Model.{VertexKind, Vertices, Shape, Free, curve, curve2, surface, Direction, Part, Loop, Form, State, curves}
 use Rattle.model.specs.Statements.{Statement, vertex, element, group, body, parameters, loop}
 use Rattle.model.specs.Parse.{Parsed, fine, must, unless, a-vertex, an-element, a-body, parm, trim, hole, g, a-number, Value, number, corner, whole, direction, basis, name, counted, formOf, allowed, numbersOf, cornersOf, namesOf, differing, unlike, narrow, narrowIn, recordOf, bodyOf, inForce, checked, opened, outside, inBody, isSurface, isV, saysV, rangeWords, fewestControls}
+use Rattle.tidying.specs.declared.Weights.{Weights}
 use Rattle.tidying.specs.Printed.{rangeOf}
 use Rattle.tidying.proofs.Values.{keyOf, loopKey, valuesIn}
 use Rattle.tidying.proofs.Words.{Fitting}
@@ -101,13 +102,13 @@ module _ (x : State) (p : ℕ) (ws : List Word) where
   put u t e r = subst (Ready x) (let z : u ≡ t = cc in z) r
 
   -- a statement whose values are those of the line
-  pub told : (t : Statement) (xs : List Value) → valuesIn t ≡ xs → counted (keyOf t) (length xs) ≡ true → Fitting (seenOf X N) (formOf (keyOf t) (length xs)) 0 xs
+  pub told : (t : Statement) (xs : List Value) → ((w : Weights) → valuesIn w t ≡ xs) → counted (keyOf t) (length xs) ≡ true → Fitting (seenOf X N) (formOf (keyOf t) (length xs)) 0 xs
       → Whole X t → Fine X N t
-  told t xs e c f w =
+  told t xs e c f h =
       record {
-        many = ap (λ (y : List Value). counted (keyOf t) (length y)) e ∙ c;
-        fits = subst (λ (y : List Value). Fitting (seenOf X N) (formOf (keyOf t) (length y)) 0 y) (sym e) f;
-        whole = w;
+        many = λ w. ap (λ (y : List Value). counted (keyOf t) (length y)) (e w) ∙ c;
+        fits = λ w. subst (λ (y : List Value). Fitting (seenOf X N) (formOf (keyOf t) (length y)) 0 y) (sym (e w)) f;
+        whole = h;
       }
 
   module _ (xs : List Value) (many : length xs ≡ length ws) (t : Statement) where
@@ -127,7 +128,7 @@ module _ (x : State) (p : ℕ) (ws : List Word) where
         let l : length ws ≡ length (cornersOf xs) = sym many ∙ ap length (q .1) ∙ length-map (q .0) corner ∙ ap length (sym z) in
         let r = unless-fine (unlike ws (cornersOf xs)) 9 _ t h in
         put (element k (cornersOf xs)) t (r .1)
-        (record { fine = told (element k (cornersOf xs)) xs (ap (map corner) z ∙ sym (q .1)) c f (unlike-fit ws (cornersOf xs) l (r .0)); here = a })
+        (record { fine = told (element k (cornersOf xs)) xs (λ w. ap (map corner) z ∙ sym (q .1)) c f (unlike-fit ws (cornersOf xs) l (r .0)); here = a })
 
     pub body-fit : (k : Free) → allowed (a-body k) (x .open-body) ws ≡ true → counted (a-body k) (length xs) ≡ true
         → Fitting (seenOf X N) (formOf (a-body k) (length xs)) 0 xs → checked (a-body k) x p ws xs ≡ fine t → Ready x t
@@ -161,7 +162,7 @@ module _ (x : State) (p : ℕ) (ws : List Word) where
             let b = bodyOf k (x .form) r in
             let fr = o .free in
             record {
-              fine = told (body b cs) xs (ap (λ (y : List ℤ). map number y ++ map corner cs) (o .range) ∙ sym e) (ap (λ (y : Free). counted (a-body y) (length xs)) fr ∙ c)
+              fine = told (body b cs) xs (λ v. ap (λ (y : List ℤ). map number y ++ map corner cs) (o .range) ∙ sym e) (ap (λ (y : Free). counted (a-body y) (length xs)) fr ∙ c)
                   (subst (λ (y : Free). Fitting (seenOf X N) (formOf (a-body y) (length xs)) 0 xs) (sym fr) f) (u, ap (λ (y : Free). wideIn y X cs) fr ∙ w);
               here = (a, record { force = ap (λ (y : Free). inForce y (x .form) (x .form .basis)) fr ∙ i; gives = ap₂ (λ (y : Free) (y' : List ℤ). bodyOf y (x .form) y') fr (o .range) });
             }
@@ -174,7 +175,7 @@ module _ (x : State) (p : ℕ) (ws : List Word) where
         let e' : xs ≡ direction d ∷ map number (q .0) = e ∙ ap (λ (y : List Value). direction d ∷ y) (q .1) in
         let h' : fine (parameters d (q .0)) ≡ fine t = ap (λ (y : List ℤ). fine (parameters d y)) (sym (numbers-of (q .0))) ∙ ap (checked parm x p ws) (sym e') ∙ h in
         put (parameters d (q .0)) t h'
-        (record { fine = told (parameters d (q .0)) xs (sym e') c f tt; here = ap (λ (y : Bool). inBody (x .open-body) (λ k. isSurface k || not y)) (sym v) ∙ a })
+        (record { fine = told (parameters d (q .0)) xs (λ w. sym e') c f tt; here = ap (λ (y : Bool). inBody (x .open-body) (λ k. isSurface k || not y)) (sym v) ∙ a })
       where
         after : (j : ℕ) → 1 ≤ j → formOf parm (length xs) j ≡ a-number
         after zero l = absurd (omega arith)
@@ -186,15 +187,15 @@ module _ (x : State) (p : ℕ) (ws : List Word) where
         let q = loop-fit (seenOf X N) 0 xs refl (eqb-true (length xs % 3) 0 (and-right (ltb 0 (length xs)) _ c)) f in
         let l : Loop = record { hole = true; parts = q .0 } in
         let h' : fine (loop l) ≡ fine t = ap (λ (y : List Part). fine (loop (record { hole = true; parts = y }))) (sym (parts-of (q .0))) ∙ ap (checked hole x p ws) (sym (q .1)) ∙ h in
-        put (loop l) t h' (record { fine = told (loop l) xs (sym (q .1)) c f tt; here = a })
+        put (loop l) t h' (record { fine = told (loop l) xs (λ w. sym (q .1)) c f tt; here = a })
     loop-fits false a c f h =
         let q = loop-fit (seenOf X N) 0 xs refl (eqb-true (length xs % 3) 0 (and-right (ltb 0 (length xs)) _ c)) f in
         let l : Loop = record { hole = false; parts = q .0 } in
         let h' : fine (loop l) ≡ fine t = ap (λ (y : List Part). fine (loop (record { hole = false; parts = y }))) (sym (parts-of (q .0))) ∙ ap (checked trim x p ws) (sym (q .1)) ∙ h in
-        put (loop l) t h' (record { fine = told (loop l) xs (sym (q .1)) c f tt; here = a })
+        put (loop l) t h' (record { fine = told (loop l) xs (λ w. sym (q .1)) c f tt; here = a })
 
     pub group-fit : allowed g (x .open-body) ws ≡ true → Fitting (seenOf X N) (formOf g (length xs)) 0 xs → checked g x p ws xs ≡ fine t → Ready x t
     group-fit a f h =
         let q = names-fit (seenOf X N) 0 xs f in
         let z : namesOf xs ≡ q .0 = ap namesOf (q .1) ∙ names-of (q .0) in
-        put (group (namesOf xs)) t h (record { fine = told (group (namesOf xs)) xs (ap (map name) z ∙ sym (q .1)) refl f tt; here = a })
+        put (group (namesOf xs)) t h (record { fine = told (group (namesOf xs)) xs (λ w. ap (map name) z ∙ sym (q .1)) refl f tt; here = a })

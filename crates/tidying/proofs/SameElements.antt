@@ -19,6 +19,7 @@ use Rattle.model.specs.Model.{VertexKind, geometric, texture, normal, parametri
 use Rattle.model.specs.Parse.{number, countedVertex, counted, recordOf}
 use Rattle.model.specs.Room.{ofKind, partCount}
 use Rattle.model.specs.Layout.{listed, cornerRows, kindNumber, bodyOf, bodiesOf}
+use Rattle.tidying.specs.declared.Weights.the-variants as weights
 use Rattle.tidying.specs.Printed.{coordinates}
 use Rattle.tidying.specs.Agree.{bareWords, bareOption, bareNames, bareElement, bareElements}
 use Rattle.tidying.proofs.Values.{loopKey, partValues}
@@ -40,8 +41,8 @@ pub vertices-wide : (k : VertexKind) (zs : List (List ℤ)) → GoodVertices k z
 vertices-wide k [] g = tt
 vertices-wide k (z ∷ zs) g =
     let f = g .0 (start .model .vertices) 0 in
-    let c : countedVertex k (length (coordinates k z)) ≡ true = ap (countedVertex k) (sym (length-map (coordinates k z) number)) ∙ f .many in
-    (ap length (sym (f .whole)) ∙ record-length k (coordinates k z) c, vertices-wide k zs (g .1))
+    let c : countedVertex k (length (coordinates weights.Always k z)) ≡ true = ap (countedVertex k) (sym (length-map (coordinates weights.Always k z) number)) ∙ f .many weights.Always in
+    (ap length (sym (f .whole weights.Always)) ∙ record-length k (coordinates weights.Always k z) c, vertices-wide k zs (g .1))
 
 three : (ps : List Part) → length (flat partValues ps) ≡ 3 * length ps
 three [] = refl
@@ -54,7 +55,7 @@ some-parts false n c = ltb-true 0 n (and-left (ltb 0 n) _ c)
 pub loops-parted : (x : Vertices) (n : ℕ) (ls : List Loop) → GoodLoops x n ls → Parted ls
 loops-parted x n [] g = tt
 loops-parted x n (l ∷ ls) g =
-    let a = some-parts (l .hole) (length (flat partValues (l .parts))) (g .0 .many) in
+    let a = some-parts (l .hole) (length (flat partValues (l .parts))) (g .0 .many weights.Always) in
     let b = three (l .parts) in
     (omega arith, loops-parted x n ls (g .1))
 

@@ -11,6 +11,7 @@ use Rattle.forms.specs.Corner.{Corner, alike}
 use Rattle.model.specs.Model.{Vertices, Free, curve, curve2, surface, Body, Form, Open, curves, countsOf}
 use Rattle.model.specs.Statements.{Statement, vertex, element, group, smoothing, material, type, degree, body, parameters, loop, end, passed}
 use Rattle.model.specs.Parse.{Seen, counted, formOf, recordOf, bodyOf, inForce, given, outside, inBody, isSurface, isV, complete, countsAgree, inRange}
+use Rattle.tidying.specs.declared.Weights.{Weights}
 use Rattle.tidying.specs.Printed.{coordinates, rangeOf}
 use Rattle.tidying.proofs.Values.{keyOf, valuesIn}
 use Rattle.tidying.proofs.Words.{Fitting}
@@ -35,7 +36,7 @@ wideIn surface x cs = true
 
 -- what is told by all values of a line together
 abbrev pub Whole : Vertices → Statement → Type 0
-Whole x (vertex k z) = recordOf k (coordinates k z) ≡ z
+Whole x (vertex k z) = (c : Weights) → recordOf k (coordinates c k z) ≡ z
 Whole x (element k cs) = uniform cs ≡ true
 Whole x (group ws) = Unit {0}
 Whole x (smoothing n) = Unit {0}
@@ -48,10 +49,10 @@ Whole x (loop l) = Unit {0}
 Whole x end = Unit {0}
 Whole x passed = Unit {0}
 
--- the values of a statement's line, held against what has been seen
+-- the values of a statement's line, by each choice of weights, held against what has been seen
 pub record Fine (x : Vertices) (n : ℕ) (t : Statement) : Type 0 where
-  pub many : counted (keyOf t) (length (valuesIn t)) ≡ true
-  pub fits : Fitting (seenOf x n) (formOf (keyOf t) (length (valuesIn t))) 0 (valuesIn t)
+  pub many : (c : Weights) → counted (keyOf t) (length (valuesIn c t)) ≡ true
+  pub fits : (c : Weights) → Fitting (seenOf x n) (formOf (keyOf t) (length (valuesIn c t))) 0 (valuesIn c t)
   pub whole : Whole x t
 
 -- the tests at an end

@@ -19,6 +19,7 @@ use Rattle.model.specs.Statements.{Statement, vertex, element, group, smoothing
 use Rattle.model.specs.Parse.{Parsed, fine, unless, parse}
 use Rattle.model.specs.Room.{Rooms, fits}
 use Rattle.model.specs.Read.{statement, step, read, refused, finish, onParsed, readLines, readOf}
+use Rattle.tidying.specs.declared.Weights.{Weights}
 use Rattle.tidying.specs.Printed.{keywordIn, wordsAfter, printed, tidyText}
 use Rattle.tidying.specs.Tidied.{tidied}
 use Rattle.tidying.specs.Agree.{bareElements, bare, Agree}
@@ -95,24 +96,24 @@ later (t ∷ ts) s h =
     }
 
 -- ---- a printed line, read
-module _ (R : Rooms) (x : State) (t : Statement) (ready : Ready (bareState x) t) (small : Small (seenOf (x .model .vertices) (curves (x .model .elements))))
+module _ (c : Weights) (R : Rooms) (x : State) (t : Statement) (ready : Ready (bareState x) t) (small : Small (seenOf (x .model .vertices) (curves (x .model .elements))))
     (room : fits R (apply (bareStatement t) (bareState x)) ≡ true) where
-  line-back : (p : ℕ) (ws : List Word) → bytesOf ws ≡ wordsAfter t → parse (keyOf t) x p ws ≡ fine (renamed ws t)
+  line-back : (p : ℕ) (ws : List Word) → bytesOf ws ≡ wordsAfter c t → parse (keyOf t) x p ws ≡ fine (renamed ws t)
   line-back p ws e =
-      back x p ws t small (subst (λ (n : ℕ). Fine (x .model .vertices) n t) (curves-bare (x .model .elements)) (ready .fine)) (here-bare (x .form) (x .open-body) t (ready .here)) e
+      back c x p ws t small (subst (λ (n : ℕ). Fine (x .model .vertices) n t) (curves-bare (x .model .elements)) (ready .fine)) (here-bare (x .form) (x .open-body) t (ready .here)) e
 
-  came-to : (ws : List Word) → bytesOf ws ≡ wordsAfter t → bareState (apply (renamed ws t) x) ≡ apply (bareStatement t) (bareState x)
-  came-to ws e = bare-apply x (renamed ws t) ∙ ap (λ (u : Statement). apply u (bareState x)) (renamed-bare ws t e)
+  came-to : (ws : List Word) → bytesOf ws ≡ wordsAfter c t → bareState (apply (renamed ws t) x) ≡ apply (bareStatement t) (bareState x)
+  came-to ws e = bare-apply x (renamed ws t) ∙ ap (λ (u : Statement). apply u (bareState x)) (renamed-bare c ws t e)
 
-  has-room : (ws : List Word) → bytesOf ws ≡ wordsAfter t → fits R (apply (renamed ws t) x) ≡ true
+  has-room : (ws : List Word) → bytesOf ws ≡ wordsAfter c t → fits R (apply (renamed ws t) x) ≡ true
   has-room ws e = fits-down R (apply (renamed ws t) x) (bareState (apply (renamed ws t) x)) (needs-bare (apply (renamed ws t) x) .0) (ap (fits R) (came-to ws e) ∙ room)
 
-  step-back : (vs : List Word) → bytesOf vs ≡ printed t → (y : State) × (step R x vs ≡ fine y) × (bareState y ≡ apply (bareStatement t) (bareState x))
+  step-back : (vs : List Word) → bytesOf vs ≡ printed c t → (y : State) × (step R x vs ≡ fine y) × (bareState y ≡ apply (bareStatement t) (bareState x))
   unfolding statement
   step-back [] e = absurd (let z : _≡_ {A = ℕ} 0 1 = cc in omega arith)
   step-back (w ∷ ws) e =
       let a : w .bytes ≡ keywordOf (keywordIn t) = cc in
-      let b : bytesOf ws ≡ wordsAfter t = cc in
+      let b : bytesOf ws ≡ wordsAfter c t = cc in
       (apply (renamed ws t) x, rw (a, key-back t (w .place), line-back (w .place) ws b, has-room ws b) refl, came-to ws b)
 
 -- ---- all printed lines, read
@@ -121,21 +122,21 @@ pub record Reread (R : Rooms) (n : ℕ) (ls : List JoinedLine) (x u : State) : T
   pub reads : readLines R n ls x ≡ finish n (state .open-body) (state .model)
   pub is : bareState state ≡ u
 
-reread : (R : Rooms) (n : ℕ) (ls : List JoinedLine) (ts : List Statement) (x s : State) → bareState x ≡ s → Stand s ts → Say ls (map printed ts)
+reread : (c : Weights) (R : Rooms) (n : ℕ) (ls : List JoinedLine) (ts : List Statement) (x s : State) → bareState x ≡ s → Stand s ts → Say ls (map (printed c) ts)
     → fits R (runs ts s) ≡ true → Small (seenOf (runs ts s .model .vertices) (curves (runs ts s .model .elements))) → Reread R n ls x (runs ts s)
-reread R n [] [] x s q h y f m = record { state = x; reads = refl; is = q }
-reread R n [] (t ∷ ts) x s q h y f m = never y
-reread R n (l ∷ ls) [] x s q h y f m = never y
-reread R n (l ∷ ls) (t ∷ ts) x s q h y f m =
+reread c R n [] [] x s q h y f m = record { state = x; reads = refl; is = q }
+reread c R n [] (t ∷ ts) x s q h y f m = never y
+reread c R n (l ∷ ls) [] x s q h y f m = never y
+reread c R n (l ∷ ls) (t ∷ ts) x s q h y f m =
     let u = apply (bareStatement t) s in
     let L = later (t ∷ ts) s h in
     let v : s .model .vertices ≡ x .model .vertices = ap (λ (z : State). z .model .vertices) (sym q) in
-    let c : curves (s .model .elements) ≡ curves (x .model .elements) = ap (λ (z : State). curves (z .model .elements)) (sym q) ∙ curves-bare (x .model .elements) in
+    let b : curves (s .model .elements) ≡ curves (x .model .elements) = ap (λ (z : State). curves (z .model .elements)) (sym q) ∙ curves-bare (x .model .elements) in
     let m' = small-down (s .model .vertices) (runs ts u .model .vertices) (curves (s .model .elements)) (curves (runs ts u .model .elements)) (L .more) (L .curves) m in
-    let k = step-back R x t (subst (λ (z : State). Ready z t) (sym q) (h .0))
-    (subst (λ (z : Vertices). Small (seenOf z (curves (x .model .elements)))) v (subst (λ (j : ℕ). Small (seenOf (s .model .vertices) j)) c m'))
+    let k = step-back c R x t (subst (λ (z : State). Ready z t) (sym q) (h .0))
+    (subst (λ (z : Vertices). Small (seenOf z (curves (x .model .elements)))) v (subst (λ (j : ℕ). Small (seenOf (s .model .vertices) j)) b m'))
     (ap (λ (z : State). fits R (apply (bareStatement t) z)) q ∙ fits-down R u (runs ts u) (later ts u (h .1) .room) f) (wordsOf l) (y .1) in
-    let i = reread R n ls ts (k .0) u (k .2 ∙ ap (apply (bareStatement t)) q) (h .1) (y .2) f m in
+    let i = reread c R n ls ts (k .0) u (k .2 ∙ ap (apply (bareStatement t)) q) (h .1) (y .2) f m in
     record {
       state = i .state;
       reads = ap (λ (b : Option ℕ). onParsed (unless b 2 (step R x (wordsOf l))) (readLines R n ls)) (y .0)
@@ -144,9 +145,9 @@ reread R n (l ∷ ls) (t ∷ ts) x s q h y f m =
       is = i .is;
     }
 
-stand-tokens : (ts : List Statement) (s : State) → Stand s ts → all (all isToken) (map printed ts) ≡ true
-stand-tokens [] s h = refl
-stand-tokens (t ∷ ts) s h = and-both (line-tokens (s .model .vertices) (curves (s .model .elements)) t (h .0 .fine)) (stand-tokens ts (apply (bareStatement t) s) (h .1))
+stand-tokens : (c : Weights) (ts : List Statement) (s : State) → Stand s ts → all (all isToken) (map (printed c) ts) ≡ true
+stand-tokens c [] s h = refl
+stand-tokens c (t ∷ ts) s h = and-both (line-tokens c (s .model .vertices) (curves (s .model .elements)) t (h .0 .fine)) (stand-tokens c ts (apply (bareStatement t) s) (h .1))
 
 no-open : (o : Option Open) → bareOpening o ≡ none → o ≡ none
 no-open none e = refl
@@ -166,18 +167,19 @@ ended-fits R m y o q h n f =
     same-room R (bareState s) n f ∙ fits-down R (bareState s) s (needs-bare s .1) z
 
 -- ---- (a) the tidy text finds the room that the text found, and is read as the same model, apart from where names stand
-pub tidy-read : (R : Rooms) (t : List ℕ) (m : Model) → readOf R t ≡ read m → length (tidyText m) ≤ 16777216 → (k : Model) × (readOf R (tidyText m) ≡ read k) × Agree k m
+pub tidy-read : (c : Weights) (R : Rooms) (t : List ℕ) (m : Model) → readOf R t ≡ read m → length (tidyText c m) ≤ 16777216
+    → (k : Model) × (readOf R (tidyText c m) ≡ read k) × Agree k m
 unfolding readOf tidyText bare Agree
-tidy-read R t m h l =
-    let c = read-came R t m h in
-    let w = tidied-goes m (c .state) (c .good) (c .model) in
+tidy-read c R t m h l =
+    let r = read-came R t m h in
+    let w = tidied-goes m (r .state) (r .good) (r .model) in
     let ts = tidied m in
-    let T = writtenLines (map printed ts) in
+    let T = writtenLines (map (printed c) ts) in
     let u = at (m .vertices) (bareElements (m .elements)) (w .names) (w .form) in
     let e : runs ts start ≡ u = w .goes .ends in
     let s : Small (seenOf (u .model .vertices) (curves (u .model .elements))) = subst (λ (n : ℕ). Small (seenOf (m .vertices) n)) (sym (curves-bare (m .elements))) (read-small R t m h) in
-    let f : fits R u ≡ true = ended-fits R m (c .state) (c .shut) (c .model) (c .room) (w .names) (w .form) in
-    let i = reread R (length T) (linesOf T) ts start start refl (w .goes .stand) (text-back (map printed ts) (stand-tokens ts start (w .goes .stand))) (ap (fits R) e ∙ f)
+    let f : fits R u ≡ true = ended-fits R m (r .state) (r .shut) (r .model) (r .room) (w .names) (w .form) in
+    let i = reread c R (length T) (linesOf T) ts start start refl (w .goes .stand) (text-back (map (printed c) ts) (stand-tokens c ts start (w .goes .stand))) (ap (fits R) e ∙ f)
     (subst (λ (z : State). Small (seenOf (z .model .vertices) (curves (z .model .elements)))) (sym e) s) in
     let b : bareState (i .state) ≡ u = i .is ∙ e in (
       i .state .model,

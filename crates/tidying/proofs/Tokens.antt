@@ -16,6 +16,7 @@ use Rattle.tables.specs.Bodies.{Basis, bezier, bspline, cardinal, taylor}
 use Rattle.model.specs.Model.{geometric, texture, normal, parametric, Vertices, point, line, face, Free, curve, curve2, surface, Direction, along-u, along-v}
 use Rattle.model.specs.Statements.{Statement, vertex, element, group, smoothing, material, type, degree, body, parameters, loop, end, passed}
 use Rattle.model.specs.Parse.{WordForm, a-number, a-corner, a-control, a-curve, a-direction, a-type, a-rational, a-degree, a-smoothing, a-name, anything, Value, Seen, formOf}
+use Rattle.tidying.specs.declared.Weights.{Weights}
 use Rattle.tidying.specs.Printed.{keywordIn, freeKeyword, loopKeyword, basisArgument, directionArgument, printed}
 use Rattle.tidying.proofs.Values.{keyOf, valuesIn, written, words-written}
 use Rattle.tidying.proofs.Words.{isName, Fits, Fitting}
@@ -87,7 +88,7 @@ values-tokens : (n : Seen) (f : ℕ → WordForm) (i : ℕ) (xs : List Value) �
 values-tokens n f i [] q = refl
 values-tokens n f i (x ∷ xs) q = and-both (value-token n (f i) x (q .0)) (values-tokens n f (suc i) xs (q .1))
 
-pub line-tokens : (x : Vertices) (n : ℕ) (t : Statement) → Fine x n t → all isToken (printed t) ≡ true
-line-tokens x n t f =
+pub line-tokens : (c : Weights) (x : Vertices) (n : ℕ) (t : Statement) → Fine x n t → all isToken (printed c t) ≡ true
+line-tokens c x n t f =
     and-both (keyword-token t)
-    (ap (all isToken) (words-written t) ∙ values-tokens (seenOf x n) (formOf (keyOf t) (length (valuesIn t))) 0 (valuesIn t) (f .fits))
+    (ap (all isToken) (words-written c t) ∙ values-tokens (seenOf x n) (formOf (keyOf t) (length (valuesIn c t))) 0 (valuesIn c t) (f .fits c))

@@ -17,6 +17,7 @@ use Rattle.model.specs.Model.{geometric, texture, normal, parametric, point, li
 use Rattle.model.specs.Statements.{Statement, vertex, element, group, smoothing, material, type, degree, body, parameters, loop, end, passed}
 use Rattle.model.specs.Parse.{Keyword, a-vertex, an-element, a-body, parm, trim, hole, ends, cstype, deg, g, s, usemtl, over, fine, Value, number, corner, whole, direction, basis, name, nothing}
 use Rattle.model.specs.Read as reading
+use Rattle.tidying.specs.declared.Weights.{Weights}
 use Rattle.tidying.specs.Printed.{keywordIn, coordinates, basisArgument, directionArgument, rangeOf, partWords, wordsAfter}
 
 -- ---- the keyword that opens a statement
@@ -80,19 +81,19 @@ abbrev pub degreeValues : ℕ → ℕ → List Value
 degreeValues m zero = whole m ∷ []
 degreeValues m (suc n) = whole m ∷ whole (suc n) ∷ []
 
-abbrev pub valuesIn : Statement → List Value
-valuesIn (vertex k z) = map number (coordinates k z)
-valuesIn (element k cs) = map corner cs
-valuesIn (group ws) = map name ws
-valuesIn (smoothing n) = whole n ∷ []
-valuesIn (material w) = name w ∷ []
-valuesIn (type r t) = typeValues r t
-valuesIn (degree m n) = degreeValues m n
-valuesIn (body b cs) = map number (rangeOf (b .free) b) ++ map corner cs
-valuesIn (parameters d z) = direction d ∷ map number z
-valuesIn (loop l) = flat partValues (l .parts)
-valuesIn end = []
-valuesIn passed = []
+abbrev pub valuesIn : Weights → Statement → List Value
+valuesIn c (vertex k z) = map number (coordinates c k z)
+valuesIn c (element k cs) = map corner cs
+valuesIn c (group ws) = map name ws
+valuesIn c (smoothing n) = whole n ∷ []
+valuesIn c (material w) = name w ∷ []
+valuesIn c (type r t) = typeValues r t
+valuesIn c (degree m n) = degreeValues m n
+valuesIn c (body b cs) = map number (rangeOf (b .free) b) ++ map corner cs
+valuesIn c (parameters d z) = direction d ∷ map number z
+valuesIn c (loop l) = flat partValues (l .parts)
+valuesIn c end = []
+valuesIn c passed = []
 
 -- how a value is written; `nothing` is what rat says
 abbrev pub written : Value → List ℕ
@@ -124,20 +125,20 @@ parts-written : (ps : List Part) → flat partWords ps ≡ map written (flat par
 parts-written [] = refl
 parts-written (p ∷ ps) = ap (λ (r : List (List ℕ)). writtenNumber (p .from) ∷ writtenNumber (p .to) ∷ writtenWhole (p .curve) ∷ r) (parts-written ps)
 
-pub words-written : (t : Statement) → wordsAfter t ≡ map written (valuesIn t)
-words-written (vertex k z) = numbers-written (coordinates k z)
-words-written (element k cs) = corners-written cs
-words-written (group ws) = names-written ws
-words-written (smoothing n) = refl
-words-written (material w) = refl
-words-written (type true t) = refl
-words-written (type false t) = refl
-words-written (degree m zero) = refl
-words-written (degree m (suc n)) = refl
-words-written (body b cs) =
+pub words-written : (c : Weights) (t : Statement) → wordsAfter c t ≡ map written (valuesIn c t)
+words-written c (vertex k z) = numbers-written (coordinates c k z)
+words-written c (element k cs) = corners-written cs
+words-written c (group ws) = names-written ws
+words-written c (smoothing n) = refl
+words-written c (material w) = refl
+words-written c (type true t) = refl
+words-written c (type false t) = refl
+words-written c (degree m zero) = refl
+words-written c (degree m (suc n)) = refl
+words-written c (body b cs) =
     ap₂ (λ (x y : List (List ℕ)). x ++ y) (numbers-written (rangeOf (b .free) b)) (corners-written cs)
     ∙ sym (map-append written (map number (rangeOf (b .free) b)) (map corner cs))
-words-written (parameters d z) = ap (λ (r : List (List ℕ)). argumentBytes (directionArgument d) ∷ r) (numbers-written z)
-words-written (loop l) = parts-written (l .parts)
-words-written end = refl
-words-written passed = refl
+words-written c (parameters d z) = ap (λ (r : List (List ℕ)). argumentBytes (directionArgument d) ∷ r) (numbers-written z)
+words-written c (loop l) = parts-written (l .parts)
+words-written c end = refl
+words-written c passed = refl

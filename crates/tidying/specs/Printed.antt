@@ -1,9 +1,10 @@
 -- 01, "The tidy text": the words of each statement's line, and the text. "One space between words, LF after each line".
 use Prim.Native.Nat.{ℕ, zero, suc}
 use mathlib.Core.List.{List, [], _∷_, _++_, map}
-use mathlib.Core.Bool.{Bool, true, false}
-use lib.ListN.{take}
-use lib.IntN.{ℤ, natAbs}
+use mathlib.Core.Bool.{Bool, true, false, cond}
+use lib.Dec.{eqb}
+use lib.ListN.{getD, take}
+use lib.IntN.{ℤ, pos, negsuc, natAbs}
 use Rattle.lists.specs.Lists.{flat}
 use Rattle.text.specs.Written.{bytesOf, writtenLines}
 use Rattle.forms.specs.Written.{writtenWhole, writtenNumber, writtenCorner}
@@ -16,6 +17,8 @@ use Rattle.keywords.specs.declared.Statement.the-variants.{Vertex, TextureVerte
 use Rattle.tables.specs.Bodies.{Basis, bezier, bspline, cardinal, taylor}
 use Rattle.model.specs.Model.{VertexKind, geometric, texture, normal, parametric, Shape, point, line, face, Free, curve, curve2, surface, Direction, along-u, along-v, Part, Body, Model}
 use Rattle.model.specs.Statements.{Statement, vertex, element, group, smoothing, material, type, degree, body, parameters, loop, end, passed}
+use Rattle.tidying.specs.declared.Weights.{Weights}
+use Rattle.tidying.specs.declared.Weights.the-variants.{WhenNeeded, Always}
 use Rattle.tidying.specs.Tidied.{tidied}
 
 -- ---- the keyword
@@ -55,13 +58,23 @@ keywordIn passed = PassedOver
 
 -- ---- the words after it
 
+-- 1.000000: exactly 1,000,000 millionths
+abbrev pub isOne : ℤ → Bool
+isOne (pos n) = eqb n 1000000
+isOne (negsuc n) = false
+
+-- the numbers of a v, x y z w. Q-11, "By default tidy now leaves w off when it is 1.000000; the old form stays as a choice that the caller names"
+abbrev pub weighted : Weights → List ℤ → List ℤ
+weighted WhenNeeded z = cond (isOne (getD z 3 (pos 0))) (take 3 z) z
+weighted Always z = z
+
 -- "v, vt, vn (every coordinate), vp (those given)": the record of a vp begins with how many were given
-abbrev pub coordinates : VertexKind → List ℤ → List ℤ
-coordinates geometric z = z
-coordinates texture z = z
-coordinates normal z = z
-coordinates parametric [] = []
-coordinates parametric (n ∷ z) = take (natAbs n) z
+abbrev pub coordinates : Weights → VertexKind → List ℤ → List ℤ
+coordinates c geometric z = weighted c z
+coordinates c texture z = z
+coordinates c normal z = z
+coordinates c parametric [] = []
+coordinates c parametric (n ∷ z) = take (natAbs n) z
 
 -- "of two the first is rat; the last is a type"
 abbrev pub basisArgument : Basis → Argument
@@ -94,23 +107,23 @@ abbrev pub partWords : Part → List (List ℕ)
 partWords p = writtenNumber (p .from) ∷ writtenNumber (p .to) ∷ writtenWhole (p .curve) ∷ []
 
 -- a control of a curv2 has the first place alone, so that its corner is written as its number
-abbrev pub wordsAfter : Statement → List (List ℕ)
-wordsAfter (vertex k z) = map writtenNumber (coordinates k z)
-wordsAfter (element k cs) = map writtenCorner cs
-wordsAfter (group ws) = bytesOf ws
-wordsAfter (smoothing n) = writtenWhole n ∷ []
-wordsAfter (material w) = w .bytes ∷ []
-wordsAfter (type r t) = typeWords r t
-wordsAfter (degree m n) = degreeWords m n
-wordsAfter (body b cs) = map writtenNumber (rangeOf (b .free) b) ++ map writtenCorner cs
-wordsAfter (parameters d z) = argumentBytes (directionArgument d) ∷ map writtenNumber z
-wordsAfter (loop l) = flat partWords (l .parts)
-wordsAfter end = []
-wordsAfter passed = []
+abbrev pub wordsAfter : Weights → Statement → List (List ℕ)
+wordsAfter c (vertex k z) = map writtenNumber (coordinates c k z)
+wordsAfter c (element k cs) = map writtenCorner cs
+wordsAfter c (group ws) = bytesOf ws
+wordsAfter c (smoothing n) = writtenWhole n ∷ []
+wordsAfter c (material w) = w .bytes ∷ []
+wordsAfter c (type r t) = typeWords r t
+wordsAfter c (degree m n) = degreeWords m n
+wordsAfter c (body b cs) = map writtenNumber (rangeOf (b .free) b) ++ map writtenCorner cs
+wordsAfter c (parameters d z) = argumentBytes (directionArgument d) ∷ map writtenNumber z
+wordsAfter c (loop l) = flat partWords (l .parts)
+wordsAfter c end = []
+wordsAfter c passed = []
 
-abbrev pub printed : Statement → List (List ℕ)
-printed t = keywordOf (keywordIn t) ∷ wordsAfter t
+abbrev pub printed : Weights → Statement → List (List ℕ)
+printed c t = keywordOf (keywordIn t) ∷ wordsAfter c t
 
 -- ---- "One space between words, LF after each line"
-unfoldable pub tidyText : Model → List ℕ
-tidyText m = writtenLines (map printed (tidied m))
+unfoldable pub tidyText : Weights → Model → List ℕ
+tidyText c m = writtenLines (map (printed c) (tidied m))

@@ -1,8 +1,16 @@
--- The tidier's answer, as a record, and the tables and the buffer that it left.
+-- The tidier's answer by the choice of that number, as a record, and the tables and the buffer that it left.
+use mathlib.Core.Path.{ap, _∙_}
+use denote.Ref.{now}
+use Rattle.tables.specs.Tables.{tables}
+use Rattle.tidying.specs.declared.Weights.{Weights}
+use Rattle.tidy_file.specs.Tidying.{tidyInto}
 use Rattle.answers.proofs.Tidyings.{thirds}
 use borrow.Author.Needs.{needs}
 use Rattle.boundary.proofs.kuhlabires_tidy.Statement.{statement}
 use Rattle.boundary.proofs.kuhlabires_tidy.Tie as tie
+
+weights-of-requires : tie.Need-weights-of-requires
+weights-of-requires c κs = search needs
 
 tidy-requires : tie.Need-tidy-requires
 tidy-requires c κs = search needs
@@ -50,12 +58,16 @@ returns : tie.Need-returns
 returns c =
     let filled = c .before .before .before .before .before .before .before .before .before in
     let tidied = filled .before .before .before .before .before .before .before .before .before in
-    thirds (tidied .tidy .ensures) (c .tidy-of .ensures)
+    let chosen = tidied .before .before .before .before .before .before .before .before .before .before .before .before .before in
+    let a = chosen .before .before .before .before .before .before .before .args in
+    let t = tables (now (a .v)) (now (a .vt)) (now (a .vn)) (now (a .vp)) (now (a .corners)) (now (a .elements)) (now (a .bodies)) (now (a .ranges)) (now (a .parameters)) (now (a .loops)) (now (a .spans)) in
+    thirds (tidied .tidy .ensures ∙ ap (λ (w : Weights). tidyInto w (now (a .text)) t (now (a .out))) (chosen .weights-of .ensures)) (c .tidy-of .ensures)
 
 pub kuhlabires-tidy-spec : {M : Type 1} → statement M
 kuhlabires-tidy-spec =
     tie.close
     (tie.spec
+    weights-of-requires
     tidy-requires
     tidy-of-requires
     same-length

@@ -59,7 +59,7 @@ returns c =
     let told = c .before .before .before .before .before .before .before .before .before .before .before .before .before .before .before .before in
     let went = told .before .before .before .before .before .before .before .before .before .before .before .before .before .before .before .before .before in
     let a = went .before .before .before .before .before .before .before .before .before .before .before .before .before .before .before .before .before .before .args in
-    tidied-read (now (a .text)) (tables (now (a .v)) (now (a .vt)) (now (a .vn)) (now (a .vp)) (now (a .corners)) (now (a .elements)) (now (a .bodies)) (now (a .ranges)) (now (a .parameters)) (now (a .loops)) (now (a .spans))) (tables (went .read .last .1 .0) (went .read .last .1 .1 .0) (went .read .last .1 .1 .1 .0) (went .read .last .1 .1 .1 .1 .0) (went .read .last .1 .1 .1 .1 .1 .0) (went .read .last .1 .1 .1 .1 .1 .1 .0) (went .read .last .1 .1 .1 .1 .1 .1 .1 .0) (went .read .last .1 .1 .1 .1 .1 .1 .1 .1 .0) (went .read .last .1 .1 .1 .1 .1 .1 .1 .1 .1 .0) (went .read .last .1 .1 .1 .1 .1 .1 .1 .1 .1 .1 .0) (went .read .last .1 .1 .1 .1 .1 .1 .1 .1 .1 .1 .1 .0)) (now (a .out)) (went .read .result) (went .read .ensures) _ (told .used .given .1) _ _ (c .before .before .write-whole .ensures)
+    tidied-read (a .weights) (now (a .text)) (tables (now (a .v)) (now (a .vt)) (now (a .vn)) (now (a .vp)) (now (a .corners)) (now (a .elements)) (now (a .bodies)) (now (a .ranges)) (now (a .parameters)) (now (a .loops)) (now (a .spans))) (tables (went .read .last .1 .0) (went .read .last .1 .1 .0) (went .read .last .1 .1 .1 .0) (went .read .last .1 .1 .1 .1 .0) (went .read .last .1 .1 .1 .1 .1 .0) (went .read .last .1 .1 .1 .1 .1 .1 .0) (went .read .last .1 .1 .1 .1 .1 .1 .1 .0) (went .read .last .1 .1 .1 .1 .1 .1 .1 .1 .0) (went .read .last .1 .1 .1 .1 .1 .1 .1 .1 .1 .0) (went .read .last .1 .1 .1 .1 .1 .1 .1 .1 .1 .1 .0) (went .read .last .1 .1 .1 .1 .1 .1 .1 .1 .1 .1 .1 .0)) (now (a .out)) (went .read .result) (went .read .ensures) _ (told .used .given .1) _ _ (c .before .before .write-whole .ensures)
 
 same-length-13 : tie.Need-same-length-13
 same-length-13 c = c .before .before .before .before .before .before .before .before .before .before .before .before .before .before .before .before .before .before .read .kept .1 .0
@@ -99,7 +99,7 @@ returns-2 c =
     let told = c .before in
     let went = told .before .before .before .before .before .before .before .before .before .before .before .before .before .before .before .before .before in
     let a = went .before .before .before .before .before .before .before .before .before .before .before .before .before .before .before .before .before .before .args in
-    tidied-refused (now (a .text)) (tables (now (a .v)) (now (a .vt)) (now (a .vn)) (now (a .vp)) (now (a .corners)) (now (a .elements)) (now (a .bodies)) (now (a .ranges)) (now (a .parameters)) (now (a .loops)) (now (a .spans))) (tables (went .read .last .1 .0) (went .read .last .1 .1 .0) (went .read .last .1 .1 .1 .0) (went .read .last .1 .1 .1 .1 .0) (went .read .last .1 .1 .1 .1 .1 .0) (went .read .last .1 .1 .1 .1 .1 .1 .0) (went .read .last .1 .1 .1 .1 .1 .1 .1 .0) (went .read .last .1 .1 .1 .1 .1 .1 .1 .1 .0) (went .read .last .1 .1 .1 .1 .1 .1 .1 .1 .1 .0) (went .read .last .1 .1 .1 .1 .1 .1 .1 .1 .1 .1 .0) (went .read .last .1 .1 .1 .1 .1 .1 .1 .1 .1 .1 .1 .0)) (now (a .out)) (went .read .result) (went .read .ensures) _ _ (told .number .given .1)
+    tidied-refused (a .weights) (now (a .text)) (tables (now (a .v)) (now (a .vt)) (now (a .vn)) (now (a .vp)) (now (a .corners)) (now (a .elements)) (now (a .bodies)) (now (a .ranges)) (now (a .parameters)) (now (a .loops)) (now (a .spans))) (tables (went .read .last .1 .0) (went .read .last .1 .1 .0) (went .read .last .1 .1 .1 .0) (went .read .last .1 .1 .1 .1 .0) (went .read .last .1 .1 .1 .1 .1 .0) (went .read .last .1 .1 .1 .1 .1 .1 .0) (went .read .last .1 .1 .1 .1 .1 .1 .1 .0) (went .read .last .1 .1 .1 .1 .1 .1 .1 .1 .0) (went .read .last .1 .1 .1 .1 .1 .1 .1 .1 .1 .0) (went .read .last .1 .1 .1 .1 .1 .1 .1 .1 .1 .1 .0) (went .read .last .1 .1 .1 .1 .1 .1 .1 .1 .1 .1 .1 .0)) (now (a .out)) (went .read .result) (went .read .ensures) _ _ (told .number .given .1)
 
 pub tidy-spec : {M : Type 1} → statement M
 tidy-spec =

@@ -18,7 +18,7 @@ returns c =
     let a = c .before .before .before .before .before .before .before .before .before .before .before .args in
     let t = tables (now (a .v)) (now (a .vt)) (now (a .vn)) (now (a .vp)) (now (a .corners)) (now (a .elements)) (now (a .bodies)) (now (a .ranges)) (now (a .parameters)) (now (a .loops)) (now (a .spans)) in
     let w = c .before .before .before .write-tidy in
-    past-buffer (tidyFrom (now (a .text)) (a .used) t) (now (a .out)) _ (a .used) t (w .result) (w .ensures) (c .if1 .taken)
+    past-buffer (tidyFrom (a .weights) (now (a .text)) (a .used) t) (now (a .out)) _ (a .used) t (w .result) (w .ensures) (c .if1 .taken)
 
 same-length-2 : tie.Need-same-length-2
 same-length-2 c = search needs
@@ -28,7 +28,7 @@ returns-2 c =
     let a = c .before .before .before .before .before .before .before .before .before .before .before .before .args in
     let t = tables (now (a .v)) (now (a .vt)) (now (a .vn)) (now (a .vp)) (now (a .corners)) (now (a .elements)) (now (a .bodies)) (now (a .ranges)) (now (a .parameters)) (now (a .loops)) (now (a .spans)) in
     let w = c .before .before .before .before .write-tidy in
-    past-longest (tidyFrom (now (a .text)) (a .used) t) (now (a .out)) _ (a .used) t (w .result) (w .ensures) (c .if2 .taken)
+    past-longest (tidyFrom (a .weights) (now (a .text)) (a .used) t) (now (a .out)) _ (a .used) t (w .result) (w .ensures) (c .if2 .taken)
 
 same-length-3 : tie.Need-same-length-3
 same-length-3 c = search needs
@@ -38,7 +38,7 @@ returns-3 c =
     let a = c .before .before .before .before .before .before .before .before .before .before .before .before .args in
     let t = tables (now (a .v)) (now (a .vt)) (now (a .vn)) (now (a .vp)) (now (a .corners)) (now (a .elements)) (now (a .bodies)) (now (a .ranges)) (now (a .parameters)) (now (a .loops)) (now (a .spans)) in
     let w = c .before .before .before .before .write-tidy in
-    written-whole (tidyFrom (now (a .text)) (a .used) t) (now (a .out)) _ (a .used) t (w .result) (w .ensures) (c .before .if1 .left) (c .if2 .left)
+    written-whole (tidyFrom (a .weights) (now (a .text)) (a .used) t) (now (a .out)) _ (a .used) t (w .result) (w .ensures) (c .before .if1 .left) (c .if2 .left)
 
 pub write-whole-spec : {M : Type 1} → statement M
 write-whole-spec =

@@ -29,7 +29,7 @@ unfolding tidyFrom
 returns c =
     let a = c .before .before .before .before .before .before .before .before .before .before .before .before .before .before .before .before .before .before .before .args in
     emitted-is
-    (lines-append (verticesFrom (a .used) (now (a .v)) (now (a .vt)) (now (a .vn)) (now (a .vp)))
+    (lines-append (verticesFrom (a .weights) (a .used) (now (a .v)) (now (a .vt)) (now (a .vn)) (now (a .vp)))
     (elementsFrom (now (a .text)) (a .used) (now (a .elements)) (now (a .corners)) (now (a .bodies)) (now (a .ranges)) (now (a .parameters)) (now (a .parts)) (now (a .spans)) (a .used .elements) 0))
     (emitted-then (c .before .before .before .before .before .before .before .before .all-vertices .ensures) (c .before .before .elements-lines .ensures))
 

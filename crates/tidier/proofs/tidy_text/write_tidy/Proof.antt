@@ -31,7 +31,7 @@ returns c =
 returns-2 : tie.Need-returns-2
 returns-2 c =
     let a = c .before .before .before .before .before .before .before .before .before .args in
-    let w = tidyFrom (now (a .text)) (a .used) (tables (now (a .v)) (now (a .vt)) (now (a .vn)) (now (a .vp)) (now (a .corners)) (now (a .elements)) (now (a .bodies)) (now (a .ranges)) (now (a .parameters)) (now (a .parts)) (now (a .spans))) in
+    let w = tidyFrom (a .weights) (now (a .text)) (a .used) (tables (now (a .v)) (now (a .vt)) (now (a .vn)) (now (a .vp)) (now (a .corners)) (now (a .elements)) (now (a .bodies)) (now (a .ranges)) (now (a .parameters)) (now (a .parts)) (now (a .spans))) in
     let m = c .before .before .measure in
     let j : m .result ≡ min (0 + length w) 16777217 = omega (arith, m .ensures) in
     whole-roomless 0 w (now (a .out)) (length w) (m .result) refl j (omega (arith, c .before .room-in .ensures, c .if1 .left))

@@ -32,8 +32,11 @@ returns c =
     let s = c .before .before .before .before .before .before .before in
     let a = s .args in
     let g = c .before .before .before .before .given-count in
-    let e = counted-row (now (a .values)) (a .first) (a .width) (g .result) (s .pre .1 .0) (g .ensures) ∙ ap (λ (b : Bool). rowNumbers b (take (a .width) (drop (a .first) (now (a .values))))) (sym (c .before .before .before .before .before .if1 .taken)) in
+    let e = counted-row (a .weights) (now (a .values)) (a .first) (a .width) (g .result) (s .pre .1 .0) (g .ensures) ∙ ap (λ (b : Bool). rowNumbers b (a .weights) (take (a .width) (drop (a .first) (now (a .values))))) (sym (c .before .before .before .before .before .if1 .taken)) in
     emitted-is (ap (λ (z : List ℤ). writtenLine (keywordOf (a .statement) ∷ map writtenNumber z)) e) (c .before .before .number-line .ensures)
+
+weighted-count-requires : tie.Need-weighted-count-requires
+weighted-count-requires c κs = search needs
 
 number-line-requires-2 : tie.Need-number-line-requires-2
 number-line-requires-2 c κs = search needs
@@ -43,8 +46,8 @@ same-length-2 c = search needs
 
 returns-2 : tie.Need-returns-2
 returns-2 c =
-    let a = c .before .before .before .before .before .before .args in
-    let e = ap (λ (b : Bool). rowNumbers b (take (a .width) (drop (a .first) (now (a .values))))) (sym (c .before .before .before .before .if1 .left)) in
+    let a = c .before .before .before .before .before .before .before .args in
+    let e = c .before .before .before .before .weighted-count .ensures ∙ ap (λ (b : Bool). rowNumbers b (a .weights) (take (a .width) (drop (a .first) (now (a .values))))) (sym (c .before .before .before .before .before .if1 .left)) in
     emitted-is (ap (λ (z : List ℤ). writtenLine (keywordOf (a .statement) ∷ map writtenNumber z)) e) (c .before .before .number-line2 .ensures)
 
 pub row-line-spec : {M : Type 1} → statement M
@@ -56,6 +59,7 @@ row-line-spec =
     number-line-requires
     same-length
     returns
+    weighted-count-requires
     number-line-requires-2
     same-length-2
     returns-2)

@@ -12,15 +12,15 @@ use Rattle.tidier.proofs.vertices.vertex_lines.Statement.{statement}
 use Rattle.tidier.proofs.vertices.vertex_lines.Tie as tie
 
 abbrev Inv-loop : tie.InvT-loop
-Inv-loop statement counted table values width used out₀ at first₀ left₀ end₀ out first left end =
-    Left at (writtenLines (vertexRows statement counted width used values)) out₀ end (writtenLines (vertexRows statement counted width left (drop first values))) out
+Inv-loop statement counted weights table values width used out₀ at first₀ left₀ end₀ out first left end =
+    Left at (writtenLines (vertexRows statement counted weights width used values)) out₀ end (writtenLines (vertexRows statement counted weights width left (drop first values))) out
     × (first + 4 * left ≤ 4 * used)
 
 abbrev μ-loop : tie.MeasureT-loop
-μ-loop statement counted table values width used out₀ at first₀ left₀ end₀ out first left end = left
+μ-loop statement counted weights table values width used out₀ at first₀ left₀ end₀ out first left end = left
 
 loop-holds : tie.Need-loop-holds Inv-loop μ-loop
-loop-holds c = let a = c .before .args in (left-start (a .at) (writtenLines (vertexRows (a .statement) (a .counted) (a .width) (a .used) (now (a .values)))) (now (a .out)) (c .before .pre .1 .2), omega arith)
+loop-holds c = let a = c .before .args in (left-start (a .at) (writtenLines (vertexRows (a .statement) (a .counted) (a .weights) (a .width) (a .used) (now (a .values)))) (now (a .out)) (c .before .pre .1 .2), omega arith)
 
 row-line-requires : tie.Need-row-line-requires Inv-loop μ-loop
 row-line-requires c κs = (c .before .before .before .before .pre .0, (c .before .before .before .before .pre .1 .0, c .before .before .before .before .pre .1 .1, omega arith))
@@ -39,7 +39,7 @@ loop-again c =
     let a = c .before .before .before .before .before .before .before .args in
     let l = c .before .before .before .before .before .loop in
     let h : 0 < l .left = omega arith in
-    (left-turn (l .inv .0) (rows-turn (a .statement) (a .counted) (a .width) (now (a .values)) (l .first) (l .left) h) (c .before .before .row-line .ensures), omega arith)
+    (left-turn (l .inv .0) (rows-turn (a .statement) (a .counted) (a .weights) (a .width) (now (a .values)) (l .first) (l .left) h) (c .before .before .row-line .ensures), omega arith)
 
 same-length : tie.Need-same-length Inv-loop μ-loop
 same-length c = c .before .loop .inv .0 .same
@@ -48,7 +48,7 @@ returns : tie.Need-returns Inv-loop μ-loop
 returns c =
     let a = c .before .before .before .args in
     let l = c .before .loop in
-    left-ends (l .inv .0) (rows-none (a .statement) (a .counted) (a .width) (drop (l .first) (now (a .values))) (l .left) (omega arith))
+    left-ends (l .inv .0) (rows-none (a .statement) (a .counted) (a .weights) (a .width) (drop (l .first) (now (a .values))) (l .left) (omega arith))
 
 pub vertex-lines-spec : {M : Type 1} → statement M
 vertex-lines-spec =
