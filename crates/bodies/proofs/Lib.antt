@@ -1,5 +1,6 @@
 pub mod Steps
 pub mod Parms
+pub mod Walks
 pub mod Closings
 pub mod Parts
 pub mod Looping

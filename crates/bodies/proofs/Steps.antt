@@ -3,12 +3,15 @@ use Prim.Native.Nat.{ℕ, _+_, _≤_}
 use mathlib.Core.Path.{_≡_, refl, sym, ap, _∙_}
 use mathlib.Core.List.{List, [], _∷_}
 use native.Mathlib.Omega.{arith}
-use lib.ListN.{length, drop}
+use lib.ListN.{length, take, drop, length-take}
 use lib.IntN.{ℤ}
+use Rattle.text.specs.Lines.{gap, extent, ending}
 use Rattle.text.specs.Words.{wordOf}
 use Rattle.text.specs.Rest.{Rest, restAt, push, wordAt, endOf, WordMet, EndMet, BadMet, gapIs}
 use Rattle.text.specs.declared.Met.{Met}
 use Rattle.text.specs.declared.Met.the-variants as met
+use Rattle.text.proofs.LineByLine.{next-to}
+use Rattle.text.proofs.Tokens.{few}
 use Rattle.digits.specs.Said.{Said, says, wrong, ended}
 use Rattle.decimals.specs.Number.{numberOf}
 use Rattle.decimals.specs.Answers.{saidNumber}
@@ -104,31 +107,44 @@ module _ (s : List ℕ) (at : ℕ) where
   unfolding numbersAt
   numbers-over m = ap (λ (r : Rest). leading (r .words)) (m .rest)
 
--- ---- `count_numbers`
+-- ---- a line has no more words than bytes
+pub words-within : (s : List ℕ) (at : ℕ) → at + length ((restAt s at) .words) ≤ (restAt s at) .next
+unfolding restAt
+words-within s at =
+    let e : ℕ = extent gap (drop at s) in
+    let a = few gap at (take e (drop at s)) in
+    let b : length (take e (drop at s)) ≡ Prim.Native.Nat.min e (length (drop at s)) = length-take e (drop at s) in
+    let c : ℕ = ending (drop e (drop at s)) in
+    omega arith
+
+-- ---- `count_each`
 pub record Counting (s : List ℕ) (at i count : ℕ) : Type 0 where
   pub to : i ≤ length s
-  pub small : count ≤ i
   pub numbers : count + length (numbersAt s i) ≡ length (numbersAt s at)
   pub words : count + length ((restAt s i) .words) ≡ length ((restAt s at) .words)
   pub bad : (restAt s i) .bad ≡ (restAt s at) .bad
   pub next : (restAt s i) .next ≡ (restAt s at) .next
 
 pub counting-none : (s : List ℕ) (at : ℕ) → at ≤ length s → Counting s at at 0
-counting-none s at h = record { to = h; small = omega arith; numbers = omega arith; words = omega arith; bad = refl; next = refl }
+counting-none s at h = record { to = h; numbers = omega arith; words = omega arith; bad = refl; next = refl }
 
 module _ (s : List ℕ) (at i count : ℕ) (w : Counting s at i count) where
+  pub counting-small : count + length ((restAt s i) .words) ≤ length s
+  counting-small =
+      let a = words-within s at in
+      let b = next-to s i (w .to) .1 in
+      let n = w .next in
+      let y = w .words in
+      omega arith
+
   pub counting-more : {z : ℤ} {e : ℕ} → NumberMet s i z e → Counting s at e (count + 1)
   counting-more {z} {e} m =
-      let a = m .ahead in
-      let t = m .to in
-      let b = w .small in
       let n = ap length (numbers-more s i m) in
       let k = ap (λ (r : Rest). length (r .words)) (m .rest) in
       let x = w .numbers in
       let y = w .words in
       record {
         to = m .to;
-        small = omega arith;
         numbers = omega arith;
         words = omega arith;
         bad = sym (ap (λ (r : Rest). r .bad) (m .rest)) ∙ w .bad;
@@ -147,7 +163,7 @@ module _ (s : List ℕ) (at i count : ℕ) (w : Counting s at i count) where
         good = sym (w .bad) ∙ ap (λ (r : Rest). r .bad) (m .rest);
         next = sym (ap (λ (r : Rest). r .next) (m .rest)) ∙ w .next;
         to = m .to;
-        small = let a = w .small in let b = w .to in omega arith;
+        small = let a = counting-small in omega arith;
       }
 
   pub counting-stops : NoNumber s i → NotAll s at count
@@ -158,5 +174,5 @@ module _ (s : List ℕ) (at i count : ℕ) (w : Counting s at i count) where
       record {
         count = omega arith;
         fewer = λ e. let l = m .word-left (w .bad ∙ e) in omega arith;
-        small = let a = w .small in let b = w .to in omega arith;
+        small = let a = counting-small in omega arith;
       }

@@ -3,6 +3,8 @@ use decimals::number::Number;
 use decimals::number::number_at;
 use text::Met;
 use text::gap;
+use vertices::Numbers;
+use vertices::numbers_into;
 ghost use mathlib.Core.Path.{_≡_};
 ghost use Prim.Native.Nat.{_≤_};
 ghost use lib.ListN.{length};
@@ -38,8 +40,8 @@ pub fn next_number(text: &[u8], at: usize) -> Step
     }
 }
 
-// How many numbers follow, and whether the line ends after them.
-pub fn count_numbers(text: &[u8], at: usize) -> Counted
+// How many numbers follow, and whether the line ends after them, one after the other.
+fn count_each(text: &[u8], at: usize) -> Counted
     requires { ⌜ at ≤ length (now text) ⌝ }
     ensures { λ r. ⌜ countedIs (now (text .entry)) at r ⌝ }
 {
@@ -58,6 +60,33 @@ pub fn count_numbers(text: &[u8], at: usize) -> Counted
             }
             Step::Number { value: _, end } => {
                 count += 1;
+                i = end;
+            }
+        }
+    }
+}
+
+// The same. A line of numbers alone is gone through by the reader of vertices, which is the quickest; what it stores is not wanted.
+pub fn count_numbers(text: &[u8], at: usize) -> Counted
+    requires { ⌜ at ≤ length (now text) ⌝ }
+    ensures { λ r. ⌜ countedIs (now (text .entry)) at r ⌝ }
+{
+    let mut unused = [0i32; 16];
+    let mut i = at;
+    let mut count: usize = 0;
+    loop {
+        match numbers_into(text, i, 16, &mut unused, 0) {
+            Numbers::Stopped => {
+                return count_each(text, at);
+            }
+            Numbers::Ended { count: more, next } => {
+                return Counted::Ended {
+                    count: count + more,
+                    next: next,
+                };
+            }
+            Numbers::Full { end } => {
+                count += 16;
                 i = end;
             }
         }

@@ -34,6 +34,16 @@ run-none : (l : List ℕ) → isDigit (first l) ≡ false → length (run l) ≡
 run-none [] h = refl
 run-none (b ∷ bs) h = rw h refl
 
+-- ---- in_millionths
+pub zero-more : (m i : ℕ) → i < 6 → m * 10 * 10 ^ (6 - (i + 1)) ≡ m * 10 ^ (6 - i)
+zero-more m i h =
+    let n : suc (6 - (i + 1)) ≡ 6 - i = omega arith in
+    let q = pow-suc 10 (6 - (i + 1)) in
+    let x : 10 ^ suc (6 - (i + 1)) ≡ 10 ^ (6 - i) = ap (λ (j : ℕ). 10 ^ j) n in
+    let e : 10 * 10 ^ (6 - (i + 1)) ≡ 10 ^ (6 - i) = omega arith in
+    let a : m * 10 * 10 ^ (6 - (i + 1)) ≡ m * (10 * 10 ^ (6 - (i + 1))) = omega arith in
+    a ∙ ap (λ (y : ℕ). m * y) e
+
 -- ---- decimals_ahead
 module _ (s : List ℕ) (at whole end value : ℕ) (f : FewRead 6 s at whole end value) (stops : isDigit (first (drop end s)) ≡ false) where
   short : length (run (drop at s)) ≤ 6
@@ -52,43 +62,44 @@ module _ (s : List ℕ) (at whole end value : ℕ) (f : FewRead 6 s at whole end
   none : end ≡ end + length (run (drop end s))
   none = let z = run-none (drop end s) stops in omega arith
 
-  module _ (k : ℕ) (p : k ≡ 10 ^ (7 - (end - at + 1))) where
-    tenfold : 10 * k ≡ 10 ^ (7 - (end - at))
-    tenfold =
-        let x = short in
-        let y = ap length (take-all 6 (run (drop at s)) x) in
-        let z = f .end-is in
-        let n : suc (7 - (end - at + 1)) ≡ 7 - (end - at) = omega arith in
-        let q = pow-suc 10 (7 - (end - at + 1)) in
-        let m : 10 ^ suc (7 - (end - at + 1)) ≡ 10 ^ (7 - (end - at)) = ap (λ (i : ℕ). 10 ^ i) n in
-        omega arith
+  tenfold : 10 * 10 ^ (6 - (end - at)) ≡ 10 ^ (7 - (end - at))
+  tenfold =
+      let x = short in
+      let y = ap length (take-all 6 (run (drop at s)) x) in
+      let z = f .end-is in
+      let n : suc (6 - (end - at)) ≡ 7 - (end - at) = omega arith in
+      let q = pow-suc 10 (6 - (end - at)) in
+      let m : 10 ^ suc (6 - (end - at)) ≡ 10 ^ (7 - (end - at)) = ap (λ (i : ℕ). 10 ^ i) n in
+      omega arith
 
-    pub decimals-fit : whole ≤ 20000000005 → value * k < 2 ^ 60
-    decimals-fit w = let x = fraction-fits s at 0 whole end value end seven none w (10 * k) tenfold in omega arith
+  pub decimals-fit : whole ≤ 20000000005 → value * 10 ^ (6 - (end - at)) < 2 ^ 60
+  decimals-fit w = let x = fraction-fits s at 0 whole end value end seven none w (10 * 10 ^ (6 - (end - at))) tenfold in omega arith
 
-    pub decimals-ahead : (count : ℕ) → (count + (end - at) ≡ 0 → ⊥) → isE (first (drop end s)) ≡ true → DecimalsAhead s at count whole (value * k) end
+  module _ (m : ℕ) (p : m ≡ value * 10 ^ (6 - (end - at))) where
+    moved : 10 * m ≡ value * (10 * 10 ^ (6 - (end - at)))
+    moved = omega arith
+
+    pub decimals-ahead : (count : ℕ) → (count + (end - at) ≡ 0 → ⊥) → isE (first (drop end s)) ≡ true → DecimalsAhead s at count whole m end
     decimals-ahead count n h =
         let x = short in
         let t : take 6 (run (drop at s)) ≡ run (drop at s) = take-all 6 (run (drop at s)) x in
         let e : end ≡ at + length (run (drop at s)) = f .end-is ∙ ap (λ (l : List ℕ). at + length l) t in
         let v : value ≡ natOf whole (run (drop at s)) = f .value-is ∙ ap (natOf whole) t in
-        let m : 10 * (value * k) ≡ value * (10 * k) = omega arith in
         let i : 7 - (end - at) ≡ 7 - length (run (drop at s)) = omega arith in
         record {
           end-is = e;
           to = f .to;
           few = x;
           some = omega arith;
-          value-is = m ∙ ap (λ (y : ℕ). value * y) (tenfold ∙ ap (λ (y : ℕ). 10 ^ y) i) ∙ ap (λ (y : ℕ). y * 10 ^ (7 - length (run (drop at s)))) v;
+          value-is = moved ∙ ap (λ (y : ℕ). value * y) (tenfold ∙ ap (λ (y : ℕ). 10 ^ y) i) ∙ ap (λ (y : ℕ). y * 10 ^ (7 - length (run (drop at s)))) v;
           stops = h;
         }
 
     pub decimals-of : (count : ℕ) → first (drop end s) ≤ 32 → (count + (end - at) ≡ 0 → ⊥)
-        → says (10 * (value * k), end) ≡ ended (pointed count whole (wordOf (drop at s))) (endOf s at)
+        → says (10 * m, end) ≡ ended (pointed count whole (wordOf (drop at s))) (endOf s at)
     decimals-of count l n =
-        let m : 10 * (value * k) ≡ value * (10 * k) = omega arith in
-        ap (λ (t : ℕ). says (t, end)) m
-        ∙ fraction-of s at count whole end value end seven none n (word-over (drop end s) (low-no-word (first (drop end s)) l)) (10 * k) tenfold
+        ap (λ (t : ℕ). says (t, end)) moved
+        ∙ fraction-of s at count whole end value end seven none n (word-over (drop end s) (low-no-word (first (drop end s)) l)) (10 * 10 ^ (6 - (end - at))) tenfold
 
 -- ---- measure_ahead
 pub four : (s : List ℕ) (at end value : ℕ) → FewRead 4 s at 0 end value → isDigit (first (drop end s)) ≡ false → WholeRead s at end value

@@ -78,7 +78,7 @@ cap-settles minus t =
     out minus (cap t) (omega arith) ∙ sym (out minus t (omega arith)))
     (test (leb t 20000000005))
 
-grows : (x k : ℕ) → x ≤ x * 10 ^ k
+pub grows : (x k : ℕ) → x ≤ x * 10 ^ k
 grows x k = let h : x * 1 ≤ x * 10 ^ k = mul-le-mul-left x (ten-pos k) in omega arith
 
 pub settles : (minus : Bool) (a : ℕ) (f : List ℕ) → digits f ≡ true

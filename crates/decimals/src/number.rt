@@ -196,6 +196,20 @@ pub enum Exact {
     Other,
 }
 
+// The number of n decimals in millionths. Most have six; a table of powers would hold a register of the loop over a line's numbers.
+fn in_millionths(value: u64, n: usize) -> u64
+    requires { ⌜ value * 10 ^ (6 - n) < 2 ^ 60 ⌝ }
+    ensures { λ r. ⌜ r ≡ value * 10 ^ (6 - n) ⌝ }
+{
+    let mut m = value;
+    let mut i = n;
+    while i < 6 {
+        m *= 10;
+        i += 1;
+    }
+    m
+}
+
 // The decimals f from `at` on, after `count` digits whose number is `whole`, where e or E stands behind them.
 fn mantissa_ahead(text: &[u8], at: usize, count: usize, f: Run, whole: u64) -> Exact
     requires { ⌜ FewRead 6 (now text) at whole (f .end) (f .value) ⌝ }
@@ -208,7 +222,7 @@ fn mantissa_ahead(text: &[u8], at: usize, count: usize, f: Run, whole: u64) -> E
             return Exact::Other;
         }
         return Exact::Scaled {
-            millionths: f.value * scale(stop - at + 1),
+            millionths: in_millionths(f.value, stop - at),
             end: stop,
         };
     }
@@ -230,7 +244,7 @@ fn decimals_ahead(text: &[u8], at: usize, count: usize, whole: u64) -> Exact
         return Exact::Other;
     }
     Exact::Of {
-        millionths: f.value * scale(end - at + 1),
+        millionths: in_millionths(f.value, end - at),
         end: end,
     }
 }

@@ -37,7 +37,7 @@ use Rattle.lines.specs.Stepping.{Began, Left, endStep}
 use Rattle.inner_lines.specs.OpenBody.{closedWith, typeFor, degreeFor, formFor, countsHold, closable}
 use Rattle.lines.specs.Holding.{Holds, NextLine, lineSays}
 use Rattle.lines.specs.declared.Step.the-variants.{Taken, Refuses, GaveUp}
-use Rattle.lines.proofs.Steps.{words-within}
+use Rattle.bodies.proofs.Steps.{words-within}
 use Rattle.lines.proofs.Given.{given-in}
 use Rattle.lines.proofs.Opened.{left-refused, left-outside}
 use Rattle.inner_lines.proofs.Ends.{used-bodies, bodies-room, ranges-room, bodies-lent, ranges-lent, end-next, end-refused}

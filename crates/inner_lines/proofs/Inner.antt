@@ -27,7 +27,7 @@ use Rattle.bodies.specs.declared.loops.Loop.{Loop}
 use Rattle.bodies.specs.declared.loops.Loop.the-variants as loops
 use Rattle.bodies.specs.Loops.{loopWord}
 use Rattle.bodies.proofs.Says.{parm-left}
-use Rattle.lines.proofs.Steps.{words-within}
+use Rattle.bodies.proofs.Steps.{words-within}
 use Rattle.lines.proofs.Given.{given-in}
 use Rattle.inner_lines.proofs.Parameters.{parm-next}
 use Rattle.inner_lines.proofs.Loops.{used-loops, loop-next, loop-roomless}

@@ -5,10 +5,8 @@ use mathlib.Core.List.{List, [], _∷_, _++_}
 use mathlib.Core.Bool.{Bool, true, false, cond}
 use mathlib.Core.Option.{Option, none, some}
 use native.Mathlib.Omega.{arith}
-use lib.ListN.{length, take, drop, length-take}
-use Rattle.text.specs.Lines.{Mode, gap, Look, goes, ends, look, onward, extent, ending, lineOf, strideOf}
-use Rattle.text.specs.Lines as lines
-use Rattle.text.specs.Words.{Word, words, opens, wordOf}
+use lib.ListN.{length}
+use Rattle.text.specs.Words.{Word}
 use Rattle.text.specs.Rest.{Rest, restAt, push}
 use Rattle.tables.specs.Tables.{Tables}
 use Rattle.keywords.specs.Keywords.{statementOf}
@@ -21,17 +19,7 @@ use Rattle.state.specs.Bounds.{Bounded}
 use Rattle.state.proofs.Bounds.{bounded-after}
 use Rattle.state.proofs.Lines.{Line, line-of, line-small}
 use Rattle.lines.specs.Holding.{lineSays}
-use Rattle.text.proofs.Tokens.{few}
-
--- ---- a line has no more words than bytes
-pub words-within : (s : List ℕ) (at : ℕ) → at + length ((restAt s at) .words) ≤ (restAt s at) .next
-unfolding restAt
-words-within s at =
-    let e : ℕ = extent gap (drop at s) in
-    let a = few gap at (take e (drop at s)) in
-    let b : length (take e (drop at s)) ≡ Prim.Native.Nat.min e (length (drop at s)) = length-take e (drop at s) in
-    let c : ℕ = ending (drop e (drop at s)) in
-    omega arith
+use Rattle.bodies.proofs.Steps.{words-within}
 
 -- ---- the line at p begins with the word w, which is the keyword k, and goes on at `at`
 module _ (R : Rooms) (s : List ℕ) (p at : ℕ) (x : model.State) (w : Word) (k : Keyword) (opened : restAt s p ≡ push w (restAt s at))

@@ -63,10 +63,7 @@ pub fn put_i32(t: &mut [i32], at: usize, a: i32) -> bool
     ensures { λ r. ⌜ r ≡ leb (at + 1) (length (now (t .entry))) ⌝ }
     ensures { λ r. ⌜ now (t .exit) ≡ cond r (sets (now (t .entry)) at (a ∷ [])) (now (t .entry)) ⌝ }
 {
-    if t.len() < 1 {
-        return false;
-    }
-    if t.len() - 1 < at {
+    if t.len() <= at {
         return false;
     }
     t[at] = a;

@@ -10,7 +10,6 @@ use Rattle.decimals.proofs.number.decimals_ahead.Statement.{statement}
 use Rattle.decimals.proofs.number.decimals_ahead.Tie as tie
 use Rattle.digits.proofs.byte_in.Reads as byte-in-reads
 use Rattle.digits.proofs.few.Reads as few-reads
-use Rattle.decimals.proofs.number.scale.Reads as scale-reads
 
 few-requires : tie.Need-few-requires
 few-requires c κs = search needs
@@ -42,31 +41,24 @@ add-if2 c = search needs
 returns-2 : tie.Need-returns-2
 returns-2 c = search needs
 
-sub-scale : tie.Need-sub-scale
-sub-scale c = search needs
+sub-in-millionths : tie.Need-sub-in-millionths
+sub-in-millionths c = search needs
 
-add-scale : tie.Need-add-scale
-add-scale c = search needs
-
-scale-requires : tie.Need-scale-requires
-scale-requires c κs = search needs
-
-mul-t12 : tie.Need-mul-t12
-mul-t12 c =
-    let a = c .before .before .before .before .before .before .before in
-    let w = c .before .before .before .before .before in
-    let b = c .before .before .before .before in
-    let q = decimals-fit (now (a .args .text)) (a .args .at) (a .args .whole) (w .few .result .end) (w .few .result .value) (w .few .ensures) (low-stops (drop (w .few .result .end) (now (a .args .text))) (b .byte-in .result) (b .byte-in .ensures) (c .before .before .before .if1 .left)) (c .before .scale .result) (c .before .scale .ensures) (a .pre .2) in
-    omega arith
+in-millionths-requires : tie.Need-in-millionths-requires
+in-millionths-requires c κs =
+    let a = c .before .before .before .before .before in
+    let w = c .before .before .before in
+    let b = c .before .before in
+    decimals-fit (now (a .args .text)) (a .args .at) (a .args .whole) (w .few .result .end) (w .few .result .value) (w .few .ensures) (low-stops (drop (w .few .result .end) (now (a .args .text))) (b .byte-in .result) (b .byte-in .ensures) (c .before .if1 .left)) (a .pre .2)
 
 returns-3 : tie.Need-returns-3
 returns-3 c =
-    let a = c .before .before .before .before .before .before .before in
-    let w = c .before .before .before .before .before in
-    let b = c .before .before .before .before in
-    let l = c .before .before .before .if1 .left in
+    let a = c .before .before .before .before .before .before in
+    let w = c .before .before .before .before in
+    let b = c .before .before .before in
+    let l = c .before .before .if1 .left in
     let e = b .byte-in .ensures in (
-      decimals-of (now (a .args .text)) (a .args .at) (a .args .whole) (w .few .result .end) (w .few .result .value) (w .few .ensures) (low-stops (drop (w .few .result .end) (now (a .args .text))) (b .byte-in .result) (b .byte-in .ensures) (c .before .before .before .if1 .left)) (c .before .scale .result) (c .before .scale .ensures) (a .args .count) (omega arith) (c .before .before .if2 .left),
+      decimals-of (now (a .args .text)) (a .args .at) (a .args .whole) (w .few .result .end) (w .few .result .value) (w .few .ensures) (low-stops (drop (w .few .result .end) (now (a .args .text))) (b .byte-in .result) (b .byte-in .ensures) (c .before .before .if1 .left)) (c .in-millionths .result) (c .in-millionths .ensures) (a .args .count) (omega arith) (c .before .if2 .left),
       few-near 6 (now (a .args .text)) (a .args .at) (a .args .whole) (w .few .result .end) (w .few .result .value) (w .few .ensures),
     )
 
@@ -81,8 +73,6 @@ decimals-ahead-spec =
     sub-if2
     add-if2
     returns-2
-    sub-scale
-    add-scale
-    scale-requires
-    mul-t12
+    sub-in-millionths
+    in-millionths-requires
     returns-3)

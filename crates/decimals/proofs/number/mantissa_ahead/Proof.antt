@@ -27,33 +27,26 @@ add-if2 c = search needs
 returns : tie.Need-returns
 returns c = search needs
 
-sub-scale : tie.Need-sub-scale
-sub-scale c = search needs
+sub-in-millionths : tie.Need-sub-in-millionths
+sub-in-millionths c = search needs
 
-add-scale : tie.Need-add-scale
-add-scale c = search needs
-
-scale-requires : tie.Need-scale-requires
-scale-requires c κs = search needs
-
-mul-t13 : tie.Need-mul-t13
-mul-t13 c =
-    let e = c .before .before .before .before in
+in-millionths-requires : tie.Need-in-millionths-requires
+in-millionths-requires c κs =
+    let e = c .before .before in
     let b = e .before in
     let a = b .before .before in
     let stop = first (drop (a .args .f .end) (now (a .args .text))) in
-    let h : isE stop ≡ true = sym (ap isE (b .byte-in .ensures)) ∙ sym (e .is-e .ensures) ∙ c .before .before .before .if1 .taken in
-    let q = decimals-fit (now (a .args .text)) (a .args .at) (a .args .whole) (a .args .f .end) (a .args .f .value) (a .pre .0) (e-no-digit stop h) (c .before .scale .result) (c .before .scale .ensures) (a .pre .1 .2) in
-    omega arith
+    let h : isE stop ≡ true = sym (ap isE (b .byte-in .ensures)) ∙ sym (e .is-e .ensures) ∙ c .before .if1 .taken in
+    decimals-fit (now (a .args .text)) (a .args .at) (a .args .whole) (a .args .f .end) (a .args .f .value) (a .pre .0) (e-no-digit stop h) (a .pre .1 .2)
 
 returns-2 : tie.Need-returns-2
 returns-2 c =
-    let e = c .before .before .before .before in
+    let e = c .before .before .before in
     let b = e .before in
     let a = b .before .before in
     let stop = first (drop (a .args .f .end) (now (a .args .text))) in
-    let h : isE stop ≡ true = sym (ap isE (b .byte-in .ensures)) ∙ sym (e .is-e .ensures) ∙ c .before .before .before .if1 .taken in
-    decimals-ahead (now (a .args .text)) (a .args .at) (a .args .whole) (a .args .f .end) (a .args .f .value) (a .pre .0) (e-no-digit stop h) (c .before .scale .result) (c .before .scale .ensures) (a .args .count) (c .before .before .if2 .left) h
+    let h : isE stop ≡ true = sym (ap isE (b .byte-in .ensures)) ∙ sym (e .is-e .ensures) ∙ c .before .before .if1 .taken in
+    decimals-ahead (now (a .args .text)) (a .args .at) (a .args .whole) (a .args .f .end) (a .args .f .value) (a .pre .0) (e-no-digit stop h) (c .in-millionths .result) (c .in-millionths .ensures) (a .args .count) (c .before .if2 .left) h
 
 returns-3 : tie.Need-returns-3
 returns-3 c = search needs
@@ -67,9 +60,7 @@ mantissa-ahead-spec =
     sub-if2
     add-if2
     returns
-    sub-scale
-    add-scale
-    scale-requires
-    mul-t13
+    sub-in-millionths
+    in-millionths-requires
     returns-2
     returns-3)
