@@ -5,12 +5,14 @@
 
 Checked: paths; definitions, theorems and functions cited beside a file; must-fail edits; cases; crates in the
 tables of crates; entry points, which have no `requires`; functions listed twice; numbers of decisions; counted
-lines. docs/LANDINGS.md speaks of what was, and is left out.
+lines; docs/KEYWORDS.md, which is printed from the code. docs/LANDINGS.md speaks of what was, and is left out.
 """
 
 import re
 import sys
 from pathlib import Path
+
+import keywords
 
 ROOT = Path(__file__).resolve().parent.parent
 PATH = r"[\w.·-]+(?:/[\w.·*-]+)*\.(?:antt|rt|edit|py|sh|rs|md|txt|obj|tidy|c|h|patch)\b"
@@ -277,6 +279,8 @@ def main():
     faults = []
     check_crate_tables(texts, faults.append)
     check_twice(texts["docs/PROMISES.md"].split("## Functions")[1].split("## Theorems")[0], faults.append)
+    if texts["docs/KEYWORDS.md"] != keywords.page():
+        faults.append("docs/KEYWORDS.md is not what .ci/keywords.py prints")
     for paper, text in texts.items():
         if not paper.endswith("LANDINGS.md"):
             faults += [f"{paper}:{i}: {fault}" for i, line in enumerate(text.splitlines(), 1) for fault in faults_of(line)]

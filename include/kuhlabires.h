@@ -263,6 +263,15 @@ kuhlabires_part kuhlabires_group_of(const uint8_t *text, size_t text_length, kuh
 kuhlabires_part kuhlabires_material_of(const uint8_t *text, size_t text_length, kuhlabires_used used, const uint32_t *elements,
                                        size_t elements_length, uint32_t element);
 
+/*
+ * The spelling of row `row`, from 0, of the table of keywords, in the appendix's order, written to the front of out; how many bytes that are. 0 where
+ * there is no such row, or no room; nothing is written then. Ten bytes hold every spelling. docs/KEYWORDS.md lists the rows.
+ */
+size_t kuhlabires_keyword(size_t row, uint8_t *out, size_t out_length);
+
+/* The same of the fixed words after a keyword. */
+size_t kuhlabires_argument(size_t row, uint8_t *out, size_t out_length);
+
 /* ---- The same with the tables in one struct, for shorter calls ---- */
 
 typedef struct kuhlabires_tables {

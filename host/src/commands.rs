@@ -2,8 +2,8 @@
 use crate::show;
 use crate::{tell, Failure};
 use kuhlabires::{
-    cubic_at, group_of, material_of, point_on_surface, read, run_on_curve, tidy_text, Body, Decimal, Element, Kind,
-    Outline, Refusal, Tables, Weights, CUBIC_STEPS, MOST_BYTES, MOST_POLYLINE_POINTS, MOST_STEPS,
+    cubic_at, group_of, keywords, material_of, point_on_surface, read, run_on_curve, tidy_text, Body, Decimal, Element,
+    Kind, Outline, Refusal, Tables, Weights, CUBIC_STEPS, MOST_BYTES, MOST_POLYLINE_POINTS, MOST_STEPS,
 };
 use std::ffi::OsStr;
 use std::fs::File;
@@ -96,12 +96,13 @@ pub fn check(input: Input, out: &mut dyn Write) -> Result<(), Failure> {
     let tables = tables_of(&input)?;
     let used = tables.used;
     writeln!(out, "{}: read, {}", input.name, input.bytes())?;
-    let vertices = [("v", used.v), ("vt", used.vt), ("vn", used.vn), ("vp", used.vp)];
+    // The first four keywords are those of vertices.
+    let vertices = keywords().iter().map(String::as_str).zip([used.v, used.vt, used.vn, used.vp]);
     let elements = Kind::ALL.map(|kind| {
         let many = tables.elements().filter(|(_, element)| element.kind == Some(kind)).count();
         (kind.keyword(), many as u32)
     });
-    for (keyword, many) in vertices.into_iter().chain(elements) {
+    for (keyword, many) in vertices.chain(elements) {
         if many > 0 {
             writeln!(out, "{keyword:>8} {}", show::thousands(many as usize))?;
         }

@@ -22,10 +22,12 @@ mod raw;
 mod records;
 mod refusal;
 mod tables;
+mod words;
 
 pub use records::*;
 pub use refusal::{position, Position, Refusal};
 pub use tables::Tables;
+pub use words::{arguments, keywords};
 
 /// The longest text that is read, and the longest tidy text, in bytes.
 pub const MOST_BYTES: usize = 16_777_216;

@@ -85,6 +85,10 @@ boundary! {
 extern "C" {
     pub fn kuhlabires_rooms(text: *const u8, text_length: usize) -> Rooms;
 
+    pub fn kuhlabires_keyword(row: usize, out: *mut u8, out_length: usize) -> usize;
+
+    pub fn kuhlabires_argument(row: usize, out: *mut u8, out_length: usize) -> usize;
+
     pub fn kuhlabires_corner_of(
         used: Used,
         elements: *const u32,
@@ -144,6 +148,16 @@ macro_rules! with_tables {
 pub fn rooms(text: &[u8]) -> Rooms {
     // SAFETY: as in `with_tables`.
     unsafe { kuhlabires_rooms(text.as_ptr(), text.len()) }
+}
+
+pub fn keyword(row: usize, out: &mut [u8]) -> usize {
+    // SAFETY: as in `with_tables`.
+    unsafe { kuhlabires_keyword(row, out.as_mut_ptr(), out.len()) }
+}
+
+pub fn argument(row: usize, out: &mut [u8]) -> usize {
+    // SAFETY: as in `with_tables`.
+    unsafe { kuhlabires_argument(row, out.as_mut_ptr(), out.len()) }
 }
 
 pub fn read(text: &[u8], tables: &mut Tables) -> Reading {

@@ -1,5 +1,10 @@
 //! The records of the tables, typed. `docs/RECORDS.md` says what each number is.
+use crate::words::{arguments, keywords};
 use std::fmt;
+
+// The rows that the kinds of element and the types of body begin with, in the tables of spellings.
+const FIRST_KIND: usize = 8;
+const FIRST_TYPE: usize = 2;
 
 /// How many records of each table are used, but for the corners, which count numbers. Ranges share the bodies' count, spans the loops'.
 #[repr(C)]
@@ -66,7 +71,7 @@ impl Kind {
     }
 
     pub fn keyword(self) -> &'static str {
-        ["p", "l", "f", "curv", "curv2", "surf"][self as usize]
+        &keywords()[FIRST_KIND + self as usize]
     }
 
     /// Whether points in runs can be asked of it.
@@ -97,7 +102,7 @@ impl Basis {
     }
 
     pub fn word(self) -> &'static str {
-        ["bezier", "bspline", "cardinal", "taylor"][self as usize]
+        &arguments()[FIRST_TYPE + self as usize]
     }
 }
 

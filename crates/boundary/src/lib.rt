@@ -1,5 +1,10 @@
 // The functions that C and Rust link: each hands the lent slices on and gives the answer as a record of numbers.
 ghost use mathlib.Core.Path.{_≡_};
+ghost use lib.ListN.{length};
+ghost use lib.Seq.{sets};
+ghost use Rattle.keywords.specs.Rows.{spellingAt, fitting};
+ghost use Rattle.keywords.specs.Keywords.{keywords};
+ghost use Rattle.keywords.specs.Arguments.{arguments};
 ghost use Rattle.tables.specs.Tables.{tables};
 ghost use Rattle.tables.specs.Asking.{cornerOf, groupOf, materialOf};
 ghost use Rattle.sampler.specs.Answers.{pointOnCurve, pointOnSurface, runInto};
@@ -341,4 +346,20 @@ pub extern "C" fn kuhlabires_polyline(
         points,
         at,
     ))
+}
+
+// The spelling of row `row`, from 0, of the keywords, written to the front of `out`; its length, or 0 for no such row or no room.
+#[no_mangle]
+pub extern "C" fn kuhlabires_keyword(row: usize, out: &mut [u8]) -> usize
+    ensures { λ r. ⌜ (r ≡ length (fitting (length (now (out .entry))) (spellingAt keywords row))) × (now (out .exit) ≡ sets (now (out .entry)) 0 (fitting (length (now (out .entry))) (spellingAt keywords row))) ⌝ }
+{
+    keywords::keyword_spelling(row, out)
+}
+
+// The same of the fixed words after a keyword.
+#[no_mangle]
+pub extern "C" fn kuhlabires_argument(row: usize, out: &mut [u8]) -> usize
+    ensures { λ r. ⌜ (r ≡ length (fitting (length (now (out .entry))) (spellingAt arguments row))) × (now (out .exit) ≡ sets (now (out .entry)) 0 (fitting (length (now (out .entry))) (spellingAt arguments row))) ⌝ }
+{
+    keywords::argument_spelling(row, out)
 }

@@ -1,4 +1,4 @@
--- The ways out of `row_at`, `degree_at`, `off_at`, `smoothing_at` and `name_at`: the form of the word first, then its value.
+-- The ways out of `row_at`, `degree_at`, `smoothing_at` and `name_at`: the form of the word first, then its value.
 use Prim.Native.Nat.{ℕ, zero, suc, _+_, _-_, _≤_, _<_}
 use mathlib.Core.Path.{_≡_, refl, sym, ap, ap₂, _∙_}
 use mathlib.Core.List.{List, [], _∷_}
@@ -15,9 +15,11 @@ use Rattle.lists.proofs.Laws.{same-eq}
 use Rattle.text.specs.Bytes.{isWord}
 use Rattle.text.specs.Words.{wordOf}
 use Rattle.text.specs.Rest.{endOf}
+use Rattle.keywords.specs.declared.Argument.the-variants.{Off}
+use Rattle.keywords.specs.Arguments.{argumentBytes}
 use Rattle.digits.specs.Said.{Said, says, wrong, must, ended}
 use Rattle.digits.specs.Digits.{natOf, whole}
-use Rattle.digits.specs.Degree.{degreeOf, smoothingOf, nameOf, off}
+use Rattle.digits.specs.Degree.{degreeOf, smoothingOf, nameOf}
 use Rattle.digits.specs.Straight.{first, over, run, past, cap, front, WholeRead, rowOf}
 use Rattle.digits.proofs.Fronts.{word-front, word-all, digit-word, past-at, byte-in}
 use Rattle.digits.proofs.Lengths.{whole-yes, whole-not, whole-bad, ten-digits}
@@ -102,101 +104,22 @@ module _ (w : List ℕ) (e : ℕ) where
     degree-of z l =
         said (degreeOf w) v e end (degree ∙ rw (le-leb 1 v (omega arith), le-leb v 20 l) refl) (ended-says (rowOf 3 w) v e end h .1)
 
--- ---- off_at
-same-word : (l : List ℕ) (c : ℕ) (cs : List ℕ) → isWord c ≡ true → eqb 10 c ≡ false → same (wordOf l) (c ∷ cs) ≡ (eqb (first l) c && same (wordOf (drop 1 l)) cs)
-same-word [] c cs h n = rw n refl
-same-word (b ∷ bs) c cs h n =
-    ⊎-elim
-    (λ (t : isWord b ≡ true). rw t refl)
-    (λ (t : isWord b ≡ false). rw (t, ne-eqb b c (λ e. never (sym t ∙ ap isWord e ∙ h))) refl)
-    (test (isWord b))
-
-same-none : (l : List ℕ) → same l [] ≡ over l
-same-none [] = refl
-same-none (b ∷ bs) = refl
-
-module _ (s : List ℕ) (at : ℕ) where
-  off-is : same (wordOf (drop at s)) off
-      ≡ (eqb (first (drop at s)) 111 && (eqb (first (drop (at + 1) s)) 102 && (eqb (first (drop (at + 2) s)) 102 && over (wordOf (drop (at + 3) s)))))
-  off-is =
-      let l : List ℕ = drop at s in
-      let a : drop (at + 1) s ≡ drop 1 l = sym (drop-drop 1 at s) in
-      let b : drop (at + 2) s ≡ drop 1 (drop 1 l) = sym (drop-drop 1 1 l ∙ drop-drop 2 at s) in
-      let c : drop (at + 3) s ≡ drop 1 (drop 1 (drop 1 l)) = sym (ap (drop 1) (drop-drop 1 1 l) ∙ drop-drop 1 2 l ∙ drop-drop 3 at s) in
-      rw (a, b, c)
-      (same-word l 111 (102 ∷ 102 ∷ []) refl refl
-      ∙ ap (λ (x : Bool). eqb (first l) 111 && x)
-      (same-word (drop 1 l) 102 (102 ∷ []) refl refl
-      ∙ ap (λ (x : Bool). eqb (first (drop 1 l)) 102 && x)
-      (same-word (drop 1 (drop 1 l)) 102 [] refl refl
-      ∙ ap (λ (x : Bool). eqb (first (drop 1 (drop 1 l))) 102 && x) (same-none (wordOf (drop 1 (drop 1 (drop 1 l))))))))
-
-  module _ (b : ℕ) (e : b ≡ first (drop at s)) where
-    pub off-first : (b ≡ 111 → ⊥) → false ≡ same (wordOf (drop at s)) off
-    off-first n = sym (off-is ∙ rw (ne-eqb (first (drop at s)) 111 (λ h. n (e ∙ h))) refl)
-
-    module _ (h : b ≡ 111) where
-      pub off-in : at < length s
-      off-in = byte-in s at (ap (λ (n : ℕ). eqb n 10) (sym e ∙ h))
-
-      o : eqb (first (drop at s)) 111 ≡ true
-      o = eq-eqb (first (drop at s)) 111 (sym e ∙ h)
-
-      module _ (c : ℕ) (f : c ≡ first (drop (at + 1) s)) where
-        pub off-second : (c ≡ 102 → ⊥) → false ≡ same (wordOf (drop at s)) off
-        off-second n = sym (off-is ∙ rw (o, ne-eqb (first (drop (at + 1) s)) 102 (λ q. n (f ∙ q))) refl)
-
-        module _ (k : c ≡ 102) where
-          pub off-in-2 : at + 1 < length s
-          off-in-2 = byte-in s (at + 1) (ap (λ (n : ℕ). eqb n 10) (sym f ∙ k))
-
-          o2 : eqb (first (drop (at + 1) s)) 102 ≡ true
-          o2 = eq-eqb (first (drop (at + 1) s)) 102 (sym f ∙ k)
-
-          module _ (d : ℕ) (g : d ≡ first (drop (at + 2) s)) where
-            pub off-third : (d ≡ 102 → ⊥) → false ≡ same (wordOf (drop at s)) off
-            off-third n = sym (off-is ∙ rw (o, o2, ne-eqb (first (drop (at + 2) s)) 102 (λ q. n (g ∙ q))) refl)
-
-            module _ (j : d ≡ 102) where
-              pub off-in-3 : at + 2 < length s
-              off-in-3 = byte-in s (at + 2) (ap (λ (n : ℕ). eqb n 10) (sym g ∙ j))
-
-              pub off-last : (r : Bool) → r ≡ over (wordOf (drop (at + 3) s)) → r ≡ same (wordOf (drop at s)) off
-              off-last r q = q ∙ sym (off-is ∙ rw (o, o2, eq-eqb (first (drop (at + 2) s)) 102 (sym g ∙ j)) refl)
-
 -- ---- smoothing_at
-pub smoothing-off : (s : List ℕ) (at : ℕ) → true ≡ same (wordOf (drop at s)) off → says (0, at + 3) ≡ ended (smoothingOf (wordOf (drop at s))) (endOf s at)
-smoothing-off s at h =
-    said (smoothingOf (wordOf (drop at s))) 0 (endOf s at) (at + 3) zero-said
-    (ap (λ (w : List ℕ). at + length w) (sym (same-eq (wordOf (drop at s)) off (sym h))))
+pub smoothing-off : (w : List ℕ) (e end : ℕ) → same w (argumentBytes Off) ≡ true → end ≡ e → says (0, end) ≡ ended (smoothingOf w) e
+smoothing-off w e end h l = said (smoothingOf w) 0 e end zero-said l
   where
-    zero-said : smoothingOf (wordOf (drop at s)) ≡ says 0
-    zero-said = unfold smoothingOf in rw (sym h) refl
+    zero-said : smoothingOf w ≡ says 0
+    zero-said = unfold smoothingOf in rw h refl
 
-pub off-within : (s : List ℕ) (at : ℕ) → at ≤ length s → true ≡ same (wordOf (drop at s)) off → at + 3 ≤ length s
-off-within s at k h =
-    let e = ap length (same-eq (wordOf (drop at s)) off (sym h)) in
-    let m = word-in (drop at s) in
-    let z = lib.ListN.length-drop at s in
-    omega arith
-  where
-    word-in : (l : List ℕ) → length (wordOf l) ≤ length l
-    word-in [] = omega arith
-    word-in (b ∷ bs) =
-        ⊎-elim
-        (λ (t : isWord b ≡ true). rw t (let i = word-in bs in omega arith))
-        (λ (t : isWord b ≡ false). rw t (omega arith))
-        (test (isWord b))
-
-module _ (w : List ℕ) (e : ℕ) (n : false ≡ same w off) where
+module _ (w : List ℕ) (e : ℕ) (n : same w (argumentBytes Off) ≡ false) where
   pub smoothing-bad : wrong 6 ≡ ended (rowOf 5 w) e → wrong 6 ≡ ended (smoothingOf w) e
   unfolding smoothingOf
-  smoothing-bad h = rw (sym n, row-false 5 w (ended-wrong (rowOf 5 w) 6 e h)) refl
+  smoothing-bad h = rw (n, row-false 5 w (ended-wrong (rowOf 5 w) 6 e h)) refl
 
   module _ (v end : ℕ) (h : says (v, end) ≡ ended (rowOf 5 w) e) where
     smoothing : smoothingOf w ≡ must (leb v 65535) 7 (says v)
     unfolding smoothingOf
-    smoothing = let q = row-true 5 v w (ended-says (rowOf 5 w) v e end h .0) in rw (sym n, q .0, q .1) refl
+    smoothing = let q = row-true 5 v w (ended-says (rowOf 5 w) v e end h .0) in rw (n, q .0, q .1) refl
 
     pub smoothing-high : 65535 < v → wrong 7 ≡ ended (smoothingOf w) e
     smoothing-high l = unsaid (smoothingOf w) 7 e (smoothing ∙ rw (lt-leb v 65535 l) refl)

@@ -1,14 +1,13 @@
-use crate::byte_at;
 use crate::whole_run;
 use crate::word_ends;
 ghost use mathlib.Core.Path.{_≡_};
 ghost use Prim.Native.Nat.{ℕ, _+_, _≤_, _<_};
 ghost use lib.ListN.{length, drop};
-ghost use Rattle.lists.specs.Lists.{same};
+ghost use Rattle.keywords.specs.Arguments.{argumentTable};
 ghost use Rattle.text.specs.Words.{wordOf};
 ghost use Rattle.text.specs.Rest.{endOf};
 ghost use Rattle.digits.specs.Said.{ended};
-ghost use Rattle.digits.specs.Degree.{degreeOf, smoothingOf, off};
+ghost use Rattle.digits.specs.Degree.{degreeOf, smoothingOf};
 ghost use Rattle.digits.specs.Answers.{saidWhole, saidRow};
 ghost use Rattle.digits.specs.Straight.{rowOf};
 
@@ -67,33 +66,15 @@ pub fn degree_at(text: &[u8], at: usize) -> Whole
     }
 }
 
-// Whether the word at `at` is off.
-fn off_at(text: &[u8], at: usize) -> bool
-    requires { ⌜ at ≤ length (now text) ⌝ }
-    ensures { λ r. ⌜ r ≡ same (wordOf (drop at (now (text .entry)))) off ⌝ }
-{
-    if byte_at(text, at) != 111 {
-        return false;
-    }
-    if byte_at(text, at + 1) != 102 {
-        return false;
-    }
-    if byte_at(text, at + 2) != 102 {
-        return false;
-    }
-    word_ends(text, at + 3)
-}
-
 // The smoothing number that the word at `at` is.
-pub fn smoothing_at(text: &[u8], at: usize) -> Whole
+pub fn smoothing_at(text: &[u8], at: usize, argument_table: &[u8; 108]) -> Whole
     requires { ⌜ at ≤ length (now text) ⌝ }
+    requires { ⌜ now «argument_table» ≡ argumentTable ⌝ }
     ensures { λ r. ⌜ saidWhole r ≡ ended (smoothingOf (wordOf (drop at (now (text .entry))))) (endOf (now (text .entry)) at) ⌝ }
 {
-    if off_at(text, at) {
-        return Whole::Value {
-            value: 0,
-            end: at + 3,
-        };
+    let off = keywords::off_end(text, at, argument_table);
+    if at < off {
+        return Whole::Value { value: 0, end: off };
     }
     match row_at(text, at, 5) {
         Row::Malformed => Whole::Malformed,

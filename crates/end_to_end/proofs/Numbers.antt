@@ -14,13 +14,13 @@ use Rattle.text.specs.Words.{Word, wordsOf, badOf}
 use Rattle.text.specs.Lines.{Line as JoinedLine, linesOf}
 use Rattle.digits.specs.Said.{Said, says, wrong}
 use Rattle.digits.specs.Said as said
-use Rattle.digits.specs.Degree.{off, degreeOf, smoothingOf, nameOf}
+use Rattle.digits.specs.Degree.{degreeOf, smoothingOf, nameOf}
 use Rattle.digits.specs.Digits.{natOf, whole, negative}
 use Rattle.decimals.specs.Number.{unsigned, mantissa, exponent, isExponent, decimal, signed, valueOf, numberOf}
 use Rattle.forms.specs.Reference.{isReference, refer, referenceOf}
 use Rattle.forms.specs.Corner.{Corner, Counts, Parts, split, formed, patterned, cornerOf}
 use Rattle.keywords.specs.Keywords.{statementOf}
-use Rattle.keywords.specs.Arguments.{argumentOf}
+use Rattle.keywords.specs.Arguments.{argumentOf, argumentBytes}
 use Rattle.keywords.specs.declared.Statement.{Statement}
 use Rattle.keywords.specs.declared.Statement.the-variants as keyword
 use Rattle.keywords.specs.declared.Argument.{Argument}
@@ -71,7 +71,7 @@ degree-well w = two-tests (whole 3 w) (leb 1 (natOf 0 w) && leb (natOf 0 w) 20) 
 
 smoothing-well : (w : List ℕ) → saidWell (smoothingOf w) ≡ true
 unfolding smoothingOf
-smoothing-well w = go (same w off) (said.must (whole 5 w) 6 (said.must (leb (natOf 0 w) 65535) 7 (says (natOf 0 w)))) (two-tests (whole 5 w) (leb (natOf 0 w) 65535) 7 (natOf 0 w) refl)
+smoothing-well w = go (same w (argumentBytes argument.Off)) (said.must (whole 5 w) 6 (said.must (leb (natOf 0 w) 65535) 7 (says (natOf 0 w)))) (two-tests (whole 5 w) (leb (natOf 0 w) 65535) 7 (natOf 0 w) refl)
   where
     go : (b : Bool) (x : Said ℕ) → saidWell x ≡ true → saidWell (cond b (says 0) x) ≡ true
     go true x h = refl

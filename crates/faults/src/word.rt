@@ -84,11 +84,12 @@ fn degree_fault(text: &[u8], at: usize) -> Heard
     }
 }
 
-fn smoothing_fault(text: &[u8], at: usize) -> Heard
+fn smoothing_fault(text: &[u8], at: usize, argument_table: &[u8; 108]) -> Heard
     requires { ⌜ at ≤ length (now text) ⌝ }
+    requires { ⌜ now «argument_table» ≡ argumentTable ⌝ }
     ensures { λ r. ⌜ r ≡ heard (smoothingOf (wordOf (drop at (now (text .entry))))) ⌝ }
 {
-    match digits::whole::smoothing_at(text, at) {
+    match digits::whole::smoothing_at(text, at, argument_table) {
         Whole::Value { value: _, end: _ } => Heard::Well,
         Whole::Malformed => Heard::Wrong(6),
         Whole::OutOfRange => Heard::Wrong(7),
@@ -270,7 +271,7 @@ pub fn word_fault(
             rational_fault(argument)
         }
         WordForm::Degree => degree_fault(text, at),
-        WordForm::Smoothing => smoothing_fault(text, at),
+        WordForm::Smoothing => smoothing_fault(text, at, argument_table),
         WordForm::Name => name_fault(text, at),
         WordForm::Anything => Heard::Well,
         WordForm::Alike {

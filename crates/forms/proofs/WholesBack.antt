@@ -12,7 +12,9 @@ use Rattle.lists.specs.Lists.{same}
 use Rattle.lists.proofs.Tests.{and-left, and-right, and-both, test, never}
 use Rattle.digits.specs.Said.{Said, says, wrong, must}
 use Rattle.digits.specs.Digits.{isDigit, digits, natOf, whole, negative, unminus}
-use Rattle.digits.specs.Degree.{degreeOf, smoothingOf, off}
+use Rattle.keywords.specs.declared.Argument.the-variants.{Off}
+use Rattle.keywords.specs.Arguments.{arguments, argumentBytes}
+use Rattle.digits.specs.Degree.{degreeOf, smoothingOf}
 use Rattle.forms.specs.Reference.{isReference, item, refer, referenceOf}
 use Rattle.forms.specs.Written.{short, writtenWhole}
 use Rattle.forms.specs.Fits.{degreeFits, smoothingFits, referenceFits}
@@ -56,7 +58,8 @@ degree-fits w n h =
     ap degreeFits (sym e) ∙ q .0
 
 -- ---- smoothing numbers
-no-off : (w : List ℕ) → digits w ≡ true → same w off ≡ false
+no-off : (w : List ℕ) → digits w ≡ true → same w (argumentBytes Off) ≡ false
+unfolding arguments argumentBytes
 no-off [] h = refl
 no-off (b ∷ bs) h =
     let l : b ≤ 57 = leb-true b 57 (and-right (leb 48 b) (leb b 57) (and-left (isDigit b) (digits bs) h)) in
@@ -72,13 +75,13 @@ pub smoothing-fits : (w : List ℕ) (n : ℕ) → smoothingOf w ≡ says n → s
 unfolding smoothingOf
 smoothing-fits w n h =
     ⊎-elim
-    (λ (t : same w off ≡ true). let e : n ≡ 0 = (let y = rw t at h in cc) in rw e refl)
-    (λ (t : same w off ≡ false).
+    (λ (t : same w (argumentBytes Off) ≡ true). let e : n ≡ 0 = (let y = rw t at h in cc) in rw e refl)
+    (λ (t : same w (argumentBytes Off) ≡ false).
     let p = must-says (whole 5 w) 6 (must (leb (natOf 0 w) 65535) 7 (says (natOf 0 w))) n (rw t at h) in
     let q = must-says (leb (natOf 0 w) 65535) 7 (says (natOf 0 w)) n (p .1) in
     let e : natOf 0 w ≡ n = (let y = q .1 in cc) in
     ap smoothingFits (sym e) ∙ q .0)
-    (test (same w off))
+    (test (same w (argumentBytes Off)))
 
 -- ---- references
 no-minus : (w : List ℕ) → digits w ≡ true → (unminus w ≡ w) × (negative w ≡ false)

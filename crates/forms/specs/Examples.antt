@@ -12,6 +12,7 @@ use Rattle.digits.specs.Digits.{whole}
 use Rattle.decimals.specs.Number.{decimal, numerator, denominator, nearest, numberOf}
 use Rattle.forms.specs.Reference.{isReference, refer, referenceOf}
 use Rattle.forms.specs.Corner.{Corner, Counts, Parts, cornerOf}
+use Rattle.keywords.specs.Arguments.{arguments, argumentBytes}
 use Rattle.digits.specs.Degree.{degreeOf, smoothingOf, nameOf}
 use Rattle.forms.specs.Written.{writtenWhole, writtenMillionths, writtenNumber, writtenCorner}
 
@@ -330,5 +331,5 @@ table =
     []
 
 pub examples : T (all holds table)
-unfolding table numberOf decimal numerator denominator nearest isReference refer referenceOf whole cornerOf degreeOf smoothingOf nameOf writtenWhole writtenMillionths
+unfolding table numberOf decimal numerator denominator nearest isReference refer referenceOf whole cornerOf degreeOf smoothingOf arguments argumentBytes nameOf writtenWhole writtenMillionths
 examples = tt

@@ -112,7 +112,8 @@ fn degree(text: &[u8], at: usize)
 fn smoothing(text: &[u8], at: usize)
     requires { ⌜ at ≤ length (now text) ⌝ }
 {
-    match digits::whole::smoothing_at(text, at) {
+    let table = keywords::argument_table();
+    match digits::whole::smoothing_at(text, at, &table) {
         Whole::Value { value, end: _ } => put_whole(value),
         Whole::Malformed => put(b"refused 6"),
         Whole::OutOfRange => put(b"refused 7"),

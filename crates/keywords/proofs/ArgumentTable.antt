@@ -1,30 +1,28 @@
 -- The fixed words after a keyword: each claim is one computed test, carried over by a law of every table.
 use Prim.Native.Nat.{ℕ, _≤_, _<_}
 use mathlib.Core.Path.{_≡_, refl, sym}
-use mathlib.Core.Logic.{_↔_}
-use mathlib.Core.List.{List, [], List·Memᴰ}
-use mathlib.Core.Option.{some}
+use mathlib.Core.List.{List}
 use mathlib.Core.Bool.{Bool, true, false}
 use native.Mathlib.Omega.{arith}
-use lib.ListN.{length, getD}
+use lib.ListN.{length}
 use lib.Dec.{leb, eqb}
 use Rattle.lists.proofs.Tests.{never}
-use Rattle.keywords.specs.Rows.{Row, bytes, rowOf}
+use Rattle.keywords.specs.Rows.{Row, rowOf, spellingAt, Finds}
 use Rattle.keywords.specs.Arguments.{signOf, arguments, argumentOf, argumentBytes}
 use Rattle.keywords.specs.declared.Argument.{Argument}
 use Rattle.keywords.specs.declared.Argument.the-variants.{Rational, BasisMatrix, Bezier, Bspline, Cardinal, Taylor, DirectionU, DirectionV, Off, Other}
-use Rattle.keywords.proofs.Spellings.{spellings, distinct, isToken, tokens, rowsWith, finds-exactly, no-two}
+use Rattle.keywords.proofs.Spellings.{distinct, isToken, tokens, rowsWith, finds-exactly, no-two}
 
-all-distinct : distinct arguments ≡ true
+pub all-distinct : distinct arguments ≡ true
 unfolding arguments
 all-distinct = refl
 
 -- a word finds a row exactly when it is that row's spelling
-pub finds : (r : Row Argument) → List·Memᴰ r arguments → (w : List ℕ) → (rowOf arguments w ≡ some r) ↔ (w ≡ bytes (r .spelling))
+pub finds : (w : List ℕ) → Finds arguments w (rowOf arguments w)
 finds = finds-exactly arguments all-distinct
 
 -- no two rows share a spelling
-pub apart : (i j : ℕ) → i < j → j < length arguments → getD (spellings arguments) i [] ≡ getD (spellings arguments) j [] → ⊥
+pub apart : (i j : ℕ) → i < length arguments → j < length arguments → spellingAt arguments i ≡ spellingAt arguments j → i ≡ j
 apart = no-two arguments all-distinct
 
 -- every spelling is a word of a line

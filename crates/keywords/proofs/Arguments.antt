@@ -1,25 +1,28 @@
 -- The table's bytes are the rows': both are computed.
-use Prim.Native.Nat.{ℕ, _+_}
-use mathlib.Core.Path.{_≡_, refl, _∙_}
+use Prim.Native.Nat.{ℕ, _+_, _*_, _≤_, _<_}
+use mathlib.Core.Path.{_≡_, refl, sym, ap, _∙_}
+use mathlib.Core.Logic.{⊎-elim}
 use mathlib.Core.List.{List, []}
 use mathlib.Core.Bool.{Bool, true, false, cond}
-use lib.ListN.{length, drop}
+use native.Mathlib.Omega.{arith}
+use lib.ListN.{length, drop, getD}
 use lib.Dec.{eqb}
+use Rattle.lists.specs.Lists.{same}
+use Rattle.lists.proofs.Tests.{test}
+use Rattle.lists.proofs.Laws.{same-eq}
 use Rattle.text.specs.Words.{wordOf}
-use Rattle.keywords.specs.Rows.{foundIn, letteredIn, wordAhead}
+use Rattle.text.specs.Rest.{endOf}
+use Rattle.keywords.specs.Rows.{kindAt, foundBy, letteredIn}
 use Rattle.keywords.specs.Arguments.{signOf, ofSign, arguments, argumentTable, argumentOf, argumentAt, argumentBytes}
 use Rattle.keywords.specs.declared.Found.{Found}
 use Rattle.keywords.specs.declared.Argument.{Argument}
 use Rattle.keywords.specs.declared.Argument.the-variants.{Rational, BasisMatrix, Bezier, Bspline, Cardinal, Taylor, DirectionU, DirectionV, Off, Other}
-use Rattle.keywords.proofs.Compare.{word-none}
-use Rattle.keywords.proofs.Rows.{foundBy, found-kind}
-
-rows-found : (w : List ℕ) (at : ℕ) → foundIn 9 argumentTable w at ≡ foundBy signOf arguments w at
-unfolding arguments argumentTable
-rows-found w at = refl
+use Rattle.keywords.proofs.Compare.{compareOf}
+use Rattle.keywords.proofs.Rows.{Laid}
+use Rattle.keywords.proofs.ArgumentTable.{all-distinct}
 
 -- a kind is told by its letter
-pub told : (k : Argument) → ofSign (signOf k) ≡ k
+told : (k : Argument) → ofSign (signOf k) ≡ k
 unfolding arguments ofSign
 told Rational = refl
 told BasisMatrix = refl
@@ -32,23 +35,13 @@ told DirectionV = refl
 told Off = refl
 told Other = refl
 
-pub found-is : (w : List ℕ) (at : ℕ) → ofSign ((foundIn 9 argumentTable w at) .kind) ≡ argumentOf w
-unfolding argumentOf
-found-is w at = rw (rows-found w at) (found-kind signOf ofSign Other told refl arguments w at)
+pub laid : Laid signOf ofSign Other arguments argumentTable 9
+unfolding arguments argumentTable
+laid = record { many = refl; walked = λ w. refl; no-word = refl; ahead = refl; words = refl; letters = refl; told = told; apart = all-distinct }
 
-pub no-word : argumentOf [] ≡ Other
-unfolding arguments argumentOf
-no-word = refl
-
-pub argument-found :
-    (s t : List ℕ) (at : ℕ) (f : Found) (k : Argument) →
-    t ≡ argumentTable → f ≡ foundIn 9 t (wordOf (drop at s)) at → k ≡ ofSign (f .kind) → k ≡ argumentAt s at
-unfolding argumentAt
-argument-found s t at f k e g l = rw (l, g, e) (found-is (wordOf (drop at s)) at)
-
-pub argument-none : (s : List ℕ) (at : ℕ) → wordAhead (drop at s) ≡ false → Other ≡ argumentAt s at
-unfolding argumentAt
-argument-none s at h = rw (word-none (drop at s) h, no-word) refl
+pub argument-is : (s : List ℕ) (at : ℕ) (f : Found) (k : Argument) → f ≡ foundBy arguments (wordOf (drop at s)) at → k ≡ kindAt Other arguments (f .row) → k ≡ argumentAt s at
+unfolding argumentAt argumentOf
+argument-is s at f k g l = rw (l, g) refl
 
 rows-lettered : (k : Argument) → letteredIn 9 argumentTable (signOf k) ≡ argumentBytes k
 unfolding arguments argumentTable argumentBytes
@@ -58,3 +51,35 @@ rows-lettered k = refl
 pub argument-row :
     (t : List ℕ) (from letter : ℕ) (k : Argument) → t ≡ argumentTable → wordOf (drop from t) ≡ letteredIn 9 t letter → letter ≡ signOf k → wordOf (drop from t) ≡ argumentBytes k
 argument-row t from letter k e w l = w ∙ rw (e, l) (rows-lettered k)
+
+off-row : wordOf (drop 96 argumentTable) ≡ argumentBytes Off
+unfolding arguments argumentTable argumentBytes
+off-row = refl
+
+off-length : length (argumentBytes Off) ≡ 3
+unfolding arguments argumentBytes
+off-length = refl
+
+abbrev pub offEnd : List ℕ → ℕ → ℕ
+offEnd s at = cond (same (wordOf (drop at s)) (argumentBytes Off)) (endOf s at) at
+
+pub off-is : (s t : List ℕ) (at end : ℕ) → t ≡ argumentTable → end ≡ compareOf s at t 96 → end ≡ offEnd s at
+off-is s t at end e c = rw (e, off-row) at c
+
+-- a word ends after its place exactly when it is off
+pub off-found : (s : List ℕ) (at end : ℕ) → end ≡ offEnd s at → at < end → (same (wordOf (drop at s)) (argumentBytes Off) ≡ true) × (end ≡ endOf s at)
+off-found s at end d l =
+    ⊎-elim
+    (λ h. (h, rw h at d))
+    (λ h. let f : end ≡ at = rw h at d in absurd (omega arith))
+    (test (same (wordOf (drop at s)) (argumentBytes Off)))
+
+pub off-not : (s : List ℕ) (at end : ℕ) → end ≡ offEnd s at → end ≤ at → same (wordOf (drop at s)) (argumentBytes Off) ≡ false
+off-not s at end d l =
+    ⊎-elim
+    (λ h.
+    let n : length (wordOf (drop at s)) ≡ 3 = ap length (same-eq (wordOf (drop at s)) (argumentBytes Off) h) ∙ off-length in
+    let f : end ≡ endOf s at = rw h at d in
+    absurd (omega (arith, f, n)))
+    (λ h. h)
+    (test (same (wordOf (drop at s)) (argumentBytes Off)))

@@ -68,6 +68,14 @@ first-differs s t i j h k n =
     rw (drop-cons s i 0 (ahead-within s i h), drop-cons t j 0 k)
     (both-differ (getD s i 0) (getD t j 0) (drop (suc i) s) (drop (suc j) t) (ahead-is s i h) n)
 
+pub front-differs :
+    (s t : List ℕ) (i j : ℕ) → i < length s → wordAhead (drop j t) ≡ true → (getD s i 0 ≡ getD t j 0 → ⊥) → same (wordOf (drop i s)) (wordOf (drop j t)) ≡ false
+front-differs s t i j h k n =
+    ⊎-elim
+    (λ w. first-differs s t i j (here s i h ∙ w) (ahead-within t j k) n)
+    (λ w. other-goes-on (drop i s) (drop j t) (here s i h ∙ w) k)
+    (test (isWord (getD s i 0)))
+
 -- the words at at and from have been the same up to i and j
 pub record Compared (s : List ℕ) (at : ℕ) (t : List ℕ) (from i j : ℕ) : Type 0 where
   pub rest : same (wordOf (drop at s)) (wordOf (drop from t)) ≡ same (wordOf (drop i s)) (wordOf (drop j t))

@@ -1,30 +1,28 @@
 -- The keywords of 01: each claim is one computed test, carried over by a law of every table.
 use Prim.Native.Nat.{ℕ, _+_, _≤_, _<_}
 use mathlib.Core.Path.{_≡_, refl, sym}
-use mathlib.Core.Logic.{_↔_}
-use mathlib.Core.List.{List, [], List·Memᴰ}
-use mathlib.Core.Option.{some}
+use mathlib.Core.List.{List}
 use mathlib.Core.Bool.{Bool, true, false}
 use native.Mathlib.Omega.{arith}
-use lib.ListN.{length, getD}
+use lib.ListN.{length}
 use lib.Dec.{leb, eqb}
 use Rattle.lists.proofs.Tests.{never}
-use Rattle.keywords.specs.Rows.{Row, bytes, rowOf}
+use Rattle.keywords.specs.Rows.{Row, rowOf, spellingAt, Finds}
 use Rattle.keywords.specs.Keywords.{letterOf, keywords, statementOf, keywordOf}
 use Rattle.keywords.specs.declared.Statement.{Statement}
 use Rattle.keywords.specs.declared.Statement.the-variants.{Vertex, TextureVertex, VertexNormal, ParameterVertex, BodyType, Degree, Point, Line, Face, Curve, Curve2, Surface, Parameters, Trim, Hole, End, Group, Smoothing, Material, PassedOver, Refused, Unknown}
-use Rattle.keywords.proofs.Spellings.{spellings, distinct, isToken, tokens, rowsWith, finds-exactly, no-two}
+use Rattle.keywords.proofs.Spellings.{distinct, isToken, tokens, rowsWith, finds-exactly, no-two}
 
-all-distinct : distinct keywords ≡ true
+pub all-distinct : distinct keywords ≡ true
 unfolding keywords
 all-distinct = refl
 
 -- a word finds a row exactly when it is that row's spelling
-pub finds : (r : Row Statement) → List·Memᴰ r keywords → (w : List ℕ) → (rowOf keywords w ≡ some r) ↔ (w ≡ bytes (r .spelling))
+pub finds : (w : List ℕ) → Finds keywords w (rowOf keywords w)
 finds = finds-exactly keywords all-distinct
 
 -- no two rows share a spelling
-pub apart : (i j : ℕ) → i < j → j < length keywords → getD (spellings keywords) i [] ≡ getD (spellings keywords) j [] → ⊥
+pub apart : (i j : ℕ) → i < length keywords → j < length keywords → spellingAt keywords i ≡ spellingAt keywords j → i ≡ j
 apart = no-two keywords all-distinct
 
 -- every spelling is a word of a line

@@ -1,23 +1,18 @@
 -- A word finds a row exactly when it is that row's spelling: by the rows, of which no two share one.
-use Prim.Native.Nat.{ℕ, zero, suc, _+_, _<_}
+use Prim.Native.Nat.{ℕ, zero, suc, _+_, _≤_, _<_}
 use mathlib.Core.Path.{_≡_, refl, sym, ap, _∙_}
-use mathlib.Core.Logic.{_⊎_, ⊎-elim, _↔_}
-use mathlib.Core.List.{List, [], _∷_, List·Memᴰ, List·Memᴰ·head, List·Memᴰ·tail, List·Memᴰ·not-nil, List·Memᴰ·cases-cons}
-use mathlib.Core.Option.{Option, none, some}
+use mathlib.Core.Logic.{⊎-elim, _↔_}
+use mathlib.Core.List.{List, [], _∷_}
 use mathlib.Core.Bool.{Bool, true, false, cond, _&&_, not}
 use native.Mathlib.Omega.{arith}
-use borrow.Author.Tests.{not-true}
-use lib.ListN.{length, getD}
-use lib.Dec.{eqb}
+use borrow.Author.Tests.{not-true, ltb-true, ltb-false}
+use lib.ListN.{length}
+use lib.Dec.{eqb, ltb}
 use Rattle.lists.specs.Lists.{all, same}
-use Rattle.lists.proofs.Tests.{test, never, and-left, and-right}
+use Rattle.lists.proofs.Tests.{test, and-left, and-right}
 use Rattle.lists.proofs.Laws.{same-eq, same-refl}
 use Rattle.text.specs.Bytes.{isWord, startsWord}
-use Rattle.keywords.specs.Rows.{Row, bytes, rowOf}
-
-abbrev pub spellings : {K : Type 0} → List (Row K) → List (List ℕ)
-spellings [] = []
-spellings (r ∷ rs) = bytes (r .spelling) ∷ spellings rs
+use Rattle.keywords.specs.Rows.{Row, bytes, rowOf, spellingAt, Finds}
 
 -- no two rows share a spelling
 abbrev pub others : {K : Type 0} → List ℕ → List (Row K) → Bool
@@ -40,58 +35,51 @@ abbrev pub rowsWith : {K : Type 0} → (K → ℕ) → ℕ → List (Row K) → 
 rowsWith letter k [] = 0
 rowsWith letter k (r ∷ rs) = cond (eqb k (letter (r .kind))) 1 0 + rowsWith letter k rs
 
-pub all-member : {A : Type 0} (f : A → Bool) (xs : List A) {a : A} → all f xs ≡ true → List·Memᴰ a xs → f a ≡ true
-all-member f [] h m = absurd (List·Memᴰ·not-nil m)
-all-member f (x ∷ xs) h m =
-    ⊎-elim (λ e. rw e (and-left (f x) (all f xs) h)) (λ n. all-member f xs (and-right (f x) (all f xs) h) n) (List·Memᴰ·cases-cons m)
-
 module _ {K : Type 0} where
-  -- what a word finds is a row, and the word is its spelling
-  pub finds-is : (rs : List (Row K)) (w : List ℕ) (r : Row K) → rowOf rs w ≡ some r → List·Memᴰ r rs × (w ≡ bytes (r .spelling))
-  finds-is [] w r e = absurd (let z : _≡_ {A = ℕ} 0 1 = cc in omega arith)
-  finds-is (q ∷ rs) w r e =
+  row-within : (rs : List (Row K)) (w : List ℕ) → rowOf rs w ≤ length rs
+  row-within [] w = omega arith
+  row-within (r ∷ rs) w =
+      ⊎-elim (λ s. rw s (omega arith)) (λ s. let h = row-within rs w in rw s (omega arith)) (test (same w (bytes (r .spelling))))
+
+  -- what a word finds is a row that it is the spelling of
+  row-spelled : (rs : List (Row K)) (w : List ℕ) → rowOf rs w < length rs → w ≡ spellingAt rs (rowOf rs w)
+  row-spelled [] w h = absurd (omega arith)
+  row-spelled (r ∷ rs) w h =
       ⊎-elim
+      (λ s. rw s (same-eq w (bytes (r .spelling)) s))
       (λ s.
-      let f : some q ≡ some r = rw s at e in
-      let g : q ≡ r = cc in
-      (List·Memᴰ·head (sym g), rw (← g) (same-eq w (bytes (q .spelling)) s)))
-      (λ s.
-      let f : rowOf rs w ≡ some r = rw s at e in
-      let g = finds-is rs w r f in
-      (List·Memᴰ·tail (g .0), g .1))
-      (test (same w (bytes (q .spelling))))
+      let e : rowOf (r ∷ rs) w ≡ suc (rowOf rs w) = rw s refl in
+      let l : rowOf rs w < length rs = omega (arith, e) in
+      rw e (row-spelled rs w l))
+      (test (same w (bytes (r .spelling))))
+
+  other-at : (rs : List (Row K)) (w : List ℕ) (j : ℕ) → others w rs ≡ true → j < length rs → same (spellingAt rs j) w ≡ false
+  other-at [] w j o h = absurd (omega arith)
+  other-at (r ∷ rs) w zero o h = not-true (same (bytes (r .spelling)) w) (and-left (not (same (bytes (r .spelling)) w)) (others w rs) o)
+  other-at (r ∷ rs) w (suc j) o h = other-at rs w j (and-right (not (same (bytes (r .spelling)) w)) (others w rs) o) (omega arith)
 
   -- the spelling of a row finds it
-  pub is-finds : (rs : List (Row K)) (r : Row K) → distinct rs ≡ true → List·Memᴰ r rs → rowOf rs (bytes (r .spelling)) ≡ some r
-  is-finds [] r d m = absurd (List·Memᴰ·not-nil m)
-  is-finds (q ∷ rs) r d m =
-      ⊎-elim
-      (λ e.
-      let s : same (bytes (r .spelling)) (bytes (q .spelling)) ≡ true = rw e (same-refl (bytes (q .spelling))) in
-      let f : rowOf (q ∷ rs) (bytes (r .spelling)) ≡ some q = rw s refl in
-      f ∙ ap some (sym e))
-      (λ n.
-      let o = all-member (λ p. not (same (bytes (p .spelling)) (bytes (q .spelling)))) rs (and-left (others (bytes (q .spelling)) rs) (distinct rs) d) n in
-      let s : same (bytes (r .spelling)) (bytes (q .spelling)) ≡ false = not-true (same (bytes (r .spelling)) (bytes (q .spelling))) o in
-      let f : rowOf (q ∷ rs) (bytes (r .spelling)) ≡ rowOf rs (bytes (r .spelling)) = rw s refl in
-      f ∙ is-finds rs r (and-right (others (bytes (q .spelling)) rs) (distinct rs) d) n)
-      (List·Memᴰ·cases-cons m)
+  spelled-row : (rs : List (Row K)) (i : ℕ) → distinct rs ≡ true → i < length rs → rowOf rs (spellingAt rs i) ≡ i
+  spelled-row [] i d h = absurd (omega arith)
+  spelled-row (r ∷ rs) zero d h = rw (same-refl (bytes (r .spelling))) refl
+  spelled-row (r ∷ rs) (suc i) d h =
+      rw (other-at rs (bytes (r .spelling)) i (and-left (others (bytes (r .spelling)) rs) (distinct rs) d) (omega arith))
+      (ap suc (spelled-row rs i (and-right (others (bytes (r .spelling)) rs) (distinct rs) d) (omega arith)))
 
-  pub finds-exactly :
-      (rs : List (Row K)) → distinct rs ≡ true → (r : Row K) → List·Memᴰ r rs → (w : List ℕ) → (rowOf rs w ≡ some r) ↔ (w ≡ bytes (r .spelling))
-  finds-exactly rs d r m w = (λ e. (finds-is rs w r e) .1, λ e. rw e (is-finds rs r d m))
+  pub finds-exactly : (rs : List (Row K)) → distinct rs ≡ true → (w : List ℕ) → Finds rs w (rowOf rs w)
+  finds-exactly rs d w =
+      record {
+        within = row-within rs w;
+        exactly = λ i h. (λ e. rw (← e) (row-spelled rs w (omega (arith, e))), λ e. rw e (spelled-row rs i d h));
+        nothing = (λ e i h s. let f = spelled-row rs i d h in let g : rowOf rs w ≡ i = rw s f in omega arith, λ f. none f);
+      }
+    where
+      none : ((i : ℕ) → i < length rs → w ≡ spellingAt rs i → ⊥) → rowOf rs w ≡ length rs
+      none f =
+          ⊎-elim
+          (λ l. let h = ltb-true (rowOf rs w) (length rs) l in absurd (f (rowOf rs w) h (row-spelled rs w h)))
+          (λ l. let h = ltb-false (rowOf rs w) (length rs) l in let g = row-within rs w in omega arith)
+          (test (ltb (rowOf rs w) (length rs)))
 
-  other-at : (rs : List (Row K)) (w : List ℕ) (j : ℕ) → others w rs ≡ true → j < length rs → getD (spellings rs) j [] ≡ w → ⊥
-  other-at [] w j o h e = omega arith
-  other-at (r ∷ rs) w zero o h e =
-      let f = not-true (same (bytes (r .spelling)) w) (and-left (not (same (bytes (r .spelling)) w)) (others w rs) o) in
-      let g : same w w ≡ false = rw e at f in
-      never (sym g ∙ same-refl w)
-  other-at (r ∷ rs) w (suc j) o h e = other-at rs w j (and-right (not (same (bytes (r .spelling)) w)) (others w rs) o) (omega arith) e
-
-  pub no-two :
-      (rs : List (Row K)) → distinct rs ≡ true → (i j : ℕ) → i < j → j < length rs → getD (spellings rs) i [] ≡ getD (spellings rs) j [] → ⊥
-  no-two [] d i j h k e = omega arith
-  no-two (r ∷ rs) d i zero h k e = omega arith
-  no-two (r ∷ rs) d zero (suc j) h k e = other-at rs (bytes (r .spelling)) j (and-left (others (bytes (r .spelling)) rs) (distinct rs) d) (omega arith) (sym e)
-  no-two (r ∷ rs) d (suc i) (suc j) h k e = no-two rs (and-right (others (bytes (r .spelling)) rs) (distinct rs) d) i j (omega arith) (omega arith) e
+  pub no-two : (rs : List (Row K)) → distinct rs ≡ true → (i j : ℕ) → i < length rs → j < length rs → spellingAt rs i ≡ spellingAt rs j → i ≡ j
+  no-two rs d i j h k e = sym (spelled-row rs i d h) ∙ (ap (rowOf rs) e ∙ spelled-row rs j d k)

@@ -5,12 +5,12 @@ use mathlib.Core.List.{List, [], _∷_}
 use mathlib.Core.Bool.{Bool, true, false, cond}
 use native.Mathlib.Numerals.{add-one}
 use native.Mathlib.Omega.{arith}
-use borrow.Author.Tests.{eq-eqb, ne-eqb}
+use borrow.Author.Tests.{eq-eqb, ne-eqb, le-leb, lt-leb}
 use lib.ListN.{length, drop, getD, set, length-set}
 use lib.Seq.{drop-drop, getD-drop, drop-length, sets}
 use lib.Dec.{eqb}
 use Rattle.text.specs.Words.{wordOf}
-use Rattle.keywords.specs.Rows.{letteredIn, wordAhead}
+use Rattle.keywords.specs.Rows.{fitting, letteredIn, wordAhead}
 use Rattle.keywords.proofs.Compare.{word-at, word-none}
 
 pub record Sought (t : List ℕ) (k rows from left : ℕ) : Type 0 where
@@ -60,3 +60,21 @@ module _ (s : List ℕ) (from : ℕ) (o : List ℕ) (at : ℕ) (l : List ℕ) (i
       let w = word-none (drop i s) a in
       let n : length (wordOf (drop i s)) ≡ 0 = rw w refl in
       (omega (arith, c .end), rw w at (c .rest))
+
+-- w written to the front of o where it has room
+abbrev pub Wrote : List ℕ → List ℕ → ℕ → List ℕ → Type 0
+Wrote o w r l = (r ≡ length (fitting (length o) w)) × (l ≡ sets o 0 (fitting (length o) w))
+
+pub wrote-all : (o w : List ℕ) (r : ℕ) (l : List ℕ) → length w ≤ length o → r ≡ 0 + length w → l ≡ sets o 0 w → Wrote o w r l
+wrote-all o w r l h e f =
+    let k : fitting (length o) w ≡ w = rw (le-leb (length w) (length o) h) refl in
+    (rw k (omega (arith, e)), rw k f)
+
+pub wrote-nothing : (o w : List ℕ) → fitting (length o) w ≡ [] → Wrote o w 0 o
+wrote-nothing o w k = (rw k refl, rw k refl)
+
+pub no-room : (n : ℕ) (w : List ℕ) → n < length w → fitting n w ≡ []
+no-room n w h = rw (lt-leb (length w) n h) refl
+
+pub no-word : (n : ℕ) (w : List ℕ) → w ≡ [] → fitting n w ≡ []
+no-word n w e = rw (e, le-leb 0 n (omega arith)) refl

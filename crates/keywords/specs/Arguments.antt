@@ -7,7 +7,7 @@ use lib.ListN.{drop}
 use lib.Dec.{eqb}
 use Rattle.lists.specs.Lists.{flat}
 use Rattle.text.specs.Words.{wordOf}
-use Rattle.keywords.specs.Rows.{Row, rowOf, kindOr, kindBy, spellingOf, line}
+use Rattle.keywords.specs.Rows.{Row, rowOf, kindAt, kindBy, spellingOf, line}
 use Rattle.keywords.specs.declared.Argument.{Argument}
 use Rattle.keywords.specs.declared.Argument.the-variants.{Rational, BasisMatrix, Bezier, Bspline, Cardinal, Taylor, DirectionU, DirectionV, Off, Other}
 
@@ -50,7 +50,7 @@ unfoldable pub argumentTable : List ℕ
 argumentTable = flat (line signOf) arguments
 
 unfoldable pub argumentOf : List ℕ → Argument
-argumentOf w = kindOr Other (rowOf arguments w)
+argumentOf w = kindAt Other arguments (rowOf arguments w)
 
 -- the bytes that an argument is written with
 unfoldable pub argumentBytes : Argument → List ℕ

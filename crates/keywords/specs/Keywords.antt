@@ -8,7 +8,7 @@ use lib.Dec.{eqb}
 use Rattle.lists.specs.Lists.{flat}
 use Rattle.text.specs.Words.{wordOf}
 use Rattle.text.specs.Rest.{endOf}
-use Rattle.keywords.specs.Rows.{Row, rowOf, kindOr, kindBy, spellingOf, line}
+use Rattle.keywords.specs.Rows.{Row, rowOf, kindAt, kindBy, spellingOf, line, foundBy}
 use Rattle.keywords.specs.declared.Keyword.{Keyword}
 use Rattle.keywords.specs.declared.Statement.{Statement}
 use Rattle.keywords.specs.declared.Statement.the-variants.{Vertex, TextureVertex, VertexNormal, ParameterVertex, BodyType, Degree, Point, Line, Face, Curve, Curve2, Surface, Parameters, Trim, Hole, End, Group, Smoothing, Material, PassedOver, Refused, Unknown}
@@ -100,7 +100,7 @@ keywordTable = flat (line letterOf) keywords
 
 -- "keyword unknown" where no row is spelled so
 unfoldable pub statementOf : List ℕ → Statement
-statementOf w = kindOr Unknown (rowOf keywords w)
+statementOf w = kindAt Unknown keywords (rowOf keywords w)
 
 -- the bytes that a stored statement's keyword is written with
 unfoldable pub keywordOf : Statement → List ℕ

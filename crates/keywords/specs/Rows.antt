@@ -1,12 +1,13 @@
 -- Tables of spellings: what a word finds in one, and how the code lays one out.
-use Prim.Native.Nat.{ℕ, zero, suc, _+_, _-_}
+use Prim.Native.Nat.{ℕ, zero, suc, _+_, _-_, _≤_, _<_}
+use mathlib.Core.Path.{_≡_}
+use mathlib.Core.Logic.{_↔_}
 use Prim.Native.Char.{code}
 use Prim.Native.String.{String, [] as empty, _∷_ as _then_}
 use mathlib.Core.List.{List, [], _∷_, _++_}
-use mathlib.Core.Option.{Option, none, some}
-use mathlib.Core.Bool.{Bool, true, false, cond}
+use mathlib.Core.Bool.{Bool, true, false, cond, _&&_}
 use lib.ListN.{length, drop, getD, replicate}
-use lib.Dec.{eqb}
+use lib.Dec.{eqb, leb, ltb}
 use Rattle.lists.specs.Lists.{same}
 use Rattle.text.specs.Bytes.{isWord}
 use Rattle.text.specs.Words.{wordOf}
@@ -21,15 +22,37 @@ pub record Row (K : Type 0) : Type 0 where
   pub spelling : String
   pub kind : K
 
--- the row that the word w finds: the first that is spelled so, byte by byte
-abbrev pub rowOf : {K : Type 0} → List (Row K) → List ℕ → Option (Row K)
-rowOf [] w = none
-rowOf (r ∷ rs) w = cond (same w (bytes (r .spelling))) (some r) (rowOf rs w)
+-- the number of the row that the word w finds, from 0: the first that is spelled so, byte by byte; where none is, how many rows there are
+abbrev pub rowOf : {K : Type 0} → List (Row K) → List ℕ → ℕ
+rowOf [] w = 0
+rowOf (r ∷ rs) w = cond (same w (bytes (r .spelling))) 0 (suc (rowOf rs w))
 
--- its kind; other where there is none
-abbrev pub kindOr : {K : Type 0} → K → Option (Row K) → K
-kindOr other none = other
-kindOr other (some r) = r .kind
+-- the spelling of row i
+abbrev pub spellingAt : {K : Type 0} → List (Row K) → ℕ → List ℕ
+spellingAt [] i = []
+spellingAt (r ∷ rs) zero = bytes (r .spelling)
+spellingAt (r ∷ rs) (suc i) = spellingAt rs i
+
+-- what is written of w into n bytes: all of it, or nothing
+abbrev pub fitting : ℕ → List ℕ → List ℕ
+fitting n w = cond (leb (length w) n) w []
+
+-- the kind of row i; other where there is none
+abbrev pub kindAt : {K : Type 0} → K → List (Row K) → ℕ → K
+kindAt other [] i = other
+kindAt other (r ∷ rs) zero = r .kind
+kindAt other (r ∷ rs) (suc i) = kindAt other rs i
+
+-- 02, Q-4, of the number n that a lookup answers for the word w: it finds "a row exactly when it is that row's spelling", and none exactly when it is no
+-- row's; that "no two rows share one" follows, since n is one number
+pub record Finds {K : Type 0} (rs : List (Row K)) (w : List ℕ) (n : ℕ) : Type 0 where
+  pub within : n ≤ length rs
+  pub exactly : (i : ℕ) → i < length rs → (n ≡ i) ↔ (w ≡ spellingAt rs i)
+  pub nothing : (n ≡ length rs) ↔ ((i : ℕ) → i < length rs → w ≡ spellingAt rs i → ⊥)
+
+-- what the word w at the place at finds: its row, and where the word ends; where it finds none, its place stands for its end
+abbrev pub foundBy : {K : Type 0} → List (Row K) → List ℕ → ℕ → Found
+foundBy rs w at = record { row = rowOf rs w; end = cond (ltb (rowOf rs w) (length rs)) (at + length w) at }
 
 -- the kind whose letter in the code's table is k
 abbrev pub kindBy : {K : Type 0} → (K → ℕ) → K → List (Row K) → ℕ → K
@@ -45,11 +68,13 @@ spellingOf letter (r ∷ rs) k = cond (eqb k (letter (r .kind))) (bytes (r .spel
 abbrev pub line : {K : Type 0} → (K → ℕ) → Row K → List ℕ
 line letter r = bytes (r .spelling) ++ (replicate (11 - length (bytes (r .spelling))) 32 ++ (letter (r .kind) ∷ []))
 
--- what the word w at the place at finds in the first n rows of the bytes t: the row's letter, and where the word ends; a blank and the place itself where
--- it finds none
+-- the number of the first of n rows of the bytes t that the word w is the spelling of; n where there is none
+abbrev pub rowIn : ℕ → List ℕ → List ℕ → ℕ
+rowIn zero t w = 0
+rowIn (suc n) t w = cond (same w (wordOf t)) 0 (suc (rowIn n (drop 12 t) w))
+
 abbrev pub foundIn : ℕ → List ℕ → List ℕ → ℕ → Found
-foundIn zero t w at = record { kind = 32; end = at }
-foundIn (suc n) t w at = cond (same w (wordOf t)) (record { kind = getD t 11 0; end = at + length w }) (foundIn n (drop 12 t) w at)
+foundIn n t w at = record { row = rowIn n t w; end = cond (ltb (rowIn n t w) n) (at + length w) at }
 
 -- the spelling of the first of n rows of the bytes t whose letter is k
 abbrev pub letteredIn : ℕ → List ℕ → ℕ → List ℕ
@@ -60,3 +85,8 @@ letteredIn (suc n) t k = cond (eqb k (getD t 11 0)) (wordOf t) (letteredIn n (dr
 abbrev pub wordAhead : List ℕ → Bool
 wordAhead [] = false
 wordAhead (b ∷ bs) = isWord b
+
+-- each of n rows of the bytes t begins with a word byte
+abbrev pub aheadIn : ℕ → List ℕ → Bool
+aheadIn zero t = true
+aheadIn (suc n) t = wordAhead t && aheadIn n (drop 12 t)

@@ -1,15 +1,15 @@
 // The spellings of keywords and of the fixed words after them, one table each, and what a word of a text finds there.
 ghost use mathlib.Core.Path.{_≡_};
 ghost use mathlib.Core.Bool.{true, cond};
-ghost use Prim.Native.Nat.{_+_, _*_, _≤_};
+ghost use Prim.Native.Nat.{_+_, _*_, _≤_, _<_};
 ghost use lib.ListN.{length, drop};
 ghost use lib.Seq.{sets};
 ghost use Rattle.lists.specs.Lists.{same};
 ghost use Rattle.text.specs.Words.{wordOf};
 ghost use Rattle.text.specs.Rest.{endOf};
-ghost use Rattle.keywords.specs.Rows.{foundIn, letteredIn, wordAhead};
-ghost use Rattle.keywords.specs.Keywords.{keywordTable, keywordAt, keywordOf, letterOf, ofLetter};
-ghost use Rattle.keywords.specs.Arguments.{argumentTable, argumentAt, argumentBytes, signOf, ofSign};
+ghost use Rattle.keywords.specs.Rows.{Finds, foundBy, spellingAt, fitting, foundIn, letteredIn, wordAhead, aheadIn};
+ghost use Rattle.keywords.specs.Keywords.{keywords, keywordTable, keywordAt, keywordOf, letterOf, ofLetter};
+ghost use Rattle.keywords.specs.Arguments.{arguments, argumentTable, argumentAt, argumentBytes, signOf, ofSign};
 
 // A row: the spelling, blanks up to eleven bytes, the letter of its kind.
 const WIDTH: usize = 12;
@@ -17,6 +17,8 @@ const WIDTH: usize = 12;
 const KEYWORD_ROWS: usize = 44;
 
 const ARGUMENT_ROWS: usize = 9;
+
+const OFF_ROW: usize = 8;
 
 // Every keyword, in the order of the appendix's "File structure", then as the appendix comes to them: A to S are stored, - is passed over, ! refused.
 const KEYWORDS: [u8; 528] = *b"\
@@ -121,9 +123,9 @@ pub enum Argument {
     Other,
 }
 
-// What a word finds in a table: its row's letter, and where the word ends.
+// What a word finds in a table: the number of its row, from 0, and where the word ends; where it finds none, how many rows there are, and its own place.
 pub struct Found {
-    pub kind: u8,
+    pub row: usize,
     pub end: usize,
 }
 
@@ -174,8 +176,8 @@ pub fn same_word(text: &[u8], at: usize, table: &[u8], from: usize) -> usize
 
 // The first of the table's rows that the word at `at` is the spelling of. A first letter that differs settles most rows.
 fn row_at(text: &[u8], at: usize, table: &[u8], rows: usize) -> Found
-    requires { ⌜ wordAhead (drop at (now text)) ≡ true ⌝ }
-    requires { ⌜ 12 * rows ≤ length (now table) ⌝ }
+    requires { ⌜ at < length (now text) ⌝ }
+    requires { ⌜ (12 * rows ≤ length (now table)) × (aheadIn rows (now table) ≡ true) ⌝ }
     ensures { λ r. ⌜ r ≡ foundIn rows (now (table .entry)) (wordOf (drop at (now (text .entry)))) at ⌝ }
 {
     let first = text[at];
@@ -186,7 +188,7 @@ fn row_at(text: &[u8], at: usize, table: &[u8], rows: usize) -> Found
             let end = same_word(text, at, table, from);
             if at < end {
                 return Found {
-                    kind: table[from + 11],
+                    row: rows - left,
                     end: end,
                 };
             }
@@ -194,10 +196,7 @@ fn row_at(text: &[u8], at: usize, table: &[u8], rows: usize) -> Found
         from += WIDTH;
         left -= 1;
     }
-    Found {
-        kind: b' ',
-        end: at,
-    }
+    Found { row: rows, end: at }
 }
 
 fn statement_of(letter: u8) -> Statement
@@ -246,21 +245,49 @@ fn argument_of(letter: u8) -> Argument
     }
 }
 
-// The statement that the word at `at` is the keyword of, by a walk of the table.
+// The row that the word at `at` finds, by a walk of the table (02, Q-4).
+pub fn keyword_row(text: &[u8], at: usize, table: &[u8; 528]) -> Found
+    requires { ⌜ now table ≡ keywordTable ⌝ }
+    ensures { λ r. ⌜ (r ≡ foundBy keywords (wordOf (drop at (now (text .entry)))) at) × Finds keywords (wordOf (drop at (now (text .entry)))) (r .row) ⌝ }
+{
+    if text.len() <= at {
+        return Found {
+            row: KEYWORD_ROWS,
+            end: at,
+        };
+    }
+    row_at(text, at, table, KEYWORD_ROWS)
+}
+
+pub fn argument_row(text: &[u8], at: usize, table: &[u8; 108]) -> Found
+    requires { ⌜ now table ≡ argumentTable ⌝ }
+    ensures { λ r. ⌜ (r ≡ foundBy arguments (wordOf (drop at (now (text .entry)))) at) × Finds arguments (wordOf (drop at (now (text .entry)))) (r .row) ⌝ }
+{
+    if text.len() <= at {
+        return Found {
+            row: ARGUMENT_ROWS,
+            end: at,
+        };
+    }
+    row_at(text, at, table, ARGUMENT_ROWS)
+}
+
+// The statement that the word at `at` is the keyword of: the kind of the row that it finds.
 pub fn keyword_at(text: &[u8], at: usize, table: &[u8; 528]) -> Keyword
     requires { ⌜ now table ≡ keywordTable ⌝ }
     ensures { λ r. ⌜ r ≡ keywordAt (now (text .entry)) at ⌝ }
 {
-    if word_ahead(text, at) {
-        let found = row_at(text, at, table, KEYWORD_ROWS);
+    let found = keyword_row(text, at, table);
+    let row = found.row;
+    if row < KEYWORD_ROWS {
         return Keyword {
-            statement: statement_of(found.kind),
+            statement: statement_of(table[WIDTH * row + 11]),
             end: found.end,
         };
     }
     Keyword {
         statement: Statement::Unknown,
-        end: at,
+        end: found.end,
     }
 }
 
@@ -269,11 +296,20 @@ pub fn argument_at(text: &[u8], at: usize, table: &[u8; 108]) -> Argument
     requires { ⌜ now table ≡ argumentTable ⌝ }
     ensures { λ r. ⌜ r ≡ argumentAt (now (text .entry)) at ⌝ }
 {
-    if word_ahead(text, at) {
-        let found = row_at(text, at, table, ARGUMENT_ROWS);
-        return argument_of(found.kind);
+    let found = argument_row(text, at, table);
+    let row = found.row;
+    if row < ARGUMENT_ROWS {
+        return argument_of(table[WIDTH * row + 11]);
     }
     Argument::Other
+}
+
+// Where the word at `at` ends if it is off; else `at`.
+pub fn off_end(text: &[u8], at: usize, table: &[u8; 108]) -> usize
+    requires { ⌜ now table ≡ argumentTable ⌝ }
+    ensures { λ r. ⌜ r ≡ cond (same (wordOf (drop at (now (text .entry)))) (argumentBytes Argument.Off)) (endOf (now (text .entry)) at) at ⌝ }
+{
+    same_word(text, at, table, WIDTH * OFF_ROW)
 }
 
 fn letter_of(statement: Statement) -> u8
@@ -388,4 +424,37 @@ pub fn write_argument(argument: Argument, table: &[u8; 108], out: &mut [u8], at:
 {
     let from = row_of(table, sign_of(argument), ARGUMENT_ROWS);
     copy_word(table, from, out, at)
+}
+
+// The word at `from` of the table, written to the front of `out` where it has room; how many bytes that are.
+fn write_row(table: &[u8], from: usize, out: &mut [u8]) -> usize
+    requires { ⌜ from ≤ length (now table) ⌝ }
+    ensures { λ r. ⌜ (r ≡ length (fitting (length (now (out .entry))) (wordOf (drop from (now (table .entry)))))) × (now (out .exit) ≡ sets (now (out .entry)) 0 (fitting (length (now (out .entry))) (wordOf (drop from (now (table .entry)))))) ⌝ }
+{
+    if out.len() < text::word_end(table, from) - from {
+        return 0;
+    }
+    copy_word(table, from, out, 0)
+}
+
+// The spelling of row `row` of the keywords, from 0, written to the front of `out`; how many bytes that are: 0 where there is no such row, or no room.
+pub fn keyword_spelling(row: usize, out: &mut [u8]) -> usize
+    ensures { λ r. ⌜ (r ≡ length (fitting (length (now (out .entry))) (spellingAt keywords row))) × (now (out .exit) ≡ sets (now (out .entry)) 0 (fitting (length (now (out .entry))) (spellingAt keywords row))) ⌝ }
+{
+    let table = keyword_table();
+    if row < KEYWORD_ROWS {
+        return write_row(&table, WIDTH * row, out);
+    }
+    0
+}
+
+// The same of the arguments.
+pub fn argument_spelling(row: usize, out: &mut [u8]) -> usize
+    ensures { λ r. ⌜ (r ≡ length (fitting (length (now (out .entry))) (spellingAt arguments row))) × (now (out .exit) ≡ sets (now (out .entry)) 0 (fitting (length (now (out .entry))) (spellingAt arguments row))) ⌝ }
+{
+    let table = argument_table();
+    if row < ARGUMENT_ROWS {
+        return write_row(&table, WIDTH * row, out);
+    }
+    0
 }

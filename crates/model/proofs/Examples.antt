@@ -14,7 +14,7 @@ use Rattle.forms.specs.Reference.{isReference, refer, referenceOf}
 use Rattle.forms.specs.Corner.{cornerOf}
 use Rattle.digits.specs.Degree.{degreeOf, smoothingOf, nameOf}
 use Rattle.keywords.specs.Keywords.{statementOf, keywords}
-use Rattle.keywords.specs.Arguments.{argumentOf, arguments}
+use Rattle.keywords.specs.Arguments.{argumentOf, arguments, argumentBytes}
 use Rattle.tables.specs.Bodies.{inOrder, curveCount, surfaceCount}
 use Rattle.model.specs.Room.{Rooms, fits}
 use Rattle.model.specs.Parse.{parse}
@@ -26,7 +26,7 @@ many : Rooms
 many = record { v = 100; vt = 100; vn = 100; vp = 100; corners = 100; elements = 100; bodies = 100; ranges = 100; parameters = 100; loops = 100; spans = 100 }
 
 ex1 : readOf many (bytes "v 0 0 0\nf 1 1 2\n") ≡ refused 8 14
-unfolding readOf linesOf numberOf decimal numerator denominator nearest whole isReference refer referenceOf cornerOf degreeOf smoothingOf nameOf statementOf keywords argumentOf arguments inOrder curveCount surfaceCount fits parse statement many
+unfolding readOf linesOf numberOf decimal numerator denominator nearest whole isReference refer referenceOf cornerOf degreeOf smoothingOf nameOf statementOf keywords argumentOf arguments argumentBytes inOrder curveCount surfaceCount fits parse statement many
 ex1 = refl
 
 small : Rooms
@@ -37,14 +37,14 @@ tab (read m) = tablesOf small m
 tab (refused n p) = tablesOf small nothing
 
 ex2 : tab (readOf small (bytes "cstype bezier\ndeg 1\nv 0 0 0\nv 1.5 0 0\ng top side\ncurv 0 1 -2 -1\nparm u 0 1\nend\n")) .elements ≡ 4 ∷ 0 ∷ 2 ∷ 1 ∷ 0 ∷ 40 ∷ 8 ∷ 0 ∷ 0 ∷ 0 ∷ 0 ∷ 0 ∷ 0 ∷ 0 ∷ 0 ∷ 0 ∷ 0 ∷ 0 ∷ []
-unfolding tab tablesOf readOf linesOf numberOf decimal numerator denominator nearest whole isReference refer referenceOf cornerOf degreeOf smoothingOf nameOf statementOf keywords argumentOf arguments inOrder curveCount surfaceCount fits parse statement small
+unfolding tab tablesOf readOf linesOf numberOf decimal numerator denominator nearest whole isReference refer referenceOf cornerOf degreeOf smoothingOf nameOf statementOf keywords argumentOf arguments argumentBytes inOrder curveCount surfaceCount fits parse statement small
 ex2 = refl
 
 ex3 : tab (readOf small (bytes "cstype bezier\ndeg 1\nv 0 0 0\nv 1.5 0 0\ng top side\ncurv 0 1 -2 -1\nparm u 0 1\nend\n")) .bodies ≡ 1 ∷ 0 ∷ 1 ∷ 0 ∷ 0 ∷ 2 ∷ 0 ∷ 0 ∷ 0 ∷ []
-unfolding tab tablesOf readOf linesOf numberOf decimal numerator denominator nearest whole isReference refer referenceOf cornerOf degreeOf smoothingOf nameOf statementOf keywords argumentOf arguments inOrder curveCount surfaceCount fits parse statement small
+unfolding tab tablesOf readOf linesOf numberOf decimal numerator denominator nearest whole isReference refer referenceOf cornerOf degreeOf smoothingOf nameOf statementOf keywords argumentOf arguments argumentBytes inOrder curveCount surfaceCount fits parse statement small
 ex3 = refl
 
 -- "-1 the last so far": a vertex below the line does not count
 ex4 : tab (readOf small (bytes "v 0 0 0\np -1\nv 1 0 0\n")) .corners ≡ 1 ∷ 0 ∷ 0 ∷ 0 ∷ 0 ∷ 0 ∷ 0 ∷ 0 ∷ 0 ∷ 0 ∷ 0 ∷ 0 ∷ []
-unfolding tab tablesOf readOf linesOf numberOf decimal numerator denominator nearest whole isReference refer referenceOf cornerOf degreeOf smoothingOf nameOf statementOf keywords argumentOf arguments inOrder curveCount surfaceCount fits parse statement small
+unfolding tab tablesOf readOf linesOf numberOf decimal numerator denominator nearest whole isReference refer referenceOf cornerOf degreeOf smoothingOf nameOf statementOf keywords argumentOf arguments argumentBytes inOrder curveCount surfaceCount fits parse statement small
 ex4 = refl

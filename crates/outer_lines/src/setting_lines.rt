@@ -88,7 +88,10 @@ pub fn setting_line(
         Setting::BodyType => form_step(state, settings::take_type(text, at, form, argument_table)),
         Setting::Degree => form_step(state, settings::take_degree(text, at, form)),
         Setting::Group => names_step(state, settings::take_group(text, at, names)),
-        Setting::Smoothing => names_step(state, settings::take_smoothing(text, at, names)),
+        Setting::Smoothing => names_step(
+            state,
+            settings::take_smoothing(text, at, names, argument_table),
+        ),
         Setting::Material => names_step(state, settings::take_material(text, at, names)),
         Setting::PassedOver => passed_line(text, at, state),
     }

@@ -12,13 +12,13 @@ use Rattle.digits.specs.Said.{Said, says, wrong}
 use Rattle.digits.specs.Said as said
 use Rattle.lists.specs.Lists.{same}
 use Rattle.digits.specs.Digits.{natOf, whole, negative}
-use Rattle.digits.specs.Degree.{degreeOf, smoothingOf, nameOf, off}
+use Rattle.digits.specs.Degree.{degreeOf, smoothingOf, nameOf}
 use Rattle.decimals.specs.Number.{unsigned, mantissa, exponent, isExponent, decimal, signed, valueOf, numberOf}
 use Rattle.forms.specs.Reference.{isReference, refer, referenceOf}
 use Rattle.forms.specs.Corner.{Corner, Counts, Parts, split, patterned, cornerOf}
 use Rattle.keywords.specs.declared.Argument.{Argument}
 use Rattle.keywords.specs.declared.Argument.the-variants.{Rational, BasisMatrix, Bezier, Bspline, Cardinal, Taylor, DirectionU, DirectionV, Off, Other}
-use Rattle.keywords.specs.Arguments.{argumentOf}
+use Rattle.keywords.specs.Arguments.{argumentOf, argumentBytes}
 use Rattle.keywords.specs.declared.Statement.{Statement}
 use Rattle.keywords.specs.declared.Statement.the-variants.{Vertex, TextureVertex, VertexNormal, ParameterVertex, BodyType, Degree, Point, Line, Face, Curve, Curve2, Surface, Parameters, Trim, Hole, End, Group, Smoothing, Material, PassedOver, Refused, Unknown}
 use Rattle.model.specs.Model.{Direction, Open, State, curve, curve2, surface}
@@ -97,7 +97,7 @@ degree-said w = twice (whole 3 w) (leb 1 (natOf 0 w) && leb (natOf 0 w) 20) 7 (n
 
 smoothing-said : (w : List ℕ) → mistaken (smoothingOf w) ≡ false
 unfolding smoothingOf
-smoothing-said w = go (same w off)
+smoothing-said w = go (same w (argumentBytes Off))
   where
     go : (t : Bool) → mistaken (cond t (says 0) (said.must (whole 5 w) 6 (said.must (leb (natOf 0 w) 65535) 7 (says (natOf 0 w))))) ≡ false
     go true = refl

@@ -195,13 +195,23 @@ pub fn take_degree(text: &[u8], at: usize, form: Form) -> TakenForm
 }
 
 // An s line, `at` just after its keyword.
-pub fn take_smoothing(text: &[u8], at: usize, names: Names) -> TakenNames
+pub fn take_smoothing(
+    text: &[u8],
+    at: usize,
+    names: Names,
+    argument_table: &[u8; 108],
+) -> TakenNames
     requires { ⌜ at ≤ length (now text) ⌝ }
+    requires { ⌜ now «argument_table» ≡ argumentTable ⌝ }
     ensures { λ r. ⌜ r ≡ smoothingTaken names (restAt (now (text .entry)) at) ⌝ }
 {
     match only_word(text, at) {
         Alone::No => TakenNames::GaveUp,
-        Alone::Word { place, next } => match digits::whole::smoothing_at(text, place) {
+        Alone::Word { place, next } => match digits::whole::smoothing_at(
+            text,
+            place,
+            argument_table,
+        ) {
             Whole::Value { value, end: _ } => TakenNames::Taken {
                 names: Names {
                     group_place: names.group_place,

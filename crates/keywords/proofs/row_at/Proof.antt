@@ -6,8 +6,7 @@ use native.Mathlib.Omega.{arith}
 use borrow.Author.Needs.{needs}
 use denote.Ref.{now}
 use lib.ListN.{length, getD}
-use Rattle.keywords.proofs.Compare.{ahead-within, first-differs}
-use Rattle.keywords.proofs.Walk.{Walked, turn, here, not-here}
+use Rattle.keywords.proofs.Walk.{Walked, start, turn, here, nowhere, differs, not-here}
 use Rattle.keywords.proofs.row_at.Statement.{statement}
 use Rattle.keywords.proofs.row_at.Tie as tie
 
@@ -18,33 +17,30 @@ abbrev μ-loop : tie.MeasureT-loop
 μ-loop text at table rows first from₀ left₀ from left = left
 
 shared-slice-read-first : tie.Need-shared-slice-read-first Inv-loop μ-loop
-shared-slice-read-first c =
-    let a = c .before .before .before .args in
-    ahead-within (now (a .text)) (a .at) (c .before .before .before .pre .0)
+shared-slice-read-first c = c .before .before .before .pre .0
 
 loop-holds : tie.Need-loop-holds Inv-loop μ-loop
-loop-holds c = record { rest = refl; room = omega (arith, c .before .before .before .pre .1) }
+loop-holds c =
+    let a = c .before .before .before in
+    start (now (a .args .text)) (a .args .at) (now (a .args .table)) (a .args .rows) (a .pre .1 .0) (a .pre .1 .1)
 
 shared-slice-read-if1 : tie.Need-shared-slice-read-if1 Inv-loop μ-loop
-shared-slice-read-if1 c = omega (arith, c .before .before .loop .inv .room)
+shared-slice-read-if1 c = omega (arith, c .before .before .loop .inv .room, c .before .before .loop .inv .place)
 
 same-word-requires : tie.Need-same-word-requires Inv-loop μ-loop
 same-word-requires c κs = search needs
 
-add-t15 : tie.Need-add-t15 Inv-loop μ-loop
-add-t15 c = omega arith
-
-shared-slice-read-t17 : tie.Need-shared-slice-read-t17 Inv-loop μ-loop
-shared-slice-read-t17 c = omega arith
+sub-t15 : tie.Need-sub-t15 Inv-loop μ-loop
+sub-t15 c = omega (arith, c .before .before .before .before .before .loop .inv .place)
 
 returns : tie.Need-returns Inv-loop μ-loop
 returns c =
-    let a = c .before .before .before .before .before .before .before .before .before .before .args in
-    let l = c .before .before .before .before .before .before .loop in
-    here (now (a .text)) (a .at) (now (a .table)) (a .rows) (l .from) (l .left) (l .inv) (c .before .before .before .before .before .loop-test .taken) (c .before .before .same-word .result) (c .before .before .same-word .ensures) (c .before .if2 .taken)
+    let a = c .before .before .before .before .before .before .before .before .before .args in
+    let l = c .before .before .before .before .before .loop in
+    here (now (a .text)) (a .at) (now (a .table)) (a .rows) (l .from) (l .left) (l .inv) (c .before .before .before .before .loop-test .taken) (c .before .same-word .result) (c .before .same-word .ensures) (c .if2 .taken)
 
 add-from : tie.Need-add-from Inv-loop μ-loop
-add-from c = omega (arith, c .before .before .before .loop .inv .room)
+add-from c = omega (arith, c .before .before .before .loop .inv .room, c .before .before .before .loop .inv .place)
 
 sub-left : tie.Need-sub-left Inv-loop μ-loop
 sub-left c = omega arith
@@ -57,15 +53,15 @@ loop-again c =
     let a = c .before .before .before .before .before .before .before .args in
     let l = c .before .before .before .loop in
     turn (now (a .text)) (a .at) (now (a .table)) (a .rows) (l .from) (l .left) (l .inv) (c .before .before .loop-test .taken)
-    (⊎-elim (λ w. not-here (now (a .text)) (a .at) (now (a .table)) (l .from) (w .1 .result) (c .before .before .before .before .before .before .before .pre .0) (w .1 .ensures) (w .2 .left))
-    (λ w. first-differs (now (a .text)) (now (a .table)) (a .at) (l .from) (c .before .before .before .before .before .before .before .pre .0) (omega (arith, l .inv .room)) (λ e. w .left (sym e)))
+    (⊎-elim (λ w. not-here (now (a .text)) (a .at) (now (a .table)) (a .rows) (l .from) (l .left) (l .inv) (c .before .before .loop-test .taken) (w .1 .result) (w .1 .ensures) (w .2 .left))
+    (λ w. differs (now (a .text)) (a .at) (now (a .table)) (a .rows) (l .from) (l .left) (l .inv) (c .before .before .loop-test .taken) (c .before .before .before .before .before .before .before .pre .0) (λ e. w .left (sym e)))
     (c .if1 .came))
 
 returns-2 : tie.Need-returns-2 Inv-loop μ-loop
 returns-2 c =
+    let a = c .before .before .before .before .before .args in
     let l = c .before .loop in
-    let z : l .left ≡ 0 = omega arith in
-    sym (l .inv .rest ∙ rw z refl)
+    nowhere (now (a .text)) (a .at) (now (a .table)) (a .rows) (l .from) (l .left) (l .inv) (omega arith)
 
 pub row-at-spec : {M : Type 1} → statement M
 row-at-spec =
@@ -77,8 +73,7 @@ row-at-spec =
     loop-holds
     shared-slice-read-if1
     same-word-requires
-    add-t15
-    shared-slice-read-t17
+    sub-t15
     returns
     add-from
     sub-left

@@ -26,7 +26,7 @@ smoothing-at-requires c κs =
     let only = L.alone-word (now (a .text)) (a .at) _ (c .before .before .before .only-word .ensures) (c .before .place .given .1) in
     let more = only .more in
     let to = only .to in
-    omega arith
+    (omega arith, c .before .before .before .before .before .pre .1)
 
 enum-known-value : tie.Need-enum-known-value
 enum-known-value c = search needs

@@ -1,0 +1,52 @@
+-- The word in the row is its spelling.
+use Prim.Native.Nat.{ℕ}
+use mathlib.Core.Path.{subst}
+use mathlib.Core.List.{List}
+use borrow.Author.Needs.{needs}
+use denote.Ref.{now}
+use lib.ListN.{length}
+use Rattle.keywords.specs.Rows.{spellingAt}
+use Rattle.keywords.specs.Keywords.{keywords}
+use Rattle.keywords.proofs.Rows.{spelled-in, spelled-none}
+use Rattle.keywords.proofs.Keywords.{laid}
+use Rattle.keywords.proofs.Write.{Wrote, wrote-nothing, no-word}
+use Rattle.keywords.proofs.keyword_spelling.Statement.{statement}
+use Rattle.keywords.proofs.keyword_spelling.Tie as tie
+
+keyword-table-requires : tie.Need-keyword-table-requires
+keyword-table-requires c κs = search needs
+
+slice-aggregate-write-row : tie.Need-slice-aggregate-write-row
+slice-aggregate-write-row c = search needs
+
+mul-write-row : tie.Need-mul-write-row
+mul-write-row c = search needs
+
+write-row-requires : tie.Need-write-row-requires
+write-row-requires c κs = search needs
+
+same-length : tie.Need-same-length
+same-length c = search needs
+
+returns : tie.Need-returns
+returns c =
+    let a = c .before .before .before .before .before .before .before .before .args in
+    let t = c .before .before .before .before .before .before .keyword-table in
+    subst (λ (w : List ℕ). Wrote (now (a .out)) w (c .before .before .write-row .result) (c .before .before .write-row .last .1 .1 .0)) (spelled-in laid (t .result) (a .row) (t .ensures) (c .before .before .before .before .before .if1 .taken)) (c .before .before .write-row .ensures)
+
+returns-2 : tie.Need-returns-2
+returns-2 c =
+    let a = c .before .before .before .args in
+    wrote-nothing (now (a .out)) (spellingAt keywords (a .row)) (no-word (length (now (a .out))) _ (spelled-none laid (a .row) (c .if1 .left)))
+
+pub keyword-spelling-spec : {M : Type 1} → statement M
+keyword-spelling-spec =
+    tie.close
+    (tie.spec
+    keyword-table-requires
+    slice-aggregate-write-row
+    mul-write-row
+    write-row-requires
+    same-length
+    returns
+    returns-2)
