@@ -155,6 +155,12 @@ pub fn certain(trusted: bool, a: Place, b: Place, gap: Gap, guess: Place) -> boo
     trusted & same(guess, other)
 }
 
+// A point worked in doubles alone, and whether every place on the way was certain.
+pub struct Guess {
+    pub place: Place,
+    pub sure: bool,
+}
+
 // Whether sums go to the nearest double, which beside the anchor are whole numbers: a host may have set another rounding.
 pub fn to_nearest(a: f64) -> bool {
     (a + 0.75 == a + 1.0) & (a + 0.25 == a)
@@ -185,4 +191,40 @@ pub fn descend(row: Row, trusted: bool, x: &[i32], along: Along, chosen: usize, 
         rest.count = last;
     }
     rest.places[0]
+}
+
+// Level by level in doubles alone, up to a level with a place that is not certain. It has one call, with the degree a number in the program, and so is written out there.
+pub fn guess_point(row: Row, trusted: bool, x: &[i32], along: Along, chosen: usize, t: i32) -> Guess
+    requires { ⌜ On along (now x) t chosen × Encoded (row .places) (along .degree + 1) ⌝ }
+    ensures { λ g. ⌜ (g .sure ≡ true → Descended (direction along (now (x .entry))) t (row .places) (g .place)) ⌝ }
+{
+    let first = first_gap(x, along, chosen, t);
+    let mut work = row;
+    let mut last = along.degree;
+    while 0 < last {
+        let mut sure = true;
+        let mut a = work.places[0];
+        let mut i = 0;
+        while i < last {
+            let b = work.places[i + 1];
+            let gap = gap_of(x, along, chosen, t, last - 1, i, first);
+            let p = guessed(a, b, gap);
+            sure = sure & certain(trusted, a, b, gap, p);
+            work.places[i] = p;
+            a = b;
+            i += 1;
+        }
+        if !sure {
+            return Guess {
+                place: a,
+                sure: false,
+            };
+        }
+        work.count = last;
+        last -= 1;
+    }
+    Guess {
+        place: work.places[0],
+        sure: true,
+    }
 }

@@ -13,6 +13,7 @@ use guess::certain;
 use guess::exact_at;
 use guess::first_gap;
 use guess::gap_of;
+use guess::guess_point;
 use guess::guessed;
 use guess::to_nearest;
 use quick::gather_span;
@@ -74,43 +75,58 @@ pub fn write_points(
             row = gather_span(values, corners, first, 0, axis, along, next);
             chosen = next;
         }
-        let one_gap = first_gap(x, along, chosen, t);
-        // The first level reads the controls and writes the working row, so that nothing is copied.
-        let mut a = row.places[0];
-        let mut i = 0;
-        while i < n {
-            let b = row.places[i + 1];
-            let gap = gap_of(x, along, chosen, t, n - 1, i, one_gap);
-            let mut p = guessed(a, b, gap);
-            if !certain(trusted, a, b, gap, p) {
-                p = exact_at(a, b, x, along, chosen, t, n - 1, i);
-            }
-            rest.places[i] = p;
-            a = b;
-            i += 1;
+        // A cubic is guessed whole first: with its degree a number in the program the compiler writes the three levels out.
+        let mut made = zero;
+        let mut sure = false;
+        if n == 3 {
+            let cubic = Along {
+                basis: along.basis,
+                degree: 3,
+                controls: along.controls,
+            };
+            let guess = guess_point(row, trusted, x, cubic, chosen, t);
+            made = guess.place;
+            sure = guess.sure;
         }
-        rest.count = n;
-        while 1 < rest.count {
-            let last = rest.count - 1;
-            let mut a = rest.places[0];
+        if !sure {
+            let one_gap = first_gap(x, along, chosen, t);
+            // The first level reads the controls and writes the working row, so that nothing is copied.
+            let mut a = row.places[0];
             let mut i = 0;
-            while i < last {
-                let b = rest.places[i + 1];
-                let gap = gap_of(x, along, chosen, t, last - 1, i, one_gap);
+            while i < n {
+                let b = row.places[i + 1];
+                let gap = gap_of(x, along, chosen, t, n - 1, i, one_gap);
                 let mut p = guessed(a, b, gap);
                 if !certain(trusted, a, b, gap, p) {
-                    p = exact_at(a, b, x, along, chosen, t, last - 1, i);
+                    p = exact_at(a, b, x, along, chosen, t, n - 1, i);
                 }
                 rest.places[i] = p;
                 a = b;
                 i += 1;
             }
-            rest.count = last;
-        }
-        // Degree 0 has no level.
-        let mut made = rest.places[0];
-        if n == 0 {
-            made = row.places[0];
+            rest.count = n;
+            while 1 < rest.count {
+                let last = rest.count - 1;
+                let mut a = rest.places[0];
+                let mut i = 0;
+                while i < last {
+                    let b = rest.places[i + 1];
+                    let gap = gap_of(x, along, chosen, t, last - 1, i, one_gap);
+                    let mut p = guessed(a, b, gap);
+                    if !certain(trusted, a, b, gap, p) {
+                        p = exact_at(a, b, x, along, chosen, t, last - 1, i);
+                    }
+                    rest.places[i] = p;
+                    a = b;
+                    i += 1;
+                }
+                rest.count = last;
+            }
+            // Degree 0 has no level.
+            made = rest.places[0];
+            if n == 0 {
+                made = row.places[0];
+            }
         }
         let point = point_at(made);
         let at = axes * j as usize;

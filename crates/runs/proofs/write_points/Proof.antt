@@ -3,6 +3,7 @@
 use borrow.Author.Needs.{needs}
 use mathlib.Core.Path.{_≡_, refl, sym, ap, _∙_, subst, subst₂}
 use mathlib.Core.Logic.{⊎-elim}
+use mathlib.Core.Bool.{true}
 use mathlib.Core.List.{List, _++_}
 use Prim.Native.Nat.{ℕ, suc, _+_, _*_, _-_, _≤_, _<_}
 use native.Mathlib.Numerals.{add-one}
@@ -15,6 +16,7 @@ use borrow.Author.Tests.{not-false}
 use mir.Syntax.{w32}
 use mir.Val.{toZ, ofZ}
 use mir.Facts.{toZ-ofZ}
+use Rattle.lists.proofs.Tests.{never}
 use Rattle.whole.proofs.Bits.{read-back-small}
 use Rattle.curves.specs.Directions.{Direction}
 use Rattle.curves.specs.Sampled.{pyramid, partAt, gapAt}
@@ -45,40 +47,40 @@ gaps along x t = gapAt (direction along x) t
 
 -- the first level, from the controls
 abbrev Inv-loop2 : tie.InvT-loop2
-Inv-loop2 points values corners first axis axes x along start end steps chosen row trusted n rest₀ j t next one-gap a₀ i₀ rest a i =
+Inv-loop2 points values corners first axis axes x along start end steps chosen row zero trusted n rest₀ j t next sure one-gap a₀ i₀ rest a i =
     (i ≤ n) × (a ≡ placeAt (row .places) i) × (length (rest .places) ≡ 21)
     × Level (parts along x (toZ w32 t) (n - 1)) (gaps along x (toZ w32 t) (n - 1)) (row .places) (rest .places) i
 
 abbrev μ-loop2 : tie.MeasureT-loop2
-μ-loop2 points values corners first axis axes x along start end steps chosen row trusted n rest₀ j t next one-gap a₀ i₀ rest a i = n - i
+μ-loop2 points values corners first axis axes x along start end steps chosen row zero trusted n rest₀ j t next sure one-gap a₀ i₀ rest a i = n - i
 
 -- a level
 abbrev Inv-loop4 : tie.InvT-loop4
-Inv-loop4 points values corners first axis axes x along start end steps chosen row trusted n rest₀ j t next one-gap h last a₀ i₀ rest a i =
+Inv-loop4 points values corners first axis axes x along start end steps chosen row zero trusted n rest₀ j t next sure one-gap h last a₀ i₀ rest a i =
     (i ≤ last) × (rest .count ≡ rest₀ .count) × (a ≡ placeAt (rest₀ .places) i) × Left (rest₀ .places) (rest .places) i
     × Level (parts along x (toZ w32 t) (last - 1)) (gaps along x (toZ w32 t) (last - 1)) (rest₀ .places) (rest .places) i
 
 abbrev μ-loop4 : tie.MeasureT-loop4
-μ-loop4 points values corners first axis axes x along start end steps chosen row trusted n rest₀ j t next one-gap h last a₀ i₀ rest a i = last - i
+μ-loop4 points values corners first axis axes x along start end steps chosen row zero trusted n rest₀ j t next sure one-gap h last a₀ i₀ rest a i = last - i
 
 -- what is left of the rows comes to what the controls come to; a point of degree 0 has no row
 abbrev Inv-loop3 : tie.InvT-loop3
-Inv-loop3 points values corners first axis axes x along start end steps chosen row trusted n rest₀ j t next one-gap h rest =
+Inv-loop3 points values corners first axis axes x along start end steps chosen row zero trusted n rest₀ j t next sure one-gap h rest =
     Encoded (rest .places) (rest .count) × (rest .count ≤ n) × (0 < n → 0 < rest .count) × (length (rest .places) ≡ 21)
     × (0 < n → (k : Axis) → pyramid (parts along x (toZ w32 t)) (gaps along x (toZ w32 t)) (rest .count - 1) (numberAt (rest .places) k)
     ≡ pyramid (parts along x (toZ w32 t)) (gaps along x (toZ w32 t)) n (numberAt (row .places) k))
 
 abbrev μ-loop3 : tie.MeasureT-loop3
-μ-loop3 points values corners first axis axes x along start end steps chosen row trusted n rest₀ j t next one-gap h rest = rest .count
+μ-loop3 points values corners first axis axes x along start end steps chosen row zero trusted n rest₀ j t next sure one-gap h rest = rest .count
 
 abbrev Inv-loop : tie.InvT-loop
-Inv-loop points₀ values corners first axis axes x along start end steps chosen₀ row₀ trusted n rest₀ j₀ points chosen row rest j =
+Inv-loop points₀ values corners first axis axes x along start end steps chosen₀ row₀ zero trusted n rest₀ j₀ points chosen row rest j =
     (j ≤ steps + 1) × (length points ≡ length points₀) × On along x (parameterAt (toZ w32 start) (toZ w32 end) steps (j - 1)) chosen
     × (points ≡ pointsUpto values corners first axis axes along x (toZ w32 start) (toZ w32 end) steps j ++ drop (axes * j) points₀)
     × Spanned row values corners first 0 axis along chosen × (length (rest .places) ≡ 21)
 
 abbrev μ-loop : tie.MeasureT-loop
-μ-loop points₀ values corners first axis axes x along start end steps chosen₀ row₀ trusted n rest₀ j₀ points chosen row rest j = steps + 1 - j
+μ-loop points₀ values corners first axis axes x along start end steps chosen₀ row₀ zero trusted n rest₀ j₀ points chosen row rest j = steps + 1 - j
 
 find-requires : tie.Need-find-requires Inv-loop2 μ-loop2 Inv-loop4 μ-loop4 Inv-loop3 μ-loop3 Inv-loop μ-loop
 find-requires c κs =
@@ -172,19 +174,33 @@ module _ (c : tie.Joined1 Inv-loop2 μ-loop2 Inv-loop4 μ-loop4 Inv-loop3 μ-loo
       (λ w. subst₂ (Ready p) (sym (w .1)) (sym (w .2)) (subst (λ (g : ℕ). On (s p .args .along) (s p .args .x .now) (a p (l p .loop .j)) g) (w .0 .left) o, l p .loop .inv .4))
       (c .if1 .came)
 
+-- the same direction with its degree named
+abbrev named : Along → ℕ → Along
+named along n = record { basis = along .basis; degree = n; controls = along .controls }
+
+guess-point-requires : tie.Need-guess-point-requires Inv-loop2 μ-loop2 Inv-loop4 μ-loop4 Inv-loop3 μ-loop3 Inv-loop μ-loop
+guess-point-requires c κs =
+    let f = c .before in
+    let v = s (p f) .args in
+    let g = spanned f in
+    rw (t-bits (p f)) (
+      subst (λ (n : ℕ). On (named (v .along) n) (v .x .now) (a (p f) (l (p f) .loop .j)) (f .if1 .chosen)) (c .if2 .taken) (g .0),
+      record { most = omega (arith, g .1 .long); each = λ j h. g .1 .each j (omega (arith, c .if2 .taken)) .whole },
+    )
+
 first-gap-requires : tie.Need-first-gap-requires Inv-loop2 μ-loop2 Inv-loop4 μ-loop4 Inv-loop3 μ-loop3 Inv-loop μ-loop
-first-gap-requires c κs = rw (t-bits (p c)) (spanned c .0)
+first-gap-requires c κs = let f = c .before .before in rw (t-bits (p f)) (spanned f .0)
 
 element-copy-out-a : tie.Need-element-copy-out-a Inv-loop2 μ-loop2 Inv-loop4 μ-loop4 Inv-loop3 μ-loop3 Inv-loop μ-loop
 element-copy-out-a c = search needs
 
 -- ---- the first level
 loop2-holds : tie.Need-loop2-holds Inv-loop2 μ-loop2 Inv-loop4 μ-loop4 Inv-loop3 μ-loop3 Inv-loop μ-loop
-loop2-holds c = (omega arith, refl, l (p (c .before .before)) .loop .inv .5, made-none)
+loop2-holds c = (omega arith, refl, l (p (c .before .before .before .before)) .loop .inv .5, made-none)
 
 module _ (c : tie.In-loop2 Inv-loop2 μ-loop2 Inv-loop4 μ-loop4 Inv-loop3 μ-loop3 Inv-loop μ-loop) where
   abbrev from : tie.Joined1 Inv-loop2 μ-loop2 Inv-loop4 μ-loop4 Inv-loop3 μ-loop3 Inv-loop μ-loop
-  from = c .before .before .before .before
+  from = c .before .before .before .before .before .before
 
   abbrev n : ℕ
   n = s (p from) .args .along .degree
@@ -236,12 +252,12 @@ exact-at-requires c κs =
     let e = both b in
     rw (t-bits (p (from b))) (e .0, e .1, spanned (from b) .0, omega (arith, inside b), omega (arith, inside b))
 
-module _ (c : tie.Joined2 Inv-loop2 μ-loop2 Inv-loop4 μ-loop4 Inv-loop3 μ-loop3 Inv-loop μ-loop) where
+module _ (c : tie.Joined4 Inv-loop2 μ-loop2 Inv-loop4 μ-loop4 Inv-loop3 μ-loop3 Inv-loop μ-loop) where
   abbrev turn : tie.In-loop2 Inv-loop2 μ-loop2 Inv-loop4 μ-loop4 Inv-loop3 μ-loop3 Inv-loop μ-loop
   turn = c .before .before .before .before .before
 
   new : let v = s (p (from turn)) .args in let t = toZ w32 (ofZ w32 (p (from turn) .parameter-at .result)) in let row = from turn .if1 .row .places in
-      Next (parts (v .along) (v .x .now) t (n turn - 1) (at turn)) (gaps (v .along) (v .x .now) t (n turn - 1) (at turn)) (placeAt row (at turn)) (placeAt row (suc (at turn))) (c .if2 .p)
+      Next (parts (v .along) (v .x .now) t (n turn - 1) (at turn)) (gaps (v .along) (v .x .now) t (n turn - 1) (at turn)) (placeAt row (at turn)) (placeAt row (suc (at turn))) (c .if4 .p)
   new =
       let v = s (p (from turn)) .args in
       let t = toZ w32 (ofZ w32 (p (from turn) .parameter-at .result)) in
@@ -253,7 +269,7 @@ module _ (c : tie.Joined2 Inv-loop2 μ-loop2 Inv-loop4 μ-loop4 Inv-loop3 μ-loo
       ⊎-elim
       (λ w. subst N (sym (w .2)) (next-of e f (w .1 .ensures)))
       (λ w. subst N (sym (w .1)) (next-place g e f (c .before .certain .ensures (not-false _ (w .0 .left)) t (g .fair))))
-      (c .if2 .came)
+      (c .if4 .came)
 
 mul-p : tie.Need-mul-p Inv-loop2 μ-loop2 Inv-loop4 μ-loop4 Inv-loop3 μ-loop3 Inv-loop μ-loop
 mul-p c = omega (arith, few (turn c), inside (turn c))
@@ -270,14 +286,14 @@ loop2-less c = omega (arith, few (turn c), inside (turn c))
 loop2-again : tie.Need-loop2-again Inv-loop2 μ-loop2 Inv-loop4 μ-loop4 Inv-loop3 μ-loop3 Inv-loop μ-loop
 loop2-again c =
     let m = turn c .before .loop2 in
-    let q = c .if2 .p in
+    let q = c .if4 .p in
     (omega (arith, inside (turn c)), refl, length-set (m .rest .places) (m .i) q ∙ m .inv .2, made-more q (m .inv .3) (omega (arith, m .inv .2, few (turn c), inside (turn c))) (new c))
 
 -- ---- the levels after it
 loop3-holds : tie.Need-loop3-holds Inv-loop2 μ-loop2 Inv-loop4 μ-loop4 Inv-loop3 μ-loop3 Inv-loop μ-loop
 loop3-holds c =
     let m = c .before .loop2 in
-    let f = c .before .before .before .before in
+    let f = c .before .before .before .before .before .before in
     let v = s (p f) .args in
     let t = toZ w32 (ofZ w32 (p f .parameter-at .result)) in
     let n = v .along .degree in
@@ -306,7 +322,7 @@ module _ (c : tie.In-loop4 Inv-loop2 μ-loop2 Inv-loop4 μ-loop4 Inv-loop3 μ-lo
   level = c .before .before .before .before
 
   abbrev begun : tie.Joined1 Inv-loop2 μ-loop2 Inv-loop4 μ-loop4 Inv-loop3 μ-loop3 Inv-loop μ-loop
-  begun = level .before .before .before .before .before
+  begun = level .before .before .before .before .before .before .before
 
   abbrev places : List Place
   places = level .loop3 .rest .places
@@ -375,12 +391,12 @@ exact-at-requires-2 c κs =
     let e = pair b in
     rw (t-bits (p (begun b))) (e .0, e .1, spanned (begun b) .0, omega (arith, within b, least b), omega (arith, within b))
 
-module _ (c : tie.Joined3 Inv-loop2 μ-loop2 Inv-loop4 μ-loop4 Inv-loop3 μ-loop3 Inv-loop μ-loop) where
+module _ (c : tie.Joined5 Inv-loop2 μ-loop2 Inv-loop4 μ-loop4 Inv-loop3 μ-loop3 Inv-loop μ-loop) where
   abbrev step : tie.In-loop4 Inv-loop2 μ-loop2 Inv-loop4 μ-loop4 Inv-loop3 μ-loop3 Inv-loop μ-loop
   step = c .before .before .before .before .before
 
   newer : let v = s (p (begun step)) .args in let t = toZ w32 (ofZ w32 (p (begun step) .parameter-at .result)) in let r = count step - 1 - 1 in
-      Next (parts (v .along) (v .x .now) t r (here step)) (gaps (v .along) (v .x .now) t r (here step)) (placeAt (places step) (here step)) (placeAt (places step) (suc (here step))) (c .if3 .p)
+      Next (parts (v .along) (v .x .now) t r (here step)) (gaps (v .along) (v .x .now) t r (here step)) (placeAt (places step) (here step)) (placeAt (places step) (suc (here step))) (c .if5 .p)
   newer =
       let v = s (p (begun step)) .args in
       let t = toZ w32 (ofZ w32 (p (begun step) .parameter-at .result)) in
@@ -392,7 +408,7 @@ module _ (c : tie.Joined3 Inv-loop2 μ-loop2 Inv-loop4 μ-loop4 Inv-loop3 μ-loo
       ⊎-elim
       (λ w. subst N (sym (w .2)) (next-of e f (w .1 .ensures)))
       (λ w. subst N (sym (w .1)) (next-place g e f (c .before .certain2 .ensures (not-false _ (w .0 .left)) t (g .fair))))
-      (c .if3 .came)
+      (c .if5 .came)
 
 mul-p-2 : tie.Need-mul-p-2 Inv-loop2 μ-loop2 Inv-loop4 μ-loop4 Inv-loop3 μ-loop3 Inv-loop μ-loop
 mul-p-2 c = omega (arith, most (step c), within (step c))
@@ -409,7 +425,7 @@ loop4-less c = omega (arith, most (step c), within (step c))
 loop4-again : tie.Need-loop4-again Inv-loop2 μ-loop2 Inv-loop4 μ-loop4 Inv-loop3 μ-loop3 Inv-loop μ-loop
 loop4-again c =
     let m = step c .before .loop4 .inv in
-    let q = c .if3 .p in
+    let q = c .if5 .p in
     (omega (arith, within (step c)), m .1, next-is (step c), left-less q (m .3), made-more q (m .4) (long (step c)) (newer c))
 
 loop3-less : tie.Need-loop3-less Inv-loop2 μ-loop2 Inv-loop4 μ-loop4 Inv-loop3 μ-loop3 Inv-loop μ-loop
@@ -419,7 +435,7 @@ loop3-again : tie.Need-loop3-again Inv-loop2 μ-loop2 Inv-loop4 μ-loop4 Inv-loo
 loop3-again c =
     let m = c .before .loop4 in
     let u = c .before .before .before .before in
-    let f = u .before .before .before .before .before in
+    let f = u .before .before .before .before .before .before .before in
     let v = s (p f) .args in
     let t = toZ w32 (ofZ w32 (p f .parameter-at .result)) in
     let last = u .loop3 .rest .count - 1 in
@@ -441,12 +457,9 @@ element-copy-out-made c = search needs
 element-copy-out-made-2 : tie.Need-element-copy-out-made-2 Inv-loop2 μ-loop2 Inv-loop4 μ-loop4 Inv-loop3 μ-loop3 Inv-loop μ-loop
 element-copy-out-made-2 c = search needs
 
-module _ (c : tie.Joined4 Inv-loop2 μ-loop2 Inv-loop4 μ-loop4 Inv-loop3 μ-loop3 Inv-loop μ-loop) where
-  abbrev down : tie.At-loop3 Inv-loop2 μ-loop2 Inv-loop4 μ-loop4 Inv-loop3 μ-loop3 Inv-loop μ-loop
-  down = c .before .before .before
-
+module _ (c : tie.Joined3 Inv-loop2 μ-loop2 Inv-loop4 μ-loop4 Inv-loop3 μ-loop3 Inv-loop μ-loop) where
   abbrev start : tie.Joined1 Inv-loop2 μ-loop2 Inv-loop4 μ-loop4 Inv-loop3 μ-loop3 Inv-loop μ-loop
-  start = down .before .before .before .before .before
+  start = c .before .before
 
   abbrev D : Direction
   D = direction (s (p start) .args .along) (s (p start) .args .x .now)
@@ -454,22 +467,45 @@ module _ (c : tie.Joined4 Inv-loop2 μ-loop2 Inv-loop4 μ-loop4 Inv-loop3 μ-loo
   abbrev T : ℤ
   T = toZ w32 (ofZ w32 (p start .parameter-at .result))
 
-  worked : Descended D T (start .if1 .row .places) (c .if4 .made)
+  abbrev Worked : Place → Type 0
+  Worked q = Descended D T (start .if1 .row .places) q
+
+  -- guessed, where each place is certain
+  guessed : c .before .if2 .sure ≡ true → Worked (c .before .if2 .made)
+  guessed h =
+      let v = s (p start) .args in
+      ⊎-elim
+      (λ e. subst Worked (sym (e .3))
+      (subst (λ (n : ℕ). Descended (direction (named (v .along) n) (v .x .now)) T (start .if1 .row .places) (e .1 .result .place)) (sym (e .0 .taken)) (e .1 .ensures (sym (e .4) ∙ h))))
+      (λ e. never (sym (e .2) ∙ h))
+      (c .before .if2 .came)
+
+  worked : Worked (c .if3 .made)
   worked =
-      let w = down .loop3 .inv in
       let g = spanned start .1 in
       ⊎-elim
-      (λ e. subst (Descended D T (start .if1 .row .places)) (sym (e .2)) (record {
+      (λ e. subst Worked (sym (e .11)) (record {
         whole = g .each 0 (omega arith) .whole;
-        is = λ k. sym (pyramid-one (partAt D T) (gapAt D T) (D .degree) (numberAt (start .if1 .row .places) k) (e .0 .taken));
+        is = λ k. sym (pyramid-one (partAt D T) (gapAt D T) (D .degree) (numberAt (start .if1 .row .places) k) (e .8 .taken));
       }))
-      (λ e. let some : 0 < D .degree = omega (arith, e .0 .left) in
-      let one : down .loop3 .rest .count - 1 ≡ 0 = omega (arith, c .before .before .loop3-test .left) in
-      subst (Descended D T (start .if1 .row .places)) (sym (e .1)) (record {
+      (⊎-elim
+      (λ e. let w = e .5 .inv in
+      let some : 0 < D .degree = omega (arith, e .8 .left) in
+      let one : e .5 .rest .count - 1 ≡ 0 = omega (arith, e .6 .left) in
+      subst Worked (sym (e .10)) (record {
         whole = w .0 .each 0 (w .2 some);
-        is = λ k. sym (pyramid-one (partAt D T) (gapAt D T) (down .loop3 .rest .count - 1) (numberAt (down .loop3 .rest .places) k) one) ∙ w .4 some k;
+        is = λ k. sym (pyramid-one (partAt D T) (gapAt D T) (e .5 .rest .count - 1) (numberAt (e .5 .rest .places) k) one) ∙ w .4 some k;
       }))
-      (c .if4 .came)
+      (λ e. subst Worked (sym (e .2)) (guessed (not-false _ (e .0 .left)))))
+      (c .if3 .came)
+
+  long-rest : length (c .if3 .rest .places) ≡ 21
+  long-rest =
+      let Long : Row → Type 0 = λ r. length (r .places) ≡ 21 in
+      ⊎-elim
+      (λ e. subst Long (sym (e .10)) (e .5 .inv .3))
+      (⊎-elim (λ e. subst Long (sym (e .9)) (e .5 .inv .3)) (λ e. subst Long (sym (e .1)) (l (p start) .loop .inv .5)))
+      (c .if3 .came)
 
 point-at-requires : tie.Need-point-at-requires Inv-loop2 μ-loop2 Inv-loop4 μ-loop4 Inv-loop3 μ-loop3 Inv-loop μ-loop
 point-at-requires c κs = worked c .whole
@@ -534,7 +570,7 @@ loop-again c =
       subst (λ (z : ℤ). On (v .along) (v .x .now) z (f .if1 .chosen)) (ap (a q) i) (g .0),
       e,
       g .1,
-      down (k .before) .loop3 .inv .3,
+      long-rest (k .before),
     )
 
 same-length : tie.Need-same-length Inv-loop2 μ-loop2 Inv-loop4 μ-loop4 Inv-loop3 μ-loop3 Inv-loop μ-loop
@@ -568,6 +604,7 @@ write-points-spec =
     add-search
     search-requires
     gather-span-requires-2
+    guess-point-requires
     first-gap-requires
     element-copy-out-a
     loop2-holds
