@@ -33,6 +33,18 @@ def exponents(rng):
     return full(rng, "e")
 
 
+def half_named(rng):
+    """Triangles that name every other vertex of each kind."""
+    count = 0
+    while True:
+        kinds = [("v", 3, 900, 6), ("vt", 2, 1, 6), ("vn", 3, 1, 4)]
+        lines = [f"{kind} {_numbers(rng, numbers, most, places)}" for kind, numbers, most, places in kinds for _ in range(1000)]
+        for at in range(count + 1, count + 995, 2):
+            lines.append("f " + " ".join(f"{k}/{k}/{k}" for k in (at, at + 2, at + 4)))
+        count += 1000
+        yield "\n".join(lines) + "\n"
+
+
 def long_lines(rng):
     """Polygons of 4,000 corners."""
     count = 0
@@ -81,6 +93,7 @@ KINDS = {
     "polygons of 4,000 corners": long_lines,
     "curves and surfaces": free_form,
     "one single line": one_line,
+    "half of them named": half_named,
 }
 
 

@@ -5,6 +5,7 @@
  *     O rooms     text length; the text. It is read into tables of the lengths that kuhlabires_rooms gives
  *     T tidy      text length, eleven table lengths, buffer length, number of the weights; the text
  *     S set       text length, nine used counts, eleven table lengths; the text, the tables' bytes. No answer
+ *     W sweep     length of the list of new numbers. The tables and used counts are then those that it leaves
  * and of the text, the tables and the used counts that one of these left:
  *     C curve     element, t
  *     F surface   element, s, t
@@ -184,6 +185,30 @@ static void set(void) {
     keep_tables();
 }
 
+static void sweep(void) {
+    size_t length = number();
+    struct block numbers = lend(4 * length);
+    size_t needed = 4 * ((size_t)used.v + used.vt + used.vn + used.vp);
+    not_to_be_looked_at(numbers);
+    kuhlabires_swept r = kuhlabires_sweep(used, LEND(&tables), (uint32_t *)(void *)numbers.data, length);
+    left_as_it_was(numbers, r.refusal == 0 ? needed : 0, numbers.size);
+    kuhlabires_used before = used;
+    used = r.used;
+    say_head('W', unchanged(text, text_before) && tables_intact(&tables) && intact(numbers));
+    say_number(r.refusal);
+    say_used();
+    say_number(r.dropped.v);
+    say_number(r.dropped.vt);
+    say_number(r.dropped.vn);
+    say_number(r.dropped.vp);
+    say_tables();
+    say(numbers.data, numbers.size);
+    if (r.refusal != 0) used = before;
+    take_back(numbers);
+    take_tables_back(&tables_before);
+    keep_tables();
+}
+
 static void point(char letter) {
     uint32_t element = (uint32_t)number();
     uint32_t s = letter == 'C' ? 0 : (uint32_t)number(), t = (uint32_t)number();
@@ -275,6 +300,7 @@ int main(void) {
         case 'O': read_in_rooms(); break;
         case 'T': tidy_text(); break;
         case 'S': set(); break;
+        case 'W': sweep(); break;
         case 'B':
         case 'C':
         case 'F': point(letter); break;

@@ -386,6 +386,99 @@ static void sampled(const struct tables *t, kuhlabires_used used, uint32_t numbe
     }
 }
 
+/* ---- The sweep ---- */
+
+/* Where the records of each kind begin in the list of new numbers. */
+static size_t listed(kuhlabires_used used, int kind) {
+    const uint32_t counts[4] = {used.v, used.vt, used.vn, used.vp};
+    size_t from = 0;
+    for (int i = 0; i < kind; i++) from += counts[i];
+    return from;
+}
+
+static const size_t WIDTH[4] = {KUHLABIRES_V_WIDTH, KUHLABIRES_VT_WIDTH, KUHLABIRES_VN_WIDTH, KUHLABIRES_VP_WIDTH};
+
+/* The kind of vertex that place j of a corner of an element of that kind names. */
+static int names(uint32_t kind, int j) {
+    return j == 0 && kind == KUHLABIRES_CURV2 ? VP : j;
+}
+
+/* Every corner names a record with the same numbers as before, and the list says which. */
+static void same_shown(const struct tables *before, kuhlabires_used used, const struct tables *after, const uint32_t *numbers) {
+    for (size_t i = 0; i < used.elements; i++) {
+        size_t at = KUHLABIRES_ELEMENT_WIDTH * i, first = entry(before, ELEMENTS, at + KUHLABIRES_ELEMENT_FIRST_CORNER);
+        uint32_t kind = entry(before, ELEMENTS, at), corners = entry(before, ELEMENTS, at + KUHLABIRES_ELEMENT_CORNERS);
+        for (size_t k = 0; k < KUHLABIRES_CORNER_WIDTH * (size_t)corners; k++) {
+            uint32_t was = entry(before, CORNERS, first + k), is = entry(after, CORNERS, first + k);
+            int table = names(kind, (int)(k % KUHLABIRES_CORNER_WIDTH));
+            if (was == 0) {
+                HOLD(is == 0);
+                continue;
+            }
+            HOLD(is >= 1 && is == numbers[listed(used, table) + was - 1]);
+            HOLD(memcmp(before->of[table].data + 4 * WIDTH[table] * (was - 1), after->of[table].data + 4 * WIDTH[table] * (is - 1), 4 * WIDTH[table]) == 0);
+        }
+    }
+}
+
+/* The new numbers of a kind are 1, 2, .. in order where a corner names the record, else 0; what is dropped is what no corner names. */
+static void renumbered(const struct tables *before, kuhlabires_used used, int kind, uint32_t count, const uint32_t *numbers, uint32_t kept, uint32_t dropped) {
+    uint8_t *named = calloc((size_t)count + 1, 1);
+    HOLD(named != NULL);
+    for (size_t i = 0; i < used.elements; i++) {
+        size_t at = KUHLABIRES_ELEMENT_WIDTH * i, first = entry(before, ELEMENTS, at + KUHLABIRES_ELEMENT_FIRST_CORNER);
+        for (size_t k = 0; k < KUHLABIRES_CORNER_WIDTH * (size_t)entry(before, ELEMENTS, at + KUHLABIRES_ELEMENT_CORNERS); k++)
+            if (names(entry(before, ELEMENTS, at), (int)(k % KUHLABIRES_CORNER_WIDTH)) == kind) named[entry(before, CORNERS, first + k)] = 1;
+    }
+    uint32_t next = 0;
+    for (size_t k = 1; k <= count; k++) HOLD(numbers[listed(used, kind) + k - 1] == (named[k] ? ++next : 0));
+    HOLD(next == kept && count - next == dropped);
+    free(named);
+}
+
+/* Swept in just the room of its list, and 16 with less; the same points, nothing left over, and a second sweep changes no table. */
+static void swept(const struct tables *whole, kuhlabires_used used) {
+    size_t lengths[TABLES], needed = listed(used, 4);
+    entries_of(used, lengths);
+    struct tables t;
+    for (int i = 0; i < TABLES; i++) t.of[i] = lend_copy(whole->of[i].data, whole->of[i].size);
+    struct block list = lend(4 * (needed + 2));
+    uint32_t *numbers = (uint32_t *)(void *)list.data;
+    if (needed > 0) {
+        kuhlabires_swept full = kuhlabires_sweep(used, LEND(&t), numbers, needed - 1);
+        HOLD(full.refusal == 16 && same_used(full.used, NONE) && same_tables(whole, &t) && all_from(list, 0, FILLER));
+    }
+    kuhlabires_swept r = kuhlabires_sweep(used, LEND(&t), numbers, needed + 2);
+    HOLD(r.refusal == 0 && tables_intact(&t) && intact(list) && all_from(list, 4 * needed, FILLER));
+    const uint32_t counts[4] = {used.v, used.vt, used.vn, used.vp}, kept[4] = {r.used.v, r.used.vt, r.used.vn, r.used.vp};
+    const uint32_t dropped[4] = {r.dropped.v, r.dropped.vt, r.dropped.vn, r.dropped.vp};
+    for (int kind = 0; kind < 4; kind++) renumbered(whole, used, kind, counts[kind], numbers, kept[kind], dropped[kind]);
+    same_shown(whole, used, &t, numbers);
+    entries_of(r.used, lengths);
+    for (int i = 0; i < TABLES; i++) {
+        HOLD(all_from(t.of[i], 4 * lengths[i], 0));
+        if (i > CORNERS) HOLD(memcmp(t.of[i].data, whole->of[i].data, t.of[i].size) == 0);
+    }
+    for (uint32_t number = 1; number <= used.elements; number++) {
+        uint32_t body = entry(&t, ELEMENTS, KUHLABIRES_ELEMENT_WIDTH * (size_t)(number - 1) + KUHLABIRES_ELEMENT_BODY);
+        if (body == 0) continue;
+        int32_t u = (int32_t)entry(&t, RANGES, 4 * (size_t)(body - 1)), v = (int32_t)entry(&t, RANGES, 4 * (size_t)(body - 1) + 2);
+        kuhlabires_point a = curve_at(whole, used, number, u), b = curve_at(&t, r.used, number, u);
+        HOLD(memcmp(&a, &b, sizeof a) == 0);
+        a = kuhlabires_point_on_surface(used, LEND(whole), number, u, v);
+        b = kuhlabires_point_on_surface(r.used, LEND(&t), number, u, v);
+        HOLD(memcmp(&a, &b, sizeof a) == 0);
+    }
+    struct tables again;
+    for (int i = 0; i < TABLES; i++) again.of[i] = lend_copy(t.of[i].data, t.of[i].size);
+    kuhlabires_swept second = kuhlabires_sweep(r.used, LEND(&again), numbers, needed + 2);
+    const kuhlabires_dropped none = {0};
+    HOLD(second.refusal == 0 && same_used(second.used, r.used) && memcmp(&second.dropped, &none, sizeof none) == 0 && same_tables(&t, &again));
+    take_tables_back(&again);
+    take_back(list);
+    take_tables_back(&t);
+}
+
 /* Tables changed at random are answered too, and nothing lent is written but a run's or a polyline's own part. */
 static void broken(struct block text, const struct tables *whole, kuhlabires_used used) {
     static const uint32_t odd[] = {0, 1, 2, 3, 4, 5, 9, 20, 21, 65536, 1000000, 2000000001, 0x7fffffff, 0x80000000, 0xffffffff, 0xfffffffe};
@@ -430,6 +523,14 @@ static void broken(struct block text, const struct tables *whole, kuhlabires_use
             HOLD(part.place <= text.size && part.length <= text.size - part.place);
             kuhlabires_corner_of(counts, TABLE(&t, ELEMENTS, const uint32_t), TABLE(&t, CORNERS, const uint32_t), number, (uint32_t)(chance >> 32));
         }
+        struct block list = lend(4 * (listed(used, 4) + 1));
+        struct tables kept;
+        for (int i = 0; i < TABLES; i++) kept.of[i] = lend_copy(t.of[i].data, t.of[i].size);
+        kuhlabires_swept sweep = kuhlabires_sweep(counts, LEND(&t), (uint32_t *)(void *)list.data, list.size / 4);
+        HOLD(intact(list) && (sweep.refusal == 0 || sweep.refusal == 15));
+        if (sweep.refusal != 0) HOLD(same_used(sweep.used, NONE) && same_tables(&kept, &t) && all_from(list, 0, FILLER));
+        take_tables_back(&kept);
+        take_back(list);
         HOLD(tables_intact(&t) && intact(text));
         take_back(points);
         take_tables_back(&t);
@@ -451,6 +552,7 @@ int LLVMFuzzerTestOneInput(const uint8_t *data, size_t size) {
         just_room(text, &whole, r.used);
         both_forms(text, &whole, r.used);
         for (uint32_t number = 1; number <= r.used.elements; number++) sampled(&whole, r.used, number);
+        swept(&whole, r.used);
         broken(text, &whole, r.used);
     }
     HOLD(memcmp(text.data, data, size) == 0);

@@ -1,6 +1,6 @@
 """What is asked of the library about one text: reading and tidying it with awkward
 lengths lent, then points, runs, corners and names of the tables that this leaves
-and of tables broken on purpose.
+and of tables broken on purpose, and a sweep of both.
 """
 
 from kinds import buffer, needed, rooms
@@ -72,6 +72,19 @@ def ask(rng, stream, most):
         stream.material(element)
 
 
+def listed(stream):
+    """How many records of v, vt, vn and vp are used and lent: a count that passes its table is 15 whatever the list."""
+    return sum(min(used, len(table)) for used, table in zip(stream.used[:4], stream.tables))
+
+
+def swept(rng, stream):
+    """A sweep with a list of just its room, of less or of more; then the swept tables are asked after, and swept again."""
+    needs = listed(stream)
+    stream.sweep(max(0, needs + rng.choice((-needs, -1, 0, 0, 0, 3))))
+    ask(rng, stream, 2)
+    stream.sweep(listed(stream))
+
+
 def shaken(rng, used, tables):
     """Tables broken as second/ breaks them, then at times far beyond."""
     if any(map(any, tables)):
@@ -110,9 +123,11 @@ def one(rng, stream, data):
     if isinstance(wide, Refused):
         return
     ask(rng, stream, 3)
+    swept(rng, stream)
     for _ in range(2):
         stream.set(data, *shaken(rng, wide.used, wide.tables))
         ask(rng, stream, 4)
+        swept(rng, stream)
 
 
 def stored_calls(stream):

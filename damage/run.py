@@ -142,6 +142,7 @@ def large(seed, makers, commands, totals):
                 stream.run(1, 65_536, length, 0)
             for length in (3 * 4_097, 0):
                 stream.polyline(1, 0, length, 0)
+            stream.sweep(sum(stream.used[:4]))
             differ += hold(stream, commands, f"{seed}-{maker.__name__}-{texts}")
             counted(stream, totals)
             texts += 1
@@ -168,7 +169,7 @@ def counted(stream, totals):
 
 LETTERS = {
     "R": "read", "O": "rooms and read", "T": "tidy", "C": "point_on_curve", "F": "point_on_surface", "N": "run_on_curve",
-    "P": "polyline", "B": "cubic_at", "K": "corner_of", "G": "group_of", "M": "material_of",
+    "P": "polyline", "B": "cubic_at", "W": "sweep", "K": "corner_of", "G": "group_of", "M": "material_of",
 }
 
 

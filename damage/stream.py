@@ -17,6 +17,7 @@ from polyline import polyline
 from reader import corner_of, group_of, material_of, read
 from records import SIGNED, TABLES, Refused, Used, zeros
 from sampler import RefusedPoint, cubic_at, point_on_curve, point_on_surface, run_on_curve
+from sweep import RefusedSweep, sweep
 from tidier import TooLong, tidy
 
 FILLER = b"\xa5"
@@ -95,6 +96,21 @@ class Stream:
         self.text, self.used, self.tables = text, used, tables
         lengths = [len(table) for table in tables]
         self.requests += [b"S", numbers(len(text), *used, *lengths), text, entries(tables)]
+
+    def sweep(self, length):
+        """The tables and used counts are then those that the sweep leaves."""
+        filler = array("I", FILLER * 4)[0]
+        answer = sweep(self.used, self.tables, [filler] * length)
+        number, used, dropped, after = 0, NONE, (0, 0, 0, 0), [filler] * length
+        if isinstance(answer, RefusedSweep):
+            number = answer.number
+        else:
+            used, dropped, after = answer.used, answer.dropped, answer.numbers
+            self.used, self.tables = answer.used, answer.tables
+        self.ask(
+            "W", number, (numbers(length),),
+            numbers(number, *used, *dropped), entries(self.tables), array("I", after).tobytes(),
+        )
 
     def point(self, letter, request, point):
         number, axes, coordinates = 0, len(point), tuple(point)

@@ -104,7 +104,7 @@ enum kuhlabires_type {
 
 /*
  * The numbers of refusal; 0 is none. 1 to 14 are of reading and come with a place: the first line at fault is reported, by its keyword, its word
- * or its byte. Tidying gives these or 16. Sampling gives, in this order, 17, 15, 18, 19, 16.
+ * or its byte. Tidying gives these or 16. Sampling gives, in this order, 17, 15, 18, 19, 16. The sweep gives 15, then 16.
  */
 enum kuhlabires_refusal {
     KUHLABIRES_ACCEPTED = 0,
@@ -122,8 +122,10 @@ enum kuhlabires_refusal {
     KUHLABIRES_CONTROL_COUNT = 12,          /* at `end`; at the word of a curv2 control with one coordinate */
     KUHLABIRES_PARAMETER_ORDER = 13,        /* or range, or an inner knot too often; at `end` */
     KUHLABIRES_TABLE_LACKS_ROOM = 14,       /* at the keyword; exactly when the entries needed pass the lent length */
-    KUHLABIRES_RECORDS_BREAK_RULES = 15,    /* a record of the element, or a vertex it names, breaks a rule or passes the used or lent entries */
-    KUHLABIRES_OUTPUT_LACKS_ROOM = 16,      /* the tidy text passes the lent buffer or 16,777,216 bytes; a run or a polyline passes the point table */
+    KUHLABIRES_RECORDS_BREAK_RULES = 15,    /* a record of the element, or a vertex it names, breaks a rule or passes the used or lent entries; for the
+                                               sweep any record, or runs that do not follow on */
+    KUHLABIRES_OUTPUT_LACKS_ROOM = 16,      /* the tidy text passes the lent buffer or 16,777,216 bytes; a run or a polyline passes the point table, the
+                                               new numbers of a sweep their list */
     KUHLABIRES_NO_SUCH_ELEMENT = 17,        /* no element of that number, or one of another kind */
     KUHLABIRES_NOT_SAMPLED = 18,            /* the body is rational, cardinal or taylor; for a step of a cubic of another type or degree */
     KUHLABIRES_PARAMETER_OUTSIDE = 19       /* outside start..end; a run of 0 or over 65,536 steps; a negative tolerance; no such step or segment of a cubic */
@@ -180,6 +182,18 @@ typedef struct kuhlabires_polyline_answer {
     uint32_t refusal;
     uint32_t points;
 } kuhlabires_polyline_answer;
+
+/* How many records of each kind a sweep dropped. */
+typedef struct kuhlabires_dropped {
+    uint32_t v, vt, vn, vp;
+} kuhlabires_dropped;
+
+/* The answer of a sweep: the used counts after it, and what it dropped. All 0 but refusal where it is refused: the counts from before it then hold. */
+typedef struct kuhlabires_swept {
+    uint32_t refusal;
+    kuhlabires_used used;
+    kuhlabires_dropped dropped;
+} kuhlabires_swept;
 
 /* A corner's references, each from 1; 0 for none. */
 typedef struct kuhlabires_corner {
@@ -250,6 +264,15 @@ kuhlabires_run kuhlabires_run_on_curve(kuhlabires_used used, KUHLABIRES_TABLES_I
  */
 kuhlabires_polyline_answer kuhlabires_polyline(kuhlabires_used used, KUHLABIRES_TABLES_IN, uint32_t element, int32_t tolerance, int32_t *points,
                                                size_t points_length, size_t at);
+
+/*
+ * Removes every v, vt, vn and vp that no corner names, closes the gaps and renumbers the corners; kept records keep their order, and entries after the
+ * used ones are 0 in all tables. To numbers goes, for each old record, all v, then vt, vn, vp, its new number, or 0 where it was dropped:
+ * used.v + used.vt + used.vn + used.vp entries; the rest of the list stays as it was. Refuses 15, where any record breaks a rule (names aside) or
+ * passes the used or lent entries, or the runs of corners, parameters and loop parts do not follow on to the last used entry as reading lays
+ * them; then 16, where the list lacks room. A refusal changes nothing.
+ */
+kuhlabires_swept kuhlabires_sweep(kuhlabires_used used, KUHLABIRES_TABLES_OUT, uint32_t *numbers, size_t numbers_length);
 
 /* Corner k, from 0, of the element of that number; three zeros for no such corner. */
 kuhlabires_corner kuhlabires_corner_of(kuhlabires_used used, const uint32_t *elements, size_t elements_length, const uint32_t *corners,

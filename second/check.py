@@ -11,15 +11,16 @@ from packed import ROOMS, files, sampled_cases
 from outline import inside
 from polyline import DEPTH, is_straight, middle_of, polyline, polyline_parameters
 from reader import corner_of, group_of, material_of, read
-from records import BEZIER, CURV, CURV2, SURF, TABLES, TEXT_LIMIT, Read, Refused, Used
+from records import BEZIER, CURV, CURV2, SURF, TABLES, TEXT_LIMIT, WIDTHS, Read, Refused, Used
 from rules import body_of, element_record, obeys
 from sampler import (
     CUBIC_TABLE, RefusedPoint, cubic_at, point_on_curve, point_on_surface, run_on_curve, run_parameters,
 )
 from spelling import spelled
+from sweep import VERTICES, RefusedSweep, sweep, used_entries, whole
 from texts import text
 from tidier import PROGRAM_ROOM, TooLong, Written, agreement, printed, tidy, tidy_text
-from witness import witnessed
+from witness import witnessed, wholly_witnessed
 
 CASES = Path(__file__).resolve().parent / "cases"
 EXAMPLES = Path(__file__).resolve().parent.parent / "examples"
@@ -76,7 +77,7 @@ def check_cases(tally):
                 filled = numbers + [0] * (lent[table] - len(numbers))
                 tally.hold(f"{name} {table}", by_name[table] == filled, True)
     stored = {str(path.relative_to(CASES)) for path in CASES.rglob("*.obj")}
-    points = {row[0] for row in rows(CASES / "points.txt")}
+    points = {row[0] for name in ("points.txt", "sweep.txt") for row in rows(CASES / name)}
     tidied = {name for name in stored if name.startswith("tidy/")}
     tally.hold("files without a row", sorted(stored - listed - points - tidied), [])
 
@@ -186,6 +187,11 @@ def called(data, used, tables, call):
         if isinstance(answer, RefusedPoint):
             return f"refused {answer.number}"
         return " ".join(map(str, ["filled", answer.count, *answer.points]))
+    if name == "sweep":
+        answer = sweep(used, tables, list(range(901, 901 + numbers[0])))
+        if isinstance(answer, RefusedSweep):
+            return f"refused {answer.number}"
+        return "; ".join(swept_words(used, tables, answer))
     ask = {"curve": point_on_curve, "surface": point_on_surface, "cubic": cubic_at}[name]
     answer = ask(used, tables, *numbers)
     if isinstance(answer, RefusedPoint):
@@ -193,12 +199,32 @@ def called(data, used, tables, call):
     return " ".join(map(str, answer))
 
 
-def check_points(tally):
-    for name, call, changes, wanted, _ in rows(CASES / "points.txt"):
+def swept_words(used, tables, answer):
+    """What was dropped, the list, and each table whose used entries changed."""
+    parts = [("dropped", *answer.dropped), ("numbers", *answer.numbers)]
+    for table, before, after in zip(TABLES, tables, answer.tables):
+        past = used_entries(answer.used, table)
+        if after[past:] != [0] * (len(before) - past):
+            parts.append(("the rest of", table))
+        if after[:past] != before[:used_entries(used, table)]:
+            parts.append((table, *after[:past]))
+    return [" ".join(map(str, part)) for part in parts]
+
+
+def check_calls(tally, cases):
+    for name, call, changes, wanted, _ in rows(CASES / cases):
         rooms = dict.fromkeys(TABLES, 2_000)
         data = (CASES / name).read_bytes()
         used, tables = changed(read(data, rooms), changes)
         tally.hold(f"{name} {call} {changes}", called(data, used, tables, call), wanted)
+
+
+def check_points(tally):
+    check_calls(tally, "points.txt")
+
+
+def check_sweeps(tally):
+    check_calls(tally, "sweep.txt")
 
 
 def check_depth(tally):
@@ -345,7 +371,7 @@ def check_one(rng, data, rooms):
         wrong = check_form(data, rooms, answer, every_w)
         if wrong:
             return wrong
-    return check_bounds(rng, used, tables)
+    return check_bounds(rng, used, tables) or check_swept(used, tables)
 
 
 def check_form(data, rooms, answer, every_w):
@@ -364,6 +390,195 @@ def check_form(data, rooms, answer, every_w):
     if text and tidy(data, rooms, len(text) - 1, every_w) != TooLong(used, tables):
         return "a text that does not fit is written"
     return None
+
+
+# The sweep, held against what its request says of it
+
+def check_swept(used, tables):
+    """None, or what is wrong with the sweep of tables as read."""
+    before, counts = [list(numbers) for numbers in tables], used[:4]
+    needed = sum(counts)
+    if needed and sweep(used, tables, [7] * (needed - 1)) != RefusedSweep(16):
+        return "a list too short is no 16"
+    swept = sweep(used, tables, [7] * (needed + 2))
+    if isinstance(swept, RefusedSweep):
+        return f"the sweep of tables as read is {swept.number}"
+    if tables != before:
+        return "the sweep changes what it was handed"
+    if swept.numbers[needed:] != [7, 7]:
+        return "the list's rest changed"
+    new = [swept.numbers[sum(counts[:i]):sum(counts[:i + 1])] for i in range(4)]
+    return (
+        wrong_in_counts(used, tables, swept, new)
+        or wrong_in_records(used, tables, swept, new)
+        or wrong_in_elements(used, tables, swept)
+        or wrong_in_second_sweep(swept)
+    )
+
+
+def shown_corners(used, tables):
+    """Every element's kind and its corners."""
+    elements, corners = tables[TABLES.index("elements")], tables[TABLES.index("corners")]
+    for element in range(1, used.elements + 1):
+        kind, _, count = element_record(tables, element)[:3]
+        yield kind, [corner_of(corners, elements, used.corners, used.elements, element, k + 1) for k in range(count)]
+
+
+def references(used, tables):
+    """What the corners name: the place of its table among the eleven, and its number."""
+    for kind, corners in shown_corners(used, tables):
+        for corner in corners:
+            for table, k in zip(("vp" if kind == CURV2 else "v", "vt", "vn"), corner):
+                if k:
+                    yield TABLES.index(table), k
+
+
+def wrong_in_counts(used, tables, swept, new):
+    """Dropped is counted from the references alone; the kept ones count on from 1."""
+    named = set(references(used, tables))
+    for i, table in enumerate(VERTICES):
+        kept = sum(place == i for place, _ in named)
+        if (swept.used[i], swept.dropped[i]) != (kept, used[i] - kept):
+            return f"{table}: kept or dropped is wrong"
+        if [k for k in new[i] if k] != list(range(1, kept + 1)):
+            return f"{table}: order is not kept"
+        if {k for k, number in enumerate(new[i], 1) if number} != {k for place, k in named if place == i}:
+            return f"{table}: not those are kept that a corner names"
+    return None if swept.used[4:] == used[4:] else "another used count changed"
+
+
+def wrong_in_records(used, tables, swept, new):
+    """Each kept record stands at its new number, and zeros after the last."""
+    for i, table in enumerate(VERTICES):
+        width, wanted = WIDTHS[table], [0] * len(tables[i])
+        for k, number in enumerate(new[i]):
+            if number:
+                wanted[width * (number - 1):width * number] = tables[i][width * k:width * (k + 1)]
+        if swept.tables[i] != wanted:
+            return f"{table}: other records"
+    return None if swept.tables[5:] == tables[5:] else "a table without references changed"
+
+
+def wrong_in_elements(used, tables, swept):
+    """Every corner shows the same record, every curve and surface the same points."""
+    after = swept.used, swept.tables
+    if coordinates(used, tables) != coordinates(*after):
+        return "a corner shows another record"
+    for element in range(1, used.elements + 1):
+        kind = element_record(tables, element)[0]
+        if kind in (CURV, CURV2):
+            if run_on_curve(used, tables, element, 2, [7] * 9, 0) != run_on_curve(*after, element, 2, [7] * 9, 0):
+                return f"element {element}: another run"
+        elif kind == SURF:
+            start = body_of(tables, element).range[0::2]
+            if point_on_surface(used, tables, element, *start) != point_on_surface(*after, element, *start):
+                return f"element {element}: another point"
+    return None
+
+
+def coordinates(used, tables):
+    """Kind and corner pattern of each element, and the records that its corners name, in order."""
+    patterns = [(kind, [[k != 0 for k in corner] for corner in corners]) for kind, corners in shown_corners(used, tables)]
+    records = []
+    for i, k in references(used, tables):
+        width = WIDTHS[TABLES[i]]
+        records.append(tables[i][width * (k - 1):width * k])
+    return patterns, records
+
+
+def wrong_in_second_sweep(swept):
+    kept = swept.used[:4]
+    again = sweep(swept.used, swept.tables, [7] * sum(kept))
+    numbers = [k for count in kept for k in range(1, count + 1)]
+    same = swept._replace(dropped=(0, 0, 0, 0), numbers=numbers)
+    return None if again == same else "a second sweep changes something"
+
+
+def relaid(rng, used, tables):
+    """Tables whose elements may each obey the rules, though reading never lays them so."""
+    counts, named = used._asdict(), {table: list(numbers) for table, numbers in zip(TABLES, tables)}
+    style = rng.randrange(9)
+    if style < 3:
+        with_gap(rng, counts, named, *GAPS[style])
+    elif style == 3:
+        exchange(rng, named["elements"], counts["elements"], range(9))
+    elif style == 4:
+        exchange(rng, named["bodies"], counts["bodies"], range(9))
+    elif style == 5:
+        exchange(rng, named["elements"], counts["elements"], [rng.choice((1, 3))])
+    elif style == 6:
+        exchange(rng, named["bodies"], counts["bodies"], [rng.choice((4, 7))])
+    elif style == 7:
+        renumber_bodies(rng, counts, named)
+    else:
+        for numbers in named.values():      # after the used ones, so no fault
+            numbers += [rng.randint(1, 9)] * 9
+    return Used(**counts), list(named.values())
+
+
+# A table of runs, where its first fields stand, and what fills a gap in it.
+GAPS = (
+    ("corners", "elements", 1, [1, 0, 0]),
+    ("parameters", "bodies", 4, [0]),
+    ("loops", "bodies", 7, [1, 1]),
+)
+
+
+def with_gap(rng, counts, named, table, holder, field, filler):
+    """One record more before some run or after the last; runs from there on move."""
+    firsts = range(field, 9 * counts[holder], 9)
+    place = rng.choice([named[holder][at] for at in firsts] + [counts[table]])
+    step = 3 if table == "corners" else 1
+    for at in firsts:
+        if named[holder][at] >= place and named[holder][at + 1]:
+            named[holder][at] += step
+    entry = 2 * place if table == "loops" else place
+    named[table][entry:entry] = filler
+    if table == "loops":
+        named["spans"][entry:entry] = [0, 0]
+    counts[table] += step
+
+
+def exchange(rng, numbers, count, fields):
+    """The fields of two records of nine."""
+    if count < 2:
+        return
+    a, b = (9 * k for k in rng.sample(range(count), 2))
+    for field in fields:
+        numbers[a + field], numbers[b + field] = numbers[b + field], numbers[a + field]
+
+
+def renumber_bodies(rng, counts, named):
+    """Two bodies change places, and their elements' numbers with them: all runs still follow on."""
+    if counts["bodies"] < 2:
+        return
+    a, b = rng.sample(range(counts["bodies"]), 2)
+    for table, width in (("bodies", 9), ("ranges", 4)):
+        numbers = named[table]
+        first, second = slice(width * a, width * (a + 1)), slice(width * b, width * (b + 1))
+        numbers[first], numbers[second] = numbers[second], numbers[first]
+    new = {a + 1: b + 1, b + 1: a + 1}
+    for at in range(3, 9 * counts["elements"], 9):
+        named["elements"][at] = new.get(named["elements"][at], named["elements"][at])
+
+
+def check_whole(tally, seed, count):
+    """In broken and relaid tables 15 of the sweep agrees with the other way to find it."""
+    rng = random.Random(seed)
+    found = {True: 0, False: 0}
+    for i in range(count):
+        lines, needs = text(rng)
+        answer = read(spelled(rng, lines), {table: room + rng.randint(0, 9) for table, room in needs.items()})
+        if not any(map(any, answer.tables)):
+            continue
+        for style in (broken, relaid, relaid):
+            used, tables = style(rng, *answer)
+            holds = whole(used, tables)
+            found[holds] += 1
+            tally.hold(f"seed {seed} text {i} whole, {style.__name__}", holds, wholly_witnessed(used, tables))
+            refused = sweep(used, tables, [0] * sum(map(len, tables))) == RefusedSweep(15)
+            tally.hold(f"seed {seed} text {i} swept, {style.__name__}", refused, not holds)
+    tally.hold("both answers are met often", min(found.values()) * 4 >= count, True)
 
 
 def broken(rng, used, tables):
@@ -394,10 +609,10 @@ def check_broken(rng, answer):
     if answer.used.elements == 0:
         return None
     used, tables = broken(rng, answer.used, answer.tables)
-    whole = True
+    all_obey = True
     for element in range(1, used.elements + 1):
         obeyed = obeys(used, tables, element)
-        whole = whole and obeyed
+        all_obey = all_obey and obeyed
         if obeyed != witnessed(used, tables, element):
             return f"element {element}: obeys is {obeyed}, its witness says otherwise"
         point_on_curve(used, tables, element, 0)
@@ -405,7 +620,7 @@ def check_broken(rng, answer):
         run_on_curve(used, tables, element, 2, [0] * 9, 0)
         polyline(used, tables, element, 100_000_000, [0] * 9, 0)
         cubic_at(used, tables, element, 0, 32)
-    return check_bounds(rng, used, tables) if whole else None
+    return check_bounds(rng, used, tables) if all_obey else None
 
 
 def check_seeded(tally, seed, count):
@@ -460,11 +675,14 @@ def main():
     check_size(tally)
     check_program(tally)
     check_points(tally)
+    check_sweeps(tally)
     check_depth(tally)
     check_table(tally)
     check_tidied(tally, CASES / "tidy")
+    check_tidied(tally, CASES / "sweep")
     check_tidied(tally, EXAMPLES)
     check_valid(tally, 2, SELF_CHECKS // 4)
+    check_whole(tally, 3, SELF_CHECKS // 2)
     check_seeded(tally, 1, SELF_CHECKS)
     print(f"{tally.passed} passed, {tally.failed} failed")
     return 1 if tally.failed else 0

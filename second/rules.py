@@ -2,6 +2,7 @@
 the rules that reading keeps.
 
     obeys(used, tables, element) -> bool
+    element_obeys(named, used, element, curves) -> bool   curves: the curv2 before it
 
 Looked at are all records of the element (names aside) and the v, vt, vn, vp
 that its corners name.  A used count past its slice is no fault by itself; a
@@ -74,9 +75,16 @@ def there(named, used, table, first, count):
 def obeys(used, tables, element):
     """Whether nothing that 15 names is wrong for that element (from 1)."""
     named = by_name(tables)
+    curves = named["elements"][0:9 * (element - 1):9].count(CURV2)
+    return element_obeys(named, used, element, curves)
+
+
+def element_obeys(named, used, element, curves):
+    """The same where the curv2 elements before it were counted already: asking
+    it of every element must not count them anew each time."""
     if not there(named, used, "elements", element - 1, 1):
         return False
-    kind, first, count, body, smoothing = element_record(tables, element)[:5]
+    kind, first, count, body, smoothing = named["elements"][9 * (element - 1):9 * element][:5]
     if kind not in LEAST_CORNERS or smoothing > MOST_SMOOTHING:
         return False
     if count < LEAST_CORNERS[kind]:
@@ -90,7 +98,7 @@ def obeys(used, tables, element):
         return False
     if kind in (P, L, F):
         return body == 0
-    return body_obeys(named, used, element, kind, count, body)
+    return body_obeys(named, used, kind, count, body, curves)
 
 
 # Corners and the vertices they name
@@ -98,7 +106,7 @@ def obeys(used, tables, element):
 def corners_obey(named, used, kind, corners):
     if kind == CURV2:
         return all(
-            vp_obeys(named, used, vp) and second == third == 0
+            control_obeys(named, used, vp) and second == third == 0
             for vp, second, third in corners
         )
     pattern = corners[0][1] != 0, corners[0][2] != 0
@@ -118,21 +126,28 @@ def vertex_obeys(named, used, table, k):
     return (
         k >= 1
         and there(named, used, table, k - 1, 1)
-        and in_range(named[table][width * (k - 1):width * k])
+        and record_obeys(table, named[table][width * (k - 1):width * k])
     )
 
 
-def vp_obeys(named, used, k):
-    """A control of a curv2: two coordinates given at least, an absent w is one."""
-    if not vertex_obeys(named, used, "vp", k):
+def record_obeys(table, record):
+    """A v, vt, vn or vp by itself; of a vp an absent v is 0 and an absent w one."""
+    if not in_range(record):
         return False
-    given, _, _, w = named["vp"][4 * (k - 1):4 * k]
-    return given == 3 or (given == 2 and w == ONE)
+    if table != "vp":
+        return True
+    given, _, v, w = record
+    return 1 <= given <= 3 and (given >= 2 or v == 0) and (given == 3 or w == ONE)
+
+
+def control_obeys(named, used, k):
+    """A control of a curv2 has at least two coordinates given."""
+    return vertex_obeys(named, used, "vp", k) and named["vp"][4 * (k - 1)] >= 2
 
 
 # Bodies
 
-def body_obeys(named, used, element, kind, count, body):
+def body_obeys(named, used, kind, count, body, curves):
     if body < 1 or not there(named, used, "bodies", body - 1, 1):
         return False
     if 4 * body > len(named["ranges"]):
@@ -160,7 +175,7 @@ def body_obeys(named, used, element, kind, count, body):
         all(in_range(run) for run in runs)
         and counts_agree(type_, (m, n), runs, count)
         and ranges_obey(kind, type_, (m, n), runs, limits)
-        and loops_obey(named, used, element, surface, first_loop, loops)
+        and loops_obey(named, used, surface, first_loop, loops, curves)
     )
 
 
@@ -193,7 +208,7 @@ def ranges_obey(kind, type_, degrees, runs, limits):
     return True
 
 
-def loops_obey(named, used, element, surface, first, count):
+def loops_obey(named, used, surface, first, count, curves):
     """A surface's loop parts; a body without them has first loop part 0."""
     if count == 0:
         return first == 0
@@ -204,9 +219,8 @@ def loops_obey(named, used, element, surface, first, count):
     parts = named["loops"][2 * first:2 * (first + count)]
     if parts[0] not in (TRIM, HOLE):
         return False
-    before = named["elements"][0:9 * (element - 1):9].count(CURV2)
     return (
         all(begins in (0, TRIM, HOLE) for begins in parts[0::2])
-        and all(1 <= curve <= before for curve in parts[1::2])
+        and all(1 <= curve <= curves for curve in parts[1::2])
         and in_range(named["spans"][2 * first:2 * (first + count)])
     )

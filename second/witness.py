@@ -4,6 +4,7 @@ back.  Nothing of rules.py is used; only that records lie within used and lent
 has to be asked here, since a text cannot say it.
 
     witnessed(used, tables, element) -> bool
+    wholly_witnessed(used, tables) -> bool      of all records together, as the sweep asks it
 """
 
 from reader import read
@@ -101,11 +102,18 @@ def witness(used, tables, element, said):
     lines = list(vertex_lines(used, tables, said["vertices"]))
     for _ in range(curves):
         lines += ["vp 0 0", "cstype bezier", "deg 1", "curv2 -1 -1", "parm u 0 1", "end"]
-    lines.append(f"s {said['smoothing']}")
+    return joined([*lines, *element_lines(said)])
+
+
+def element_lines(said):
     before, limits, after = body_lines(said) if said["has body"] else ([], [], [])
     numbers = said["corners"]
     corners = [corner_word(*numbers[at:at + 3]) for at in range(0, len(numbers), 3)]
-    lines += [*before, " ".join([KINDS[said["kind"]], *limits, *corners]), *after]
+    line = " ".join([KINDS[said["kind"]], *limits, *corners])
+    return [f"s {said['smoothing']}", *before, line, *after]
+
+
+def joined(lines):
     return "\n".join(lines).encode("ascii")
 
 
@@ -119,3 +127,44 @@ def witnessed(used, tables, element):
     if isinstance(answer, Refused):
         return False
     return element_records(*answer, answer.used.elements) == said
+
+
+# All records in one text
+
+def every_vertex(used, tables):
+    """Those that nothing names too: a rule that they break shows in the text."""
+    named = dict(zip(TABLES, tables))
+    for table in ("v", "vt", "vn", "vp"):
+        width, numbers = WIDTHS[table], named[table]
+        for k in range(min(getattr(used, table), len(numbers) // width)):
+            yield table, k + 1, tuple(numbers[width * k:width * (k + 1)])
+
+
+def whole_text(used, tables):
+    lines = list(vertex_lines(used, tables, every_vertex(used, tables)))
+    for element in range(1, used.elements + 1):
+        lines += element_lines(element_records(used, tables, element))
+    return joined(lines)
+
+
+def nameless(used, tables):
+    """The used entries without names; short of entries where fewer were lent."""
+    found = []
+    for table, numbers in zip(TABLES, tables):
+        count = getattr(used, {"ranges": "bodies", "spans": "loops"}.get(table, table))
+        numbers = numbers[:count if table == "corners" else WIDTHS[table] * count]
+        if table == "elements":
+            numbers = [number for at, number in enumerate(numbers) if at % 9 < 5]
+        found.append((count, numbers))
+    return found
+
+
+def wholly_witnessed(used, tables):
+    """Reading lays runs and body numbers as it must, so only tables that were laid
+    so come back.  The lent lengths are room enough for those."""
+    try:
+        text = whole_text(used, tables)
+    except Unsayable:
+        return False
+    answer = read(text, list(map(len, tables)))
+    return not isinstance(answer, Refused) and nameless(*answer) == nameless(used, tables)

@@ -3,7 +3,7 @@ use crate::show;
 use crate::{tell, Failure};
 use kuhlabires::{
     cubic_at, group_of, keywords, material_of, point_on_surface, read, run_on_curve, tidy_text, Body, Decimal, Element,
-    Kind, Outline, Refusal, Tables, Weights, CUBIC_STEPS, MOST_BYTES, MOST_POLYLINE_POINTS, MOST_STEPS,
+    Kind, Outline, Refusal, Tables, Used, Weights, CUBIC_STEPS, MOST_BYTES, MOST_POLYLINE_POINTS, MOST_STEPS,
 };
 use std::ffi::OsStr;
 use std::fs::File;
@@ -213,6 +213,29 @@ pub fn polyline(input: Input, element: u32, tolerance: i32, out: &mut dyn Write)
         _ => 3,
     };
     Ok(write_points(&numbers[..axes * points], axes, out)?)
+}
+
+// How many of each kind are dropped, and their numbers, runs of them as first-last.
+pub fn sweep(input: Input, out: &mut dyn Write) -> Result<(), Failure> {
+    let mut tables = tables_of(&input)?;
+    let Used { v, vt, vn, vp, .. } = tables.used;
+    let mut numbers = vec![0; tables.used.vertices()];
+    let dropped = kuhlabires::sweep(&mut tables, &mut numbers).map_err(|refusal| {
+        tell(format_args!("{}: refused {}: {}\n", input.name, refusal.number, refusal.words()));
+        Failure::Refused
+    })?;
+    let mut after = &numbers[..];
+    // The first four keywords are those of vertices.
+    let kinds = [(v, dropped.v), (vt, dropped.vt), (vn, dropped.vn), (vp, dropped.vp)];
+    for (keyword, (used, dropped)) in keywords().iter().zip(kinds) {
+        let (own, rest) = after.split_at(used as usize);
+        after = rest;
+        if used > 0 {
+            let (dropped, used) = (show::thousands(dropped as usize), show::thousands(used as usize));
+            writeln!(out, "{keyword:>8} {dropped} of {used} dropped{}", show::zeros(own))?;
+        }
+    }
+    Ok(())
 }
 
 // Every step of every segment that lies in the range; a segment that begins where another ended gives that point once more.

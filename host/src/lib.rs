@@ -134,6 +134,18 @@ pub fn polyline(
     Ok(answer.points as usize)
 }
 
+/// Removes every `v`, `vt`, `vn` and `vp` that no corner names, closes the gaps and renumbers the corners; answers how many of each kind were
+/// dropped, and sets the used counts. Every element shows the same coordinates, names and loops as before. The front of `numbers` gets, for each
+/// old record, all `v`, then `vt`, `vn`, `vp`, its new number, or 0 where it was dropped: [`Used::vertices`] entries.
+///
+/// A refusal changes nothing: 15 where any record breaks a rule, or runs do not follow on as reading lays them; 16 where `numbers` lacks room.
+pub fn sweep(tables: &mut Tables, numbers: &mut [u32]) -> Result<Dropped, Refusal> {
+    let answer = raw::sweep(tables, numbers);
+    unless_refused(answer.refusal, 0)?;
+    tables.used = answer.used;
+    Ok(answer.dropped)
+}
+
 /// Corner `k`, from 0, of the element of that number; three zeros for no such corner.
 pub fn corner_of(tables: &Tables, element: u32, k: u32) -> Corner {
     raw::corner_of(tables, element, k)

@@ -25,6 +25,8 @@ kuhlabires: reads, tidies and samples Wavefront .obj files
                                             halved, at most 12 times, until its middle lies that near to the chord
     kuhlabires cubic FILE ELEMENT           points of a curv or curv2 that is a cubic bezier: the 64 steps of each
                                             segment inside its range
+    kuhlabires sweep FILE                   how many v, vt, vn and vp no corner names, and which: those that the
+                                            retention sweep drops
     kuhlabires --help
 
 FILE is a path, or - for standard input. ELEMENT is a number as `elements` lists it. STEPS is 1 to 65536.
@@ -76,6 +78,7 @@ fn run(arguments: &[OsString], out: &mut dyn Write) -> Result<(), Failure> {
         ["check", _] => commands::check(open()?, out),
         ["tidy", _] => commands::tidy(open()?, weights, out),
         ["elements", _] => commands::elements(open()?, out),
+        ["sweep", _] => commands::sweep(open()?, out),
         ["points", _, element, steps] => {
             let (element, steps) = (number("ELEMENT", element)?, number("STEPS", steps)?);
             commands::points(open()?, element, steps, out)
@@ -89,7 +92,9 @@ fn run(arguments: &[OsString], out: &mut dyn Write) -> Result<(), Failure> {
             commands::cubic(open()?, element, out)
         }
         [] => Err(Failure::Usage("no command".into())),
-        [command @ ("check" | "tidy" | "elements"), ..] => Err(Failure::Usage(format!("{command} takes a FILE"))),
+        [command @ ("check" | "tidy" | "elements" | "sweep"), ..] => {
+            Err(Failure::Usage(format!("{command} takes a FILE")))
+        }
         ["points", ..] => Err(Failure::Usage("points takes a FILE, an ELEMENT and STEPS".into())),
         ["polyline", ..] => Err(Failure::Usage("polyline takes a FILE, an ELEMENT and a TOLERANCE".into())),
         ["cubic", ..] => Err(Failure::Usage("cubic takes a FILE and an ELEMENT".into())),

@@ -1,5 +1,5 @@
 //! The boundary as the archive has it: `src/lib.rt` of `crates/boundary`, `crates/answers` and `crates/rooms`, and `include/kuhlabires.h`, say the same. A slice is a pointer, then a length.
-use crate::{Corner, Rooms, Tables, Used};
+use crate::{Corner, Dropped, Rooms, Tables, Used};
 
 #[repr(C)]
 pub struct Reading {
@@ -35,6 +35,13 @@ pub struct Run {
 pub struct Polyline {
     pub refusal: u32,
     pub points: u32,
+}
+
+#[repr(C)]
+pub struct Swept {
+    pub refusal: u32,
+    pub used: Used,
+    pub dropped: Dropped,
 }
 
 #[repr(C)]
@@ -80,6 +87,7 @@ boundary! {
         used: Used; *const i32, *const u32;
         element: u32, tolerance: i32, points: *mut i32, points_length: usize, at: usize
     ) -> Polyline;
+    kuhlabires_sweep(used: Used; *mut i32, *mut u32; numbers: *mut u32, numbers_length: usize) -> Swept;
 }
 
 extern "C" {
@@ -194,6 +202,11 @@ pub fn polyline(tables: &Tables, element: u32, tolerance: i32, points: &mut [i32
         tables,
         kuhlabires_polyline(tables.used; element, tolerance, points.as_mut_ptr(), points.len(), at)
     )
+}
+
+pub fn sweep(tables: &mut Tables, numbers: &mut [u32]) -> Swept {
+    let used = tables.used;
+    with_tables!(as_mut_ptr, tables, kuhlabires_sweep(used; numbers.as_mut_ptr(), numbers.len()))
 }
 
 pub fn corner_of(tables: &Tables, element: u32, k: u32) -> Corner {

@@ -38,6 +38,23 @@ pub struct Rooms {
     pub spans: usize,
 }
 
+impl Used {
+    /// How many `v`, `vt`, `vn` and `vp` are used: a sweep's list of new numbers has an entry for each.
+    pub fn vertices(&self) -> usize {
+        [self.v, self.vt, self.vn, self.vp].iter().map(|&count| count as usize).sum()
+    }
+}
+
+/// How many records of each kind a sweep dropped.
+#[repr(C)]
+#[derive(Clone, Copy, Debug, Default, PartialEq, Eq)]
+pub struct Dropped {
+    pub v: u32,
+    pub vt: u32,
+    pub vn: u32,
+    pub vp: u32,
+}
+
 /// A corner's references, each counted from 1; 0 for none. Of a `curv2` control `v` is its vp number.
 #[repr(C)]
 #[derive(Clone, Copy, Debug, Default, PartialEq, Eq)]

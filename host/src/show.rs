@@ -61,6 +61,23 @@ pub fn names(part: &[u8]) -> String {
     words.join(" ")
 }
 
+/// The numbers, from 1, of the entries that are 0, after a colon: neighbours as first-last.
+pub fn zeros(entries: &[u32]) -> String {
+    let mut runs: Vec<(usize, usize)> = Vec::new();
+    for number in entries.iter().enumerate().filter(|(_, &entry)| entry == 0).map(|(index, _)| index + 1) {
+        match runs.last_mut() {
+            Some((_, last)) if *last + 1 == number => *last = number,
+            _ => runs.push((number, number)),
+        }
+    }
+    let shown: Vec<String> =
+        runs.iter().map(|&(a, b)| if a == b { a.to_string() } else { format!("{a}-{b}") }).collect();
+    if shown.is_empty() {
+        return String::new();
+    }
+    format!(": {}", shown.join(" "))
+}
+
 /// A number with its thousands apart.
 pub fn thousands(number: usize) -> String {
     let digits = number.to_string();
@@ -110,6 +127,13 @@ mod tests {
         let shown = refusal("a", &text, Refusal { number: 8, place: 1_234_573 });
         let lines: Vec<&str> = shown.lines().collect();
         assert_eq!(lines[1].find('0'), lines[2].find('^'));
+    }
+
+    #[test]
+    fn zeros_are_shown_as_runs() {
+        assert_eq!(zeros(&[0, 1, 0, 0, 0, 2, 0]), ": 1 3-5 7");
+        assert_eq!(zeros(&[1, 2]), "");
+        assert_eq!(zeros(&[]), "");
     }
 
     #[test]

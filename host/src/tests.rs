@@ -193,3 +193,27 @@ fn any_other_number_leaves_the_weights_off() {
         assert_eq!(&out[..answer.length], b"v 1.000000 2.000000 3.000000\nv 1.000000 2.000000 3.000000 4.000000\n");
     }
 }
+
+#[test]
+fn a_sweep_drops_what_no_corner_names() {
+    let text =
+        b"v 9 9 9\nv 0 0 0\nv 9 9 9\nv 1 0 0\nv 1 1 0\nvt 7\nvt 8\nvn 0 0 1\ng top\nf 2//1 4//1 5//1\nl 4/2 5/2\n";
+    let mut tables = read_whole(text);
+    let before = tables.clone();
+    let mut numbers = [77; 10];
+    assert_eq!(sweep(&mut tables, &mut numbers[..7]), Err(Refusal { number: 16, place: 0 }));
+    assert_eq!((&tables, numbers), (&before, [77; 10]));
+    assert_eq!(sweep(&mut tables, &mut numbers), Ok(Dropped { v: 2, vt: 1, vn: 0, vp: 0 }));
+    assert_eq!(numbers, [0, 1, 0, 2, 3, 0, 1, 1, 77, 77]);
+    assert_eq!((tables.used.v, tables.used.vt, tables.used.vn), (3, 1, 1));
+    assert_eq!(corner_of(&tables, 1, 2), Corner { v: 3, vt: 0, vn: 1 });
+    assert_eq!(corner_of(&tables, 2, 0), Corner { v: 2, vt: 1, vn: 0 });
+    assert_eq!(tables.vertex(3), before.vertex(5));
+    assert_eq!(tables.v[12..], [0; 8]);
+    assert_eq!(group_of(text, &tables, 1), b"top");
+    let after = tables.clone();
+    assert_eq!(sweep(&mut tables, &mut numbers), Ok(Dropped::default()));
+    assert_eq!((&tables, &numbers[..5]), (&after, &[1, 2, 3, 1, 1][..]));
+    tables.elements[1] = 3;
+    assert_eq!(sweep(&mut tables, &mut numbers), Err(Refusal { number: 15, place: 0 }));
+}

@@ -18,6 +18,7 @@ from reader import group_of, material_of, read  # noqa: E402
 from records import CURV2, KINDS, SURF, TABLES, TYPES, Refused  # noqa: E402
 from rules import body_of, control_numbers, element_record  # noqa: E402
 from sampler import MOST_STEPS, Filled, RefusedPoint, cubic_at, point_on_surface, run_on_curve, run_parameters  # noqa: E402
+from sweep import sweep  # noqa: E402
 from tidier import tidy  # noqa: E402
 
 ROOMS = [65_536] * 11
@@ -152,11 +153,33 @@ def cubic(name, text, used, tables, element):
     return "".join(given) or f"{name}: element {element}: refused {number}: {WORDS[number]}\n"
 
 
+def runs_of(numbers):
+    """The numbers, rising, with neighbours as first-last."""
+    runs = []
+    for number in numbers:
+        if runs and runs[-1][1] + 1 == number:
+            runs[-1][1] = number
+        else:
+            runs.append([number, number])
+    return " ".join(f"{a}" if a == b else f"{a}-{b}" for a, b in runs)
+
+
+def swept(name, text, used, tables):
+    answer = sweep(used, tables, [0] * sum(used[:4]))
+    lines, at = [], 0
+    for word, many, dropped in zip(("v", "vt", "vn", "vp"), used[:4], answer.dropped):
+        gone = [k + 1 for k in range(many) if answer.numbers[at + k] == 0]
+        at += many
+        if many:
+            lines.append(f"{word:>8} {dropped:,} of {many:,} dropped" + (f": {runs_of(gone)}" if gone else "") + "\n")
+    return "".join(lines)
+
+
 def tidied(name, text, used, tables, *flags):
     return tidy(text, ROOMS, 65_536, "--weights" in flags).text.decode()
 
 
-COMMANDS = {"check": check, "tidy": tidied, "elements": elements, "points": points, "polyline": cut, "cubic": cubic}
+COMMANDS = {"check": check, "tidy": tidied, "elements": elements, "points": points, "polyline": cut, "cubic": cubic, "sweep": swept}
 
 
 def written(command, name, *rest):

@@ -3,3 +3,4 @@ pub mod Points
 pub mod Polylines
 pub mod Readings
 pub mod Tidyings
+pub mod Sweeps

@@ -13,11 +13,13 @@ use Rattle.tidying.specs.declared.Weights.the-variants.{WhenNeeded, Always}
 use Rattle.tidy_file.specs.Tidying.{TidyOutcome}
 use Rattle.sampler.specs.Answers.{PointOutcome, RunOutcome}
 use Rattle.polyline.specs.Answers.{PolylineOutcome}
+use Rattle.sweep.specs.Swept.{SweepOutcome}
 use Rattle.answers.specs.declared.ReadAnswer.{ReadAnswer}
 use Rattle.answers.specs.declared.TidyAnswer.{TidyAnswer}
 use Rattle.answers.specs.declared.Point.{Point}
 use Rattle.answers.specs.declared.Run.{Run}
 use Rattle.answers.specs.declared.PolylinePoints.{PolylinePoints}
+use Rattle.answers.specs.declared.SweepCounts.{SweepCounts}
 use Rattle.answers.specs.declared.Part.{Part}
 
 abbrev pub readIn : ReadOutcome → ReadAnswer
@@ -46,6 +48,9 @@ runIn o = record { refusal = o .number; numbers = o .count }
 
 abbrev pub polylineIn : PolylineOutcome → PolylinePoints
 polylineIn o = record { refusal = o .number; points = o .points }
+
+abbrev pub sweepIn : SweepOutcome → SweepCounts
+sweepIn o = record { refusal = o .number; used = o .used; dropped = o .dropped }
 
 abbrev pub part : ℕ → ℕ → Part
 part place count = record { place = place; length = count }

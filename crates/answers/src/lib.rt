@@ -5,11 +5,14 @@ ghost use Rattle.reader.specs.Reading.{readOutcome};
 ghost use Rattle.tidy_file.specs.Tidying.{tidyOutcome};
 ghost use Rattle.sampler.specs.Answers.{pointOutcome, runOutcome};
 ghost use Rattle.polyline.specs.Answers.{polylineOutcome};
-ghost use Rattle.answers.specs.Answers.{readIn, tidyIn, weightsIn, pointIn, runIn, polylineIn, partIn};
+ghost use Rattle.sweep.specs.Swept.{noneDropped, sweepOutcome};
+ghost use Rattle.answers.specs.Answers.{readIn, tidyIn, weightsIn, pointIn, runIn, polylineIn, sweepIn, partIn};
 use polyline::PolylineResult;
 use reader::Reading;
 use sampler::Ran;
 use sampler::Sampled;
+use sweep::Dropped;
+use sweep::SweepResult;
 use tables::Used;
 use tidy_file::Tidied;
 use tidying::Weights;
@@ -53,6 +56,14 @@ pub struct Run {
 pub struct PolylinePoints {
     pub refusal: u32,
     pub points: u32,
+}
+
+// The used counts after a sweep, and how many records of each kind it dropped. Refused where `refusal` is not 0: every count is 0 then.
+#[repr(C)]
+pub struct SweepCounts {
+    pub refusal: u32,
+    pub used: Used,
+    pub dropped: Dropped,
 }
 
 // A part of the caller's text; its length is 0 for none.
@@ -184,6 +195,34 @@ pub fn polyline_of(answer: PolylineResult) -> PolylinePoints
         PolylineResult::Refused { number } => PolylinePoints {
             refusal: number,
             points: 0,
+        },
+    }
+}
+
+fn nothing_dropped() -> Dropped
+    ensures { λ r. ⌜ r ≡ noneDropped ⌝ }
+{
+    Dropped {
+        v: 0,
+        vt: 0,
+        vn: 0,
+        vp: 0,
+    }
+}
+
+pub fn sweep_of(answer: SweepResult) -> SweepCounts
+    ensures { λ r. ⌜ r ≡ sweepIn (sweepOutcome answer) ⌝ }
+{
+    match answer {
+        SweepResult::Swept { used, dropped } => SweepCounts {
+            refusal: 0,
+            used: used,
+            dropped: dropped,
+        },
+        SweepResult::Refused { number: reason } => SweepCounts {
+            refusal: reason,
+            used: nothing_used(),
+            dropped: nothing_dropped(),
         },
     }
 }

@@ -13,12 +13,14 @@ ghost use Rattle.cubics.specs.Answers.{cubicAt};
 ghost use Rattle.rooms.specs.Rooms.{roomsOfText};
 ghost use Rattle.reader.specs.Reading.{readInto};
 ghost use Rattle.tidy_file.specs.Tidying.{tidyInto};
-ghost use Rattle.answers.specs.Answers.{readIn, tidyIn, weightsIn, pointIn, runIn, polylineIn, groupIn, materialIn, bytesIn};
+ghost use Rattle.sweep.specs.Swept.{sweepInto};
+ghost use Rattle.answers.specs.Answers.{readIn, tidyIn, weightsIn, pointIn, runIn, polylineIn, sweepIn, groupIn, materialIn, bytesIn};
 use answers::Part;
 use answers::Point;
 use answers::PolylinePoints;
 use answers::ReadAnswer;
 use answers::Run;
+use answers::SweepCounts;
 use answers::TidyAnswer;
 use rooms::Rooms;
 use tables::Corner;
@@ -101,6 +103,42 @@ pub extern "C" fn kuhlabires_tidy(
         loops,
         spans,
         out,
+    ))
+}
+
+// Removes every v, vt, vn and vp that no corner names, and writes the new number of each old record to the front of `numbers`, 0 for one that is dropped.
+#[no_mangle]
+pub extern "C" fn kuhlabires_sweep(
+    used: Used,
+    v: &mut [i32],
+    vt: &mut [i32],
+    vn: &mut [i32],
+    vp: &mut [i32],
+    corners: &mut [u32],
+    elements: &mut [u32],
+    bodies: &mut [u32],
+    ranges: &mut [i32],
+    parameters: &mut [i32],
+    loops: &mut [u32],
+    spans: &mut [i32],
+    numbers: &mut [u32],
+) -> SweepCounts
+    ensures { λ r. ⌜ (r ≡ sweepIn (sweepInto used (tables (now (v .entry)) (now (vt .entry)) (now (vn .entry)) (now (vp .entry)) (now (corners .entry)) (now (elements .entry)) (now (bodies .entry)) (now (ranges .entry)) (now (parameters .entry)) (now (loops .entry)) (now (spans .entry))) (now (numbers .entry)) .outcome)) × ((tables (now (v .exit)) (now (vt .exit)) (now (vn .exit)) (now (vp .exit)) (now (corners .exit)) (now (elements .exit)) (now (bodies .exit)) (now (ranges .exit)) (now (parameters .exit)) (now (loops .exit)) (now (spans .exit))) ≡ sweepInto used (tables (now (v .entry)) (now (vt .entry)) (now (vn .entry)) (now (vp .entry)) (now (corners .entry)) (now (elements .entry)) (now (bodies .entry)) (now (ranges .entry)) (now (parameters .entry)) (now (loops .entry)) (now (spans .entry))) (now (numbers .entry)) .tables) × (now (numbers .exit) ≡ sweepInto used (tables (now (v .entry)) (now (vt .entry)) (now (vn .entry)) (now (vp .entry)) (now (corners .entry)) (now (elements .entry)) (now (bodies .entry)) (now (ranges .entry)) (now (parameters .entry)) (now (loops .entry)) (now (spans .entry))) (now (numbers .entry)) .numbers) ⌝ }
+{
+    answers::sweep_of(sweep::sweep(
+        used,
+        v,
+        vt,
+        vn,
+        vp,
+        corners,
+        elements,
+        bodies,
+        ranges,
+        parameters,
+        loops,
+        spans,
+        numbers,
     ))
 }
 

@@ -134,17 +134,30 @@ given-of (a ∷ b ∷ d ∷ []) c = record { obeys = refl; two = λ h. h }
 given-of (a ∷ b ∷ d ∷ e ∷ q) c = absurd (let l = leb-true (suc (suc (suc (suc (length q))))) 3 (and-right (leb 1 (suc (suc (suc (suc (length q)))))) _ c) in omega arith)
 
 module _ (l : List ℤ) (zs : List (List ℤ)) (g : GoodVertices parametric zs) (s : Stands l 0 (flat itself zs)) where
+  -- record n of its table
+  module _ (n : ℕ) (a : 1 ≤ n) (b : n ≤ length zs) where
+    abbrev here : Vertex parametric l zs (n - 1)
+    here = vertex-at parametric l zs (n - 1) g s (omega arith)
+
+    its-given : Given (here .one)
+    its-given = subst Given (here .kept .whole) (given-of (coordinates weights.Always parametric (here .one)) (here .kept .some))
+
+    number-at : (k : ℕ) → k < 4 → valueAt 4 l (n - 1) k ≡ getD (here .one) k (pos 0)
+    number-at k r = stands-at l (4 * (n - 1)) (here .one) k (pos 0) (here .stands) (let w = here .kept .wide in omega arith)
+
+  pub parameter-obeys : (used n : ℕ) → used ≡ length zs → 1 ≤ n → n ≤ length zs → parameterVertexObeys l used n ≡ true
+  unfolding parameterVertexObeys
+  parameter-obeys used n u a b =
+      let z = here n a b .one in
+      let e₀ = number-at n a b 0 (omega arith) in
+      let e₂ = number-at n a b 2 (omega arith) in
+      let e₃ = number-at n a b 3 (omega arith) in
+      and-both (vertex-obeys parametric l zs g s 4 used n refl u a b)
+      (ap₂ (λ (x y : ℤ). givenObeys x y (valueAt 4 l (n - 1) 3)) e₀ e₂ ∙ ap (givenObeys (getD z 0 (pos 0)) (getD z 2 (pos 0))) e₃ ∙ its-given n a b .obeys)
+
   pub control-obeys : (used n : ℕ) → used ≡ length zs → 1 ≤ n → n ≤ length zs → leb 2 (given zs n) ≡ true → controlObeys l used n ≡ true
-  unfolding controlObeys parameterVertexObeys
+  unfolding controlObeys
   control-obeys used n u a b h =
-      let v = vertex-at parametric l zs (n - 1) g s (omega arith) in
-      let z = v .one in
-      let q = subst Given (v .kept .whole) (given-of (coordinates weights.Always parametric z) (v .kept .some)) in
-      let at : (k : ℕ) → k < 4 → valueAt 4 l (n - 1) k ≡ getD z k (pos 0) = λ k r. stands-at l (4 * (n - 1)) z k (pos 0) (v .stands) (let w = v .kept .wide in omega arith) in
-      let e₀ = at 0 (omega arith) in
-      let e₂ = at 2 (omega arith) in
-      let e₃ = at 3 (omega arith) in
-      and-both
-      (and-both (vertex-obeys parametric l zs g s 4 used n refl u a b)
-      (ap₂ (λ (x y : ℤ). givenObeys x y (valueAt 4 l (n - 1) 3)) e₀ e₂ ∙ ap (givenObeys (getD z 0 (pos 0)) (getD z 2 (pos 0))) e₃ ∙ q .obeys))
-      (ap (leZ (pos 2)) e₀ ∙ q .two (ap (λ (y : List ℤ). leb 2 (natAbs (getD y 0 (pos 0)))) (sym (v .is)) ∙ h))
+      and-both (parameter-obeys used n u a b)
+      (ap (leZ (pos 2)) (number-at n a b 0 (omega arith))
+      ∙ its-given n a b .two (ap (λ (y : List ℤ). leb 2 (natAbs (getD y 0 (pos 0)))) (sym (here n a b .is)) ∙ h))

@@ -20,7 +20,7 @@ abbrev pub outline : Used → Tables → Element → Bool
 outline used t e = leb 1 (e .kind) && leb (e .kind) 6 && leb (e .smoothing) 65535 && cornersObey used t (e .kind) (e .first) (e .count)
 
 module _ (used : Used) (t : Tables) (curves : ℕ) where
-  body-is : (kind count k : ℕ) → bodyObeys used t curves kind count k ≡ recordObeys used t curves kind count (bodyOf used (t .bodies) (t .ranges) k)
+  pub body-is : (kind count k : ℕ) → bodyObeys used t curves kind count k ≡ recordObeys used t curves kind count (bodyOf used (t .bodies) (t .ranges) k)
   unfolding bodyObeys recordObeys typeObeys bodyOf
   body-is kind count k = go (bodyHeld used (t .bodies) (t .ranges) k) refl
     where

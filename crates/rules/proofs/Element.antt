@@ -1,11 +1,12 @@
 -- An element that obeys the rules, taken apart down to its body: each test out of its `&&`, a surface and a curve apart.
 use Prim.Native.Nat.{ℕ, _+_, _*_, _-_, _≤_}
 use mathlib.Core.Path.{_≡_}
-use mathlib.Core.Bool.{Bool, true, cond, _&&_}
-use borrow.Author.Tests.{leb-true, lt-leb, eq-eqb, ne-eqb}
+use mathlib.Core.Bool.{Bool, true, false, cond, _&&_}
+use borrow.Author.Tests.{leb-true, lt-leb, eq-eqb, ne-eqb, eqb-false}
 use lib.Dec.{leb, eqb}
 use lib.ListN.{length}
-use Rattle.lists.proofs.Tests.{and-left, and-right}
+use mathlib.Core.Logic.{_⊎_, inl, inr}
+use Rattle.lists.proofs.Tests.{and-left, and-right, test}
 use Rattle.tables.specs.Tables.{Tables}
 use Rattle.tables.specs.Records.{bodyAt, elementAt, parametersU, parametersV}
 use Rattle.tables.specs.declared.Body.{Body}
@@ -27,6 +28,14 @@ pub record Recorded (used : Used) (t : Tables) (kind k : ℕ) : Type 0 where
   pub lent-range : 4 * k ≤ length (t .ranges)
   pub typed : let b = bodyAt t (k - 1) in Typed (eqb kind 6) (b .basis) (b .rational) (b .«degree_u») (b .«degree_v»)
   pub run : let b = bodyAt t (k - 1) in Run (eqb kind 6) (t .parameters) (used .parameters) (b .«first_parameter») (b .«count_u») (b .«count_v»)
+
+loops-used : (used : ℕ) (t : Tables) (curves first count : ℕ) → loopsObey used t curves first count ≡ true → (count ≡ 0 → ⊥) → first + count ≤ used
+unfolding loopsObey
+loops-used used t curves first count h some =
+    let a = leb (first + count) used in
+    let b = leb (2 * (first + count)) (length (t .loops)) in
+    let d = leb (2 * (first + count)) (length (t .spans)) in
+    leb-true _ _ (and-left a b (and-left (a && b) d (and-left (a && b && d) _ (rw (ne-eqb count 0 some) at h))))
 
 module _ (used : Used) (t : Tables) (curves kind count k : ℕ) (h : bodyObeys used t curves kind count k ≡ true) where
   abbrev body : Body
@@ -78,6 +87,18 @@ module _ (used : Used) (t : Tables) (curves kind count k : ℕ) (h : bodyObeys u
   pub surface-of : kind ≡ 6 → Surface (parametersU t body) (parametersV t body) body count
   unfolding surfaceObeys
   surface-of e = surface-facts (parametersU t body) (parametersV t body) body count (and-left (directionsObey (parametersU t body) (parametersV t body) body count) _ (surface-holds e))
+
+  -- loop parts, where there are any, are among the used ones
+  pub parts-used : (body .loops ≡ 0 → ⊥) → body .«first_loop» + body .loops ≤ used .loops
+  unfolding surfaceObeys
+  parts-used some = go (test (eqb kind 6))
+    where
+      go : (eqb kind 6 ≡ true) ⊎ (eqb kind 6 ≡ false) → body .«first_loop» + body .loops ≤ used .loops
+      go (inl e) =
+          loops-used (used .loops) t curves (body .«first_loop») (body .loops)
+          (and-right (directionsObey (parametersU t body) (parametersV t body) body count) (loopsObey (used .loops) t curves (body .«first_loop») (body .loops)) (rw e at shape-holds))
+          some
+      go (inr e) = absurd (some (curve-of (eqb-false kind 6 e) .no-loops))
 
 -- the element itself
 pub record Obeys (used : Used) (t : Tables) (curves i : ℕ) : Type 0 where

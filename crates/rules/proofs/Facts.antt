@@ -3,7 +3,7 @@ use Prim.Native.Nat.{ℕ, _+_, _*_, _-_, _<_, _≤_}
 use mathlib.Core.Path.{_≡_}
 use mathlib.Core.List.{List}
 use mathlib.Core.Bool.{Bool, true, cond, _&&_}
-use borrow.Author.Tests.{leb-true, eq-eqb, ne-eqb}
+use borrow.Author.Tests.{leb-true, eq-eqb, ne-eqb, eqb-true}
 use lib.Dec.{leb, eqb}
 use lib.ListN.{length}
 use lib.IntN.{ℤ, pos}
@@ -18,7 +18,8 @@ use Rattle.rules.specs.Vertices.{parameterVertexObeys, controlObeys}
 use Rattle.rules.specs.Corners.{leastCorners, withTexture, attributeObeys, pointObeys, cornerObeys, eachCorner, cornersObey}
 use Rattle.rules.specs.Directions.{degreeObeys, typeObeys}
 use Rattle.basis.specs.Widest.{widest}
-use Rattle.rules.specs.Bodies.{curveObeys, directionsObey}
+use Rattle.rules.specs.Numbers.{eqZ}
+use Rattle.rules.specs.Bodies.{flatObeys, curveObeys, directionsObey}
 use Rattle.rules.proofs.Below.{below-at}
 use Rattle.rules.proofs.OneVertex.{Vertex, vertex-facts, parameter-facts}
 
@@ -107,6 +108,11 @@ pub record Curve (curv2 : Bool) (x : List ℤ) (b : Body) (count : ℕ) : Type 0
   pub counted : curveCount (basisOf (b .basis)) (b .«degree_u») (b .«count_u») count ≡ true
   pub in-order : inOrder (basisOf (b .basis)) (b .«degree_u») x (b .«start_u») (b .«end_u») ≡ true
   pub range : widest curv2 (basisOf (b .basis)) (b .«degree_u») x (b .«start_u») (b .«end_u») ≡ true
+  pub no-loops : b .loops ≡ 0
+
+flat-facts : (b : Body) → flatObeys b ≡ true → b .loops ≡ 0
+unfolding flatObeys
+flat-facts b h = eqb-true (b .loops) 0 (and-right (eqZ (b .«start_v») (pos 0) && eqZ (b .«end_v») (pos 0) && eqb (b .«first_loop») 0) (eqb (b .loops) 0) h)
 
 pub curve-facts : (curv2 : Bool) (x : List ℤ) (b : Body) (count : ℕ) → curveObeys curv2 x b count ≡ true → Curve curv2 x b count
 unfolding curveObeys
@@ -116,7 +122,12 @@ curve-facts curv2 x b count h =
     let w = widest curv2 (basisOf (b .basis)) (b .«degree_u») x (b .«start_u») (b .«end_u») in
     let three = and-left (k && o && w) _ h in
     let two = and-left (k && o) w three in
-    record { counted = and-left k o two; in-order = and-right k o two; range = and-right (k && o) w three }
+    record {
+      counted = and-left k o two;
+      in-order = and-right k o two;
+      range = and-right (k && o) w three;
+      no-loops = flat-facts b (and-right (k && o && w) _ h);
+    }
 
 pub record Surface (x y : List ℤ) (b : Body) (count : ℕ) : Type 0 where
   pub counted : surfaceCount (basisOf (b .basis)) (b .«degree_u») (b .«count_u») (b .«degree_v») (b .«count_v») count ≡ true

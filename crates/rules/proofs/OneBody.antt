@@ -5,7 +5,7 @@ use native.Mathlib.Numerals.{add-one}
 use native.Mathlib.Omega.{arith}
 use mathlib.Core.Path.{_≡_, refl, sym}
 use mathlib.Core.List.{List, []}
-use mathlib.Core.Bool.{Bool, true, cond, _&&_}
+use mathlib.Core.Bool.{Bool, true, false, cond, _&&_}
 use borrow.Author.Tests.{leb-true}
 use lib.Dec.{leb, eqb}
 use lib.ListN.{length, getD, List·getD-eq-default}
@@ -38,6 +38,16 @@ pub record-lent : (used : Used) (t : Tables) (curves kind count : ℕ) (b : Body
     → recordObeys used (tables [] [] [] [] [] [] [] [] (t .parameters) (t .loops) (t .spans)) curves kind count b ≡ recordObeys used t curves kind count b
 unfolding recordObeys surfaceObeys loopsObey eachPart
 record-lent used t curves kind count b = refl
+
+-- a body without loop parts is the same after however many curv2 elements
+pub record-counted : (used : Used) (t : Tables) (curves kind count : ℕ) (b : Body)
+    → recordObeys used t (cond (eqb (b .loops) 0) 0 curves) kind count b ≡ recordObeys used t curves kind count b
+unfolding recordObeys surfaceObeys loopsObey
+record-counted used t curves kind count b = go (eqb (b .loops) 0) refl
+  where
+    go : (q : Bool) → eqb (b .loops) 0 ≡ q → recordObeys used t (cond (eqb (b .loops) 0) 0 curves) kind count b ≡ recordObeys used t curves kind count b
+    go true h = rw h
+    go false h = rw h
 
 -- ---- a body's parameters
 pub record Run (surface : Bool) (l : List ℤ) (used first p q : ℕ) : Type 0 where

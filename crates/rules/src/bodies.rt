@@ -6,7 +6,8 @@ ghost use Rattle.rules.specs.Directions.{degreeObeys, typeObeys, paramet
 ghost use Rattle.rules.specs.Rules.{curvesAmong};
 ghost use Rattle.rules.specs.Bodies.{flatObeys, curveObeys, directionsObey, surfaceObeys, recordObeys};
 ghost use Rattle.tables.specs.Tables.{tables};
-use crate::loops::loops_obey;
+use crate::loops::curves_for;
+use crate::loops::loops_with;
 use crate::numbers::same;
 use crate::numbers::small_run;
 use basis::curve_count;
@@ -121,16 +122,15 @@ fn directions_obey(x: &[i32], y: &[i32], body: Body, count: u32) -> bool
 
 fn surface_obeys(
     used: u32,
-    elements: &[u32],
     parameters: &[i32],
     loops: &[u32],
     spans: &[i32],
-    index: u32,
+    curves: u32,
     count: u32,
     body: Body,
 ) -> bool
     requires { ⌜ (body .«first_parameter» + (body .«count_u» + body .«count_v») ≤ length (now parameters)) × (2 ≤ body .«count_u») × (2 ≤ body .«count_v») ⌝ }
-    ensures { λ r. ⌜ r ≡ surfaceObeys used (tables [] [] [] [] [] [] [] [] (now (parameters .entry)) (now (loops .entry)) (now (spans .entry))) (curvesAmong (now (elements .entry)) index) count body ⌝ }
+    ensures { λ r. ⌜ r ≡ surfaceObeys used (tables [] [] [] [] [] [] [] [] (now (parameters .entry)) (now (loops .entry)) (now (spans .entry))) curves count body ⌝ }
 {
     let start = body.first_parameter as usize;
     let middle = start + body.count_u as usize;
@@ -140,30 +140,21 @@ fn surface_obeys(
     if !directions_obey(x, y, body, count) {
         return false;
     }
-    loops_obey(
-        used,
-        elements,
-        loops,
-        spans,
-        index,
-        body.first_loop,
-        body.loops,
-    )
+    loops_with(used, loops, spans, curves, body.first_loop, body.loops)
 }
 
-// The body of the element at `index`, which is of that kind and has `count` corners.
-pub fn record_obeys(
+// The body of an element of that kind with `count` corners, after `curves` curv2 elements.
+pub fn record_with(
     used: Used,
-    elements: &[u32],
     parameters: &[i32],
     loops: &[u32],
     spans: &[i32],
-    index: u32,
+    curves: u32,
     kind: u32,
     count: u32,
     body: Body,
 ) -> bool
-    ensures { λ r. ⌜ r ≡ recordObeys used (tables [] [] [] [] [] [] [] [] (now (parameters .entry)) (now (loops .entry)) (now (spans .entry))) (curvesAmong (now (elements .entry)) index) kind count body ⌝ }
+    ensures { λ r. ⌜ r ≡ recordObeys used (tables [] [] [] [] [] [] [] [] (now (parameters .entry)) (now (loops .entry)) (now (spans .entry))) curves kind count body ⌝ }
 {
     let surface = kind == 6;
     if !type_obeys(
@@ -186,18 +177,27 @@ pub fn record_obeys(
         return false;
     }
     if surface {
-        return surface_obeys(
-            used.loops,
-            elements,
-            parameters,
-            loops,
-            spans,
-            index,
-            count,
-            body,
-        );
+        return surface_obeys(used.loops, parameters, loops, spans, curves, count, body);
     }
     let start = body.first_parameter as usize;
     let end = start + body.count_u as usize;
     curve_obeys(kind == 5, &parameters[start..end], body, count)
+}
+
+// The body of the element at `index`, which is of that kind and has `count` corners; curv2 elements are counted for loop parts alone.
+pub fn record_obeys(
+    used: Used,
+    elements: &[u32],
+    parameters: &[i32],
+    loops: &[u32],
+    spans: &[i32],
+    index: u32,
+    kind: u32,
+    count: u32,
+    body: Body,
+) -> bool
+    ensures { λ r. ⌜ r ≡ recordObeys used (tables [] [] [] [] [] [] [] [] (now (parameters .entry)) (now (loops .entry)) (now (spans .entry))) (curvesAmong (now (elements .entry)) index) kind count body ⌝ }
+{
+    let curves = curves_for(elements, index, body.loops);
+    record_with(used, parameters, loops, spans, curves, kind, count, body)
 }

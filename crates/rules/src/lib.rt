@@ -13,9 +13,9 @@ use tables::Used;
 mod bare;
 pub mod bodies;
 mod corners;
-mod loops;
-mod numbers;
-mod vertices;
+pub mod loops;
+pub mod numbers;
+pub mod vertices;
 
 // An element but for its body: its kind, its smoothing and its corners.
 pub fn element_obeys(

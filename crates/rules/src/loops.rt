@@ -58,7 +58,8 @@ fn each_part(loops: &[u32], spans: &[i32], curves: u32, first: usize, count: usi
     true
 }
 
-fn curve_or_none(kind: u32) -> u32
+// What an element of that kind adds to the count of curv2 elements.
+pub fn curve_or_none(kind: u32) -> u32
     ensures { λ r. ⌜ (r ≡ cond (eqb kind 5) 1 0) × (r ≤ 1) ⌝ }
 {
     if kind == 5 {
@@ -83,17 +84,26 @@ fn curves_before(elements: &[u32], index: u32) -> u32
     before
 }
 
-// The `count` loop parts from `first` on of the element at `index`; curv2 elements are counted for parts alone.
-pub fn loops_obey(
+// The same for a surface with that many loop parts: a surface without any asks for no count.
+pub fn curves_for(elements: &[u32], index: u32, parts: u32) -> u32
+    ensures { λ r. ⌜ r ≡ cond (eqb parts 0) 0 (curvesAmong (now (elements .entry)) index) ⌝ }
+{
+    if parts == 0 {
+        return 0;
+    }
+    curves_before(elements, index)
+}
+
+// The `count` loop parts from `first` on of a surface after `curves` curv2 elements.
+pub fn loops_with(
     used: u32,
-    elements: &[u32],
     loops: &[u32],
     spans: &[i32],
-    index: u32,
+    curves: u32,
     first: u32,
     count: u32,
 ) -> bool
-    ensures { λ r. ⌜ r ≡ loopsObey used (tables [] [] [] [] [] [] [] [] [] (now (loops .entry)) (now (spans .entry))) (curvesAmong (now (elements .entry)) index) first count ⌝ }
+    ensures { λ r. ⌜ r ≡ loopsObey used (tables [] [] [] [] [] [] [] [] [] (now (loops .entry)) (now (spans .entry))) curves first count ⌝ }
 {
     if count == 0 {
         return first == 0;
@@ -108,6 +118,5 @@ pub fn loops_obey(
     if spans.len() < 2 * end {
         return false;
     }
-    let curves = curves_before(elements, index);
     each_part(loops, spans, curves, first as usize, count as usize)
 }

@@ -18,7 +18,7 @@ use Rattle.tidying.specs.Agree.{bareOption, bareElements, bare, Agree, u
 use Rattle.tidying.proofs.Reading.{read-came}
 use Rattle.tidying.proofs.Bare.{summed-bare, length-bare}
 use Rattle.tidying.proofs.SameTidy.{bytes-bare}
-use Rattle.tidying.proofs.Named.{read-stands}
+use Rattle.tidying.proofs.Named.{ElementsStand, read-stands}
 use Rattle.tidying.proofs.Rows.{used-of, Wide, wide-length, wide-inj}
 use Rattle.model.proofs.Rows.{cornerRows-length, bodyRows-length, rangeRows-length, parameterRows-length, loopRows-length, spanRows-length}
 use Rattle.tidying.proofs.Layouts.{fives, unnamed-is, wordsIn, names-in, SameBodies}
@@ -67,21 +67,19 @@ counting x c n bs =
       loops = summed partCount bs;
     }
 
--- ---- what is used of each table is the rows
+-- ---- a model whose rows have their widths, its names standing in the text t
+abbrev pub Widths : Vertices → Type 0
+Widths x = Wide 4 (x .v) × Wide 3 (x .vt) × Wide 3 (x .vn) × Wide 4 (x .vp)
+
+pub record Placed (t : List ℕ) (m : Model) : Type 0 where
+  pub rows : Widths (m .vertices)
+  pub names : ElementsStand t (m .elements)
+
 module _ (R : Rooms) (t : List ℕ) (m : Model) (h : readOf R t ≡ read m) where
-  abbrev es : List Element
-  es = m .elements
-
-  abbrev bs : List Body
-  bs = bodiesOf es
-
-  pub parted : PartedAll es
+  pub parted : PartedAll (m .elements)
   parted =
       let c = read-came R t m h in
       subst (λ (i : Model). PartedAll (i .elements)) (c .model) (elements-parted (m .vertices) 0 none (c .state .model .elements) (c .state .names .material) (c .good .elements))
-
-  abbrev pub Widths : Vertices → Type 0
-  Widths x = Wide 4 (x .v) × Wide 3 (x .vt) × Wide 3 (x .vn) × Wide 4 (x .vp)
 
   pub widths : Widths (m .vertices)
   widths =
@@ -90,6 +88,17 @@ module _ (R : Rooms) (t : List ℕ) (m : Model) (h : readOf R t ≡ read m) wher
       let g = c .good in
       subst (λ (i : Model). Widths (i .vertices)) (c .model)
       (vertices-wide geometric (x .v) (g .v), vertices-wide texture (x .vt) (g .vt), vertices-wide normal (x .vn) (g .vn), vertices-wide parametric (x .vp) (g .vp))
+
+  pub read-placed : Placed t m
+  read-placed = record { rows = widths; names = read-stands t R m h }
+
+-- ---- what is used of each table is the rows
+module _ (R : Rooms) (t : List ℕ) (m : Model) (p : Placed t m) where
+  abbrev es : List Element
+  es = m .elements
+
+  abbrev bs : List Body
+  bs = bodiesOf es
 
   record UsedRows : Type 0 where
     v : take (4 * length (m .vertices .v)) (tablesOf R m .v) ≡ flat itself (m .vertices .v)
@@ -109,7 +118,7 @@ module _ (R : Rooms) (t : List ℕ) (m : Model) (h : readOf R t ≡ read m) wher
   unfolding tablesOf
   used-rows =
       let x = m .vertices in
-      let w = widths in
+      let w = p .rows in
       let spare : List ℕ = replicate (R .elements - length (elementRows 0 0 es)) 0 in
       record {
         v = used-of (4 * length (x .v)) (R .v) (pos 0) (flat itself (x .v)) (wide-length 4 (x .v) (w .0));
@@ -123,15 +132,15 @@ module _ (R : Rooms) (t : List ℕ) (m : Model) (h : readOf R t ≡ read m) wher
         parameters = used-of (summed (λ b. length (b .us) + length (b .vs)) bs) (R .parameters) (pos 0) (flat parameterRow bs) (parameterRows-length bs);
         loops = used-of (2 * summed partCount bs) (R .loops) 0 (flat loopRows bs) (loopRows-length bs);
         spans = used-of (2 * summed partCount bs) (R .spans) (pos 0) (flat spanRows bs) (spanRows-length bs);
-        names = names-in t 0 0 es spare (read-stands t R m h);
+        names = names-in t 0 0 es spare (p .names);
       }
 
 -- ---- the theorem
-module _ (R S : Rooms) (t u : List ℕ) (m n : Model) (h : readOf R t ≡ read m) (k : readOf S u ≡ read n) where
+module _ (R S : Rooms) (t u : List ℕ) (m n : Model) (h : Placed t m) (k : Placed u n) where
   -- from the models to the tables
-  pub agree-tables : Agree m n → TablesAgree t (tablesOf R m) (usedOf m) u (tablesOf S n) (usedOf n)
+  pub placed-agree : Agree m n → TablesAgree t (tablesOf R m) (usedOf m) u (tablesOf S n) (usedOf n)
   unfolding Agree bare usedOf
-  agree-tables e =
+  placed-agree e =
       let es = m .elements in
       let fs = n .elements in
       let x : m .vertices ≡ n .vertices = ap (λ (j : Model). j .vertices) e in
@@ -160,13 +169,17 @@ module _ (R S : Rooms) (t u : List ℕ) (m n : Model) (h : readOf R t ≡ read m
         names = M .names ∙ agreed wordsIn words-bare es fs q ∙ sym (N .names);
       }
 
+module _ (R S : Rooms) (t u : List ℕ) (m n : Model) (h : readOf R t ≡ read m) (k : readOf S u ≡ read n) where
+  pub agree-tables : Agree m n → TablesAgree t (tablesOf R m) (usedOf m) u (tablesOf S n) (usedOf n)
+  agree-tables = placed-agree R S t u m n (read-placed R t m h) (read-placed S u n k)
+
   -- from the tables to the models
   pub tables-agree : TablesAgree t (tablesOf R m) (usedOf m) u (tablesOf S n) (usedOf n) → Agree m n
   unfolding Agree bare usedOf
   tables-agree a =
       let U = a .used in
-      let M = used-rows R t m h in
-      let N = used-rows S u n k in
+      let M = used-rows R t m (read-placed R t m h) in
+      let N = used-rows S u n (read-placed S u n k) in
       let K = widths R t m h in
       let W = widths S u n k in
       let x = m .vertices in

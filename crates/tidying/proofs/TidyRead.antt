@@ -35,7 +35,7 @@ use Rattle.tidying.proofs.Rooms.{NoMore, no-more-same, no-more-join, fi
 use Rattle.tidying.proofs.Bare.{bareOpening, bareState, bareStatement, renamed-bare, bare-apply, curves-bare, here-bare, needs-bare}
 use Rattle.tidying.proofs.Texts.{Say, text-back}
 use Rattle.tidying.proofs.Tokens.{line-tokens}
-use Rattle.tidying.proofs.Reading.{apply-more, read-came, read-small}
+use Rattle.tidying.proofs.Reading.{apply-more, Came, read-came, read-small}
 use Rattle.tidying.proofs.Goes.{Stand, runs, at}
 use Rattle.tidying.proofs.Elements.{tidied-goes}
 
@@ -166,18 +166,17 @@ ended-fits R m y o q h n f =
     ap₂ (λ (k : Model) (p : Option Open). fits R (record { model = k; names = n; form = f; open-body = p })) (sym q) (sym o) ∙ same-room R y n f ∙ h in
     same-room R (bareState s) n f ∙ fits-down R (bareState s) s (needs-bare s .1) z
 
--- ---- (a) the tidy text finds the room that the text found, and is read as the same model, apart from where names stand
-pub tidy-read : (c : Weights) (R : Rooms) (t : List ℕ) (m : Model) → readOf R t ≡ read m → length (tidyText c m) ≤ 16777216
+-- ---- (a) the tidy text of a model such as reading keeps finds the model's room, and is read as the same model, apart from where names stand
+pub good-read : (c : Weights) (R : Rooms) (n : ℕ) (m : Model) → Came R n m → Small (seenOf (m .vertices) (curves (m .elements))) → length (tidyText c m) ≤ 16777216
     → (k : Model) × (readOf R (tidyText c m) ≡ read k) × Agree k m
 unfolding readOf tidyText bare Agree
-tidy-read c R t m h l =
-    let r = read-came R t m h in
+good-read c R n m r few l =
     let w = tidied-goes m (r .state) (r .good) (r .model) in
     let ts = tidied m in
     let T = writtenLines (map (printed c) ts) in
     let u = at (m .vertices) (bareElements (m .elements)) (w .names) (w .form) in
     let e : runs ts start ≡ u = w .goes .ends in
-    let s : Small (seenOf (u .model .vertices) (curves (u .model .elements))) = subst (λ (n : ℕ). Small (seenOf (m .vertices) n)) (sym (curves-bare (m .elements))) (read-small R t m h) in
+    let s : Small (seenOf (u .model .vertices) (curves (u .model .elements))) = subst (λ (n : ℕ). Small (seenOf (m .vertices) n)) (sym (curves-bare (m .elements))) few in
     let f : fits R u ≡ true = ended-fits R m (r .state) (r .shut) (r .model) (r .room) (w .names) (w .form) in
     let i = reread c R (length T) (linesOf T) ts start start refl (w .goes .stand) (text-back (map (printed c) ts) (stand-tokens c ts start (w .goes .stand))) (ap (fits R) e ∙ f)
     (subst (λ (z : State). Small (seenOf (z .model .vertices) (curves (z .model .elements)))) (sym e) s) in
@@ -188,3 +187,8 @@ tidy-read c R t m h l =
           ∙ ap (λ (o : Option Open). finish (length T) o (i .state .model)) (no-open (i .state .open-body) (ap (λ (z : State). z .open-body) b)),
       ap (λ (z : State). z .model) b,
     )
+
+-- so is the tidy text of an accepted text
+pub tidy-read : (c : Weights) (R : Rooms) (t : List ℕ) (m : Model) → readOf R t ≡ read m → length (tidyText c m) ≤ 16777216
+    → (k : Model) × (readOf R (tidyText c m) ≡ read k) × Agree k m
+tidy-read c R t m h l = good-read c R (length (linesOf t)) m (read-came R t m h) (read-small R t m h) l

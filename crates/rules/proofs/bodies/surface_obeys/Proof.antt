@@ -3,7 +3,6 @@ use mathlib.Core.Path.{_∙_}
 use mathlib.Core.List.{[]}
 use native.Mathlib.Nat.{add-sub-cancel-left}
 use Rattle.tables.specs.Tables.{tables}
-use Rattle.rules.specs.Rules.{curvesAmong}
 use Rattle.rules.specs.Bodies.{surfaceObeys}
 use Rattle.basis.proofs.Tests.{failed, passed}
 use Rattle.rules.proofs.OneBody.{loops-lent}
@@ -59,16 +58,16 @@ returns c =
     let e = failed (simp add-sub-cancel-left at (c .before .directions-obey .ensures)) (c .if1 .taken) in
     rw e
 
-loops-obey-requires : tie.Need-loops-obey-requires
-loops-obey-requires c κs = search needs
+loops-with-requires : tie.Need-loops-with-requires
+loops-with-requires c κs = search needs
 
 returns-2 : tie.Need-returns-2
 unfolding surfaceObeys
 returns-2 c =
     let e = passed (simp add-sub-cancel-left at (c .before .before .directions-obey .ensures)) (c .before .if1 .left) in
-    let s = c .before .before .before .before .before .before .before .before .before .before .args in
+    let s = c .before .before .before .before .before .before .before .before .before .args in
     let t = tables [] [] [] [] [] [] [] [] (s .parameters .now) (s .loops .now) (s .spans .now) in
-    rw e (c .loops-obey .ensures ∙ loops-lent (s .used) t (curvesAmong (s .elements .now) (s .index)) _ _)
+    rw e (c .loops-with .ensures ∙ loops-lent (s .used) t (s .curves) _ _)
 
 pub surface-obeys-spec : {M : Type 1} → statement M
 surface-obeys-spec =
@@ -89,5 +88,5 @@ surface-obeys-spec =
     part-y-end
     directions-obey-requires
     returns
-    loops-obey-requires
+    loops-with-requires
     returns-2)

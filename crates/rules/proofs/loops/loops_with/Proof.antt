@@ -2,8 +2,8 @@
 use borrow.Author.Needs.{needs}
 use borrow.Author.Tests.{le-leb, lt-leb, eq-eqb, ne-eqb}
 use Rattle.rules.specs.Loops.{loopsObey}
-use Rattle.rules.proofs.loops.loops_obey.Statement.{statement}
-use Rattle.rules.proofs.loops.loops_obey.Tie as tie
+use Rattle.rules.proofs.loops.loops_with.Statement.{statement}
+use Rattle.rules.proofs.loops.loops_with.Tie as tie
 
 returns : tie.Need-returns
 unfolding loopsObey
@@ -30,21 +30,18 @@ returns-4 : tie.Need-returns-4
 unfolding loopsObey
 returns-4 c = rw (ne-eqb _ _ (c .before .before .before .if1 .left), le-leb _ _ (c .before .before .if2 .left), le-leb _ _ (c .before .if3 .left), lt-leb _ _ (c .if4 .taken))
 
-curves-before-requires : tie.Need-curves-before-requires
-curves-before-requires c κs = search needs
-
 each-part-requires : tie.Need-each-part-requires
 each-part-requires c κs = search needs
 
 returns-5 : tie.Need-returns-5
 unfolding loopsObey
 returns-5 c =
-    let four = c .before .before in
+    let four = c .before in
     rw (ne-eqb _ _ (four .before .before .before .if1 .left), le-leb _ _ (four .before .before .if2 .left), le-leb _ _ (four .before .if3 .left), le-leb _ _ (four .if4 .left))
-    (rw (c .before .curves-before .ensures) at (c .each-part .ensures))
+    (c .each-part .ensures)
 
-pub loops-obey-spec : {M : Type 1} → statement M
-loops-obey-spec =
+pub loops-with-spec : {M : Type 1} → statement M
+loops-with-spec =
     tie.close
     (tie.spec
     returns
@@ -54,6 +51,5 @@ loops-obey-spec =
     returns-3
     mul-if4
     returns-4
-    curves-before-requires
     each-part-requires
     returns-5)

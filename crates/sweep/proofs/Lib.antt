@@ -1,0 +1,4 @@
+pub mod Whole
+pub mod References
+pub mod Fronts
+pub mod Answering

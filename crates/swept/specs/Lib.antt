@@ -1,0 +1,4 @@
+pub mod Promises
+pub mod Samples
+pub mod Files
+pub mod Accepted

@@ -1,0 +1,4 @@
+pub mod AllNumbers
+pub mod OneElement
+pub mod Pass
+pub mod Lent
