@@ -8,6 +8,9 @@ need() {
 }
 need cargo cargo
 need gcc gcc
+need sqlite3 sqlite3
+# A shell's patterns give files in the order of their bytes.
+export LC_ALL=C
 
 rt staticlib boundary
 (cd host && cargo build --release --offline --quiet && cargo test --release --offline --quiet)
@@ -38,6 +41,13 @@ while read -r name status arguments; do
 done < host/tests/calls.txt
 holds plate-tidy 0 "$command" tidy - < examples/plate.obj
 holds plate-weights 0 "$command" tidy --weights - < examples/plate.obj
+while read -r name file; do
+    case $name in '' | '#'*) continue ;; esac
+    rm -rf target/database
+    "$command" tables "$file" --csv target/database
+    (cd target/database && sqlite3 part.db < load.sql)
+    holds "$name" 0 sqlite3 target/database/part.db < host/tests/parts.sql
+done < host/tests/databases.txt
 holds rail-points 0 target/points examples/chair-rail.obj 1 16
 holds wing-points 0 target/points examples/foam-wing.obj 1 100
 holds seat-points-curv2 0 target/points examples/seat.obj 1 5
@@ -45,7 +55,7 @@ holds wing-polyline 0 target/points examples/foam-wing.obj 1 polyline 500
 holds seat-polyline-curv2 0 target/points examples/seat.obj 2 polyline 10000
 holds archive 0 python3 bench/archive.py second/cases/000
 for arguments in "" "check" "points examples/plate.obj 1" "points examples/plate.obj one 8" "polyline examples/foam-wing.obj 1" \
-    "polyline examples/foam-wing.obj 1 fine" "polyline examples/foam-wing.obj 1 0.0000005" "polyline examples/foam-wing.obj 1 3000" "cubic examples/chair-rail.obj" "tidy no-such-file.obj" "check examples/plate.obj --weights" "paint examples/plate.obj"; do
+    "polyline examples/foam-wing.obj 1 fine" "polyline examples/foam-wing.obj 1 0.0000005" "polyline examples/foam-wing.obj 1 3000" "cubic examples/chair-rail.obj" "tidy no-such-file.obj" "check examples/plate.obj --weights" "tables examples/plate.obj" "tables examples/plate.obj --csv" "tables examples/plate.obj --csv examples/plate.obj" "paint examples/plate.obj"; do
     got=0
     # shellcheck disable=SC2086
     "$command" $arguments > /dev/null 2>&1 || got=$?

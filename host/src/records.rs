@@ -2,9 +2,10 @@
 use crate::words::{arguments, keywords};
 use std::fmt;
 
-// The rows that the kinds of element and the types of body begin with, in the tables of spellings.
+// The rows that the kinds of element, the types of body and what begins a loop begin with, in the tables of spellings.
 const FIRST_KIND: usize = 8;
 const FIRST_TYPE: usize = 2;
+const FIRST_LOOP: usize = 15;
 
 /// How many records of each table are used, but for the corners, which count numbers. Ranges share the bodies' count, spans the loops'.
 #[repr(C)]
@@ -121,6 +122,11 @@ impl Basis {
     pub fn word(self) -> &'static str {
         &arguments()[FIRST_TYPE + self as usize]
     }
+
+    /// Whether points are given of its bodies, those that are not rational.
+    pub fn is_sampled(self) -> bool {
+        matches!(self, Basis::Bezier | Basis::Bspline)
+    }
 }
 
 /// A geometric vertex, in millionths.
@@ -201,6 +207,13 @@ pub enum Begins {
     Hole,
 }
 
+impl Begins {
+    /// The keyword of the line that begins; none where the loop goes on.
+    pub fn keyword(self) -> Option<&'static str> {
+        (self as usize).checked_sub(1).map(|row| keywords()[FIRST_LOOP + row].as_str())
+    }
+}
+
 /// A part of a trimming loop: the number of its `curv2`, counted over the `curv2` alone, and its two numbers in millionths.
 #[derive(Clone, Copy, Debug, PartialEq, Eq)]
 pub struct LoopPart {
@@ -271,6 +284,8 @@ mod tests {
         assert_eq!(Kind::of(0), None);
         assert_eq!(Kind::of(5), Some(Kind::Curv2));
         assert_eq!(Basis::of(7), None);
+        let begins = [Begins::Nothing, Begins::Trim, Begins::Hole].map(Begins::keyword);
+        assert_eq!(begins, [None, Some("trim"), Some("hole")]);
     }
 
     #[test]

@@ -21,8 +21,8 @@ pub fn refusal(name: &str, text: &[u8], refusal: Refusal) -> String {
     shown
 }
 
-// The words of the number; of 10 the half that holds.
-fn reason(text: &[u8], refusal: Refusal) -> &'static str {
+/// The words of the number; of 10 the half that holds.
+pub fn reason(text: &[u8], refusal: Refusal) -> &'static str {
     if refusal.number != 10 {
         return refusal.words();
     }
@@ -61,10 +61,20 @@ pub fn names(part: &[u8]) -> String {
     words.join(" ")
 }
 
-/// The numbers, from 1, of the entries that are 0, after a colon: neighbours as first-last.
+/// The numbers, from 1, of the entries that are 0, after a colon.
 pub fn zeros(entries: &[u32]) -> String {
-    let mut runs: Vec<(usize, usize)> = Vec::new();
-    for number in entries.iter().enumerate().filter(|(_, &entry)| entry == 0).map(|(index, _)| index + 1) {
+    let numbers = (1..).zip(entries).filter(|(_, &entry)| entry == 0).map(|(number, _)| number);
+    let shown = runs(numbers);
+    if shown.is_empty() {
+        return shown;
+    }
+    format!(": {shown}")
+}
+
+/// Rising numbers, neighbours as first-last.
+pub fn runs(numbers: impl IntoIterator<Item = u32>) -> String {
+    let mut runs: Vec<(u32, u32)> = Vec::new();
+    for number in numbers {
         match runs.last_mut() {
             Some((_, last)) if *last + 1 == number => *last = number,
             _ => runs.push((number, number)),
@@ -72,10 +82,7 @@ pub fn zeros(entries: &[u32]) -> String {
     }
     let shown: Vec<String> =
         runs.iter().map(|&(a, b)| if a == b { a.to_string() } else { format!("{a}-{b}") }).collect();
-    if shown.is_empty() {
-        return String::new();
-    }
-    format!(": {}", shown.join(" "))
+    shown.join(" ")
 }
 
 /// A number with its thousands apart.

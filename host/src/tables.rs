@@ -147,6 +147,17 @@ impl Tables {
         };
         Some(LoopPart { begins, curve, from, to })
     }
+
+    /// The loop parts of a body.
+    pub fn loop_parts(&self, body: Body) -> impl Iterator<Item = LoopPart> + '_ {
+        let first = body.first_loop_part;
+        (first..first.saturating_add(body.loop_parts)).map_while(|index| self.loop_part(index))
+    }
+
+    /// The numbers of the `curv2` elements, in order: a loop part's curve counts these, from 1.
+    pub fn curv2_elements(&self) -> Vec<u32> {
+        self.elements().filter(|(_, element)| element.kind == Some(Kind::Curv2)).map(|(number, _)| number).collect()
+    }
 }
 
 // The record of that number, from 1, where it is used and stands whole in the table.
