@@ -1,5 +1,6 @@
 pub mod Model
 pub mod Statements
+pub mod Words
 pub mod Parse
 pub mod Room
 pub mod Read

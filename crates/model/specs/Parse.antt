@@ -8,36 +8,11 @@ use lib.Dec.{leb, ltb, eqb}
 use lib.IntN.{ℤ, pos, natAbs}
 use lib.Signed.{ltZ}
 use Rattle.text.specs.Words.{Word}
-use Rattle.digits.specs.Said.{Said, says, wrong}
-use Rattle.decimals.specs.Number.{numberOf}
-use Rattle.forms.specs.Reference.{referenceOf}
-use Rattle.forms.specs.Corner.{Corner, Counts, Parts, cornerOf, alike}
-use Rattle.digits.specs.Degree.{degreeOf, smoothingOf, nameOf}
-use Rattle.keywords.specs.declared.Argument.{Argument}
-use Rattle.keywords.specs.declared.Argument.the-variants.{Rational, BasisMatrix, Bezier, Bspline, Cardinal, Taylor, DirectionU, DirectionV, Off, Other}
-use Rattle.keywords.specs.Arguments.{argumentOf}
+use Rattle.forms.specs.Corner.{Corner, Parts, alike}
 use Rattle.tables.specs.Bodies.{Basis, bezier, bspline, cardinal, taylor, low, high, inOrder, curveCount, surfaceCount}
 use Rattle.model.specs.Model.{VertexKind, geometric, texture, normal, parametric, Vertices, Shape, point, line, face, Free, curve, curve2, surface, Direction, along-u, along-v, Part, Loop, Body, Element, Model, Form, Open, State, curves, countsOf}
 use Rattle.model.specs.Statements.{Statement, vertex, element, group, smoothing, material, type, degree, body, parameters, loop, end, passed}
-
--- ---- a refusal: its number and its place
-pub data Parsed (A : Type 0) : Type 0 where
-  fine : A → Parsed A
-  fault : ℕ → ℕ → Parsed A
-
-abbrev pub then : {A C : Type 0} → Parsed A → (A → Parsed C) → Parsed C
-then (fine a) f = f a
-then (fault n p) f = fault n p
-
--- a rule that has to hold, or else the refusal n at p
-abbrev pub must : {A : Type 0} → Bool → ℕ → ℕ → Parsed A → Parsed A
-must true n p r = r
-must false n p r = fault n p
-
--- a word that must not be there, or else the refusal n at its place
-abbrev pub unless : {A : Type 0} → Option ℕ → ℕ → Parsed A → Parsed A
-unless none n r = r
-unless (some p) n r = fault n p
+pub use Rattle.model.specs.Words.{Parsed, fine, fault, then, must, unless, isV, directionOf, saysV, WordForm, a-number, a-corner, a-control, a-curve, a-direction, a-type, a-rational, a-degree, a-smoothing, a-name, anything, Value, number, corner, whole, direction, basis, name, nothing, onSaid, typeSaid, rationalSaid, directionSaid, Seen, saidOf, placed, valuesOf, numbersOf, cornersOf, wholesOf, namesOf, basisOf, directionIn}
 
 -- ---- the statements that a keyword opens
 pub data Keyword : Type 0 where
@@ -52,28 +27,6 @@ isSurface curve = false
 isSurface curve2 = false
 isSurface surface = true
 
--- a parm along v
-abbrev pub isV : Option Direction → Bool
-isV none = false
-isV (some along-u) = false
-isV (some along-v) = true
-
-abbrev pub directionOf : Argument → Option Direction
-directionOf Rational = none
-directionOf BasisMatrix = none
-directionOf Bezier = none
-directionOf Bspline = none
-directionOf Cardinal = none
-directionOf Taylor = none
-directionOf DirectionU = some along-u
-directionOf DirectionV = some along-v
-directionOf Off = none
-directionOf Other = none
-
-abbrev pub saysV : List Word → Bool
-saysV [] = false
-saysV (w ∷ ws) = isV (directionOf (argumentOf (w .bytes)))
-
 abbrev pub inBody : Option Open → (Free → Bool) → Bool
 inBody none f = false
 inBody (some o) f = f (o .body .free)
@@ -81,21 +34,6 @@ inBody (some o) f = f (o .body .free)
 abbrev pub outside : Option Open → Bool
 outside none = true
 outside (some o) = false
-
-abbrev pub allowed : Keyword → Option Open → List Word → Bool
-allowed (a-vertex k) o ws = outside o
-allowed (an-element k) o ws = outside o
-allowed (a-body k) o ws = outside o
-allowed parm o ws = inBody o (λ k. isSurface k || not (saysV ws))
-allowed trim o ws = inBody o isSurface
-allowed hole o ws = inBody o isSurface
-allowed ends o ws = inBody o (λ k. true)
-allowed cstype o ws = outside o
-allowed deg o ws = outside o
-allowed g o ws = outside o
-allowed s o ws = outside o
-allowed usemtl o ws = outside o
-allowed over o ws = outside o
 
 -- ---- 5, "Words after the keyword"
 abbrev pub within : ℕ → ℕ → ℕ → Bool
@@ -125,35 +63,7 @@ fewestControls curve = 2
 fewestControls curve2 = 2
 fewestControls surface = 1
 
--- "parm u or v, then 2 or more; trim, hole a positive multiple of three (two numbers, a curv2 number); end 0; cstype 1 or 2; deg 1 or 2; g any; s, usemtl 1"
-abbrev pub counted : Keyword → ℕ → Bool
-counted (a-vertex k) n = countedVertex k n
-counted (an-element k) n = leb (fewest k) n
-counted (a-body k) n = leb (rangeWords k + fewestControls k) n
-counted parm n = leb 3 n
-counted trim n = ltb 0 n && eqb (n % 3) 0
-counted hole n = ltb 0 n && eqb (n % 3) 0
-counted ends n = eqb n 0
-counted cstype n = within 1 2 n
-counted deg n = within 1 2 n
-counted g n = true
-counted s n = eqb n 1
-counted usemtl n = eqb n 1
-counted over n = true
-
 -- ---- 4 of a type, 6, 7, 8: the form of each word
-pub data WordForm : Type 0 where
-  a-number : WordForm
-  a-corner : Parts → WordForm
-  a-control : WordForm
-  a-curve : WordForm
-  a-direction : WordForm
-  a-type : WordForm
-  a-rational : WordForm
-  a-degree : WordForm
-  a-smoothing : WordForm
-  a-name : WordForm
-  anything : WordForm
 
 -- "p and curv are v; l is v or v/vt; f and surf are v, v/vt, v//vn or v/vt/vn"
 abbrev pub parts : Shape → Parts
@@ -167,159 +77,46 @@ controlForm curve = a-corner (record { vt = false; vn = false })
 controlForm curve2 = a-control
 controlForm surface = a-corner (record { vt = true; vn = true })
 
--- the form of word i, from 0, of n words
+-- ---- a row of rules for each statement: where it may stand, by the open body and its own words; how many words follow the keyword; the form of word i,
+-- from 0, of n words
+pub record Rules : Type 0 where
+  pub stands : Option Open → List Word → Bool
+  pub words : ℕ → Bool
+  pub form : ℕ → ℕ → WordForm
+
+abbrev row : (Option Open → List Word → Bool) → (ℕ → Bool) → (ℕ → ℕ → WordForm) → Rules
+row a b c = record { stands = a; words = b; form = c }
+
+abbrev free : (ℕ → Bool) → WordForm → Rules
+free b f = row (λ o ws. outside o) b (λ n i. f)
+
+abbrev loops : Rules
+loops = row (λ o ws. inBody o isSurface) (λ n. ltb 0 n && eqb (n % 3) 0) (λ n i. cond (eqb (i % 3) 2) a-curve a-number)
+
+-- "parm u or v, then 2 or more; trim, hole a positive multiple of three (two numbers, a curv2 number); end 0; cstype 1 or 2; deg 1 or 2; g any; s, usemtl 1"
+abbrev pub rulesOf : Keyword → Rules
+rulesOf (a-vertex k) = free (countedVertex k) a-number
+rulesOf (an-element k) = free (λ n. leb (fewest k) n) (a-corner (parts k))
+rulesOf (a-body k) = row (λ o ws. outside o) (λ n. leb (rangeWords k + fewestControls k) n) (λ n i. cond (ltb i (rangeWords k)) a-number (controlForm k))
+rulesOf parm = row (λ o ws. inBody o (λ k. isSurface k || not (saysV ws))) (λ n. leb 3 n) (λ n i. cond (eqb i 0) a-direction a-number)
+rulesOf trim = loops
+rulesOf hole = loops
+rulesOf ends = row (λ o ws. inBody o (λ k. true)) (λ n. eqb n 0) (λ n i. anything)
+rulesOf cstype = row (λ o ws. outside o) (within 1 2) (λ n i. cond (eqb (i + 1) n) a-type a-rational)
+rulesOf deg = free (within 1 2) a-degree
+rulesOf g = free (λ n. true) a-name
+rulesOf s = free (λ n. eqb n 1) a-smoothing
+rulesOf usemtl = free (λ n. eqb n 1) a-name
+rulesOf over = free (λ n. true) anything
+
+abbrev pub allowed : Keyword → Option Open → List Word → Bool
+allowed k = rulesOf k .stands
+
+abbrev pub counted : Keyword → ℕ → Bool
+counted k = rulesOf k .words
+
 abbrev pub formOf : Keyword → ℕ → ℕ → WordForm
-formOf (a-vertex k) n i = a-number
-formOf (an-element k) n i = a-corner (parts k)
-formOf (a-body k) n i = cond (ltb i (rangeWords k)) a-number (controlForm k)
-formOf parm n i = cond (eqb i 0) a-direction a-number
-formOf trim n i = cond (eqb (i % 3) 2) a-curve a-number
-formOf hole n i = cond (eqb (i % 3) 2) a-curve a-number
-formOf ends n i = anything
-formOf cstype n i = cond (eqb (i + 1) n) a-type a-rational
-formOf deg n i = a-degree
-formOf g n i = a-name
-formOf s n i = a-smoothing
-formOf usemtl n i = a-name
-formOf over n i = anything
-
--- what a word is found to be
-pub data Value : Type 0 where
-  number : ℤ → Value
-  corner : Corner → Value
-  whole : ℕ → Value
-  direction : Direction → Value
-  basis : Basis → Value
-  name : Word → Value
-  nothing : Value
-
-abbrev pub onSaid : {A C : Type 0} → (A → C) → Said A → Said C
-onSaid f (says a) = says (f a)
-onSaid f (wrong n) = wrong n
-
--- "So is a cstype word out of form (of two the first is rat; the last is a type)"; "the type bmatrix" is known and refused
-abbrev pub typeSaid : Argument → Said Basis
-typeSaid Rational = wrong 6
-typeSaid BasisMatrix = wrong 4
-typeSaid Bezier = says bezier
-typeSaid Bspline = says bspline
-typeSaid Cardinal = says cardinal
-typeSaid Taylor = says taylor
-typeSaid DirectionU = wrong 6
-typeSaid DirectionV = wrong 6
-typeSaid Off = wrong 6
-typeSaid Other = wrong 6
-
-abbrev pub rationalSaid : Argument → Said Value
-rationalSaid Rational = says nothing
-rationalSaid BasisMatrix = wrong 6
-rationalSaid Bezier = wrong 6
-rationalSaid Bspline = wrong 6
-rationalSaid Cardinal = wrong 6
-rationalSaid Taylor = wrong 6
-rationalSaid DirectionU = wrong 6
-rationalSaid DirectionV = wrong 6
-rationalSaid Off = wrong 6
-rationalSaid Other = wrong 6
-
--- "and a parm direction other than u or v"
-abbrev pub directionSaid : Option Direction → Said Value
-directionSaid none = wrong 6
-directionSaid (some d) = says (direction d)
-
--- how many there are so far of what a word may refer to
-pub record Seen : Type 0 where
-  pub counts : Counts
-  pub vp : ℕ
-  pub curves : ℕ
-
-abbrev pub saidOf : Seen → WordForm → Word → Said Value
-saidOf n a-number w = onSaid number (numberOf (w .bytes))
-saidOf n (a-corner k) w = onSaid corner (cornerOf (n .counts) k (w .bytes))
-saidOf n a-control w = onSaid (λ k. corner (record { v = k; vt = 0; vn = 0 })) (referenceOf (n .vp) (w .bytes))
-saidOf n a-curve w = onSaid whole (referenceOf (n .curves) (w .bytes))
-saidOf n a-direction w = directionSaid (directionOf (argumentOf (w .bytes)))
-saidOf n a-type w = onSaid basis (typeSaid (argumentOf (w .bytes)))
-saidOf n a-rational w = rationalSaid (argumentOf (w .bytes))
-saidOf n a-degree w = onSaid whole (degreeOf (w .bytes))
-saidOf n a-smoothing w = onSaid whole (smoothingOf (w .bytes))
-saidOf n a-name w = onSaid (λ b. name w) (nameOf (w .bytes))
-saidOf n anything w = says nothing
-
--- "4 for a type, 6, 7 and 8 go together after 5, word by word from the left, in a word 6 first": the words from the i-th on
-abbrev pub placed : {A : Type 0} → Said A → ℕ → Parsed A
-placed (says a) p = fine a
-placed (wrong n) p = fault n p
-
-abbrev pub valuesOf : Seen → (ℕ → WordForm) → ℕ → List Word → Parsed (List Value)
-valuesOf n f i [] = fine []
-valuesOf n f i (w ∷ ws) = then (placed (saidOf n (f i) w) (w .place)) (λ x. then (valuesOf n f (suc i) ws) (λ xs. fine (x ∷ xs)))
-
--- ---- what is told by the values of a line
-abbrev pub numbersOf : List Value → List ℤ
-numbersOf [] = []
-numbersOf (number z ∷ xs) = z ∷ numbersOf xs
-numbersOf (corner c ∷ xs) = numbersOf xs
-numbersOf (whole k ∷ xs) = numbersOf xs
-numbersOf (direction d ∷ xs) = numbersOf xs
-numbersOf (basis t ∷ xs) = numbersOf xs
-numbersOf (name w ∷ xs) = numbersOf xs
-numbersOf (nothing ∷ xs) = numbersOf xs
-
-abbrev pub cornersOf : List Value → List Corner
-cornersOf [] = []
-cornersOf (number z ∷ xs) = cornersOf xs
-cornersOf (corner c ∷ xs) = c ∷ cornersOf xs
-cornersOf (whole k ∷ xs) = cornersOf xs
-cornersOf (direction d ∷ xs) = cornersOf xs
-cornersOf (basis t ∷ xs) = cornersOf xs
-cornersOf (name w ∷ xs) = cornersOf xs
-cornersOf (nothing ∷ xs) = cornersOf xs
-
-abbrev pub wholesOf : List Value → List ℕ
-wholesOf [] = []
-wholesOf (number z ∷ xs) = wholesOf xs
-wholesOf (corner c ∷ xs) = wholesOf xs
-wholesOf (whole k ∷ xs) = k ∷ wholesOf xs
-wholesOf (direction d ∷ xs) = wholesOf xs
-wholesOf (basis t ∷ xs) = wholesOf xs
-wholesOf (name w ∷ xs) = wholesOf xs
-wholesOf (nothing ∷ xs) = wholesOf xs
-
-abbrev pub namesOf : List Value → List Word
-namesOf [] = []
-namesOf (number z ∷ xs) = namesOf xs
-namesOf (corner c ∷ xs) = namesOf xs
-namesOf (whole k ∷ xs) = namesOf xs
-namesOf (direction d ∷ xs) = namesOf xs
-namesOf (basis t ∷ xs) = namesOf xs
-namesOf (name w ∷ xs) = w ∷ namesOf xs
-namesOf (nothing ∷ xs) = namesOf xs
-
-abbrev pub basisOf : List Value → Basis
-basisOf [] = bezier
-basisOf (number z ∷ xs) = basisOf xs
-basisOf (corner c ∷ xs) = basisOf xs
-basisOf (whole k ∷ xs) = basisOf xs
-basisOf (direction d ∷ xs) = basisOf xs
-basisOf (basis t ∷ xs) = t
-basisOf (name w ∷ xs) = basisOf xs
-basisOf (nothing ∷ xs) = basisOf xs
-
-abbrev pub directionIn : List Value → Direction
-directionIn [] = along-u
-directionIn (number z ∷ xs) = directionIn xs
-directionIn (corner c ∷ xs) = directionIn xs
-directionIn (whole k ∷ xs) = directionIn xs
-directionIn (direction d ∷ xs) = d
-directionIn (basis t ∷ xs) = directionIn xs
-directionIn (name w ∷ xs) = directionIn xs
-directionIn (nothing ∷ xs) = directionIn xs
-
--- the two numbers and the curv2 number of each part of a loop
-abbrev pub partsOf : List ℤ → List ℕ → List Part
-partsOf zs [] = []
-partsOf zs (k ∷ ks) = record { from = getD zs 0 (pos 0); to = getD zs 1 (pos 0); curve = k } ∷ partsOf (drop 2 zs) ks
+formOf k = rulesOf k .form
 
 -- ---- 9, "corner pattern differs from the first": of the words ws with the corners cs, the first whose pattern is not c's
 abbrev pub differing : Corner → List Word → List Corner → Option ℕ
@@ -384,6 +181,11 @@ inRange surface b =
     inOrder (b .basis) (b .degree-u) (b .us) (b .start-u) (b .end-u) && inOrder (b .basis) (b .degree-v) (b .vs) (b .start-v) (b .end-v)
 
 -- ---- the statement of a line whose words have their forms
+
+-- the two numbers and the curv2 number of each part of a loop
+abbrev pub partsOf : List ℤ → List ℕ → List Part
+partsOf zs [] = []
+partsOf zs (k ∷ ks) = record { from = getD zs 0 (pos 0); to = getD zs 1 (pos 0); curve = k } ∷ partsOf (drop 2 zs) ks
 
 -- what is filled in: "w 1.000000 if absent"; "vt three, 0 if absent"; "(v 0, w 1.000000 if absent)"
 abbrev pub defaults : VertexKind → List ℤ
