@@ -30,7 +30,7 @@ use Rattle.state.specs.Changed.{Wide}
 use Rattle.state.specs.Bounds.{Bounded}
 use Rattle.state.proofs.Rooms.{Within, parts-fit}
 use Rattle.all_lines.specs.Answered.{Result, result, roomsOf, answered}
-use Rattle.lines.specs.Holding.{Opened, opened, Holds, lineSays, NextLine}
+use Rattle.lines.specs.Holding.{Opened, opened, Holds, lineSays, WithinLimit, NextLine}
 use Rattle.lines.proofs.Opened.{no-body, some-body}
 use Rattle.all_lines.specs.declared.Reading.{Reading}
 use Rattle.all_lines.specs.declared.Reading.the-variants.{Read, Refused}
@@ -60,13 +60,14 @@ begins R s =
 
 -- ---- between lines
 pub record Going (R : Rooms) (s : List ℕ) (c : State) (t : Tables) (at : ℕ) : Type 0 where
+  pub limit : length s ≤ 16777216
   pub to : at ≤ length s
   pub now : model.State
   pub holds : Holds R s now c t at
   pub same : readLines R (length s) (linesAt s 0) start ≡ readLines R (length s) (linesAt s at) now
 
-pub going-start : (R : Rooms) (s : List ℕ) → Going R s begin (tablesOf R nothing) 0
-going-start R s = record { to = omega arith; now = start; holds = begins R s; same = refl }
+pub going-start : (R : Rooms) (s : List ℕ) → length s ≤ 16777216 → Going R s begin (tablesOf R nothing) 0
+going-start R s l = record { limit = l; to = omega arith; now = start; holds = begins R s; same = refl }
 
 -- the line at `at` is the first of those left
 on : (R : Rooms) (s : List ℕ) (at : ℕ) (x : model.State) → at < length s
@@ -76,20 +77,29 @@ on R s at x h =
     ∙ ap₂ (λ (b : Option ℕ) (ws : List Rattle.text.specs.Words.Word). onParsed (unless b 2 (step R x ws)) (readLines R (length s) (linesAt s ((restAt s at) .next)))) (line-bad s at) (line-words s at)
 
 module _ (R : Rooms) (s : List ℕ) (c : State) (t : Tables) (at : ℕ) (go : Going R s c t at) (h : at < length s) where
+  few : WithinLimit s at at
+  few =
+      let a = next-ahead s at h in
+      let b = next-to s at (let g : at ≤ length s = omega arith in g) .1 in
+      let l = go .limit in
+      omega arith
+
   pub going-on : (u : Tables) (d : State) (q : ℕ) → lineIs s at c t u (Next d q) → (Going R s d u q) × (at < q)
   going-on u d q l =
-      let m = l R (go .now) (go .holds) in
+      let m = l R at (go .now) few (go .holds) in
       let n = m .0 in
       let e : q ≡ (restAt s at) .next = m .1 in
       let a = next-ahead s at h in
       let b = next-to s at (let g : at ≤ length s = omega arith in g) in
       let f : readLines R (length s) (linesAt s at) (go .now) ≡ readLines R (length s) (linesAt s q) (n .after) =
       on R s at (go .now) h ∙ ap (λ p. onParsed p (readLines R (length s) (linesAt s ((restAt s at) .next)))) (n .said) ∙ ap (λ (k : ℕ). readLines R (length s) (linesAt s k) (n .after)) (sym e) in
-      (record { to = (let g : q ≤ length s = (let z = b .1 in omega arith) in g); now = n .after; holds = n .holds; same = go .same ∙ f }, (let g : at < q = omega arith in g))
+      let on : at < q = omega arith in
+      let there : at + (q - at) ≡ q = omega arith in
+      (record { limit = go .limit; to = (let g : q ≤ length s = (let z = b .1 in omega arith) in g); now = n .after; holds = subst (Holds R s (n .after) d u) there (n .holds); same = go .same ∙ f }, on)
 
   pub going-stops : (u : Tables) (n p : ℕ) → lineIs s at c t u (Stopped n p) → readLines R (length s) (linesAt s 0) start ≡ refused n p
   going-stops u n p l =
-      go .same ∙ on R s at (go .now) h ∙ ap (λ p. onParsed p (readLines R (length s) (linesAt s ((restAt s at) .next)))) (l R (go .now) (go .holds))
+      go .same ∙ on R s at (go .now) h ∙ ap (λ p. onParsed p (readLines R (length s) (linesAt s ((restAt s at) .next)))) (l R at (go .now) few (go .holds))
 
 -- ---- at the end
 used-is : (x : model.State) → x .open-body ≡ none → usedIn x ≡ usedOf (x .model)

@@ -20,9 +20,9 @@ pub record Reached (s : List ℕ) (t u : Tables) (c : State) (at : ℕ) : Type 0
   pub going : Going (roomsOf t) s c u at
   pub lengths : roomsOf u ≡ roomsOf t
 
-pub reached-start : (s : List ℕ) (t : Tables) (c : State) → c ≡ begin → Blank t → Reached s t t c 0
-reached-start s t c e b =
-    record { going = subst (λ (d : State). Going (roomsOf t) s d t 0) (sym e) (subst (λ (u : Tables). Going (roomsOf t) s begin u 0) (sym b) (going-start (roomsOf t) s)); lengths = refl }
+pub reached-start : (s : List ℕ) (t : Tables) (c : State) → length s ≤ 16777216 → c ≡ begin → Blank t → Reached s t t c 0
+reached-start s t c l e b =
+    record { going = subst (λ (d : State). Going (roomsOf t) s d t 0) (sym e) (subst (λ (u : Tables). Going (roomsOf t) s begin u 0) (sym b) (going-start (roomsOf t) s l)); lengths = refl }
 
 module _ (s : List ℕ) (t u : Tables) (c : State) (at : ℕ) (r : Reached s t u c at) where
   module _ (h : at < length s) (y : Tables) (a : lines.Line) (is : lineIs s at c u y a) where

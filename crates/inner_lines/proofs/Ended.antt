@@ -39,7 +39,7 @@ use Rattle.lines.specs.Holding.{Holds, NextLine, lineSays}
 use Rattle.lines.specs.declared.Step.the-variants.{Taken, Refuses, GaveUp}
 use Rattle.bodies.proofs.Steps.{words-within}
 use Rattle.lines.proofs.Given.{given-in}
-use Rattle.lines.proofs.Opened.{left-refused, left-outside}
+use Rattle.lines.proofs.Opened.{left-refused, left-outside, few-read}
 use Rattle.inner_lines.proofs.Ends.{used-bodies, bodies-room, ranges-room, bodies-lent, ranges-lent, end-next, end-refused}
 use Rattle.inner_lines.proofs.Inner.{counts-in, counts-there}
 
@@ -105,7 +105,7 @@ end-asks s c b y h small =
     let n = counts-in c (k .counts) in
     ((k .u, small), ((k .v, small), (n .bodies, k .body, k .range, n .parts)))
 
-module _ (R : Rooms) (s : List ℕ) (p at : ℕ) (m : Model) (n : model.Names) (f : model.Form) (o : model.Open) (c : State) (t : Tables) (h : Holds R s (state m n f (some o)) c t p) (small : p ≤ 16777216) where
+module _ (R : Rooms) (s : List ℕ) (p at : ℕ) {read : ℕ} (m : Model) (n : model.Names) (f : model.Form) (o : model.Open) (c : State) (t : Tables) (h : Holds R s (state m n f (some o)) c t read) (small : read ≤ 16777216) where
   closable-there : closable c (length s) (length (t .bodies)) (length (t .ranges)) ≡ true
   closable-there =
       let ub = used-bodies R s p at m n f o c t h in
@@ -118,29 +118,29 @@ module _ (R : Rooms) (s : List ℕ) (p at : ℕ) (m : Model) (n : model.Names) (
 
 module _ (s : List ℕ) (at : ℕ) (c : State) (b d : List ℕ) (y z v q : List ℤ) where
   pub end-outside : c .«open» .kind ≡ 0 → endStep s at c b d y z v q GaveUp
-  end-outside k t eb ey ev R p x w g = left-outside R s p at x c t (withBody d z q t) w ends g (given-in R s x c t p (g .holds)) k refl
+  end-outside k t eb ey ev R p read x w g = left-outside R s p at read x c t (withBody d z q t) w ends g (given-in R s x c t read (g .holds)) k refl
 
   pub end-unsound : closable c (length s) (length b) (length y) ≡ false → endStep s at c b d y z v q GaveUp
-  end-unsound e t eb ey ev R p x w g = go (x .model) (x .names) (x .form) (x .open-body) g
+  end-unsound e t eb ey ev R p read x w g = go (x .model) (x .names) (x .form) (x .open-body) g
     where
-      go : (a : Model) (n : model.Names) (f : model.Form) (o : Option model.Open) → Began R s p at (state a n f o) c t w ends → Left R s p at (state a n f o) (withBody d z q t) w ends
-      go a n f none g = left-refused R s p at (state a n f none) c t (withBody d z q t) w ends g (given-in R s (state a n f none) c t p (g .holds)) refl
+      go : (a : Model) (n : model.Names) (f : model.Form) (o : Option model.Open) → Began R s p at read (state a n f o) c t w ends → Left R s p at (state a n f o) (withBody d z q t) w ends
+      go a n f none g = left-refused R s p at read (state a n f none) c t (withBody d z q t) w ends g (given-in R s (state a n f none) c t read (g .holds)) refl
       go a n f (some o) g =
-          never (sym (ap₂ (λ (i : List ℕ) (j : List ℤ). closable c (length s) (length i) (length j)) eb ey ∙ e) ∙ closable-there R s p at a n f o c t (g .holds) (g .small))
+          never (sym (ap₂ (λ (i : List ℕ) (j : List ℤ). closable c (length s) (length i) (length j)) eb ey ∙ e) ∙ closable-there R s p at a n f o c t (g .holds) (few-read g))
 
   pub end-more : (r : Met) (i : ℕ) → gapIs s at r → r ≡ Start i → endStep s at c b d y z v q GaveUp
-  end-more r i m e t eb ey ev R p x w g =
+  end-more r i m e t eb ey ev R p read x w g =
       let met : WordMet s at i = subst (gapIs s at) e m in
       record {
-        given = given-in R s x c t p (g .holds);
+        given = given-in R s x c t read (g .holds);
         roomless = λ good u h. absurd (no-word x (w .place) (wordAt s i) _ u (sym (ap (λ (r : Rest). parseBefore ends x (w .place) (r .words)) (met .rest)) ∙ h));
       }
 
   pub end-bad : (r : Met) (i : ℕ) → gapIs s at r → r ≡ Bad i → endStep s at c b d y z v q GaveUp
-  end-bad r i m e t eb ey ev R p x w g =
+  end-bad r i m e t eb ey ev R p read x w g =
       let met : BadMet s at i = subst (gapIs s at) e m in
       record {
-        given = given-in R s x c t p (g .holds);
+        given = given-in R s x c t read (g .holds);
         roomless = λ good u h. absurd (let k : none ≡ some i = sym good ∙ met .bad-at in let z : _≡_ {A = ℕ} 0 1 = cc in omega arith);
       }
 
@@ -150,7 +150,7 @@ module _ (s : List ℕ) (at : ℕ) (c : State) (b d : List ℕ) (y z v q : List 
     over = subst (gapIs s at) here found
 
     pub end-left : (i : ℕ) → r ≡ closed.Refused i → endStep s at c b d y z v q (Refuses i)
-    end-left i e t eb ey ev R p x w g = go (x .model) (x .names) (x .form) (x .open-body) g
+    end-left i e t eb ey ev R p read x w g = go (x .model) (x .names) (x .form) (x .open-body) g
       where
         left : NotKept (c .«open») (c .used) (bodyIn (formFor (c .«open» .kind) (c .form)) (c .«open») (c .used) s s (t .ranges)) (t .bodies) d (t .ranges) z (t .parameters) q i
         left =
@@ -160,13 +160,13 @@ module _ (s : List ℕ) (at : ℕ) (c : State) (b d : List ℕ) (y z v q : List 
             (subst (λ (l : List ℤ). NotKept (c .«open») (c .used) (bodyIn f (c .«open») (c .used) s s y) b d y z l q i) (sym ev)
             (subst (closedIs f (c .«open») (c .used) (bodyIn f (c .«open») (c .used) s s y) b d y z v q) e is))))
 
-        go : (a : Model) (n : model.Names) (f : model.Form) (o : Option model.Open) → Began R s p at (state a n f o) c t w ends → lineSays R s p (state a n f o) ≡ fault i (w .place)
+        go : (a : Model) (n : model.Names) (f : model.Form) (o : Option model.Open) → Began R s p at read (state a n f o) c t w ends → lineSays R s p (state a n f o) ≡ fault i (w .place)
         go a n f none g = absurd (inside (ap (λ (o : Open). o .kind) (g .holds .state .open-body)))
         go a n f (some o) g = end-refused R s p at a n f o c t (g .holds) w (g .begins) (g .keyword) next over d z q i left
 
     pub end-took : (i j : ℕ) (e : State) → r ≡ closed.Closed i j → e ≡ closedWith i j c → endStep s at c b d y z v q (Taken e next)
-    end-took i j e k a t eb ey ev R p x w g =
-        subst (λ (e : State). NextLine R s p x e (withBody d z q t) next × (next ≡ (restAt s p) .next)) (sym a) (go (x .model) (x .names) (x .form) (x .open-body) g)
+    end-took i j e k a t eb ey ev R p read x w g =
+        subst (λ (e : State). NextLine R s p read x e (withBody d z q t) next × (next ≡ (restAt s p) .next)) (sym a) (go (x .model) (x .names) (x .form) (x .open-body) g)
       where
         kept-there : Kept (formFor (c .«open» .kind) (c .form)) (c .«open») (c .used) (bodyIn (formFor (c .«open» .kind) (c .form)) (c .«open») (c .used) s s (t .ranges)) (t .bodies) d (t .ranges) z (t .parameters) q i j
         kept-there =
@@ -176,8 +176,8 @@ module _ (s : List ℕ) (at : ℕ) (c : State) (b d : List ℕ) (y z v q : List 
             (subst (λ (l : List ℤ). Kept f (c .«open») (c .used) (bodyIn f (c .«open») (c .used) s s y) b d y z l q i j) (sym ev)
             (subst (closedIs f (c .«open») (c .used) (bodyIn f (c .«open») (c .used) s s y) b d y z v q) k is))))
 
-        go : (a : Model) (n : model.Names) (f : model.Form) (o : Option model.Open) → Began R s p at (state a n f o) c t w ends
-            → NextLine R s p (state a n f o) (closedWith i j c) (withBody d z q t) next × (next ≡ (restAt s p) .next)
+        go : (a : Model) (n : model.Names) (f : model.Form) (o : Option model.Open) → Began R s p at read (state a n f o) c t w ends
+            → NextLine R s p read (state a n f o) (closedWith i j c) (withBody d z q t) next × (next ≡ (restAt s p) .next)
         go a n f none g = absurd (inside (ap (λ (o : Open). o .kind) (g .holds .state .open-body)))
         go a n f (some o) g = end-next R s p at a n f o c t (g .holds) w (g .begins) (g .keyword) next over d z q i j kept-there
 

@@ -44,7 +44,7 @@ use Rattle.lines.specs.Holding.{Opened, Holds, NextLine, lineSays}
 use Rattle.lines.proofs.Steps.{line-fine, line-fault, line-roomless, line-bounded, next-is}
 use Rattle.inner_lines.proofs.Loops.{used-loops}
 
-module _ (R : Rooms) (s : List ℕ) (p at : ℕ) (m : Model) (n : model.Names) (f : model.Form) (o : Open) (c : State) (t : Tables) (h : Holds R s (state m n f (some o)) c t p) where
+module _ (R : Rooms) (s : List ℕ) (p at : ℕ) {read : ℕ} (m : Model) (n : model.Names) (f : model.Form) (o : Open) (c : State) (t : Tables) (h : Holds R s (state m n f (some o)) c t read) where
   abbrev x : model.State
   x = state m n f (some o)
 
@@ -215,7 +215,7 @@ module _ (R : Rooms) (s : List ℕ) (p at : ℕ) (m : Model) (n : model.Names) (
 
     module _ (b : List ℕ) (r y : List ℤ) where
       pub end-next : (u v : ℕ) → Kept form (c .«open») (c .used) (bodyIn form (c .«open») (c .used) s s (t .ranges)) (t .bodies) b (t .ranges) r (t .parameters) y u v
-          → NextLine R s p x (closedWith u v c) (withBody b r y t) q × (q ≡ (restAt s p) .next)
+          → NextLine R s p read x (closedWith u v c) (withBody b r y t) q × (q ≡ (restAt s p) .next)
       end-next u v k =
           let fin = kept-says s s form (c .«open») (c .used) (t .ranges) o stands (t .bodies) b r (t .parameters) y (w .place) k in
           let counts = kept-counts s s form (c .«open») (c .used) (t .ranges) o stands (t .bodies) b r (t .parameters) y (w .place) k in
@@ -252,7 +252,7 @@ module _ (R : Rooms) (s : List ℕ) (p at : ℕ) (m : Model) (n : model.Names) (
                     ∙ end-image R m n f o r r′ bodies-room long;
                 wide = h .wide;
                 room = fit;
-                bounded = subst (λ (j : ℕ). Bounded j (apply end x)) (sym next) (line-bounded R s p at x w ends begins keyword end fine-end (h .bounded));
+                bounded = subst (λ (j : ℕ). Bounded (read + (j - p)) (apply end x)) (sym next) (line-bounded R s p at x w ends begins keyword end fine-end (h .bounded));
                 body = tt;
               };
             },

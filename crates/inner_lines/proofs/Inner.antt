@@ -41,7 +41,7 @@ use Rattle.lines.specs.Stepping.{Began, Left, quietStep, loopStep}
 use Rattle.inner_lines.specs.OpenBody.{keeping, looped, countsHold}
 use Rattle.lines.specs.Holding.{Holds, NextLine}
 use Rattle.lines.specs.declared.Step.the-variants.{Taken, GaveUp}
-use Rattle.lines.proofs.Opened.{isEnd, before-parse, left-refused, left-outside}
+use Rattle.lines.proofs.Opened.{isEnd, before-parse, left-refused, left-outside, few-read}
 use Rattle.inner_lines.proofs.Ends.{used-bodies}
 
 -- ---- where a trim or hole may stand, and what it parses to
@@ -70,20 +70,20 @@ six surface = refl
 -- ---- parm
 module _ (s : List ℕ) (at : ℕ) (c : State) where
   pub parm-outside : c .«open» .kind ≡ 0 → quietStep parm s at c GaveUp
-  parm-outside z t R p x w b = left-outside R s p at x c t t w parm b (given-in R s x c t p (b .holds)) z refl
+  parm-outside z t R p read x w b = left-outside R s p at read x c t t w parm b (given-in R s x c t read (b .holds)) z refl
 
   pub parm-gave : (r : Parm) (f : Bool) → f ≡ eqb (c .«open» .kind) 6 → parmIs f s at r → r ≡ parms.GaveUp → quietStep parm s at c GaveUp
-  parm-gave r f i v g t R p x w b = go (x .model) (x .names) (x .form) (x .open-body) b
+  parm-gave r f i v g t R p read x w b = go (x .model) (x .names) (x .form) (x .open-body) b
     where
       no : parmIs f s at parms.GaveUp
       no = subst (parmIs f s at) g v
 
-      go : (m : Model) (n : model.Names) (y : model.Form) (o : Option model.Open) → Began R s p at (state m n y o) c t w parm → Left R s p at (state m n y o) t w parm
-      go m n y none b = left-refused R s p at (state m n y none) c t t w parm b (given-in R s (state m n y none) c t p (b .holds)) refl
+      go : (m : Model) (n : model.Names) (y : model.Form) (o : Option model.Open) → Began R s p at read (state m n y o) c t w parm → Left R s p at (state m n y o) t w parm
+      go m n y none b = left-refused R s p at read (state m n y none) c t t w parm b (given-in R s (state m n y none) c t read (b .holds)) refl
       go m n y (some o) b =
           let e : f ≡ isSurface (o .body .free) = i ∙ ap (λ (k : ℕ). eqb k 6) (b .holds .state .open-body .kind) ∙ six (o .body .free) in
           record {
-            given = given-in R s (state m n y (some o)) c t p (b .holds);
+            given = given-in R s (state m n y (some o)) c t read (b .holds);
             roomless = λ good u h.
                 absurd (parm-left (state m n y (some o)) o refl (w .place) (restAt s at) u (subst (λ (f : Bool). parmIs f s at parms.GaveUp) e no) good
                 (sym (before-parse (state m n y (some o)) (w .place) ((restAt s at) .words) parm refl) ∙ h));
@@ -91,11 +91,11 @@ module _ (s : List ℕ) (at : ℕ) (c : State) where
 
   pub parm-took : (r : Parm) (f : Bool) (v : Bool) (i q : ℕ) (d : State) → f ≡ eqb (c .«open» .kind) 6 → (c .«open» .kind ≡ 0 → ⊥)
       → parmIs f s at r → r ≡ parms.Taken v i q → d ≡ keeping v i c → quietStep parm s at c (Taken d q)
-  parm-took r f v i q d j z k g e t R p x w b =
-      subst (λ (d : State). NextLine R s p x d t q × (q ≡ (restAt s p) .next)) (sym e) (go (x .model) (x .names) (x .form) (x .open-body) b)
+  parm-took r f v i q d j z k g e t R p read x w b =
+      subst (λ (d : State). NextLine R s p read x d t q × (q ≡ (restAt s p) .next)) (sym e) (go (x .model) (x .names) (x .form) (x .open-body) b)
     where
-      go : (m : Model) (n : model.Names) (y : model.Form) (o : Option model.Open) → Began R s p at (state m n y o) c t w parm
-          → NextLine R s p (state m n y o) (keeping v i c) t q × (q ≡ (restAt s p) .next)
+      go : (m : Model) (n : model.Names) (y : model.Form) (o : Option model.Open) → Began R s p at read (state m n y o) c t w parm
+          → NextLine R s p read (state m n y o) (keeping v i c) t q × (q ≡ (restAt s p) .next)
       go m n y none b = absurd (z (ap (λ (o : Open). o .kind) (b .holds .state .open-body)))
       go m n y (some o) b =
           let e : f ≡ isSurface (o .body .free) = j ∙ ap (λ (k : ℕ). eqb k 6) (b .holds .state .open-body .kind) ∙ six (o .body .free) in
@@ -125,7 +125,7 @@ counts-in c h =
     let o = last (leb 1 (c .used .bodies)) (c .«open» .parts) (c .used .loops) (l .0) in
     record { bodies = leb-true 1 (c .used .bodies) (o .0); parts = o .1; loops = l .1; parameters = p .1; curves = v .1 }
 
-module _ (R : Rooms) (s : List ℕ) (p at : ℕ) (m : Model) (n : model.Names) (f : model.Form) (o : model.Open) (c : State) (t : Tables) (h : Holds R s (state m n f (some o)) c t p) (small : p ≤ 16777216) where
+module _ (R : Rooms) (s : List ℕ) (p at : ℕ) {read : ℕ} (m : Model) (n : model.Names) (f : model.Form) (o : model.Open) (c : State) (t : Tables) (h : Holds R s (state m n f (some o)) c t read) (small : read ≤ 16777216) where
   pub counts-there : countsHold c ≡ true
   counts-there =
       let ub = used-bodies R s p at m n f o c t h in
@@ -142,33 +142,33 @@ module _ (R : Rooms) (s : List ℕ) (p at : ℕ) (m : Model) (n : model.Names) (
 -- ---- trim, hole
 module _ (hole : Bool) (s : List ℕ) (at : ℕ) (c : State) (l m : List ℕ) (y z : List ℤ) where
   pub loop-shut : (c .«open» .kind ≡ 6 → ⊥) → loopStep hole s at c l m y z GaveUp
-  loop-shut n t el ey R p x w b =
-      left-refused R s p at x c t (withLoops m z t) w (loopWord hole) b (given-in R s x c t p (b .holds))
+  loop-shut n t el ey R p read x w b =
+      left-refused R s p at read x c t (withLoops m z t) w (loopWord hole) b (given-in R s x c t read (b .holds))
       (loop-where hole (x .open-body) ((restAt s at) .words) ∙ no-surface s (x .open-body) (c .«open») (b .holds .state .open-body) n)
 
   pub loop-unsound : countsHold c ≡ false → loopStep hole s at c l m y z GaveUp
-  loop-unsound e t el ey R p x w b = go (x .model) (x .names) (x .form) (x .open-body) b
+  loop-unsound e t el ey R p read x w b = go (x .model) (x .names) (x .form) (x .open-body) b
     where
-      go : (a : Model) (n : model.Names) (f : model.Form) (o : Option model.Open) → Began R s p at (state a n f o) c t w (loopWord hole) → Left R s p at (state a n f o) (withLoops m z t) w (loopWord hole)
-      go a n f none b = left-refused R s p at (state a n f none) c t (withLoops m z t) w (loopWord hole) b (given-in R s (state a n f none) c t p (b .holds)) (loop-where hole none ((restAt s at) .words))
-      go a n f (some o) b = never (sym e ∙ counts-there R s p at a n f o c t (b .holds) (b .small))
+      go : (a : Model) (n : model.Names) (f : model.Form) (o : Option model.Open) → Began R s p at read (state a n f o) c t w (loopWord hole) → Left R s p at (state a n f o) (withLoops m z t) w (loopWord hole)
+      go a n f none b = left-refused R s p at read (state a n f none) c t (withLoops m z t) w (loopWord hole) b (given-in R s (state a n f none) c t read (b .holds)) (loop-where hole none ((restAt s at) .words))
+      go a n f (some o) b = never (sym e ∙ counts-there R s p at a n f o c t (b .holds) (few-read b))
 
   surface-there : (n : ℕ) (k : Free) → n ≡ freeNumber k → n ≡ 6 → isSurface k ≡ true
   surface-there n k e d = sym (six k) ∙ ap (λ (i : ℕ). eqb i 6) (sym e ∙ d)
 
   pub loop-gave : (r : Loop) → c .«open» .kind ≡ 6 → loopIs s at hole (c .curves) (c .used .loops) l m y z r → r ≡ loops.GaveUp → loopStep hole s at c l m y z GaveUp
-  loop-gave r k v g t el ey R p x w b = go (x .model) (x .names) (x .form) (x .open-body) b
+  loop-gave r k v g t el ey R p read x w b = go (x .model) (x .names) (x .form) (x .open-body) b
     where
       left : LoopLeft s at (c .curves) (c .used .loops) (t .loops) m (t .spans) z
       left =
           subst (λ (i : List ℤ). LoopLeft s at (c .curves) (c .used .loops) (t .loops) m i z) (sym ey)
           (subst (λ (i : List ℕ). LoopLeft s at (c .curves) (c .used .loops) i m y z) (sym el) (subst (loopIs s at hole (c .curves) (c .used .loops) l m y z) g v))
 
-      go : (a : Model) (n : model.Names) (f : model.Form) (o : Option model.Open) → Began R s p at (state a n f o) c t w (loopWord hole) → Left R s p at (state a n f o) (withLoops m z t) w (loopWord hole)
-      go a n f none b = left-refused R s p at (state a n f none) c t (withLoops m z t) w (loopWord hole) b (given-in R s (state a n f none) c t p (b .holds)) (loop-where hole none ((restAt s at) .words))
+      go : (a : Model) (n : model.Names) (f : model.Form) (o : Option model.Open) → Began R s p at read (state a n f o) c t w (loopWord hole) → Left R s p at (state a n f o) (withLoops m z t) w (loopWord hole)
+      go a n f none b = left-refused R s p at read (state a n f none) c t (withLoops m z t) w (loopWord hole) b (given-in R s (state a n f none) c t read (b .holds)) (loop-where hole none ((restAt s at) .words))
       go a n f (some o) b =
           record {
-            given = given-in R s (state a n f (some o)) c t p (b .holds);
+            given = given-in R s (state a n f (some o)) c t read (b .holds);
             roomless = λ good u e.
                 loop-roomless R s p at a n f o c t (b .holds) (surface-there (c .«open» .kind) (o .body .free) (b .holds .state .open-body .kind) k) w hole (b .begins) (b .keyword) m z left good u
                 (sym (before-parse (state a n f (some o)) (w .place) ((restAt s at) .words) (loopWord hole) (not-end hole)) ∙ e);
@@ -176,16 +176,16 @@ module _ (hole : Bool) (s : List ℕ) (at : ℕ) (c : State) (l m : List ℕ) (y
 
   pub loop-took : (r : Loop) (i q : ℕ) (d : State) → c .«open» .kind ≡ 6 → loopIs s at hole (c .curves) (c .used .loops) l m y z r → r ≡ loops.Taken i q → d ≡ looped i c
       → loopStep hole s at c l m y z (Taken d q)
-  loop-took r i q d k v g e t el ey R p x w b =
-      subst (λ (d : State). NextLine R s p x d (withLoops m z t) q × (q ≡ (restAt s p) .next)) (sym e) (go (x .model) (x .names) (x .form) (x .open-body) b)
+  loop-took r i q d k v g e t el ey R p read x w b =
+      subst (λ (d : State). NextLine R s p read x d (withLoops m z t) q × (q ≡ (restAt s p) .next)) (sym e) (go (x .model) (x .names) (x .form) (x .open-body) b)
     where
       taken : LoopTaken s at hole (c .curves) (c .used .loops) (t .loops) m (t .spans) z i q
       taken =
           subst (λ (j : List ℤ). LoopTaken s at hole (c .curves) (c .used .loops) (t .loops) m j z i q) (sym ey)
           (subst (λ (j : List ℕ). LoopTaken s at hole (c .curves) (c .used .loops) j m y z i q) (sym el) (subst (loopIs s at hole (c .curves) (c .used .loops) l m y z) g v))
 
-      go : (a : Model) (n : model.Names) (f : model.Form) (o : Option model.Open) → Began R s p at (state a n f o) c t w (loopWord hole)
-          → NextLine R s p (state a n f o) (looped i c) (withLoops m z t) q × (q ≡ (restAt s p) .next)
+      go : (a : Model) (n : model.Names) (f : model.Form) (o : Option model.Open) → Began R s p at read (state a n f o) c t w (loopWord hole)
+          → NextLine R s p read (state a n f o) (looped i c) (withLoops m z t) q × (q ≡ (restAt s p) .next)
       go a n f none b = absurd (let h : c .«open» .kind ≡ 0 = ap (λ (o : Open). o .kind) (b .holds .state .open-body) in omega arith)
       go a n f (some o) b =
           loop-next R s p at a n f o c t (b .holds) (surface-there (c .«open» .kind) (o .body .free) (b .holds .state .open-body .kind) k) w hole (b .begins) (b .keyword) m z i q taken

@@ -1,5 +1,5 @@
 -- A trim or hole line: its parts follow those before them, and what has no room for them is 14.
-use Prim.Native.Nat.{ℕ, _+_, _*_, _≤_, _<_}
+use Prim.Native.Nat.{ℕ, _+_, _*_, _-_, _≤_, _<_}
 use mathlib.Core.Path.{_≡_, refl, sym, ap, ap₂, _∙_, subst}
 use mathlib.Core.List.{List, [], _∷_, _++_}
 use mathlib.Core.Bool.{Bool, true, false}
@@ -40,7 +40,7 @@ use Rattle.inner_lines.specs.OpenBody.{looped}
 use Rattle.lines.specs.Holding.{Opened, Holds, NextLine, lineSays}
 use Rattle.lines.proofs.Steps.{line-fine, line-roomless, line-bounded, next-is}
 
-module _ (R : Rooms) (s : List ℕ) (p at : ℕ) (m : Model) (n : model.Names) (f : model.Form) (o : Open) (c : State) (t : Tables) (h : Holds R s (state m n f (some o)) c t p) where
+module _ (R : Rooms) (s : List ℕ) (p at : ℕ) {read : ℕ} (m : Model) (n : model.Names) (f : model.Form) (o : Open) (c : State) (t : Tables) (h : Holds R s (state m n f (some o)) c t read) where
   abbrev x : model.State
   x = state m n f (some o)
 
@@ -113,7 +113,7 @@ module _ (R : Rooms) (s : List ℕ) (p at : ℕ) (m : Model) (n : model.Names) (
   module _ (surface : isSurface (o .body .free) ≡ true) (w : Word) (hole : Bool) (begins : restAt s p ≡ push w (restAt s at))
       (keyword : keywordOf (statementOf (w .bytes)) (w .place) ≡ fine (loopWord hole)) where
     pub loop-next : (a : List ℕ) (b : List ℤ) (k q : ℕ) → LoopTaken s at hole (c .curves) (c .used .loops) (t .loops) a (t .spans) b k q
-        → NextLine R s p x (looped k c) (withLoops a b t) q × (q ≡ (restAt s p) .next)
+        → NextLine R s p read x (looped k c) (withLoops a b t) q × (q ≡ (restAt s p) .next)
     loop-next a b k q v =
         let ps : List Part = partsAt (c .curves) s at in
         let l : Loop = record { hole = hole; parts = ps } in
@@ -134,7 +134,7 @@ module _ (R : Rooms) (s : List ℕ) (p at : ℕ) (m : Model) (n : model.Names) (
               image = ap₂ (λ (i : List ℕ) (j : List ℤ). withLoops i j t) a′ b′ ∙ ap (λ (u : Tables). withLoops (sets (imageOf R x .loops) (2 * before) (loopRow l)) (sets (imageOf R x .spans) (2 * before) (flat spanRow ps)) u) (h .image) ∙ loop-image R m n f l o r1 r2;
               wide = h .wide;
               room = room;
-              bounded = subst (λ (j : ℕ). Bounded j (apply (loop l) x)) (sym (v .next)) (line-bounded R s p at x w (loopWord hole) begins keyword (loop l) parsed (h .bounded));
+              bounded = subst (λ (j : ℕ). Bounded (read + (j - p)) (apply (loop l) x)) (sym (v .next)) (line-bounded R s p at x w (loopWord hole) begins keyword (loop l) parsed (h .bounded));
               body = record { numbers = h .body .numbers; basis-is = h .body .basis-is; rational-is = h .body .rational-is; degree-u-is = h .body .degree-u-is; degree-v-is = h .body .degree-v-is; start-u-is = h .body .start-u-is; end-u-is = h .body .end-u-is; start-v-is = h .body .start-v-is; end-v-is = h .body .end-v-is };
             };
           },

@@ -1,5 +1,5 @@
 -- A parm line: the body that has no end yet keeps where its numbers stand, and no table changes.
-use Prim.Native.Nat.{ℕ}
+use Prim.Native.Nat.{ℕ, _+_, _-_}
 use mathlib.Core.Path.{_≡_, refl, sym, ap, _∙_, subst}
 use mathlib.Core.List.{List, [], _∷_}
 use mathlib.Core.Bool.{Bool, true, false}
@@ -53,9 +53,9 @@ module _ (R : Rooms) (s : List ℕ) (p at : ℕ) (m : Model) (n : model.Names) (
   form-after along-u zs = refl
   form-after along-v zs = refl
 
-  pub parm-next : (h : Holds R s x c t p) (w : Word) → restAt s p ≡ push w (restAt s at) → keywordOf (statementOf (w .bytes)) (w .place) ≡ fine parm
-      → (v : Bool) (i q : ℕ) → ParmTaken (isSurface (o .body .free)) s at v i q → NextLine R s p x (keeping v i c) t q × (q ≡ (restAt s p) .next)
-  parm-next h w begins keyword v i q k =
+  pub parm-next : {read : ℕ} (h : Holds R s x c t read) (w : Word) → restAt s p ≡ push w (restAt s at) → keywordOf (statementOf (w .bytes)) (w .place) ≡ fine parm
+      → (v : Bool) (i q : ℕ) → ParmTaken (isSurface (o .body .free)) s at v i q → NextLine R s p read x (keeping v i c) t q × (q ≡ (restAt s p) .next)
+  parm-next {read} h w begins keyword v i q k =
       let zs : List ℤ = numbersAt s i in
       let y : Statement = parameters (along v) zs in
       let parsed = parm-says x o refl (w .place) (restAt s at) (k .line) in
@@ -68,7 +68,7 @@ module _ (R : Rooms) (s : List ℕ) (p at : ℕ) (m : Model) (n : model.Names) (
             image = h .image ∙ sym (parameters-image R m n f (along v) zs o);
             wide = subst (λ (z : Model). Rattle.state.specs.Changed.Wide (z .vertices)) (sym (wide-after (along v) zs)) (h .wide);
             room = room;
-            bounded = subst (λ (j : ℕ). Bounded j (apply y x)) (sym (k .next)) (line-bounded R s p at x w parm begins keyword y parsed (h .bounded));
+            bounded = subst (λ (j : ℕ). Bounded (read + (j - p)) (apply y x)) (sym (k .next)) (line-bounded R s p at x w parm begins keyword y parsed (h .bounded));
             body = subst (λ (g : model.Form). Rattle.lines.specs.Holding.opened g (apply y x .open-body)) (sym (form-after (along v) zs)) (open-after (along v) zs (h .body));
           };
         },

@@ -1,5 +1,5 @@
 -- What every line that is given up shares: whether a body is open, that a statement which may not stand there has nothing to show, and that the vp stay.
-use Prim.Native.Nat.{ℕ, _*_, _<_}
+use Prim.Native.Nat.{ℕ, _+_, _*_, _-_, _≤_, _<_}
 use mathlib.Core.Path.{_≡_, refl, sym, ap, _∙_}
 use mathlib.Core.List.{List}
 use mathlib.Core.Bool.{Bool, true, false}
@@ -79,13 +79,17 @@ module _ (x : model.State) (key : ℕ) (ws : List Word) where
       must-fine (allowed k (x .open-body) ws) 10 key
       (must (counted k (length ws)) 5 key (then (valuesOf (seenIn x) (formOf k (length ws)) 0 ws) (λ xs. checkedBefore k x key ws xs))) y e .0
 
+-- so few bytes were read before a line
+pub few-read : {R : Rooms} {s : List ℕ} {p at n : ℕ} {x : model.State} {c : State} {t : Tables} {w : Word} {k : Keyword} → Began R s p at n x c t w k → n ≤ 16777216
+few-read b = let l = b .small in omega arith
+
 -- ---- a line that was given up
 -- the vp that were there are there where only what is past them was stored to
 pub given-kept : (vps : List (List ℤ)) (l m : List ℤ) → GivenIn vps l → ((i : ℕ) → i < 4 * length vps → getD m i (pos 0) ≡ getD l i (pos 0)) → GivenIn vps m
 given-kept vps l m h e k b = e (4 * k) (omega arith) ∙ h k b
 
-module _ (R : Rooms) (text : List ℕ) (p at : ℕ) (x : model.State) (c : State) (t u : Tables) (w : Word) (k : Keyword)
-    (began : Began R text p at x c t w k) (kept : GivenIn (x .model .vertices .vp) (u .vp)) where
+module _ (R : Rooms) (text : List ℕ) (p at n : ℕ) (x : model.State) (c : State) (t u : Tables) (w : Word) (k : Keyword)
+    (began : Began R text p at n x c t w k) (kept : GivenIn (x .model .vertices .vp) (u .vp)) where
   -- a statement that may not stand there is refused before there is a question of room
   pub left-refused : allowed k (x .open-body) ((restAt text at) .words) ≡ false → Left R text p at x u w k
   left-refused f =

@@ -38,7 +38,7 @@ rows-bounded normal p x b = b .vn
 rows-bounded parametric p x b = b .vp
 
 -- the vp that were there are there, whichever kind was stored past the used records
-row-given : (k : VertexKind) (R : Rooms) (s : List ℕ) (x : model.State) (c : State) (t : Tables) (p : ℕ) → Holds R s x c t p → (m : List ℤ)
+row-given : (k : VertexKind) (R : Rooms) (s : List ℕ) (x : model.State) (c : State) (t : Tables) (n : ℕ) → Holds R s x c t n → (m : List ℤ)
     → ((i : ℕ) → i < width k * countIn k (c .used) → getD m i (pos 0) ≡ getD (tableOf k t) i (pos 0)) → GivenIn (x .model .vertices .vp) (withRow k m t .vp)
 row-given geometric R s x c t p h m e = given-in R s x c t p h
 row-given texture R s x c t p h m e = given-in R s x c t p h
@@ -53,41 +53,41 @@ rowStep k s at c l m r = (t : Tables) → tableOf k t ≡ l → stepIs s at (a-v
 
 module _ (k : VertexKind) (s : List ℕ) (at : ℕ) (c : State) (l : List ℤ) where
   pub vertex-open : (c .«open» .kind ≡ 0 → ⊥) → rowStep k s at c l l GaveUp
-  vertex-open f t g R p x w b =
-      left-in-body R s p at x c t (withRow k l t) w (a-vertex k) b
-      (row-given k R s x c t p (b .holds) l (λ i j. ap (λ (y : List ℤ). getD y i (pos 0)) (sym g))) f (λ o. refl)
+  vertex-open f t g R p n x w b =
+      left-in-body R s p at n x c t (withRow k l t) w (a-vertex k) b
+      (row-given k R s x c t n (b .holds) l (λ i j. ap (λ (y : List ℤ). getD y i (pos 0)) (sym g))) f (λ o. refl)
 
   module _ (n : ℕ) (e : n ≡ countIn k (c .used)) where
     pub vertex-full : 4294967295 ≤ n → rowStep k s at c l l GaveUp
-    vertex-full f t g R p x w b =
+    vertex-full f t g R p read x w b =
         let a : n ≡ length (rowsOf k (x .model .vertices)) = e ∙ ap (countIn k) (b .holds .state .used) ∙ count-is k x in
-        let i = rows-bounded k p x (b .holds .bounded) in
+        let i = rows-bounded k read x (b .holds .bounded) in
         let j = b .small in
         absurd (let q : ⊥ = omega arith in q)
 
     module _ (m : List ℤ) (r : Vertex) (v : vertexIs k s at n l m r) where
       pub vertex-gave : r ≡ vertex.GaveUp → rowStep k s at c l m GaveUp
-      vertex-gave g t y R p x w b =
+      vertex-gave g t y R p read x w b =
           let no-vertex : NoVertex k s at (countIn k (c .used)) (tableOf k t) m =
           subst (λ (a : List ℤ). NoVertex k s at (countIn k (c .used)) a m) (sym y) (subst (λ (i : ℕ). NoVertex k s at i l m) e (subst (vertexIs k s at n l m) g v)) in
           let ws = (restAt s at) .words in
           record {
-            given = row-given k R s x c t p (b .holds) m (no-vertex .before);
+            given = row-given k R s x c t read (b .holds) m (no-vertex .before);
             roomless = λ good u f.
-                vertex-roomless R s p at x c t (b .holds) w k (b .begins) (b .keyword) (before-allowed x (w .place) ws (a-vertex k) u f) m no-vertex good u
+                vertex-roomless R s p at read x c t (b .holds) w k (b .begins) (b .keyword) (before-allowed x (w .place) ws (a-vertex k) u f) m no-vertex good u
                 (sym (before-parse x (w .place) ws (a-vertex k) refl) ∙ f);
           }
 
       pub vertex-took : (q : ℕ) (u : Used) (d : State) → r ≡ vertex.Taken q → c .«open» .kind ≡ 0 → u ≡ counted k (n + 1) (c .used) → d ≡ withUsed u c
           → rowStep k s at c l m (Taken d q)
-      vertex-took q u d g o i j t y R p x w b =
+      vertex-took q u d g o i j t y R p read x w b =
           let taken : TakenVertex k s at (countIn k (c .used)) (tableOf k t) m q =
           subst (λ (a : List ℤ). TakenVertex k s at (countIn k (c .used)) a m q) (sym y) (subst (λ (i : ℕ). TakenVertex k s at i l m q) e (subst (vertexIs k s at n l m) g v)) in
           let out : outside (x .open-body) ≡ true = ap outside (no-body s (c .«open») (x .open-body) (b .holds .state .open-body) o) in
           let after : d ≡ withUsed (counted k (countIn k (c .used) + 1) (c .used)) c =
           j ∙ ap (λ (a : Used). withUsed a c) (i ∙ ap (λ (z : ℕ). counted k (z + 1) (c .used)) e) in
-          subst (λ (a : State). NextLine R s p x a (withRow k m t) q × (q ≡ (restAt s p) .next)) (sym after)
-          (vertex-next R s p at x c t (b .holds) w k (b .begins) (b .keyword) out m q taken)
+          subst (λ (a : State). NextLine R s p read x a (withRow k m t) q × (q ≡ (restAt s p) .next)) (sym after)
+          (vertex-next R s p at read x c t (b .holds) w k (b .begins) (b .keyword) out m q taken)
 
 -- ---- the tables lent on
 -- the table of a kind among the four; where none is stored to, all stay

@@ -54,10 +54,10 @@ module _ (R : Rooms) (s : List ℕ) (p at : ℕ) (x : model.State) (w : Word) (k
   pub next-is : (restAt s p) .next ≡ r .next
   next-is = ap (λ (q : Rest). q .next) opened
 
-  pub line-bounded : (t : Statement) → parse k x (w .place) (r .words) ≡ fine t → Bounded p x → Bounded (r .next) (apply t x)
-  line-bounded t h b =
+  pub line-bounded : {n : ℕ} (t : Statement) → parse k x (w .place) (r .words) ≡ fine t → Bounded n x → Bounded (n + (r .next - p)) (apply t x)
+  line-bounded {n} t h b =
       let l = line-small k x (w .place) (r .words) t (line-of k x (w .place) (r .words) t h) in
       let v = words-within s p in
-      let n : (restAt s p) .next ≡ r .next = next-is in
+      let e : (restAt s p) .next ≡ r .next = next-is in
       let c : length ((restAt s p) .words) ≡ suc (length (r .words)) = ap (λ (q : Rest). length (q .words)) opened in
-      bounded-after (x .model) (x .names) (x .form) t (x .open-body) (length (r .words)) p (r .next) (l .0) (l .1) (let g : p + suc (length (r .words)) ≤ r .next = omega arith in g) b
+      bounded-after (x .model) (x .names) (x .form) t (x .open-body) (length (r .words)) n (n + (r .next - p)) (l .0) (l .1) (let g : n + suc (length (r .words)) ≤ n + (r .next - p) = omega arith in g) b

@@ -125,14 +125,14 @@ state-after s normal x c z h = record { used = ap (λ (u : Used). counted normal
 state-after s parametric x c z h = record { used = ap (λ (u : Used). counted parametric (countIn parametric u + 1) u) (h .used) ∙ ap (λ (n : ℕ). counted parametric n (usedIn x)) (sym (length-append (x .model .vertices .vp) (z ∷ []))); curves = h .curves; names = h .names; form = h .form; open-body = h .open-body }
 
 -- ---- the line
-module _ (R : Rooms) (s : List ℕ) (p at : ℕ) (x : model.State) (c : State) (t : Tables) (h : Holds R s x c t p) (w : Word) (k : VertexKind)
+module _ (R : Rooms) (s : List ℕ) (p at read : ℕ) (x : model.State) (c : State) (t : Tables) (h : Holds R s x c t read) (w : Word) (k : VertexKind)
     (begins : restAt s p ≡ push w (restAt s at)) (keyword : keywordOf (statementOf (w .bytes)) (w .place) ≡ fine (a-vertex k))
     (out : outside (x .open-body) ≡ true) where
   counts : countIn k (c .used) ≡ length (rowsOf k (x .model .vertices))
   counts = ap (countIn k) (h .state .used) ∙ count-is k x
 
   pub vertex-next : (m : List ℤ) (q : ℕ) → TakenVertex k s at (countIn k (c .used)) (tableOf k t) m q
-      → NextLine R s p x (withUsed (counted k (countIn k (c .used) + 1) (c .used)) c) (withRow k m t) q × (q ≡ (restAt s p) .next)
+      → NextLine R s p read x (withUsed (counted k (countIn k (c .used) + 1) (c .used)) c) (withRow k m t) q × (q ≡ (restAt s p) .next)
   vertex-next m q v =
       let z : List ℤ = v .row in
       let pv = taken-parse k x (restAt s at) z q out (v .said) in
@@ -155,7 +155,7 @@ module _ (R : Rooms) (s : List ℕ) (p at : ℕ) (x : model.State) (c : State) (
             image = im;
             wide = still-wide k (x .model .vertices) z (row .numbers) (row .whole) l (h .wide);
             room = f;
-            bounded = subst (λ (i : ℕ). Rattle.state.specs.Bounds.Bounded i (apply (vertex k z) x)) (pv .next) (line-bounded R s p at x w (a-vertex k) begins keyword (vertex k z) (pv .parsed (w .place)) (h .bounded));
+            bounded = subst (λ (i : ℕ). Rattle.state.specs.Bounds.Bounded (read + (i - p)) (apply (vertex k z) x)) (pv .next) (line-bounded R s p at x w (a-vertex k) begins keyword (vertex k z) (pv .parsed (w .place)) (h .bounded));
             body = h .body;
           };
         },

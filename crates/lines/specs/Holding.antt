@@ -1,5 +1,5 @@
 -- What holds between two lines: the state in numbers and the tables stand for what was said so far.
-use Prim.Native.Nat.{ℕ, _≤_}
+use Prim.Native.Nat.{ℕ, _+_, _-_, _≤_}
 use mathlib.Core.Path.{_≡_}
 use mathlib.Core.List.{List, [], _∷_}
 use mathlib.Core.Bool.{Bool, true, false}
@@ -34,20 +34,25 @@ abbrev pub opened : model.Form → Option model.Open → Type 0
 opened f none = Unit {0}
 opened f (some o) = Opened f o
 
--- the state x of the text s read up to `at`, in tables of the lengths R: c in numbers, t the tables
-pub record Holds (R : Rooms) (s : List ℕ) (x : model.State) (c : State) (t : Tables) (at : ℕ) : Type 0 where
+-- the state x after n bytes were read, in tables of the lengths R: c in numbers, t the tables; names and parm lines stand in s
+pub record Holds (R : Rooms) (s : List ℕ) (x : model.State) (c : State) (t : Tables) (n : ℕ) : Type 0 where
   pub state : StateIs s x c
   pub image : t ≡ imageOf R x
   pub wide : Wide (x .model .vertices)
   pub room : fits R x ≡ true
-  pub bounded : Bounded at x
+  pub bounded : Bounded n x
   pub body : opened (x .form) (x .open-body)
 
 -- what the line at `at` comes to
 abbrev pub lineSays : Rooms → List ℕ → ℕ → model.State → Parsed model.State
 lineSays R s at x = unless ((restAt s at) .bad) 2 (step R x ((restAt s at) .words))
 
-pub record NextLine (R : Rooms) (s : List ℕ) (at : ℕ) (x : model.State) (c : State) (t : Tables) (next : ℕ) : Type 0 where
+-- the line of s at `at`, read after n bytes, does not pass the longest text
+abbrev pub WithinLimit : List ℕ → ℕ → ℕ → Type 0
+WithinLimit s at n = n + ((restAt s at) .next - at) ≤ 16777216
+
+-- that line, up to `next`
+pub record NextLine (R : Rooms) (s : List ℕ) (at n : ℕ) (x : model.State) (c : State) (t : Tables) (next : ℕ) : Type 0 where
   pub after : model.State
   pub said : lineSays R s at x ≡ fine after
-  pub holds : Holds R s after c t next
+  pub holds : Holds R s after c t (n + (next - at))

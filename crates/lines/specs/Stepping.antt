@@ -25,7 +25,7 @@ use Rattle.bodies.specs.Loops.{loopWord}
 use Rattle.blame.specs.Blame.{parseBefore, GivenIn}
 use Rattle.lines.specs.declared.Step.{Step}
 use Rattle.lines.specs.declared.Step.the-variants.{Taken, Refuses, GaveUp}
-use Rattle.lines.specs.Holding.{Holds, lineSays, NextLine}
+use Rattle.lines.specs.Holding.{Holds, lineSays, WithinLimit, NextLine}
 
 -- how many vertices of a kind are used, and the state with one more
 abbrev pub countIn : VertexKind → Used → ℕ
@@ -45,10 +45,10 @@ withUsed u c = record { used = u; curves = c .curves; names = c .names; form = c
 
 -- ---- what a line's function promises of the tables
 
--- the line of s at p begins with the word w, which is the keyword k, and its other words stand from `at` on
-pub record Began (R : Rooms) (s : List ℕ) (p at : ℕ) (x : model.State) (c : State) (t : Tables) (w : Word) (k : Keyword) : Type 0 where
-  pub small : p ≤ 16777216
-  pub holds : Holds R s x c t p
+-- the line of s at p, read after n bytes, begins with the word w, which is the keyword k, and its other words stand from `at` on
+pub record Began (R : Rooms) (s : List ℕ) (p at n : ℕ) (x : model.State) (c : State) (t : Tables) (w : Word) (k : Keyword) : Type 0 where
+  pub small : WithinLimit s p n
+  pub holds : Holds R s x c t n
   pub begins : restAt s p ≡ push w (restAt s at)
   pub keyword : keywordOf (statementOf (w .bytes)) (w .place) ≡ fine k
 
@@ -60,9 +60,9 @@ pub record Left (R : Rooms) (s : List ℕ) (p at : ℕ) (x : model.State) (u : T
 -- the tables held t and then hold u
 abbrev pub stepIs : List ℕ → ℕ → Keyword → State → Tables → Tables → Step → Type 0
 stepIs s at k c t u (Taken d q) =
-    (R : Rooms) (p : ℕ) (x : model.State) (w : Word) → Began R s p at x c t w k → NextLine R s p x d u q × (q ≡ (restAt s p) .next)
-stepIs s at k c t u (Refuses n) = (R : Rooms) (p : ℕ) (x : model.State) (w : Word) → Began R s p at x c t w k → lineSays R s p x ≡ fault n (w .place)
-stepIs s at k c t u GaveUp = (R : Rooms) (p : ℕ) (x : model.State) (w : Word) → Began R s p at x c t w k → Left R s p at x u w k
+    (R : Rooms) (p n : ℕ) (x : model.State) (w : Word) → Began R s p at n x c t w k → NextLine R s p n x d u q × (q ≡ (restAt s p) .next)
+stepIs s at k c t u (Refuses i) = (R : Rooms) (p n : ℕ) (x : model.State) (w : Word) → Began R s p at n x c t w k → lineSays R s p x ≡ fault i (w .place)
+stepIs s at k c t u GaveUp = (R : Rooms) (p n : ℕ) (x : model.State) (w : Word) → Began R s p at n x c t w k → Left R s p at x u w k
 
 -- each family by the tables that it is lent; the others stay
 -- the four tables of vertices among the others, and that of one kind among the four

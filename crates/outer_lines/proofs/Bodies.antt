@@ -1,5 +1,5 @@
 -- A line of curv, curv2, surf: what `take_body_line` answers is what the line comes to, or shows that there is no room for it.
-use Prim.Native.Nat.{ℕ, suc, _+_, _*_, _≤_}
+use Prim.Native.Nat.{ℕ, suc, _+_, _*_, _-_, _≤_}
 use mathlib.Core.Path.{_≡_, refl, sym, ap, ap₂, _∙_, subst}
 use mathlib.Core.List.{List, [], _∷_, _++_, append-nil}
 use mathlib.Core.Bool.{true, false}
@@ -80,7 +80,7 @@ range-kept n bs model.surface f (a ∷ b ∷ []) e h = absurd (omega arith)
 range-kept n bs model.surface f (a ∷ b ∷ c ∷ []) e h = absurd (omega arith)
 range-kept n bs model.surface f (a ∷ b ∷ c ∷ d ∷ e₂ ∷ z) e h = absurd (omega arith)
 
-module _ (R : Rooms) (s : List ℕ) (p at : ℕ) (m : Model) (n : model.Names) (f : model.Form) (c : State) (t : Tables) (h : Holds R s (state m n f none) c t p) where
+module _ (R : Rooms) (s : List ℕ) (p at : ℕ) {read : ℕ} (m : Model) (n : model.Names) (f : model.Form) (c : State) (t : Tables) (h : Holds R s (state m n f none) c t read) where
   abbrev x : model.State
   x = state m n f none
 
@@ -136,23 +136,23 @@ module _ (R : Rooms) (s : List ℕ) (p at : ℕ) (m : Model) (n : model.Names) (
   module _ (w : Word) (k : Free)
       (begins : restAt s p ≡ push w (restAt s at)) (keyword : keywordOf (statementOf (w .bytes)) (w .place) ≡ fine (a-body k)) where
     pub body-next : (l g : List ℕ) (z : List ℤ) (count q : ℕ) → TakenBody k (c .used) (c .names) (c .form) (t .vp) s at (t .corners) l (t .elements) g (length (t .bodies)) (t .ranges) z count q
-        → NextLine R s p x (oneBody k count c) (withRange z (withElement l g t)) q × (q ≡ (restAt s p) .next)
+        → NextLine R s p read x (oneBody k count c) (withRange z (withElement l g t)) q × (q ≡ (restAt s p) .next)
     body-next l g z count q v =
         let cs : List Corner = v .found in
         let b : Body = bodyOf k f (v .range) in
         let e : Element = record { kind = free b; corners = cs; names = n } in
         let bs : List Body = bodiesOf (m .elements) in
         let r = restAt s at in
-        let pv = taken-parse k x (c .used) (c .form) (t .vp) (h .state .used) (h .state .form) (given R s x c t p h) r (v .range) cs q refl (v .said) in
+        let pv = taken-parse k x (c .used) (c .form) (t .vp) (h .state .used) (h .state .form) (given R s x c t read h) r (v .range) cs q refl (v .said) in
         let parsed = pv .parsed (w .place) in
         let fresh = line-small (a-body k) x (w .place) (r .words) (body b cs) (line-of (a-body k) x (w .place) (r .words) (body b cs) parsed) .0 in
         let o = of-body (formInForce k (c .form)) (numbersWalk (rangeWords k) r) (controlsSaid k (c .used) (t .vp)) (v .range) cs q (v .said) in
         let counted : length (v .range) ≡ rangeWords k = full-count (rangeWords k) (r .words) (r .bad) (r .next) (v .range) (o .rest) (o .walked) in
-        let cu = corners-used R s p m n f c t h in
-        let eu = elements-used R s p m n f c t h in
+        let cu = corners-used R s m n f c t h in
+        let eu = elements-used R s m n f c t h in
         let bu = bodies-used in
-        let cr : 3 * cornersIn m + 3 * length cs ≤ R .corners = (let a = v .corners-room in let d = v .counted in let i = corners-lent R s p m n f c t h in omega arith) in
-        let er : 9 * length (m .elements) + 9 ≤ R .elements = (let a = v .elements-room in let i = elements-lent R s p m n f c t h in omega arith) in
+        let cr : 3 * cornersIn m + 3 * length cs ≤ R .corners = (let a = v .corners-room in let d = v .counted in let i = corners-lent R s m n f c t h in omega arith) in
+        let er : 9 * length (m .elements) + 9 ≤ R .elements = (let a = v .elements-room in let i = elements-lent R s m n f c t h in omega arith) in
         let br : 9 * bodiesBefore m + 9 ≤ R .bodies = (let a = v .bodies-room in let i = bodies-lent in omega arith) in
         let rr : 4 * bodiesBefore m + 4 ≤ R .ranges = (let a = v .ranges-room in let i = ranges-lent in omega arith) in
         let fit : fits R (apply (body b cs) x) ≡ true = roomy b cs (fresh .3) cr er br rr in
@@ -187,7 +187,7 @@ module _ (R : Rooms) (s : List ℕ) (p at : ℕ) (m : Model) (n : model.Names) (
               image = im;
               wide = h .wide;
               room = fit;
-              bounded = subst (λ (i : ℕ). Bounded i (apply (body b cs) x)) (pv .next) (line-bounded R s p at x w (a-body k) begins keyword (body b cs) parsed (h .bounded));
+              bounded = subst (λ (i : ℕ). Bounded (read + (i - p)) (apply (body b cs) x)) (pv .next) (line-bounded R s p at x w (a-body k) begins keyword (body b cs) parsed (h .bounded));
               body = begun k f (v .range) cs n;
             };
           },
@@ -197,14 +197,14 @@ module _ (R : Rooms) (s : List ℕ) (p at : ℕ) (m : Model) (n : model.Names) (
     pub body-roomless : (l g : List ℕ) (z : List ℤ) → NoBody k (c .used) (c .form) (t .vp) s at (t .corners) l (t .elements) g (length (t .bodies)) (t .ranges) z → (restAt s at) .bad ≡ none
         → (u : Statement) → parse (a-body k) x (w .place) ((restAt s at) .words) ≡ fine u → lineSays R s p x ≡ fault 14 (w .place)
     body-roomless l g z v b u e =
-        let y = parse-said k x (c .used) (c .form) (t .vp) (h .state .used) (h .state .form) (given R s x c t p h) (restAt s at) (w .place) u b e in
+        let y = parse-said k x (c .used) (c .form) (t .vp) (h .state .used) (h .state .form) (given R s x c t read h) (restAt s at) (w .place) u b e in
         let cs : List Corner = y .corners in
         let short = v .short (y .range) cs ((restAt s at) .next) (y .said) in
-        let cu = corners-used R s p m n f c t h in
-        let eu = elements-used R s p m n f c t h in
+        let cu = corners-used R s m n f c t h in
+        let eu = elements-used R s m n f c t h in
         let bu = bodies-used in
-        let cl = corners-lent R s p m n f c t h in
-        let el = elements-lent R s p m n f c t h in
+        let cl = corners-lent R s m n f c t h in
+        let el = elements-lent R s m n f c t h in
         let bl = bodies-lent in
         let rl = ranges-lent in
         let full : fits R (apply u x) ≡ false =

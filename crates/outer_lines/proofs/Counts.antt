@@ -1,5 +1,5 @@
 -- No count of a line that has begun passes 32 bits: each is within the bytes before it, and after it within the text.
-use Prim.Native.Nat.{ℕ, _≤_}
+use Prim.Native.Nat.{ℕ, _+_, _-_, _≤_}
 use mathlib.Core.Path.{_≡_, ap}
 use mathlib.Core.List.{List}
 use mathlib.Core.Bool.{true, _&&_}
@@ -10,7 +10,6 @@ use lib.ListN.{length}
 use Rattle.lists.proofs.Tests.{and-both, and-left, and-right}
 use Rattle.text.specs.Words.{Word}
 use Rattle.text.specs.Rest.{restAt}
-use Rattle.text.proofs.LineByLine.{next-to}
 use Rattle.tables.specs.Tables.{Tables}
 use Rattle.tables.specs.declared.Used.{Used}
 use Rattle.model.specs.Model as model
@@ -20,9 +19,8 @@ use Rattle.state.specs.declared.State.{State}
 use Rattle.lines.specs.Holding.{NextLine}
 use Rattle.outer_lines.specs.Counting.{countable}
 use Rattle.lines.specs.Stepping.{Began}
-use Rattle.lines.proofs.Steps.{next-is}
 
-module _ {R : Rooms} {s : List ℕ} {p at : ℕ} {x : model.State} {c : State} {t : Tables} {w : Word} {k : Keyword} (b : Began R s p at x c t w k) where
+module _ {R : Rooms} {s : List ℕ} {p at read : ℕ} {x : model.State} {c : State} {t : Tables} {w : Word} {k : Keyword} (b : Began R s p at read x c t w k) where
   pub counts-small : countable (c .used) ≡ true
   counts-small =
       let l = b .small in
@@ -34,15 +32,14 @@ module _ {R : Rooms} {s : List ℕ} {p at : ℕ} {x : model.State} {c : State} {
       let k = b .holds .bounded .bodies in
       and-both (and-both (le-leb (c .used .corners) 50331648 (omega (arith, l, e, i))) (le-leb (c .used .elements) 16777216 (omega (arith, l, f, j)))) (le-leb (c .used .bodies) 16777216 (omega (arith, l, g, k)))
 
-  -- after the line there are no more corners than the text has bytes
-  pub corners-within : {d : State} {u : Tables} {q : ℕ} → at ≤ length s → length s ≤ 16777216 → NextLine R s p x d u q × (q ≡ (restAt s p) .next) → d .used .corners ≤ 50331648
-  corners-within l m n =
+  -- after the line there are no more corners than bytes were read
+  pub corners-within : {d : State} {u : Tables} {q : ℕ} → NextLine R s p read x d u q × (q ≡ (restAt s p) .next) → d .used .corners ≤ 50331648
+  corners-within n =
       let e = ap (λ (u : Used). u .corners) (n .0 .holds .state .used) in
       let i = n .0 .holds .bounded .corners in
-      let j = next-to s at l .1 in
-      let o = next-is R s p at x w k (b .begins) (b .keyword) in
+      let j = b .small in
       let a = n .1 in
-      omega (arith, e, i, j, o, a, m)
+      omega (arith, e, i, j, a)
 
 pub countable-parts : (u : Used) → countable u ≡ true → (u .corners ≤ 50331648) × (u .elements ≤ 16777216) × (u .bodies ≤ 16777216)
 countable-parts u h =

@@ -1,5 +1,5 @@
 -- A line of p, l, f: what `take_element` answers is what the line comes to, or shows that there is no room for it.
-use Prim.Native.Nat.{ℕ, suc, _+_, _*_, _≤_, _<_}
+use Prim.Native.Nat.{ℕ, suc, _+_, _*_, _-_, _≤_, _<_}
 use mathlib.Core.Path.{_≡_, refl, sym, ap, ap₂, _∙_, subst}
 use mathlib.Core.List.{List, [], _∷_, _++_}
 use mathlib.Core.Bool.{Bool, true, false}
@@ -55,7 +55,7 @@ cornersIn m = summed (λ e. length (e .corners)) (m .elements)
 abbrev pub bodiesBefore : Model → ℕ
 bodiesBefore m = summed (λ e. ofKind (λ b. 1) (e .kind)) (m .elements)
 
-module _ (R : Rooms) (s : List ℕ) (p : ℕ) (m : Model) (n : model.Names) (f : model.Form) (c : State) (t : Tables) (h : Holds R s (state m n f none) c t p) where
+module _ (R : Rooms) (s : List ℕ) {read : ℕ} (m : Model) (n : model.Names) (f : model.Form) (c : State) (t : Tables) (h : Holds R s (state m n f none) c t read) where
   pub corners-used : c .used .corners ≡ 3 * cornersIn m
   corners-used = ap (λ (u : Used). u .corners) (h .state .used) ∙ (let e : 3 * (cornersIn m + 0) ≡ 3 * cornersIn m = omega arith in e)
 
@@ -82,7 +82,7 @@ module _ (R : Rooms) (s : List ℕ) (p at : ℕ) (m : Model) (n : model.Names) (
   abbrev x : model.State
   x = state m n f none
 
-  module _ (h : Holds R s x c t p) (w : Word) (k : Shape)
+  module _ {read : ℕ} (h : Holds R s x c t read) (w : Word) (k : Shape)
       (begins : restAt s p ≡ push w (restAt s at)) (keyword : keywordOf (statementOf (w .bytes)) (w .place) ≡ fine (an-element k)) where
     -- room for one more element is room in two tables
     module _ (cs : List Corner) where
@@ -138,20 +138,20 @@ module _ (R : Rooms) (s : List ℕ) (p at : ℕ) (m : Model) (n : model.Names) (
     curves-same cs (y ∷ es) = ap (λ (i : ℕ). mathlib.Core.Bool.cond (model.isCurve2 (y .kind)) (suc i) i) (curves-same cs es)
 
     pub element-next : (l g : List ℕ) (count q : ℕ) → TakenElement (ruleOf k) 0 (c .used) (c .names) s at (t .corners) l (t .elements) g count q
-        → NextLine R s p x (withUsed (oneElement count (c .used)) c) (withElement l g t) q × (q ≡ (restAt s p) .next)
+        → NextLine R s p read x (withUsed (oneElement count (c .used)) c) (withElement l g t) q × (q ≡ (restAt s p) .next)
     element-next l g count q v =
         let cs : List Corner = v .found in
         let pv = taken-parse k x (c .used) (restAt s at) cs q (h .state .used) refl (v .said) in
         let some-corners : 0 < count = (let a = of-enough (fewest k) (cornersWalk (cornerSaid (c .used) (ruleOf k .form)) 0 (restAt s at)) cs q (v .said) .1 in let b = v .counted in let d = one-or-more k in omega arith) in
-        let cr : 3 * cornersIn m + 3 * length cs ≤ R .corners = (let a = v .corners-room some-corners in let b = v .counted in let d = corners-used R s p m n f c t h in let i = corners-lent R s p m n f c t h in omega arith) in
-        let er : 9 * length (m .elements) + 9 ≤ R .elements = (let a = v .elements-room in let d = elements-used R s p m n f c t h in let i = elements-lent R s p m n f c t h in omega arith) in
+        let cr : 3 * cornersIn m + 3 * length cs ≤ R .corners = (let a = v .corners-room some-corners in let b = v .counted in let d = corners-used R s m n f c t h in let i = corners-lent R s m n f c t h in omega arith) in
+        let er : 9 * length (m .elements) + 9 ≤ R .elements = (let a = v .elements-room in let d = elements-used R s m n f c t h in let i = elements-lent R s m n f c t h in omega arith) in
         let fit : fits R (apply (element k cs) x) ≡ true = roomy cs cr er in
         let row : elementNumbers (shapeNumber k) (c .used .corners) count 0 (c .names) ≡ elementRow (3 * cornersIn m) (bodiesBefore m) (record { kind = plain k; corners = cs; names = n }) =
-        ap₂ (λ (i j : ℕ). elementNumbers (shapeNumber k) i j 0 (c .names)) (corners-used R s p m n f c t h) (v .counted) ∙ ap (λ (a : Names). elementNumbers (shapeNumber k) (3 * cornersIn m) (length cs) 0 a) (h .state .names) in
+        ap₂ (λ (i j : ℕ). elementNumbers (shapeNumber k) i j 0 (c .names)) (corners-used R s m n f c t h) (v .counted) ∙ ap (λ (a : Names). elementNumbers (shapeNumber k) (3 * cornersIn m) (length cs) 0 a) (h .state .names) in
         let l′ : l ≡ sets (imageOf R x .corners) (3 * cornersIn m) (flat cornerRow cs) =
-        v .corners-stored ∙ ap₂ (λ (a : List ℕ) (i : ℕ). sets a i (flat cornerRow cs)) (ap (λ (a : Tables). a .corners) (h .image)) (corners-used R s p m n f c t h) in
+        v .corners-stored ∙ ap₂ (λ (a : List ℕ) (i : ℕ). sets a i (flat cornerRow cs)) (ap (λ (a : Tables). a .corners) (h .image)) (corners-used R s m n f c t h) in
         let g′ : g ≡ sets (imageOf R x .elements) (9 * length (m .elements)) (elementRow (3 * cornersIn m) (bodiesBefore m) (record { kind = plain k; corners = cs; names = n })) =
-        v .elements-stored ∙ ap₂ (λ (i : ℕ) (r : List ℕ). sets (t .elements) (9 * i) r) (elements-used R s p m n f c t h) row ∙ ap (λ (a : Tables). sets (a .elements) (9 * length (m .elements)) (elementRow (3 * cornersIn m) (bodiesBefore m) (record { kind = plain k; corners = cs; names = n }))) (h .image) in
+        v .elements-stored ∙ ap₂ (λ (i : ℕ) (r : List ℕ). sets (t .elements) (9 * i) r) (elements-used R s m n f c t h) row ∙ ap (λ (a : Tables). sets (a .elements) (9 * length (m .elements)) (elementRow (3 * cornersIn m) (bodiesBefore m) (record { kind = plain k; corners = cs; names = n }))) (h .image) in
         let im : withElement l g t ≡ imageOf R (apply (element k cs) x) =
         ap₂ (λ (a b : List ℕ). withElement a b t) l′ g′
         ∙ ap (λ (a : Tables). withElement (sets (imageOf R x .corners) (3 * cornersIn m) (flat cornerRow cs)) (sets (imageOf R x .elements) (9 * length (m .elements)) (elementRow (3 * cornersIn m) (bodiesBefore m) (record { kind = plain k; corners = cs; names = n }))) a) (h .image)
@@ -164,7 +164,7 @@ module _ (R : Rooms) (s : List ℕ) (p at : ℕ) (m : Model) (n : model.Names) (
               image = im;
               wide = h .wide;
               room = fit;
-              bounded = subst (λ (i : ℕ). Bounded i (apply (element k cs) x)) (pv .next) (line-bounded R s p at x w (an-element k) begins keyword (element k cs) (pv .parsed (w .place)) (h .bounded));
+              bounded = subst (λ (i : ℕ). Bounded (read + (i - p)) (apply (element k cs) x)) (pv .next) (line-bounded R s p at x w (an-element k) begins keyword (element k cs) (pv .parsed (w .place)) (h .bounded));
               body = tt;
             };
           },
@@ -177,10 +177,10 @@ module _ (R : Rooms) (s : List ℕ) (p at : ℕ) (m : Model) (n : model.Names) (
         let y = parse-said k x (c .used) (restAt s at) (w .place) u (h .state .used) b e in
         let cs : List Corner = y .corners in
         let short = v .short cs ((restAt s at) .next) (y .said) in
-        let d = corners-used R s p m n f c t h in
-        let i = elements-used R s p m n f c t h in
-        let a = corners-lent R s p m n f c t h in
-        let o = elements-lent R s p m n f c t h in
+        let d = corners-used R s m n f c t h in
+        let i = elements-used R s m n f c t h in
+        let a = corners-lent R s m n f c t h in
+        let o = elements-lent R s m n f c t h in
         let full : fits R (apply u x) ≡ false =
         ⊎-elim (λ (f : fits R (apply u x) ≡ true).
         let z = tight cs (ap (λ (a : Statement). fits R (apply a x)) (sym (y .is)) ∙ f) in

@@ -74,29 +74,29 @@ module _ (t : List ℕ) (at : ℕ) (c : State) where
 
   -- a body lets no setting in
   pub setting-inside : (k : Setting) → (c .«open» .kind ≡ 0 → ⊥) → quietStep (settingOf k) t at c GaveUp
-  setting-inside k f u R p x w b = left-in-body R t p at x c u u w (settingOf k) b (given-in R t x c u p (b .holds)) f (λ o. bars k o (r .words))
+  setting-inside k f u R p read x w b = left-in-body R t p at read x c u u w (settingOf k) b (given-in R t x c u read (b .holds)) f (λ o. bars k o (r .words))
 
   module _ (out : c .«open» .kind ≡ 0) where
-    begun-none : {R : Rooms} {p : ℕ} {x : model.State} {w : Word} {k : Keyword} {u : Tables} → Began R t p at x c u w k → x .open-body ≡ none
-    begun-none {R} {p} {x} b = no-body t (c .«open») (x .open-body) (b .holds .state .open-body) out
+    begun-none : {R : Rooms} {p read : ℕ} {x : model.State} {w : Word} {k : Keyword} {u : Tables} → Began R t p at read x c u w k → x .open-body ≡ none
+    begun-none {R} {p} {read} {x} b = no-body t (c .«open») (x .open-body) (b .holds .state .open-body) out
 
     -- the laws of Settings.antt are of a state whose body is none
     abbrev Taking : Keyword → State → ℕ → Type 0
     Taking k d q =
-        (u : Tables) (R : Rooms) (p : ℕ) (m : model.Model) (n : model.Names) (f : model.Form) (w : Word)
-        → Began R t p at (state m n f none) c u w k → NextLine R t p (state m n f none) d u q × (q ≡ (restAt t p) .next)
+        (u : Tables) (R : Rooms) (p read : ℕ) (m : model.Model) (n : model.Names) (f : model.Form) (w : Word)
+        → Began R t p at read (state m n f none) c u w k → NextLine R t p read (state m n f none) d u q × (q ≡ (restAt t p) .next)
 
     taken-quiet : (k : Keyword) (d : State) (q : ℕ) → Taking k d q → quietStep k t at c (Taken d q)
-    taken-quiet k d q h u R p x w b =
+    taken-quiet k d q h u R p read x w b =
         let o : x .open-body ≡ none = begun-none b in
-        subst (λ (o : Option model.Open). Began R t p at (state (x .model) (x .names) (x .form) o) c u w k → NextLine R t p (state (x .model) (x .names) (x .form) o) d u q × (q ≡ (restAt t p) .next))
-        (sym o) (λ b. h u R p (x .model) (x .names) (x .form) w b) b
+        subst (λ (o : Option model.Open). Began R t p at read (state (x .model) (x .names) (x .form) o) c u w k → NextLine R t p read (state (x .model) (x .names) (x .form) o) d u q × (q ≡ (restAt t p) .next))
+        (sym o) (λ b. h u R p read (x .model) (x .names) (x .form) w b) b
 
     -- a taker that gives up: the parser finds no statement there
-    given-up : (k : Setting) → ((u : Tables) (R : Rooms) (p : ℕ) (x : model.State) (w : Word) → Began R t p at x c u w (settingOf k) → r .bad ≡ none
+    given-up : (k : Setting) → ((u : Tables) (R : Rooms) (p read : ℕ) (x : model.State) (w : Word) → Began R t p at read x c u w (settingOf k) → r .bad ≡ none
         → (y : Statement) → parse.parse (settingOf k) x (w .place) (r .words) ≡ fine y → ⊥) → quietStep (settingOf k) t at c GaveUp
-    given-up k f u R p x w b =
-        record { given = given-in R t x c u p (b .holds); roomless = λ g y e. absurd (f u R p x w b g y (sym (before-parse x (w .place) (r .words) (settingOf k) (not-end k)) ∙ e)) }
+    given-up k f u R p read x w b =
+        record { given = given-in R t x c u read (b .holds); roomless = λ g y e. absurd (f u R p read x w b g y (sym (before-parse x (w .place) (r .words) (settingOf k) (not-end k)) ∙ e)) }
 
     form-line : (k : Setting) (taken : Form → Rest → TakenForm)
         → ((x : model.State) → outside (x .open-body) ≡ true → (key : ℕ) (r : Rest) → taken (formIn (x .form)) r ≡ formTaken x (r .bad) (r .next) (parse.parse (settingOf k) x key (r .words)))
@@ -104,7 +104,7 @@ module _ (t : List ℕ) (at : ℕ) (c : State) where
         → (a : TakenForm) → a ≡ taken (c .form) r → quietStep (settingOf k) t at c (formStep c a)
     form-line k taken says next (form.Taken d q) e = taken-quiet (settingOf k) (withForm d c) q (next d q e)
     form-line k taken says next form.GaveUp e =
-        given-up k (λ u R p x w b g y z.
+        given-up k (λ u R p read x w b g y z.
         form-gave-up x (r .next) (parse.parse (settingOf k) x (w .place) (r .words)) y
         (e ∙ ap (λ (f : Form). taken f r) (b .holds .state .form) ∙ says x (ap outside (begun-none b)) (w .place) r ∙ ap (λ (o : Option ℕ). formTaken x o (r .next) (parse.parse (settingOf k) x (w .place) (r .words))) g) z)
 
@@ -114,33 +114,33 @@ module _ (t : List ℕ) (at : ℕ) (c : State) where
         → (a : TakenNames) → a ≡ taken (c .names) r → quietStep (settingOf k) t at c (namesStep c a)
     names-line k taken says next (names.Taken d q) e = taken-quiet (settingOf k) (withNames d c) q (next d q e)
     names-line k taken says next names.GaveUp e =
-        given-up k (λ u R p x w b g y z.
+        given-up k (λ u R p read x w b g y z.
         names-gave-up x (r .next) (parse.parse (settingOf k) x (w .place) (r .words)) y
         (e ∙ ap (λ (f : Names). taken f r) (b .holds .state .names) ∙ says x (ap outside (begun-none b)) (w .place) r ∙ ap (λ (o : Option ℕ). namesTaken x o (r .next) (parse.parse (settingOf k) x (w .place) (r .words))) g) z)
 
     pub type-line : (a : TakenForm) → a ≡ typeTaken (c .form) r → quietStep parse.cstype t at c (formStep c a)
-    type-line = form-line BodyType typeTaken (λ x o key r. type-parse x o key r) (λ d q e u R p m n f w b. type-next R t p at m n f c u (b .holds) w (b .begins) (b .keyword) d q e)
+    type-line = form-line BodyType typeTaken (λ x o key r. type-parse x o key r) (λ d q e u R p read m n f w b. type-next R t p at m n f c u (b .holds) w (b .begins) (b .keyword) d q e)
 
     pub degree-line : (a : TakenForm) → a ≡ degreeTaken (c .form) r → quietStep parse.deg t at c (formStep c a)
-    degree-line = form-line Degree degreeTaken (λ x o key r. degree-parse x o key r) (λ d q e u R p m n f w b. degree-next R t p at m n f c u (b .holds) w (b .begins) (b .keyword) d q e)
+    degree-line = form-line Degree degreeTaken (λ x o key r. degree-parse x o key r) (λ d q e u R p read m n f w b. degree-next R t p at m n f c u (b .holds) w (b .begins) (b .keyword) d q e)
 
     pub group-line : (a : TakenNames) → a ≡ groupTaken (c .names) r → quietStep parse.g t at c (namesStep c a)
-    group-line = names-line Group groupTaken (λ x o key r. group-parse x o key r) (λ d q e u R p m n f w b. group-next R t p at m n f c u (b .holds) w (b .begins) (b .keyword) d q e)
+    group-line = names-line Group groupTaken (λ x o key r. group-parse x o key r) (λ d q e u R p read m n f w b. group-next R t p at m n f c u (b .holds) w (b .begins) (b .keyword) d q e)
 
     pub smoothing-line : (a : TakenNames) → a ≡ smoothingTaken (c .names) r → quietStep parse.s t at c (namesStep c a)
-    smoothing-line = names-line Smoothing smoothingTaken (λ x o key r. smoothing-parse x o key r) (λ d q e u R p m n f w b. smoothing-next R t p at m n f c u (b .holds) w (b .begins) (b .keyword) d q e)
+    smoothing-line = names-line Smoothing smoothingTaken (λ x o key r. smoothing-parse x o key r) (λ d q e u R p read m n f w b. smoothing-next R t p at m n f c u (b .holds) w (b .begins) (b .keyword) d q e)
 
     pub material-line : (a : TakenNames) → a ≡ materialTaken (c .names) r → quietStep parse.usemtl t at c (namesStep c a)
-    material-line = names-line Material materialTaken (λ x o key r. material-parse x o key r) (λ d q e u R p m n f w b. material-next R t p at m n f c u (b .holds) w (b .begins) (b .keyword) d q e)
+    material-line = names-line Material materialTaken (λ x o key r. material-parse x o key r) (λ d q e u R p read m n f w b. material-next R t p at m n f c u (b .holds) w (b .begins) (b .keyword) d q e)
 
     -- ---- passed over: only its bytes are looked at
     pub passed-line : (i q : ℕ) → scan.Good i q ≡ scanOf r → quietStep parse.over t at c (Taken c q)
     passed-line i q e =
         let g = scan-good r i q e in
-        taken-quiet parse.over c q (λ u R p m n f w b. passed-next R t p at m n f c u (b .holds) w (b .begins) (b .keyword) q (g .0) (any-passed (state m n f none) refl (w .place) (r .words)) (sym (g .2)))
+        taken-quiet parse.over c q (λ u R p read m n f w b. passed-next R t p at m n f c u (b .holds) w (b .begins) (b .keyword) q (g .0) (any-passed (state m n f none) refl (w .place) (r .words)) (sym (g .2)))
 
     pub passed-bad : (q : ℕ) → scan.Bad q ≡ scanOf r → quietStep parse.over t at c GaveUp
-    passed-bad q e = given-up PassedOver (λ u R p x w b g y z. let z : _≡_ {A = ℕ} 0 1 = none-some (sym g ∙ scan-fault r q e) in omega arith)
+    passed-bad q e = given-up PassedOver (λ u R p read x w b g y z. let z : _≡_ {A = ℕ} 0 1 = none-some (sym g ∙ scan-fault r q e) in omega arith)
       where
         none-some : {i : ℕ} → none ≡ some i → _≡_ {A = ℕ} 0 1
         none-some e = cc

@@ -1,5 +1,5 @@
 -- A line of cstype, deg, g, s, usemtl, or one that is passed over: it changes what is in force and no table.
-use Prim.Native.Nat.{ℕ}
+use Prim.Native.Nat.{ℕ, _+_, _-_}
 use mathlib.Core.Path.{_≡_, refl, sym, ap, _∙_, subst}
 use mathlib.Core.List.{List, [], _∷_}
 use mathlib.Core.Bool.{Bool, true, false}
@@ -69,10 +69,10 @@ module _ (R : Rooms) (t : List ℕ) (p at : ℕ) (m : Model) (n : model.Names) (
   closed : (o : Option Open) (form : model.Form) → o ≡ none → opened form o
   closed o form e = subst (λ (o : Option Open). opened form o) (sym e) tt
 
-  module _ (h : Holds R t x c u p) (w : Word) (k : Keyword)
+  module _ {read : ℕ} (h : Holds R t x c u read) (w : Word) (k : Keyword)
       (begins : restAt t p ≡ push w (restAt t at)) (keyword : keywordOf (statementOf (w .bytes)) (w .place) ≡ fine k) where
     pub quiet-next : (y : Statement) (d : State) (q : ℕ) → quiet y → (restAt t at) .bad ≡ none → parse k x (w .place) ((restAt t at) .words) ≡ fine y → q ≡ (restAt t at) .next
-        → StateIs t (apply y x) d → NextLine R t p x d u q × (q ≡ (restAt t p) .next)
+        → StateIs t (apply y x) d → NextLine R t p read x d u q × (q ≡ (restAt t p) .next)
     quiet-next y d q still good parsed next after =
         let a = kept y still in
         let room : fits R (apply y x) ≡ true = a .1 ∙ h .room in (
@@ -84,7 +84,7 @@ module _ (R : Rooms) (t : List ℕ) (p at : ℕ) (m : Model) (n : model.Names) (
               image = h .image ∙ sym (a .0);
               wide = subst (λ (z : Model). Wide (z .vertices)) (sym (a .2)) (h .wide);
               room = room;
-              bounded = subst (λ (i : ℕ). Bounded i (apply y x)) (sym next) (line-bounded R t p at x w k begins keyword y parsed (h .bounded));
+              bounded = subst (λ (i : ℕ). Bounded (read + (i - p)) (apply y x)) (sym next) (line-bounded R t p at x w k begins keyword y parsed (h .bounded));
               body = closed (apply y x .open-body) (apply y x .form) (a .3);
             };
           },
@@ -115,12 +115,12 @@ module _ (R : Rooms) (t : List ℕ) (p at : ℕ) (m : Model) (n : model.Names) (
         }
 
   -- ---- each line by what its taker answers
-  module _ (h : Holds R t x c u p) (w : Word) (begins : restAt t p ≡ push w (restAt t at)) where
+  module _ {read : ℕ} (h : Holds R t x c u read) (w : Word) (begins : restAt t p ≡ push w (restAt t at)) where
     abbrev r : Rest
     r = restAt t at
 
     abbrev After : State → ℕ → Type 0
-    After d q = NextLine R t p x d u q × (q ≡ (restAt t p) .next)
+    After d q = NextLine R t p read x d u q × (q ≡ (restAt t p) .next)
 
     pub type-next : keywordOf (statementOf (w .bytes)) (w .place) ≡ fine cstype → (d : Form) (q : ℕ) → form-answer.Taken d q ≡ typeTaken (c .form) r → After (withForm d c) q
     type-next k d q e =

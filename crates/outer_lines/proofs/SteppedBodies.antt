@@ -32,11 +32,11 @@ use Rattle.outer_lines.proofs.Bodies.{body-next, body-roomless}
 
 module _ (k : Free) (s : List ℕ) (at : ℕ) (c : State) (vp : List ℤ) (l m e f : List ℕ) (bodies : ℕ) (y z : List ℤ) where
   pub body-inside : (c .«open» .kind ≡ 0 → ⊥) → bodyStep k s at c vp l m e f bodies y z GaveUp
-  body-inside o t i₁ i₂ i₃ i₄ i₅ R p x w b =
-      left-in-body R s p at x c t (withRange z (withElement m f t)) w (a-body k) b (given-in R s x c t p (b .holds)) o (λ o. refl)
+  body-inside o t i₁ i₂ i₃ i₄ i₅ R p read x w b =
+      left-in-body R s p at read x c t (withRange z (withElement m f t)) w (a-body k) b (given-in R s x c t read (b .holds)) o (λ o. refl)
 
   pub body-full : countable (c .used) ≡ false → bodyStep k s at c vp l m e f bodies y z GaveUp
-  body-full n t i₁ i₂ i₃ i₄ i₅ R p x w b = never (sym n ∙ counts-small b)
+  body-full n t i₁ i₂ i₃ i₄ i₅ R p read x w b = never (sym n ∙ counts-small b)
 
   abbrev Answered : Element → Type 0
   Answered = bodyIs k (c .used) (c .names) (c .form) vp s at l m e f bodies y z
@@ -44,36 +44,36 @@ module _ (k : Free) (s : List ℕ) (at : ℕ) (c : State) (vp : List ℤ) (l m e
   module _ (out : c .«open» .kind ≡ 0) where
     gave : NoBody k (c .used) (c .form) vp s at l m e f bodies y z
         → (t : Tables) → t .vp ≡ vp → t .corners ≡ l → t .elements ≡ e → length (t .bodies) ≡ bodies → t .ranges ≡ y
-        → (R : Rooms) (p : ℕ) (mo : Model) (n : model.Names) (fo : model.Form) (o : Option Open) (w : Word) → Began R s p at (state mo n fo o) c t w (a-body k)
+        → (R : Rooms) (p read : ℕ) (mo : Model) (n : model.Names) (fo : model.Form) (o : Option Open) (w : Word) → Began R s p at read (state mo n fo o) c t w (a-body k)
         → Left R s p at (state mo n fo o) (withRange z (withElement m f t)) w (a-body k)
-    gave v t i₁ i₂ i₃ i₄ i₅ R p mo n fo (some o) w b = nothing (sym (no-body s (c .«open») (some o) (b .holds .state .open-body) out))
-    gave v t i₁ i₂ i₃ i₄ i₅ R p mo n fo none w b =
+    gave v t i₁ i₂ i₃ i₄ i₅ R p read mo n fo (some o) w b = nothing (sym (no-body s (c .«open») (some o) (b .holds .state .open-body) out))
+    gave v t i₁ i₂ i₃ i₄ i₅ R p read mo n fo none w b =
         let v′ : NoBody k (c .used) (c .form) (t .vp) s at (t .corners) m (t .elements) f (length (t .bodies)) (t .ranges) z = rw (i₁, i₂, i₃, i₄, i₅) v in
         record {
-          given = given-in R s (state mo n fo none) c t p (b .holds);
+          given = given-in R s (state mo n fo none) c t read (b .holds);
           roomless = λ g u h. body-roomless R s p at mo n fo c t (b .holds) w k (b .begins) (b .keyword) m f z v′ g u (sym (before-parse (state mo n fo none) (w .place) ((restAt s at) .words) (a-body k) refl) ∙ h);
         }
 
     pub body-gave : (r : Element) → Answered r → r ≡ element.GaveUp → bodyStep k s at c vp l m e f bodies y z GaveUp
-    body-gave r v g t i₁ i₂ i₃ i₄ i₅ R p x w b = gave (subst Answered g v) t i₁ i₂ i₃ i₄ i₅ R p (x .model) (x .names) (x .form) (x .open-body) w b
+    body-gave r v g t i₁ i₂ i₃ i₄ i₅ R p read x w b = gave (subst Answered g v) t i₁ i₂ i₃ i₄ i₅ R p read (x .model) (x .names) (x .form) (x .open-body) w b
 
     module _ (count q : ℕ) where
       took : TakenBody k (c .used) (c .names) (c .form) vp s at l m e f bodies y z count q
           → (t : Tables) → t .vp ≡ vp → t .corners ≡ l → t .elements ≡ e → length (t .bodies) ≡ bodies → t .ranges ≡ y
-          → (R : Rooms) (p : ℕ) (mo : Model) (n : model.Names) (fo : model.Form) (o : Option Open) (w : Word) → Began R s p at (state mo n fo o) c t w (a-body k)
-          → NextLine R s p (state mo n fo o) (oneBody k count c) (withRange z (withElement m f t)) q × (q ≡ (restAt s p) .next)
-      took v t i₁ i₂ i₃ i₄ i₅ R p mo n fo (some o) w b = nothing (sym (no-body s (c .«open») (some o) (b .holds .state .open-body) out))
-      took v t i₁ i₂ i₃ i₄ i₅ R p mo n fo none w b =
+          → (R : Rooms) (p read : ℕ) (mo : Model) (n : model.Names) (fo : model.Form) (o : Option Open) (w : Word) → Began R s p at read (state mo n fo o) c t w (a-body k)
+          → NextLine R s p read (state mo n fo o) (oneBody k count c) (withRange z (withElement m f t)) q × (q ≡ (restAt s p) .next)
+      took v t i₁ i₂ i₃ i₄ i₅ R p read mo n fo (some o) w b = nothing (sym (no-body s (c .«open») (some o) (b .holds .state .open-body) out))
+      took v t i₁ i₂ i₃ i₄ i₅ R p read mo n fo none w b =
           let v′ : TakenBody k (c .used) (c .names) (c .form) (t .vp) s at (t .corners) m (t .elements) f (length (t .bodies)) (t .ranges) z count q = rw (i₁, i₂, i₃, i₄, i₅) v in
           body-next R s p at mo n fo c t (b .holds) w k (b .begins) (b .keyword) m f z count q v′
 
       module _ (r : Element) (v : Answered r) (g : r ≡ element.Taken count q) where
         -- a text has not so many controls
-        pub body-long : at ≤ length s → length s ≤ 16777216 → 16777216 < count → bodyStep k s at c vp l m e f bodies y z GaveUp
-        body-long a j n t i₁ i₂ i₃ i₄ i₅ R p x w b =
-            absurd (let u = corners-within b a j (took (subst Answered g v) t i₁ i₂ i₃ i₄ i₅ R p (x .model) (x .names) (x .form) (x .open-body) w b) in omega arith)
+        pub body-long : 16777216 < count → bodyStep k s at c vp l m e f bodies y z GaveUp
+        body-long n t i₁ i₂ i₃ i₄ i₅ R p read x w b =
+            absurd (let u = corners-within b (took (subst Answered g v) t i₁ i₂ i₃ i₄ i₅ R p read (x .model) (x .names) (x .form) (x .open-body) w b) in omega arith)
 
         pub body-took : (d : State) → d ≡ oneBody k count c → bodyStep k s at c vp l m e f bodies y z (Taken d q)
-        body-took d h t i₁ i₂ i₃ i₄ i₅ R p x w b =
-            subst (λ (a : State). NextLine R s p x a (withRange z (withElement m f t)) q × (q ≡ (restAt s p) .next)) (sym h)
-            (took (subst Answered g v) t i₁ i₂ i₃ i₄ i₅ R p (x .model) (x .names) (x .form) (x .open-body) w b)
+        body-took d h t i₁ i₂ i₃ i₄ i₅ R p read x w b =
+            subst (λ (a : State). NextLine R s p read x a (withRange z (withElement m f t)) q × (q ≡ (restAt s p) .next)) (sym h)
+            (took (subst Answered g v) t i₁ i₂ i₃ i₄ i₅ R p read (x .model) (x .names) (x .form) (x .open-body) w b)

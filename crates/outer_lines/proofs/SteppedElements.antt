@@ -31,34 +31,34 @@ use Rattle.outer_lines.proofs.Elements.{element-next, element-roomless}
 
 module _ (k : Shape) (s : List ℕ) (at : ℕ) (c : State) (l m e f : List ℕ) where
   pub element-inside : (c .«open» .kind ≡ 0 → ⊥) → elementStep k s at c l m e f GaveUp
-  element-inside o t i j R p x w b =
-      left-in-body R s p at x c t (withElement m f t) w (an-element k) b (given-in R s x c t p (b .holds)) o (λ o. refl)
+  element-inside o t i j R p read x w b =
+      left-in-body R s p at read x c t (withElement m f t) w (an-element k) b (given-in R s x c t read (b .holds)) o (λ o. refl)
 
   pub element-full : countable (c .used) ≡ false → elementStep k s at c l m e f GaveUp
-  element-full n t i j R p x w b = never (sym n ∙ counts-small b)
+  element-full n t i j R p read x w b = never (sym n ∙ counts-small b)
 
   module _ (out : c .«open» .kind ≡ 0) where
     gave : NoElement (ruleOf k) (c .used) s at l m e f → (t : Tables) → t .corners ≡ l → t .elements ≡ e
-        → (R : Rooms) (p : ℕ) (mo : Model) (n : model.Names) (fo : model.Form) (o : Option Open) (w : Word) → Began R s p at (state mo n fo o) c t w (an-element k)
+        → (R : Rooms) (p read : ℕ) (mo : Model) (n : model.Names) (fo : model.Form) (o : Option Open) (w : Word) → Began R s p at read (state mo n fo o) c t w (an-element k)
         → Left R s p at (state mo n fo o) (withElement m f t) w (an-element k)
-    gave v t i j R p mo n fo (some o) w b = nothing (sym (no-body s (c .«open») (some o) (b .holds .state .open-body) out))
-    gave v t i j R p mo n fo none w b =
+    gave v t i j R p read mo n fo (some o) w b = nothing (sym (no-body s (c .«open») (some o) (b .holds .state .open-body) out))
+    gave v t i j R p read mo n fo none w b =
         let v′ : NoElement (ruleOf k) (c .used) s at (t .corners) m (t .elements) f = rw (i, j) v in
         record {
-          given = given-in R s (state mo n fo none) c t p (b .holds);
+          given = given-in R s (state mo n fo none) c t read (b .holds);
           roomless = λ g y h. element-roomless R s p at mo n fo c t (b .holds) w k (b .begins) (b .keyword) m f v′ g y (sym (before-parse (state mo n fo none) (w .place) ((restAt s at) .words) (an-element k) refl) ∙ h);
         }
 
     pub element-gave : (r : Element) → elementIs (ruleOf k) 0 (c .used) (c .names) s at l m e f r → r ≡ element.GaveUp → elementStep k s at c l m e f GaveUp
-    element-gave r v g t i j R p x w b =
-        gave (subst (elementIs (ruleOf k) 0 (c .used) (c .names) s at l m e f) g v) t i j R p (x .model) (x .names) (x .form) (x .open-body) w b
+    element-gave r v g t i j R p read x w b =
+        gave (subst (elementIs (ruleOf k) 0 (c .used) (c .names) s at l m e f) g v) t i j R p read (x .model) (x .names) (x .form) (x .open-body) w b
 
     module _ (count q : ℕ) where
       took : TakenElement (ruleOf k) 0 (c .used) (c .names) s at l m e f count q → (t : Tables) → t .corners ≡ l → t .elements ≡ e
-          → (R : Rooms) (p : ℕ) (mo : Model) (n : model.Names) (fo : model.Form) (o : Option Open) (w : Word) → Began R s p at (state mo n fo o) c t w (an-element k)
-          → NextLine R s p (state mo n fo o) (withUsed (oneElement count (c .used)) c) (withElement m f t) q × (q ≡ (restAt s p) .next)
-      took v t i j R p mo n fo (some o) w b = nothing (sym (no-body s (c .«open») (some o) (b .holds .state .open-body) out))
-      took v t i j R p mo n fo none w b =
+          → (R : Rooms) (p read : ℕ) (mo : Model) (n : model.Names) (fo : model.Form) (o : Option Open) (w : Word) → Began R s p at read (state mo n fo o) c t w (an-element k)
+          → NextLine R s p read (state mo n fo o) (withUsed (oneElement count (c .used)) c) (withElement m f t) q × (q ≡ (restAt s p) .next)
+      took v t i j R p read mo n fo (some o) w b = nothing (sym (no-body s (c .«open») (some o) (b .holds .state .open-body) out))
+      took v t i j R p read mo n fo none w b =
           let v′ : TakenElement (ruleOf k) 0 (c .used) (c .names) s at (t .corners) m (t .elements) f count q = rw (i, j) v in
           element-next R s p at mo n fo c t (b .holds) w k (b .begins) (b .keyword) m f count q v′
 
@@ -67,11 +67,11 @@ module _ (k : Shape) (s : List ℕ) (at : ℕ) (c : State) (l m e f : List ℕ) 
         taken = subst (elementIs (ruleOf k) 0 (c .used) (c .names) s at l m e f) g v
 
         -- a text has not so many corners
-        pub element-long : at ≤ length s → length s ≤ 16777216 → 16777216 < count → elementStep k s at c l m e f GaveUp
-        element-long a z n t i j R p x w b =
-            absurd (let u = corners-within b a z (took taken t i j R p (x .model) (x .names) (x .form) (x .open-body) w b) in omega arith)
+        pub element-long : 16777216 < count → elementStep k s at c l m e f GaveUp
+        element-long n t i j R p read x w b =
+            absurd (let u = corners-within b (took taken t i j R p read (x .model) (x .names) (x .form) (x .open-body) w b) in omega arith)
 
         pub element-took : (d : State) → d ≡ withUsed (oneElement count (c .used)) c → elementStep k s at c l m e f (Taken d q)
-        element-took d h t i j R p x w b =
-            subst (λ (a : State). NextLine R s p x a (withElement m f t) q × (q ≡ (restAt s p) .next)) (sym h)
-            (took taken t i j R p (x .model) (x .names) (x .form) (x .open-body) w b)
+        element-took d h t i j R p read x w b =
+            subst (λ (a : State). NextLine R s p read x a (withElement m f t) q × (q ≡ (restAt s p) .next)) (sym h)
+            (took taken t i j R p read (x .model) (x .names) (x .form) (x .open-body) w b)

@@ -57,7 +57,7 @@ unfolding faultBefore
 words-before s p at x w e = ap (λ (q : Rest). unless (q .bad) 2 (faultBefore x (q .words))) e
 
 -- ---- a statement that is known
-module _ (R : Rooms) (s : List ℕ) (p at : ℕ) (x : model.State) (c : State) (t u : Tables) (w : Word) (k : Keyword) (b : Began R s p at x c t w k) (l : Left R s p at x u w k) where
+module _ (R : Rooms) (s : List ℕ) (p at : ℕ) {n : ℕ} (x : model.State) (c : State) (t u : Tables) (w : Word) (k : Keyword) (b : Began R s p at n x c t w k) (l : Left R s p at x u w k) where
   abbrev r : Rest
   r = restAt s at
 
@@ -81,7 +81,7 @@ module _ (R : Rooms) (s : List ℕ) (p at : ℕ) (x : model.State) (c : State) (
   blamed Nothing h = let y = nothing-is _ (found Nothing h) in roomless (r .bad) (y .0) refl (y .1)
 
 -- ---- one that is refused, or not known
-module _ (R : Rooms) (s : List ℕ) (p at : ℕ) (x : model.State) (c : State) (t : Tables) (w : Word) (m j : ℕ) (h : Holds R s x c t p) (begins : restAt s p ≡ push w (restAt s at))
+module _ (R : Rooms) (s : List ℕ) (p at : ℕ) {n : ℕ} (x : model.State) (c : State) (t : Tables) (w : Word) (m j : ℕ) (h : Holds R s x c t n) (begins : restAt s p ≡ push w (restAt s at))
     (keyword : keywordOf (statementOf (w .bytes)) (w .place) ≡ fault m j) (given : GivenIn (x .model .vertices .vp) (t .vp)) where
   line-is : lineSays R s p x ≡ unless ((restAt s at) .bad) 2 (fault m j)
   unfolding statement

@@ -1,5 +1,5 @@
 -- The line at a place, by what stands first in it: its end, a byte that is not allowed, or a keyword, whose statement's family decides.
-use Prim.Native.Nat.{ℕ, _≤_, _<_}
+use Prim.Native.Nat.{ℕ, _+_, _-_, _≤_, _<_}
 use mathlib.Core.Path.{_≡_, refl, sym, ap, _∙_, subst}
 use mathlib.Core.Logic.{_⊎_, inl, inr, ⊎-elim}
 use mathlib.Core.List.{List, []}
@@ -30,7 +30,7 @@ use Rattle.taking.specs.declared.Line as lines
 use Rattle.taking.specs.declared.Line.the-variants.{Next, Stopped}
 use Rattle.lines.specs.declared.Step.{Step}
 use Rattle.lines.specs.declared.Step.the-variants.{Taken, Refuses, GaveUp}
-use Rattle.lines.specs.Holding.{Holds, NextLine, lineSays}
+use Rattle.lines.specs.Holding.{Holds, NextLine, lineSays, WithinLimit}
 use Rattle.lines.specs.Stepping.{Began, stepIs}
 use Rattle.taking.specs.Taking.{lineIs, familyOf, familyIs, stoppedBy}
 use Rattle.lines.proofs.Given.{given-in}
@@ -82,17 +82,17 @@ module _ (s : List ℕ) (at : ℕ) (c : State) (r : Step) where
 -- ---- no keyword
 module _ (s : List ℕ) (p : ℕ) (c : State) (t : Tables) where
   pub line-empty : {q : ℕ} → EndMet s p q → lineIs s p c t t (Next c q)
-  line-empty {q} m R x h = (
+  line-empty {q} m R n x l h = (
     record {
       after = x;
       said = ap (λ (r : Rest). unless (r .bad) 2 (step R x (r .words))) (m .rest);
-      holds = record { state = h .state; image = h .image; wide = h .wide; room = h .room; bounded = later (m .from) (h .bounded); body = h .body };
+      holds = record { state = h .state; image = h .image; wide = h .wide; room = h .room; bounded = later (let g : n ≤ n + (q - p) = omega arith in g) (h .bounded); body = h .body };
     },
     sym (ap (λ (r : Rest). r .next) (m .rest)),
   )
 
   pub line-bad : {q : ℕ} → BadMet s p q → lineIs s p c t t (Stopped 2 q)
-  line-bad m R x h = ap (λ (o : Option ℕ). unless o 2 (step R x ((restAt s p) .words))) (m .bad-at)
+  line-bad m R n x l h = ap (λ (o : Option ℕ). unless o 2 (step R x ((restAt s p) .words))) (m .bad-at)
 
 -- ---- a keyword at `key`
 module _ (s : List ℕ) (p key : ℕ) (kw : spelled.Keyword) (met : WordMet s p key) (found : kw ≡ keywordAt s key) where
@@ -104,10 +104,7 @@ module _ (s : List ℕ) (p key : ℕ) (kw : spelled.Keyword) (met : WordMet s p 
       go true = (let x = met .more in let y = met .to in omega arith)
       go false = met .to
 
-pub near : (a b : ℕ) → a < b → b ≤ 16777216 → a ≤ 16777216
-near a b h l = omega arith
-
-module _ (s : List ℕ) (p key : ℕ) (c : State) (t u : Tables) (kw : spelled.Keyword) (f : Family) (r : Step) (small : p ≤ 16777216) (met : WordMet s p key)
+module _ (s : List ℕ) (p key : ℕ) (c : State) (t u : Tables) (kw : spelled.Keyword) (f : Family) (r : Step) (met : WordMet s p key)
     (found : kw ≡ keywordAt s key) (family : f ≡ familyOf (kw .statement)) (done : familyIs f s (kw .end) c t u r) where
   abbrev w : Word
   w = wordAt s key
@@ -128,35 +125,35 @@ module _ (s : List ℕ) (p key : ℕ) (c : State) (t u : Tables) (kw : spelled.K
       (λ n. inr n)
       (sorted s (kw .end) c t u r key k g)
 
-  began : (R : Rooms) (x : model.State) → Holds R s x c t p → (n : Keyword) → keywordOf k key ≡ fine n → Began R s p (endOf s key) x c t w n
-  began R x h n e = record { small = small; holds = h; begins = met .rest; keyword = e }
+  began : (R : Rooms) (read : ℕ) (x : model.State) → WithinLimit s p read → Holds R s x c t read → (n : Keyword) → keywordOf k key ≡ fine n → Began R s p (endOf s key) read x c t w n
+  began R read x few h n e = record { small = few; holds = h; begins = met .rest; keyword = e }
 
   pub line-taken : (d : State) (q : ℕ) → r ≡ Taken d q → lineIs s p c t u (Next d q)
-  line-taken d q e R x h =
+  line-taken d q e R read x few h =
       ⊎-elim
-      (λ (n : Known s (endOf s key) c t u r k key). subst (stepIs s (endOf s key) (n .keyword) c t u) e (n .step) R p x w (began R x h (n .keyword) (n .is)))
+      (λ (n : Known s (endOf s key) c t u r k key). subst (stepIs s (endOf s key) (n .keyword) c t u) e (n .step) R p read x w (began R read x few h (n .keyword) (n .is)))
       (λ (n : Strange t u r k key). absurd (let g = n .gave-up in let z : _≡_ {A = ℕ} 0 1 = cc in omega arith))
       here
 
   pub line-refuses : (n : ℕ) → r ≡ Refuses n → lineIs s p c t u (Stopped n key)
-  line-refuses i e R x h =
+  line-refuses i e R read x few h =
       ⊎-elim
-      (λ (n : Known s (endOf s key) c t u r k key). subst (stepIs s (endOf s key) (n .keyword) c t u) e (n .step) R p x w (began R x h (n .keyword) (n .is)))
+      (λ (n : Known s (endOf s key) c t u r k key). subst (stepIs s (endOf s key) (n .keyword) c t u) e (n .step) R p read x w (began R read x few h (n .keyword) (n .is)))
       (λ (n : Strange t u r k key). absurd (let g = n .gave-up in let z : _≡_ {A = ℕ} 0 1 = cc in omega arith))
       here
 
-  stopped-is : (a : Refusal) → ((R : Rooms) (x : model.State) → Holds R s x c t p → stops R s p x (stoppedBy key a)) → lineIs s p c t u (stoppedBy key a)
+  stopped-is : (a : Refusal) → ((R : Rooms) (read : ℕ) (x : model.State) → WithinLimit s p read → Holds R s x c t read → stops R s p x (stoppedBy key a)) → lineIs s p c t u (stoppedBy key a)
   stopped-is (refusal.Refused n q) g = g
   stopped-is refusal.Nothing g = g
 
   pub line-gave-up : r ≡ GaveUp → (a : Refusal) → BlameIs s p c (u .vp) a → (l : lines.Line) → l ≡ stoppedBy key a → lineIs s p c t u l
   line-gave-up e a b l is =
       subst (lineIs s p c t u) (sym is)
-      (stopped-is a (λ R x h.
+      (stopped-is a (λ R read x few h.
       ⊎-elim
       (λ (n : Known s (endOf s key) c t u r k key).
-      let v = began R x h (n .keyword) (n .is) in
-      blamed R s p (endOf s key) x c t u w (n .keyword) v (subst (stepIs s (endOf s key) (n .keyword) c t u) e (n .step) R p x w v) a b)
+      let v = began R read x few h (n .keyword) (n .is) in
+      blamed R s p (endOf s key) x c t u w (n .keyword) v (subst (stepIs s (endOf s key) (n .keyword) c t u) e (n .step) R p read x w v) a b)
       (λ (n : Strange t u r k key).
-      unknown-blamed R s p (endOf s key) x c t w (n .number) key h (met .rest) (n .is) (given-in R s x c t p h) a (subst (λ (y : Tables). BlameIs s p c (y .vp) a) (n .kept) b) key)
+      unknown-blamed R s p (endOf s key) x c t w (n .number) key h (met .rest) (n .is) (given-in R s x c t read h) a (subst (λ (y : Tables). BlameIs s p c (y .vp) a) (n .kept) b) key)
       here))

@@ -28,7 +28,7 @@ use Rattle.taking.specs.declared.Line as lines
 use Rattle.taking.specs.declared.Line.the-variants.{Next, Stopped}
 use Rattle.lines.specs.declared.Step.{Step}
 use Rattle.lines.specs.declared.Step.the-variants.{GaveUp}
-use Rattle.lines.specs.Holding.{Holds, lineSays, NextLine}
+use Rattle.lines.specs.Holding.{Holds, lineSays, WithinLimit, NextLine}
 use Rattle.outer_lines.specs.InForce.{settingOf}
 use Rattle.lines.specs.Stepping.{stepIs}
 
@@ -69,10 +69,10 @@ familyIs (Set k) s at c t u r = stepIs s at (settingOf k) c t u r
 familyIs Other s at c t u r = (r ≡ GaveUp) × (u ≡ t)
 
 -- ---- a line
--- what the code finds in the line at `at`, in the state c with the tables t, which it leaves as u
+-- what the code finds in the line at `at`, after n bytes were read, in the state c with the tables t, which it leaves as u
 abbrev pub lineIs : List ℕ → ℕ → State → Tables → Tables → lines.Line → Type 0
-lineIs s at c t u (Next d q) = (R : Rooms) (x : model.State) → Holds R s x c t at → NextLine R s at x d u q × (q ≡ (restAt s at) .next)
-lineIs s at c t u (Stopped n p) = (R : Rooms) (x : model.State) → Holds R s x c t at → lineSays R s at x ≡ fault n p
+lineIs s at c t u (Next d q) = (R : Rooms) (n : ℕ) (x : model.State) → WithinLimit s at n → Holds R s x c t n → NextLine R s at n x d u q × (q ≡ (restAt s at) .next)
+lineIs s at c t u (Stopped i p) = (R : Rooms) (n : ℕ) (x : model.State) → WithinLimit s at n → Holds R s x c t n → lineSays R s at x ≡ fault i p
 
 -- one that was given up: what was found wrong with it, or 14 at its keyword
 abbrev pub stoppedBy : ℕ → Refusal → lines.Line

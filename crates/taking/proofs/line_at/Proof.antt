@@ -4,7 +4,7 @@ use native.Mathlib.Omega.{arith}
 use denote.Ref.{now}
 use Rattle.text.proofs.Found.{word-found, end-found, bad-found}
 use Rattle.tables.specs.Tables.{tables}
-use Rattle.taking.proofs.Sorted.{keyword-to, near, line-empty, line-bad, line-taken, line-refuses, line-gave-up}
+use Rattle.taking.proofs.Sorted.{keyword-to, line-empty, line-bad, line-taken, line-refuses, line-gave-up}
 use borrow.Author.Needs.{needs}
 use Rattle.taking.proofs.line_at.Statement.{statement}
 use Rattle.taking.proofs.line_at.Tie as tie
@@ -116,7 +116,7 @@ returns-3 c =
     let s = now (a .text) in
     let met = word-found s (a .at) (g .gap .result) (g .gap .ensures) (key .before .before .p2 .given .1) in
     line-taken s (a .at) _ (a .state) (tables (now (a .v)) (now (a .vt)) (now (a .vn)) (now (a .vp)) (now (a .corners)) (now (a .elements)) (now (a .bodies)) (now (a .ranges)) (now (a .parameters)) (now (a .loops)) (now (a .spans))) (tables (took .take-line .last .1 .1 .1 .1 .0) (took .take-line .last .1 .1 .1 .1 .1 .0) (took .take-line .last .1 .1 .1 .1 .1 .1 .0) (took .take-line .last .1 .1 .1 .1 .1 .1 .1 .0) (took .take-line .last .1 .1 .1 .1 .1 .1 .1 .1 .0) (took .take-line .last .1 .1 .1 .1 .1 .1 .1 .1 .1 .0) (took .take-line .last .1 .1 .1 .1 .1 .1 .1 .1 .1 .1 .0) (took .take-line .last .1 .1 .1 .1 .1 .1 .1 .1 .1 .1 .1 .0) (took .take-line .last .1 .1 .1 .1 .1 .1 .1 .1 .1 .1 .1 .1 .0) (took .take-line .last .1 .1 .1 .1 .1 .1 .1 .1 .1 .1 .1 .1 .1 .0) (took .take-line .last .1 .1 .1 .1 .1 .1 .1 .1 .1 .1 .1 .1 .1 .1 .0)) (key .keyword-at .result) (sorted .family-of .result) (took .take-line .result)
-    (near (a .at) _ (start .pre .0 .0) (start .pre .0 .1)) met (key .keyword-at .ensures) (sorted .family-of .ensures) (took .take-line .ensures) _ _ (c .before .state .given .1)
+    met (key .keyword-at .ensures) (sorted .family-of .ensures) (took .take-line .ensures) _ _ (c .before .state .given .1)
 
 same-length-12 : tie.Need-same-length-12
 same-length-12 c = c .before .before .before .before .before .before .before .before .before .before .before .before .before .before .before .before .before .before .take-line .kept .1 .1 .1 .1 .0
@@ -162,7 +162,7 @@ returns-4 c =
     let s = now (a .text) in
     let met = word-found s (a .at) (g .gap .result) (g .gap .ensures) (key .before .before .p2 .given .1) in
     line-refuses s (a .at) _ (a .state) (tables (now (a .v)) (now (a .vt)) (now (a .vn)) (now (a .vp)) (now (a .corners)) (now (a .elements)) (now (a .bodies)) (now (a .ranges)) (now (a .parameters)) (now (a .loops)) (now (a .spans))) (tables (took .take-line .last .1 .1 .1 .1 .0) (took .take-line .last .1 .1 .1 .1 .1 .0) (took .take-line .last .1 .1 .1 .1 .1 .1 .0) (took .take-line .last .1 .1 .1 .1 .1 .1 .1 .0) (took .take-line .last .1 .1 .1 .1 .1 .1 .1 .1 .0) (took .take-line .last .1 .1 .1 .1 .1 .1 .1 .1 .1 .0) (took .take-line .last .1 .1 .1 .1 .1 .1 .1 .1 .1 .1 .0) (took .take-line .last .1 .1 .1 .1 .1 .1 .1 .1 .1 .1 .1 .0) (took .take-line .last .1 .1 .1 .1 .1 .1 .1 .1 .1 .1 .1 .1 .0) (took .take-line .last .1 .1 .1 .1 .1 .1 .1 .1 .1 .1 .1 .1 .1 .0) (took .take-line .last .1 .1 .1 .1 .1 .1 .1 .1 .1 .1 .1 .1 .1 .1 .0)) (key .keyword-at .result) (sorted .family-of .result) (took .take-line .result)
-    (near (a .at) _ (start .pre .0 .0) (start .pre .0 .1)) met (key .keyword-at .ensures) (sorted .family-of .ensures) (took .take-line .ensures) _ (c .before .number .given .1)
+    met (key .keyword-at .ensures) (sorted .family-of .ensures) (took .take-line .ensures) _ (c .before .number .given .1)
 
 same-length-23 : tie.Need-same-length-23
 same-length-23 c = c .before .before .before .before .before .before .before .before .before .before .before .before .before .before .before .before .before .before .before .before .take-line .kept .1 .1 .1 .1 .0
@@ -208,7 +208,7 @@ returns-5 c =
     let s = now (a .text) in
     let met = word-found s (a .at) (g .gap .result) (g .gap .ensures) (key .before .before .p2 .given .1) in
     line-gave-up s (a .at) _ (a .state) (tables (now (a .v)) (now (a .vt)) (now (a .vn)) (now (a .vp)) (now (a .corners)) (now (a .elements)) (now (a .bodies)) (now (a .ranges)) (now (a .parameters)) (now (a .loops)) (now (a .spans))) (tables (took .take-line .last .1 .1 .1 .1 .0) (took .take-line .last .1 .1 .1 .1 .1 .0) (took .take-line .last .1 .1 .1 .1 .1 .1 .0) (took .take-line .last .1 .1 .1 .1 .1 .1 .1 .0) (took .take-line .last .1 .1 .1 .1 .1 .1 .1 .1 .0) (took .take-line .last .1 .1 .1 .1 .1 .1 .1 .1 .1 .0) (took .take-line .last .1 .1 .1 .1 .1 .1 .1 .1 .1 .1 .0) (took .take-line .last .1 .1 .1 .1 .1 .1 .1 .1 .1 .1 .1 .0) (took .take-line .last .1 .1 .1 .1 .1 .1 .1 .1 .1 .1 .1 .1 .0) (took .take-line .last .1 .1 .1 .1 .1 .1 .1 .1 .1 .1 .1 .1 .1 .0) (took .take-line .last .1 .1 .1 .1 .1 .1 .1 .1 .1 .1 .1 .1 .1 .1 .0)) (key .keyword-at .result) (sorted .family-of .result) (took .take-line .result)
-    (near (a .at) _ (start .pre .0 .0) (start .pre .0 .1)) met (key .keyword-at .ensures) (sorted .family-of .ensures) (took .take-line .ensures) (c .before .before .before .enum-told .given .1) (c .before .blame .result) (c .before .blame .ensures) (c .stopped .result) (c .stopped .ensures)
+    met (key .keyword-at .ensures) (sorted .family-of .ensures) (took .take-line .ensures) (c .before .before .before .enum-told .given .1) (c .before .blame .result) (c .before .blame .ensures) (c .stopped .result) (c .stopped .ensures)
 
 pub line-at-spec : {M : Type 1} → statement M
 line-at-spec =

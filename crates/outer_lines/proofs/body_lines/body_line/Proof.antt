@@ -57,7 +57,7 @@ returns-3 c =
     let start = tested .before .before .before .before .before .before in
     let a = start .args in
     body-long (freeOf (a .free)) (now (a .text)) (a .at) (a .state) (now (a .vp)) (now (a .corners)) _ (now (a .elements)) _ (a .bodies) (now (a .ranges)) _ (tested .if1 .left) _ _ _
-    (called .take-body-line .ensures) (told .count .given .1) (start .pre .0) (start .pre .1) (c .if3 .taken)
+    (called .take-body-line .ensures) (told .count .given .1) (c .if3 .taken)
 
 one-body-requires : tie.Need-one-body-requires
 one-body-requires c κs =

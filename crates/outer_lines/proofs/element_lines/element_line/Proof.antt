@@ -54,7 +54,7 @@ returns-3 c =
     let start = tested .before .before .before .before .before .before in
     let a = start .args in
     element-long (shapeOf (a .shape)) (now (a .text)) (a .at) (a .state) (now (a .corners)) _ (now (a .elements)) _ (tested .if1 .left) _ _ _
-    (called .take-element .ensures) (told .count .given .1) (start .pre .0) (start .pre .1) (c .if3 .taken)
+    (called .take-element .ensures) (told .count .given .1) (c .if3 .taken)
 
 one-element-requires : tie.Need-one-element-requires
 one-element-requires c κs =
