@@ -38,11 +38,11 @@ static double grid_normal[3 * SIDE * SIDE];
 
 /* ---- this library ---- */
 
-static int32_t v[4 * MOST_CONTROLS], vt[1], vn[1], vp[1], ranges[4], parameter[2 * (MOST_SIDE + 4)], spans[1];
-static uint32_t corners[3 * MOST_CONTROLS], elements[9], bodies[9], loops[1];
-static kuhlabires_tables tables = {v, 4 * MOST_CONTROLS, vt, 0, vn, 0, vp, 0, corners, 3 * MOST_CONTROLS, elements, 9, bodies, 9,
-                                   ranges, 4, parameter, 2 * (MOST_SIDE + 4), loops, 0, spans, 0};
-static kuhlabires_used used;
+static int32_t v[4 * MOST_CONTROLS], ranges[4], parameter[2 * (MOST_SIDE + 4)];
+static uint32_t corners[3 * MOST_CONTROLS], elements[9], bodies[9];
+static kuhlabires_tables tables = {.v = v, .v_length = 4 * MOST_CONTROLS, .corners = corners, .corners_length = 3 * MOST_CONTROLS,
+                                   .elements = elements, .elements_length = 9, .bodies = bodies, .bodies_length = 9, .ranges = ranges,
+                                   .ranges_length = 4, .parameters = parameter, .parameters_length = 2 * (MOST_SIDE + 4)};
 static int32_t run[3 * (STEPS + 1)];
 
 static void make_kuhlabires(void)
@@ -61,12 +61,11 @@ static void make_kuhlabires(void)
             at += bspline ? sprintf(at, " %.0f", knot[i]) : sprintf(at, " %d", i);
     }
     at += sprintf(at, "\nend\n");
-    kuhlabires_reading reading = kuhlabires_read((uint8_t *)text, (size_t)(at - text), KUHLABIRES_LEND(&tables));
+    kuhlabires_reading reading = kuhlabires_tables_read(&tables, (uint8_t *)text, (size_t)(at - text));
     if (reading.refusal) {
         fprintf(stderr, "refusal %u at %zu\n", reading.refusal, reading.place);
         exit(2);
     }
-    used = reading.used;
     free(text);
 }
 
@@ -92,25 +91,25 @@ static void alone_kuhlabires(int n)
 {
     for (int j = 0; j < n; j++) {
         if (steps) {
-            keep(j, kuhlabires_cubic_at(used, KUHLABIRES_LEND(&tables), 1, segment_of(j), step_of(j)));
+            keep(j, kuhlabires_tables_cubic_at(&tables, 1, segment_of(j), step_of(j)));
             continue;
         }
         int32_t t = outside ? -1 : spread[j];
-        keep(j, surface ? kuhlabires_point_on_surface(used, KUHLABIRES_LEND(&tables), 1, t, spread[SPREAD - 1 - j])
-                        : kuhlabires_point_on_curve(used, KUHLABIRES_LEND(&tables), 1, t));
+        keep(j, surface ? kuhlabires_tables_point_on_surface(&tables, 1, t, spread[SPREAD - 1 - j])
+                        : kuhlabires_tables_point_on_curve(&tables, 1, t));
     }
 }
 
 static void run_kuhlabires(void)
 {
-    kuhlabires_run_on_curve(used, KUHLABIRES_LEND(&tables), 1, STEPS, run, 3 * (STEPS + 1), 0);
+    kuhlabires_tables_run_on_curve(&tables, 1, STEPS, run, 3 * (STEPS + 1), 0);
 }
 
 static void grid_kuhlabires(void)
 {
     for (int j = 0; j < SIDE; j++)
         for (int i = 0; i < SIDE; i++)
-            keep(SIDE * j + i, kuhlabires_point_on_surface(used, KUHLABIRES_LEND(&tables), 1, grid_parameter[i], grid_parameter[j]));
+            keep(SIDE * j + i, kuhlabires_tables_point_on_surface(&tables, 1, grid_parameter[i], grid_parameter[j]));
 }
 
 /* ---- SISL: a Bezier curve is one with threefold knots ---- */

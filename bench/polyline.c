@@ -18,7 +18,7 @@ static int32_t tolerance, points[3 * (KUHLABIRES_MOST_STEPS + 1)];
 
 static kuhlabires_point at(int64_t t)
 {
-    return kuhlabires_point_on_curve(used, KUHLABIRES_LEND(&tables), element, (int32_t)t);
+    return kuhlabires_tables_point_on_curve(&tables, element, (int32_t)t);
 }
 
 static int is_near(int32_t p, int32_t m, int32_t q)
@@ -58,7 +58,7 @@ static void counts(void)
 {
     const uint32_t body = tables.elements[KUHLABIRES_ELEMENT_WIDTH * (element - 1) + KUHLABIRES_ELEMENT_BODY];
     const int64_t start = tables.ranges[KUHLABIRES_RANGE_WIDTH * (body - 1)], end = tables.ranges[KUHLABIRES_RANGE_WIDTH * (body - 1) + 1];
-    kuhlabires_polyline_answer cut = kuhlabires_polyline(used, KUHLABIRES_LEND(&tables), element, tolerance, points, 3 * KUHLABIRES_MOST_POLYLINE_POINTS, 0);
+    kuhlabires_polyline_answer cut = kuhlabires_tables_polyline(&tables, element, tolerance, points, 3 * KUHLABIRES_MOST_POLYLINE_POINTS, 0);
     long steps = 1;
     while (steps <= KUHLABIRES_MOST_STEPS && !run_is_straight(start, end, steps))
         steps++;
@@ -81,9 +81,9 @@ int main(int count, char **arguments)
     double from = seconds();
     for (long i = 0; i < times; i++) {
         if (cut)
-            kuhlabires_polyline(used, KUHLABIRES_LEND(&tables), element, tolerance, points, 3 * KUHLABIRES_MOST_POLYLINE_POINTS, 0);
+            kuhlabires_tables_polyline(&tables, element, tolerance, points, 3 * KUHLABIRES_MOST_POLYLINE_POINTS, 0);
         else
-            kuhlabires_run_on_curve(used, KUHLABIRES_LEND(&tables), element, (uint32_t)tolerance, points, sizeof points / sizeof *points, 0);
+            kuhlabires_tables_run_on_curve(&tables, element, (uint32_t)tolerance, points, sizeof points / sizeof *points, 0);
     }
     printf("seconds %.9f\n", seconds() - from);
 }

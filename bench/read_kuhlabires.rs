@@ -27,7 +27,7 @@ fn main() {
     for _ in 0..times(3) {
         let from = seconds();
         if let Err(refusal) = read(&text, &mut tables) {
-            println!("refused with {} at {}", refusal.number, refusal.place);
+            println!("{refusal}");
             exit(1);
         }
         reading = reading.min(seconds() - from);

@@ -12,12 +12,16 @@
  *     B cubic     element, segment, j
  *     N run       element, steps, point table's length, place
  *     P polyline  element, tolerance, point table's length, place
+ *     E element   element
+ *     Y body      body
+ *     U curv2     the curv2's number among the curv2
  *     K corner    element, corner
  *     G group     element
  *     M material  element
- * An answer is the letter, a byte (0 where all canaries stand and nothing lent to be read has changed), the numbers of the C struct, and the bytes
- * of everything that was lent to be written; of a group or material its length and, where that is not 0, its place and its bytes. That of O is
- * reading's, each table as far as it is used; its byte is 1, too, where the lengths are more than is promised or what is not used is not 0.
+ * An answer is the letter, a byte (0 where all canaries stand and nothing lent to be read has changed), the numbers of the C struct, of an element
+ * and a body its bytes, and the bytes of everything that was lent to be written; of a group or material its length and, where that is not 0, its place
+ * and its bytes. That of O is reading's, each table as far as it is used; its byte is 1, too, where the lengths are more than is promised or what is not
+ * used is not 0.
  */
 #include "lent.h"
 
@@ -165,6 +169,7 @@ static void tidy_text(void) {
     say_number(r.refusal);
     say_number(r.place);
     say_number(r.length);
+    say_number(r.needed);
     say_used();
     say_tables();
     say(out.data, out.size);
@@ -265,6 +270,24 @@ static void polyline(void) {
     take_back(points);
 }
 
+static void element(void) {
+    kuhlabires_element e = kuhlabires_element_of(used, TABLE(&tables, ELEMENTS, const uint32_t), (uint32_t)number());
+    say_head('E', all_unchanged());
+    say(&e, sizeof e);
+}
+
+static void body(void) {
+    kuhlabires_body b = kuhlabires_body_of(used, TABLE(&tables, BODIES, const uint32_t), TABLE(&tables, RANGES, const int32_t), (uint32_t)number());
+    say_head('Y', all_unchanged());
+    say(&b, sizeof b);
+}
+
+static void curv2(void) {
+    uint32_t found = kuhlabires_curv2_element(used, TABLE(&tables, ELEMENTS, const uint32_t), (uint32_t)number());
+    say_head('U', all_unchanged());
+    say_number(found);
+}
+
 static void corner(void) {
     uint32_t element = (uint32_t)number(), k = (uint32_t)number();
     kuhlabires_corner c = kuhlabires_corner_of(used, TABLE(&tables, ELEMENTS, const uint32_t), TABLE(&tables, CORNERS, const uint32_t), element, k);
@@ -306,6 +329,9 @@ int main(void) {
         case 'F': point(letter); break;
         case 'N': run(); break;
         case 'P': polyline(); break;
+        case 'E': element(); break;
+        case 'Y': body(); break;
+        case 'U': curv2(); break;
         case 'K': corner(); break;
         case 'G':
         case 'M': part(letter); break;

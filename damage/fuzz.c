@@ -158,7 +158,7 @@ static struct block tidied(struct block text, uint32_t weights, const struct tab
     for (size_t room = r.length; room > 0; room -= room / 4) {
         struct block narrow = lend(--room);
         kuhlabires_tidying full = tidy_into(text, weights, &t, narrow);
-        HOLD(full.refusal == 16 && full.place == 0 && same_used(full.used, used) && same_tables(whole, &t));
+        HOLD(full.refusal == 16 && full.place == 0 && full.needed == r.length && same_used(full.used, used) && same_tables(whole, &t));
         take_back(narrow);
     }
 

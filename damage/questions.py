@@ -68,6 +68,9 @@ def ask(rng, stream, most):
             stream.surface(element, s, t)
         for k in {0, corners - 1, corners, rng.choice((1, UINT32, rng.randrange(1 << 32)))}:
             stream.corner(element, k & UINT32)
+        stream.element(element)
+        stream.body(rng.choice((body, body, element, stream.used.bodies, UINT32)))
+        stream.curv2(rng.choice((0, 1, 2, element, UINT32)))
         stream.group(element)
         stream.material(element)
 

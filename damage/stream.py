@@ -15,14 +15,14 @@ sys.path.append(str(SECOND))
 from outline import inside
 from polyline import polyline
 from reader import corner_of, group_of, material_of, read
-from records import SIGNED, TABLES, Refused, Used, zeros
+from records import CURV2, SIGNED, TABLES, Refused, Used, zeros
 from sampler import RefusedPoint, cubic_at, point_on_curve, point_on_surface, run_on_curve
 from sweep import RefusedSweep, sweep
 from tidier import TooLong, tidy
 
 FILLER = b"\xa5"
 NONE = Used(*[0] * len(Used._fields))
-ELEMENTS, CORNERS, RANGES = map(TABLES.index, ("elements", "corners", "ranges"))
+ELEMENTS, CORNERS, BODIES, RANGES = map(TABLES.index, ("elements", "corners", "bodies", "ranges"))
 
 
 def numbers(*values):
@@ -75,7 +75,7 @@ class Stream:
     def tidy(self, text, rooms, room, weights):
         """Of the weights' numbers 1 is always; any other is when needed."""
         answer = tidy(text, rooms, room, weights == 1)
-        written, number, place = b"", 0, 0
+        written, number, place, needed = b"", 0, 0, 0
         self.text = text
         if isinstance(answer, Refused):
             number, place = answer
@@ -83,12 +83,12 @@ class Stream:
         else:
             self.used, self.tables = answer.used, answer.tables
             if isinstance(answer, TooLong):
-                number = 16
+                number, needed = 16, answer.needed
             else:
                 written = answer.text
         self.ask(
             "T", number, (numbers(len(text), *rooms, room, weights), text),
-            numbers(number, place, len(written), *self.used), entries(self.tables),
+            numbers(number, place, len(written), needed, *self.used), entries(self.tables),
             written, FILLER * (room - len(written)),
         )
 
@@ -162,6 +162,27 @@ class Stream:
             element, k + 1,
         )
         self.ask("K", 0, (numbers(element, k),), numbers(*found))
+
+    def record(self, number, used, table, width):
+        """The record of that number; zeros where it is not used or not whole."""
+        found = self.tables[table][width * (number - 1):width * number] if 1 <= number <= used else []
+        return found if len(found) == width else None
+
+    def element(self, element):
+        found = self.record(element, self.used.elements, ELEMENTS, 9) or [0] * 9
+        self.ask("E", 0, (numbers(element),), array("I", found).tobytes())
+
+    def body(self, body):
+        found, limits = self.record(body, self.used.bodies, BODIES, 9), self.record(body, self.used.bodies, RANGES, 4)
+        if not found or not limits:
+            found, limits = [0] * 9, [0] * 4
+        self.ask("Y", 0, (numbers(body),), array("I", found).tobytes(), array("i", limits).tobytes())
+
+    def curv2(self, curve):
+        """The number of the element that is the curv2 of that number."""
+        kinds = self.tables[ELEMENTS][0:9 * self.used.elements:9][:len(self.tables[ELEMENTS]) // 9]
+        curves = [number for number, kind in enumerate(kinds, 1) if kind == CURV2]
+        self.ask("U", 0, (numbers(curve),), numbers(curves[curve - 1] if 1 <= curve <= len(curves) else 0))
 
     def part(self, letter, element, field, part):
         place = self.tables[ELEMENTS][9 * (element - 1) + field] if part else 0

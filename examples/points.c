@@ -5,7 +5,10 @@
  *     gcc -O2 -Iinclude examples/points.c target/staticlib/libboundary.a -o points
  *     ./points examples/chair-rail.obj 1 8
  *     ./points examples/foam-wing.obj 1 polyline 500
+ *
+ * Ends with 1 where the file or the call is refused, with 2 where the arguments are not these or the file cannot be read.
  */
+#include <errno.h>
 #include <inttypes.h>
 #include <stdio.h>
 #include <stdlib.h>
@@ -29,43 +32,26 @@ static uint8_t *bytes_of(const char *name, size_t *length)
     return text;
 }
 
-/* A table of at least one entry, so that its pointer is not NULL; malloc may give NULL for none. */
-static void *table_of(size_t entries)
+/* Memory for so many 32-bit entries; NULL for none, which an empty table may be. */
+static void *memory_for(size_t entries)
 {
-    void *table = calloc(entries + 1, sizeof(int32_t));
-    if (!table) {
-        fprintf(stderr, "no memory for a table of %zu entries\n", entries);
+    void *memory = entries ? malloc(entries * sizeof(int32_t)) : NULL;
+    if (entries && !memory) {
+        fprintf(stderr, "no memory for %zu entries\n", entries);
         exit(2);
     }
-    return table;
+    return memory;
 }
 
-/* Tables in which the text finds room, whatever it says. */
-static kuhlabires_tables tables_for(const uint8_t *text, size_t length)
+/* A whole number of digits alone, up to that one; else -1. */
+static int64_t number_of(const char *word, uint32_t most)
 {
-    const kuhlabires_room room = kuhlabires_rooms(text, length);
-    kuhlabires_tables t = {
-        table_of(room.v), room.v, table_of(room.vt), room.vt, table_of(room.vn), room.vn, table_of(room.vp), room.vp,
-        table_of(room.corners), room.corners, table_of(room.elements), room.elements, table_of(room.bodies), room.bodies,
-        table_of(room.ranges), room.ranges, table_of(room.parameters), room.parameters, table_of(room.loops), room.loops,
-        table_of(room.spans), room.spans,
-    };
-    return t;
-}
-
-static void drop(kuhlabires_tables *t)
-{
-    free(t->v);
-    free(t->vt);
-    free(t->vn);
-    free(t->vp);
-    free(t->corners);
-    free(t->elements);
-    free(t->bodies);
-    free(t->ranges);
-    free(t->parameters);
-    free(t->loops);
-    free(t->spans);
+    char *end;
+    if (*word < '0' || *word > '9')
+        return -1;
+    errno = 0;
+    const unsigned long long number = strtoull(word, &end, 10);
+    return errno || *end || number > most ? -1 : (int64_t)number;
 }
 
 /* A number in millionths, with six places. */
@@ -81,40 +67,43 @@ static void print_points(const int32_t *points, size_t numbers, size_t axes)
         print_number(points[i], (i + 1) % axes ? " " : "\n");
 }
 
-static int print_polyline(kuhlabires_used used, const kuhlabires_tables *t, uint32_t element, int32_t tolerance)
+static int refused(uint32_t element, uint32_t refusal)
+{
+    fprintf(stderr, "element %" PRIu32 ": refused %" PRIu32 ": %s\n", element, refusal, kuhlabires_refusal_words(refusal));
+    return 1;
+}
+
+static int print_polyline(const kuhlabires_tables *t, uint32_t element, int32_t tolerance)
 {
     const size_t room = 3 * (size_t)KUHLABIRES_MOST_POLYLINE_POINTS;
-    int32_t *points = table_of(room);
-    const kuhlabires_polyline_answer line = kuhlabires_polyline(used, KUHLABIRES_LEND(t), element, tolerance, points, room, 0);
-    if (line.refusal)
-        fprintf(stderr, "element %" PRIu32 ": refused %" PRIu32 "\n", element, line.refusal);
-    else {
-        const uint32_t kind = t->elements[KUHLABIRES_ELEMENT_WIDTH * (size_t)(element - 1) + KUHLABIRES_ELEMENT_KIND];
-        const size_t axes = kind == KUHLABIRES_CURV2 ? 2 : 3;
+    int32_t *points = memory_for(room);
+    const kuhlabires_polyline_answer line = kuhlabires_tables_polyline(t, element, tolerance, points, room, 0);
+    if (!line.refusal) {
+        const size_t axes = kuhlabires_tables_element(t, element).kind == KUHLABIRES_CURV2 ? 2 : 3;
         print_points(points, axes * line.points, axes);
     }
     free(points);
-    return line.refusal != 0;
+    return line.refusal ? refused(element, line.refusal) : 0;
 }
 
-static int print_run(kuhlabires_used used, const kuhlabires_tables *t, uint32_t element, uint32_t steps)
+static int print_run(const kuhlabires_tables *t, uint32_t element, uint32_t steps)
 {
     const size_t room = steps > KUHLABIRES_MOST_STEPS ? 0 : 3 * ((size_t)steps + 1);
-    int32_t *points = table_of(room);
-    const kuhlabires_run run = kuhlabires_run_on_curve(used, KUHLABIRES_LEND(t), element, steps, points, room, 0);
-    if (run.refusal)
-        fprintf(stderr, "element %" PRIu32 ": refused %" PRIu32 "\n", element, run.refusal);
-    else
+    int32_t *points = memory_for(room);
+    const kuhlabires_run run = kuhlabires_tables_run_on_curve(t, element, steps, points, room, 0);
+    if (!run.refusal)
         print_points(points, run.numbers, run.numbers / ((size_t)steps + 1));
     free(points);
-    return run.refusal != 0;
+    return run.refusal ? refused(element, run.refusal) : 0;
 }
 
 int main(int count, char **words)
 {
     const int polyline = count == 5 && !strcmp(words[3], "polyline");
-    if (count != 4 && !polyline) {
-        fprintf(stderr, "usage: %s FILE ELEMENT STEPS, or %s FILE ELEMENT polyline TOLERANCE\n", words[0], words[0]);
+    const int64_t element = count > 2 ? number_of(words[2], UINT32_MAX) : -1;
+    const int64_t number = polyline ? number_of(words[4], INT32_MAX) : count == 4 ? number_of(words[3], UINT32_MAX) : -1;
+    if (element < 0 || number < 0) {
+        fprintf(stderr, "usage: points FILE ELEMENT STEPS, or points FILE ELEMENT polyline TOLERANCE, the tolerance in millionths\n");
         return 2;
     }
     size_t length;
@@ -123,17 +112,18 @@ int main(int count, char **words)
         perror(words[1]);
         return 2;
     }
-    kuhlabires_tables t = tables_for(text, length);
-    const kuhlabires_reading reading = kuhlabires_read(text, length, KUHLABIRES_LEND(&t));
-    int failed = reading.refusal != 0;
-    if (failed)
-        fprintf(stderr, "%s: refused %" PRIu32 " at %zu\n", words[1], reading.refusal, reading.place);
-    else {
-        const uint32_t element = (uint32_t)strtoul(words[2], NULL, 10);
-        failed = polyline ? print_polyline(reading.used, &t, element, (int32_t)strtol(words[4], NULL, 10))
-                          : print_run(reading.used, &t, element, (uint32_t)strtoul(words[3], NULL, 10));
-    }
-    drop(&t);
+    const kuhlabires_room room = kuhlabires_rooms(text, length);
+    void *memory = memory_for(kuhlabires_room_entries(room));
+    kuhlabires_tables t = kuhlabires_tables_in(room, memory);
+    const kuhlabires_reading reading = kuhlabires_tables_read(&t, text, length);
+    int failed = 1;
+    if (reading.refusal) {
+        const kuhlabires_position at = kuhlabires_position_of(text, length, reading.place);
+        fprintf(stderr, "%s:%zu:%zu: refused %" PRIu32 " at %zu: %s\n", words[1], at.line, at.column, reading.refusal, reading.place,
+                kuhlabires_refusal_words(reading.refusal));
+    } else
+        failed = polyline ? print_polyline(&t, (uint32_t)element, (int32_t)number) : print_run(&t, (uint32_t)element, (uint32_t)number);
+    free(memory);
     free(text);
     return failed;
 }

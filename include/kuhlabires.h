@@ -1,12 +1,15 @@
 /*
  * Kuhlabires: a verified reader, tidier and sampler of Wavefront .obj files.
  *
- * Link the archive that `rt staticlib boundary` makes, target/staticlib/libboundary.a.
+ * Link the archive that `rt staticlib boundary` makes, target/staticlib/libboundary.a, or the one that `host/install.sh PREFIX` installs.
+ *
+ * The functions whose names begin with kuhlabires_tables_ take the tables as one struct, and are the ones to begin with: they stand at the end,
+ * with the words of a refusal and the line of a place.
  *
  * Memory. Everything is lent and nothing is kept: a call reads and writes only the arrays it is given, allocates nothing, opens nothing, holds no
  * state between calls and always returns. So any thread may call, as long as no array is written by one call while another uses it.
  *   - An array goes as a pointer and then a length, which counts entries (for a text: bytes), never bytes of 32-bit tables.
- *   - No pointer may be NULL, not even for a length of 0. Tables are aligned as their type asks.
+ *   - A pointer may be NULL where its length is 0: nothing is read or written there. Tables are aligned as their type asks.
  *   - Arrays that a call writes overlap no other array of the same call.
  *
  * Units. Every int32_t is a number of the file in millionths: 1500000 is 1.5. Parameters of curves are in millionths too.
@@ -21,10 +24,16 @@
 
 #include <stddef.h>
 #include <stdint.h>
+#include <string.h>
 
 #ifdef __cplusplus
 extern "C" {
 #endif
+
+#define KUHLABIRES_VERSION_MAJOR 0
+#define KUHLABIRES_VERSION_MINOR 1
+#define KUHLABIRES_VERSION_PATCH 0
+#define KUHLABIRES_VERSION "0.1.0"
 
 /* The longest text that is read, in bytes; also the longest tidy text. */
 #define KUHLABIRES_MOST_BYTES 16777216u
@@ -156,11 +165,16 @@ typedef struct kuhlabires_reading {
     kuhlabires_used used;
 } kuhlabires_reading;
 
-/* The answer of tidying: length bytes of the tidy text were written. Where refusal is 16 the tables are filled and used counts them. */
+/*
+ * The answer of tidying: length bytes of the tidy text were written. Where refusal is 16 the tables are filled, used counts them, and needed is the
+ * length of the tidy text: a buffer as long has room for it. It is KUHLABIRES_MOST_BYTES + 1 where the tidy text passes that: no buffer has room
+ * then. Else needed is 0.
+ */
 typedef struct kuhlabires_tidying {
     uint32_t refusal;
     size_t place;
     size_t length;
+    size_t needed;
     kuhlabires_used used;
 } kuhlabires_tidying;
 
@@ -194,6 +208,17 @@ typedef struct kuhlabires_swept {
     kuhlabires_used used;
     kuhlabires_dropped dropped;
 } kuhlabires_swept;
+
+/* An element, its fields as enum kuhlabires_element_field says; all 0 for no such element. */
+typedef struct kuhlabires_element {
+    uint32_t kind, first_corner, corners, body, smoothing, group_place, group_length, material_place, material_length;
+} kuhlabires_element;
+
+/* A body, its fields as enum kuhlabires_body_field says, and its range; all 0 for no such body. */
+typedef struct kuhlabires_body {
+    uint32_t type, rational, u_degree, v_degree, first_parameter, u_parameters, v_parameters, first_loop_part, loop_parts;
+    int32_t u_start, u_end, v_start, v_end;
+} kuhlabires_body;
 
 /* A corner's references, each from 1; 0 for none. */
 typedef struct kuhlabires_corner {
@@ -274,6 +299,16 @@ kuhlabires_polyline_answer kuhlabires_polyline(kuhlabires_used used, KUHLABIRES_
  */
 kuhlabires_swept kuhlabires_sweep(kuhlabires_used used, KUHLABIRES_TABLES_OUT, uint32_t *numbers, size_t numbers_length);
 
+/* The element of that number; all 0 for one that is not used, or does not stand whole in the table. */
+kuhlabires_element kuhlabires_element_of(kuhlabires_used used, const uint32_t *elements, size_t elements_length, uint32_t element);
+
+/* The body of that number, with its range; all 0 for one that is not used, or does not stand whole in both tables. */
+kuhlabires_body kuhlabires_body_of(kuhlabires_used used, const uint32_t *bodies, size_t bodies_length, const int32_t *ranges, size_t ranges_length,
+                                   uint32_t body);
+
+/* The number of the element that is the curv2 of that number, as a loop part names it, counted over the curv2 alone; 0 for none. */
+uint32_t kuhlabires_curv2_element(kuhlabires_used used, const uint32_t *elements, size_t elements_length, uint32_t curve);
+
 /* Corner k, from 0, of the element of that number; three zeros for no such corner. */
 kuhlabires_corner kuhlabires_corner_of(kuhlabires_used used, const uint32_t *elements, size_t elements_length, const uint32_t *corners,
                                        size_t corners_length, uint32_t element, uint32_t k);
@@ -297,6 +332,7 @@ size_t kuhlabires_argument(size_t row, uint8_t *out, size_t out_length);
 
 /* ---- The same with the tables in one struct, for shorter calls ---- */
 
+/* The eleven tables, each a pointer and a length in entries, and their used counts, which reading, tidying and the sweep set. */
 typedef struct kuhlabires_tables {
     int32_t *v;
     size_t v_length;
@@ -320,6 +356,7 @@ typedef struct kuhlabires_tables {
     size_t loops_length;
     int32_t *spans;
     size_t spans_length;
+    kuhlabires_used used;
 } kuhlabires_tables;
 
 /* The eleven tables of a kuhlabires_tables as arguments. */
@@ -327,6 +364,197 @@ typedef struct kuhlabires_tables {
     (t)->v, (t)->v_length, (t)->vt, (t)->vt_length, (t)->vn, (t)->vn_length, (t)->vp, (t)->vp_length, (t)->corners, (t)->corners_length,             \
         (t)->elements, (t)->elements_length, (t)->bodies, (t)->bodies_length, (t)->ranges, (t)->ranges_length, (t)->parameters,                      \
         (t)->parameters_length, (t)->loops, (t)->loops_length, (t)->spans, (t)->spans_length
+
+/* How many entries the eleven tables of these lengths have together, of four bytes each. */
+static inline size_t kuhlabires_room_entries(kuhlabires_room room)
+{
+    return room.v + room.vt + room.vn + room.vp + room.corners + room.elements + room.bodies + room.ranges + room.parameters + room.loops +
+           room.spans;
+}
+
+/*
+ * Tables of these lengths, one after the other in memory that has kuhlabires_room_entries(room) entries and is aligned for them, as malloc's is. All
+ * are empty where memory is NULL.
+ */
+static inline kuhlabires_tables kuhlabires_tables_in(kuhlabires_room room, void *memory)
+{
+    kuhlabires_tables t;
+    int32_t *next = (int32_t *)memory;
+    memset(&t, 0, sizeof t);
+    if (!next)
+        return t;
+#define KUHLABIRES_TAKE(table, type)                                                                                                                 \
+    t.table = (type *)(void *)next;                                                                                                                  \
+    t.table##_length = room.table;                                                                                                                   \
+    next += room.table
+    KUHLABIRES_TAKE(v, int32_t);
+    KUHLABIRES_TAKE(vt, int32_t);
+    KUHLABIRES_TAKE(vn, int32_t);
+    KUHLABIRES_TAKE(vp, int32_t);
+    KUHLABIRES_TAKE(corners, uint32_t);
+    KUHLABIRES_TAKE(elements, uint32_t);
+    KUHLABIRES_TAKE(bodies, uint32_t);
+    KUHLABIRES_TAKE(ranges, int32_t);
+    KUHLABIRES_TAKE(parameters, int32_t);
+    KUHLABIRES_TAKE(loops, uint32_t);
+    KUHLABIRES_TAKE(spans, int32_t);
+#undef KUHLABIRES_TAKE
+    return t;
+}
+
+static inline kuhlabires_reading kuhlabires_tables_read(kuhlabires_tables *t, const uint8_t *text, size_t text_length)
+{
+    const kuhlabires_reading reading = kuhlabires_read(text, text_length, KUHLABIRES_LEND(t));
+    t->used = reading.used;
+    return reading;
+}
+
+static inline kuhlabires_tidying kuhlabires_tables_tidy(kuhlabires_tables *t, const uint8_t *text, size_t text_length, uint32_t weights,
+                                                        uint8_t *out, size_t out_length)
+{
+    const kuhlabires_tidying tidying = kuhlabires_tidy(text, text_length, weights, KUHLABIRES_LEND(t), out, out_length);
+    t->used = tidying.used;
+    return tidying;
+}
+
+static inline kuhlabires_point kuhlabires_tables_point_on_curve(const kuhlabires_tables *t, uint32_t element, int32_t at)
+{
+    return kuhlabires_point_on_curve(t->used, KUHLABIRES_LEND(t), element, at);
+}
+
+static inline kuhlabires_point kuhlabires_tables_cubic_at(const kuhlabires_tables *t, uint32_t element, uint32_t segment, uint32_t j)
+{
+    return kuhlabires_cubic_at(t->used, KUHLABIRES_LEND(t), element, segment, j);
+}
+
+static inline kuhlabires_point kuhlabires_tables_point_on_surface(const kuhlabires_tables *t, uint32_t element, int32_t along_u, int32_t along_v)
+{
+    return kuhlabires_point_on_surface(t->used, KUHLABIRES_LEND(t), element, along_u, along_v);
+}
+
+static inline kuhlabires_run kuhlabires_tables_run_on_curve(const kuhlabires_tables *t, uint32_t element, uint32_t steps, int32_t *points,
+                                                            size_t points_length, size_t at)
+{
+    return kuhlabires_run_on_curve(t->used, KUHLABIRES_LEND(t), element, steps, points, points_length, at);
+}
+
+static inline kuhlabires_polyline_answer kuhlabires_tables_polyline(const kuhlabires_tables *t, uint32_t element, int32_t tolerance, int32_t *points,
+                                                                    size_t points_length, size_t at)
+{
+    return kuhlabires_polyline(t->used, KUHLABIRES_LEND(t), element, tolerance, points, points_length, at);
+}
+
+/* After a refusal the used counts are as before, as the tables are. */
+static inline kuhlabires_swept kuhlabires_tables_sweep(kuhlabires_tables *t, uint32_t *numbers, size_t numbers_length)
+{
+    const kuhlabires_swept swept = kuhlabires_sweep(t->used, KUHLABIRES_LEND(t), numbers, numbers_length);
+    if (!swept.refusal)
+        t->used = swept.used;
+    return swept;
+}
+
+static inline kuhlabires_element kuhlabires_tables_element(const kuhlabires_tables *t, uint32_t element)
+{
+    return kuhlabires_element_of(t->used, t->elements, t->elements_length, element);
+}
+
+static inline kuhlabires_body kuhlabires_tables_body(const kuhlabires_tables *t, uint32_t body)
+{
+    return kuhlabires_body_of(t->used, t->bodies, t->bodies_length, t->ranges, t->ranges_length, body);
+}
+
+static inline uint32_t kuhlabires_tables_curv2_element(const kuhlabires_tables *t, uint32_t curve)
+{
+    return kuhlabires_curv2_element(t->used, t->elements, t->elements_length, curve);
+}
+
+static inline kuhlabires_corner kuhlabires_tables_corner(const kuhlabires_tables *t, uint32_t element, uint32_t k)
+{
+    return kuhlabires_corner_of(t->used, t->elements, t->elements_length, t->corners, t->corners_length, element, k);
+}
+
+static inline kuhlabires_part kuhlabires_tables_group(const kuhlabires_tables *t, const uint8_t *text, size_t text_length, uint32_t element)
+{
+    return kuhlabires_group_of(text, text_length, t->used, t->elements, t->elements_length, element);
+}
+
+static inline kuhlabires_part kuhlabires_tables_material(const kuhlabires_tables *t, const uint8_t *text, size_t text_length, uint32_t element)
+{
+    return kuhlabires_material_of(text, text_length, t->used, t->elements, t->elements_length, element);
+}
+
+/* ---- For a person ---- */
+
+/* What a number of refusal means, in the words of docs/REFUSALS.md. */
+static inline const char *kuhlabires_refusal_words(uint32_t refusal)
+{
+    switch (refusal) {
+    case KUHLABIRES_ACCEPTED:
+        return "not refused";
+    case KUHLABIRES_TEXT_TOO_LONG:
+        return "the text has over 16,777,216 bytes";
+    case KUHLABIRES_BYTE_NOT_ALLOWED:
+        return "a byte is not allowed";
+    case KUHLABIRES_KEYWORD_UNKNOWN:
+        return "the keyword is unknown";
+    case KUHLABIRES_KNOWN_AND_REFUSED:
+        return "the keyword or the type is known and refused";
+    case KUHLABIRES_WORD_COUNT:
+        return "the count of words";
+    case KUHLABIRES_WORD_MALFORMED:
+        return "a word is malformed";
+    case KUHLABIRES_OUT_OF_RANGE:
+        return "a number, a degree or a smoothing is out of range";
+    case KUHLABIRES_REFERENCE_TO_NOTHING:
+        return "a reference to nothing";
+    case KUHLABIRES_PATTERN_DIFFERS:
+        return "a corner's pattern differs from the first";
+    case KUHLABIRES_NOT_ALLOWED_HERE:
+        return "the statement is not allowed here; the text ends in a body";
+    case KUHLABIRES_TYPE_DEGREE_OR_PARM:
+        return "no type or degree (at the line of curv, curv2, surf), no parm (at end)";
+    case KUHLABIRES_CONTROL_COUNT:
+        return "control counts disagree";
+    case KUHLABIRES_PARAMETER_ORDER:
+        return "parameter order or range, or a bspline's inner knot more than n times";
+    case KUHLABIRES_TABLE_LACKS_ROOM:
+        return "a lent table lacks room";
+    case KUHLABIRES_RECORDS_BREAK_RULES:
+        return "a record of the element, names aside, or a vertex that it names breaks a rule or passes the used or lent entries; for a sweep any "
+               "record, or runs of corners, parameters or loop parts that do not follow on";
+    case KUHLABIRES_OUTPUT_LACKS_ROOM:
+        return "the tidy text passes the lent buffer or 16,777,216 bytes (at place 0); a run or a polyline passes the lent point table, a sweep's "
+               "new numbers the lent list";
+    case KUHLABIRES_NO_SUCH_ELEMENT:
+        return "no element of that number, or one of another kind";
+    case KUHLABIRES_NOT_SAMPLED:
+        return "the body is rational, cardinal or taylor; for a cubic in steps also of another type or degree";
+    case KUHLABIRES_PARAMETER_OUTSIDE:
+        return "a parameter outside start..end; a run of 0 or over 65,536 steps; a negative tolerance; no such step or segment of a cubic, or one "
+               "outside start..end";
+    default:
+        return "no number of refusal";
+    }
+}
+
+/* Where a place stands for a person: line and column count from 1, columns in bytes. */
+typedef struct kuhlabires_position {
+    size_t line, column;
+} kuhlabires_position;
+
+/* Line and column of a place; one past the text's end counts as its end. Lines end at LF, whether or not a backslash joins the next. */
+static inline kuhlabires_position kuhlabires_position_of(const uint8_t *text, size_t text_length, size_t place)
+{
+    kuhlabires_position position = {1, 1};
+    for (size_t i = 0; i < text_length && i < place; i++) {
+        position.column++;
+        if (text[i] == '\n') {
+            position.line++;
+            position.column = 1;
+        }
+    }
+    return position;
+}
 
 #ifdef __cplusplus
 }

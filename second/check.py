@@ -387,7 +387,7 @@ def check_form(data, rooms, answer, every_w):
         return "the tidy text of the tidy text differs"
     if not isinstance(tidy(data, rooms, len(text), every_w), Written):
         return "a text that just fits is not written"
-    if text and tidy(data, rooms, len(text) - 1, every_w) != TooLong(used, tables):
+    if text and tidy(data, rooms, len(text) - 1, every_w) != TooLong(len(text), used, tables):
         return "a text that does not fit is written"
     return None
 

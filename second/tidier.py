@@ -30,8 +30,9 @@ class Written(NamedTuple):
 
 
 class TooLong(NamedTuple):
-    """16 at place 0; the tables stay filled and the buffer as it was."""
+    """16 at place 0, and the length that is needed: one over the limit for all that pass it. The tables stay filled and the buffer as it was."""
 
+    needed: int
     used: Used
     tables: list
 
@@ -144,7 +145,7 @@ def tidy(data, rooms, buffer, every_w=False):
         return answer
     text = tidy_text(data, answer.used, answer.tables, every_w)
     if len(text) > buffer or len(text) > TEXT_LIMIT:
-        return TooLong(answer.used, answer.tables)
+        return TooLong(min(len(text), TEXT_LIMIT + 1), answer.used, answer.tables)
     return Written(text, answer.used, answer.tables)
 
 

@@ -1,7 +1,7 @@
 //! `check`: whether files are read, and what they hold.
 use crate::input::{self, Input};
 use crate::{show, tell, Failure};
-use kuhlabires::{keywords, Body, Kind, Refusal, Tables};
+use kuhlabires::{keywords, Basis, Body, Kind, Reason, Refusal, Tables};
 use std::collections::BTreeMap;
 use std::ffi::OsStr;
 use std::io::Write;
@@ -12,7 +12,7 @@ struct Summary {
     read: usize,
     unopened: usize,
     // By number: how many, and the first with its words, file, line and column.
-    refused: BTreeMap<u32, (usize, String)>,
+    refused: BTreeMap<Reason, (usize, String)>,
 }
 
 /// Each file by itself, and where there are several, a summary. What is read is flushed before a refusal is told, so that where both go to one place
@@ -61,9 +61,7 @@ fn write_holds(input: &Input, tables: &Tables, out: &mut dyn Write) -> Result<()
     let mut kinds = [0; Kind::ALL.len()];
     let mut unsampled: BTreeMap<String, Vec<u32>> = BTreeMap::new();
     for (number, element) in tables.elements() {
-        if let Some(kind) = element.kind {
-            kinds[kind as usize] += 1;
-        }
+        kinds[element.kind as usize] += 1;
         if let Some(reason) = tables.body(element.body).and_then(unsampled_for) {
             unsampled.entry(reason).or_default().push(number);
         }
@@ -87,7 +85,7 @@ fn write_holds(input: &Input, tables: &Tables, out: &mut dyn Write) -> Result<()
 fn unsampled_for(body: Body) -> Option<String> {
     let rational = if body.rational { Some("rational") } else { None };
     let words: Vec<&str> =
-        rational.into_iter().chain(body.basis.filter(|basis| !basis.is_sampled()).map(|basis| basis.word())).collect();
+        rational.into_iter().chain(Some(body.basis).filter(|basis| !basis.is_sampled()).map(Basis::word)).collect();
     if words.is_empty() {
         return None;
     }
@@ -96,7 +94,7 @@ fn unsampled_for(body: Body) -> Option<String> {
 
 impl Summary {
     fn refuse(&mut self, input: &Input, refusal: Refusal) {
-        let (many, _) = self.refused.entry(refusal.number).or_insert_with(|| {
+        let (many, _) = self.refused.entry(refusal.reason).or_insert_with(|| {
             let at = refusal.position(&input.text);
             let reason = show::reason(&input.text, refusal);
             (0, format!("{reason}; the first is {}:{}:{}", input.name, at.line, at.column))
@@ -109,10 +107,10 @@ impl Summary {
         let refused: usize = self.refused.values().map(|(many, _)| many).sum();
         let counts = [files, self.read, refused, self.unopened].map(show::thousands);
         writeln!(out, "{} files: {} read, {} refused, {} not opened", counts[0], counts[1], counts[2], counts[3])?;
-        let mut rows: Vec<(&u32, &(usize, String))> = self.refused.iter().collect();
+        let mut rows: Vec<(&Reason, &(usize, String))> = self.refused.iter().collect();
         rows.sort_by_key(|(_, (many, _))| std::cmp::Reverse(*many));
-        for (number, (many, first)) in rows {
-            writeln!(out, "refused {number}: {}, {first}", show::thousands(*many))?;
+        for (reason, (many, first)) in rows {
+            writeln!(out, "refused {}: {}, {first}", reason.number(), show::thousands(*many))?;
         }
         Ok(())
     }
@@ -121,16 +119,14 @@ impl Summary {
 #[cfg(test)]
 mod tests {
     use super::*;
-    use kuhlabires::Basis;
 
     #[test]
     fn every_reason_is_named() {
         let of = |rational, basis| {
-            let mut tables =
-                Tables { used: Default::default(), bodies: vec![0; 9], ranges: vec![0; 4], ..Tables::default() };
+            let mut tables = Tables { bodies: vec![1; 9], ranges: vec![0; 4], ..Tables::default() };
             tables.used.bodies = 1;
             let body = tables.body(1).unwrap();
-            unsampled_for(Body { rational, basis: Some(basis), ..body })
+            unsampled_for(Body { rational, basis, ..body })
         };
         assert_eq!(of(false, Basis::Bezier), None);
         assert_eq!(of(false, Basis::Bspline), None);

@@ -1,10 +1,8 @@
 //! `tidy`, `polyline`, `cubic` and `sweep`.
 use crate::input::{refused, tables_of, told, Input};
 use crate::{show, tell, Failure};
-use kuhlabires::{
-    cubic_at, keywords, tidy_text, Decimal, Element, Kind, Refusal, Used, Weights, CUBIC_STEPS, MOST_POLYLINE_POINTS,
-};
-use std::io::{self, Write};
+use kuhlabires::{keywords, tidy_text, Decimal, Reason, Used, Weights, CUBIC_STEPS};
+use std::io::Write;
 
 pub fn tidy(input: Input, weights: Weights, out: &mut dyn Write) -> Result<(), Failure> {
     let tidied =
@@ -12,28 +10,17 @@ pub fn tidy(input: Input, weights: Weights, out: &mut dyn Write) -> Result<(), F
     Ok(out.write_all(&tidied)?)
 }
 
-fn write_points(numbers: &[i32], axes: usize, out: &mut dyn Write) -> io::Result<()> {
-    for point in numbers.chunks(axes) {
-        let shown: Vec<String> = point.iter().map(|&n| Decimal(n).to_string()).collect();
-        writeln!(out, "{}", shown.join(" "))?;
-    }
-    Ok(())
-}
-
 pub fn polyline(input: Input, element: u32, tolerance: i32, out: &mut dyn Write) -> Result<(), Failure> {
     let tables = tables_of(&input)?;
-    let mut numbers = vec![0; 3 * MOST_POLYLINE_POINTS];
-    let points = kuhlabires::polyline(&tables, element, tolerance, &mut numbers, 0).map_err(|refusal| {
-        let (name, number, words) = (&input.name, refusal.number, refusal.words());
+    let points = tables.polyline(element, tolerance).map_err(|reason| {
         let tolerance = Decimal(tolerance);
-        tell(format_args!("{name}: element {element}, tolerance {tolerance}: refused {number}: {words}\n"));
+        tell(format_args!("{}: element {element}, tolerance {tolerance}: {reason}\n", input.name));
         Failure::Refused
     })?;
-    let axes = match tables.element(element) {
-        Some(Element { kind: Some(Kind::Curv2), .. }) => 2,
-        _ => 3,
-    };
-    Ok(write_points(&numbers[..axes * points], axes, out)?)
+    for point in points {
+        writeln!(out, "{point}")?;
+    }
+    Ok(())
 }
 
 // How many of each kind are dropped, and their numbers, runs of them as first-last.
@@ -41,8 +28,8 @@ pub fn sweep(input: Input, out: &mut dyn Write) -> Result<(), Failure> {
     let mut tables = tables_of(&input)?;
     let Used { v, vt, vn, vp, .. } = tables.used;
     let mut numbers = vec![0; tables.used.vertices()];
-    let dropped = kuhlabires::sweep(&mut tables, &mut numbers).map_err(|refusal| {
-        tell(format_args!("{}: refused {}: {}\n", input.name, refusal.number, refusal.words()));
+    let dropped = tables.sweep(&mut numbers).map_err(|reason| {
+        tell(format_args!("{}: {reason}\n", input.name));
         Failure::Refused
     })?;
     let mut after = &numbers[..];
@@ -64,21 +51,21 @@ pub fn cubic(input: Input, element: u32, out: &mut dyn Write) -> Result<(), Fail
     let tables = tables_of(&input)?;
     let body = tables.element(element).and_then(|asked| tables.body(asked.body));
     let segments = body.map_or(1, |body| body.u_parameters.saturating_sub(1).max(1));
-    let mut last = Refusal { number: 19, place: 0 };
+    let mut last = Reason::ParameterOutside;
     let mut none = true;
     for segment in 0..segments {
         for j in 0..=CUBIC_STEPS {
-            match cubic_at(&tables, element, segment, j) {
+            match tables.cubic_at(element, segment, j) {
                 Ok(point) => {
                     writeln!(out, "{segment} {j} {point}")?;
                     none = false;
                 }
-                Err(refusal) => last = refusal,
+                Err(reason) => last = reason,
             }
         }
     }
     if none {
-        tell(format_args!("{}: element {element}: refused {}: {}\n", input.name, last.number, last.words()));
+        tell(format_args!("{}: element {element}: {last}\n", input.name));
         return Err(Failure::Refused);
     }
     Ok(())

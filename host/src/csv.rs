@@ -1,8 +1,8 @@
 //! `tables`: the eleven tables of a file as comma separated values, with a schema for a database.
 use crate::input::{tables_of, Input};
 use crate::schema::{self, Table};
-use crate::{show, Failure};
-use kuhlabires::{corner_of, group_of, material_of, Corner, Decimal, Kind, Tables};
+use crate::Failure;
+use kuhlabires::{Corner, Decimal, Kind, Tables};
 use std::fmt::{self, Display};
 use std::fs::{self, File};
 use std::io::{self, BufWriter, Write};
@@ -21,10 +21,6 @@ fn reference(number: u32) -> Cell {
         return Cell::Nothing;
     }
     Cell::Whole(number)
-}
-
-fn names(part: &[u8]) -> Cell {
-    Cell::Text(show::names(part))
 }
 
 impl Display for Cell {
@@ -129,16 +125,14 @@ fn bodies(tables: &Tables, folder: &Path) -> Result<(), Failure> {
     let mut records = Sheet::new(folder, &schema::BODIES)?;
     let mut ranges = Sheet::new(folder, &schema::RANGES)?;
     let mut parameters = Sheet::new(folder, &schema::PARAMETERS)?;
-    for (number, body) in (1..=tables.used.bodies).map_while(|number| Some((number, tables.body(number)?))) {
+    for (number, body) in tables.bodies() {
         let [rational, u_degree, v_degree] = [body.rational as u32, body.u_degree, body.v_degree].map(Cell::Whole);
-        let basis = Cell::Text(body.basis.map_or("?", |basis| basis.word()).into());
+        let basis = Cell::Text(body.basis.word().into());
         records.record(&[basis, rational, u_degree, v_degree])?;
         ranges.numbers(&[body.u_start, body.u_end, body.v_start, body.v_end])?;
-        let (first, along_u) = (body.first_parameter as usize, body.u_parameters as usize);
-        let own = tables.parameters.get(first..first + along_u + body.v_parameters as usize).unwrap_or(&[]);
-        for (index, &value) in own.iter().enumerate() {
-            let direction = Cell::Text(if index < along_u { "u" } else { "v" }.into());
-            parameters.record(&[Cell::Whole(number), direction, Cell::Millionths(value)])?;
+        let along_u = tables.u_parameters(&body).map(|value| ("u", value));
+        for (direction, value) in along_u.chain(tables.v_parameters(&body).map(|value| ("v", value))) {
+            parameters.record(&[Cell::Whole(number), Cell::Text(direction.into()), Cell::Millionths(value)])?;
         }
     }
     records.end()?;
@@ -150,13 +144,12 @@ fn elements(input: &Input, tables: &Tables, folder: &Path) -> Result<(), Failure
     let mut records = Sheet::new(folder, &schema::ELEMENTS)?;
     let mut corners = Sheet::new(folder, &schema::CORNERS)?;
     for (number, element) in tables.elements() {
-        let kind = Cell::Text(element.kind.map_or("?", Kind::keyword).into());
-        let group = names(group_of(&input.text, tables, number));
-        let material = names(material_of(&input.text, tables, number));
+        let kind = Cell::Text(element.kind.keyword().into());
+        let group = Cell::Text(tables.group_names(&input.text, number).collect::<Vec<_>>().join(" "));
+        let material = Cell::Text(tables.material(&input.text, number).unwrap_or("").into());
         records.record(&[kind, reference(element.body), Cell::Whole(element.smoothing), group, material])?;
-        for k in 0..element.corners {
-            let Corner { v, vt, vn } = corner_of(tables, number, k);
-            let (v, vp) = if element.kind == Some(Kind::Curv2) { (0, v) } else { (v, 0) };
+        for (k, Corner { v, vt, vn }) in (0..).zip(tables.corners(number)) {
+            let (v, vp) = if element.kind == Kind::Curv2 { (0, v) } else { (v, 0) };
             let [v, vt, vn, vp] = [v, vt, vn, vp].map(reference);
             corners.record(&[Cell::Whole(number), Cell::Whole(k), v, vt, vn, vp])?;
         }
@@ -170,8 +163,8 @@ fn loops(tables: &Tables, folder: &Path) -> Result<(), Failure> {
     let mut records = Sheet::new(folder, &schema::LOOPS)?;
     let mut spans = Sheet::new(folder, &schema::SPANS)?;
     let curves = tables.curv2_elements();
-    for (number, body) in (1..=tables.used.bodies).map_while(|number| Some((number, tables.body(number)?))) {
-        for part in tables.loop_parts(body) {
+    for (number, body) in tables.bodies() {
+        for part in tables.loop_parts(&body) {
             let begins = part.begins.keyword().map_or(Cell::Nothing, |keyword| Cell::Text(keyword.into()));
             let curve = part.curve.checked_sub(1).and_then(|index| curves.get(index as usize));
             let curve = curve.map_or(Cell::Nothing, |&element| Cell::Whole(element));

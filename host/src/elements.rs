@@ -1,7 +1,7 @@
 //! `elements` and `show`: the elements of a file, one by one.
 use crate::input::{tables_of, Input};
-use crate::{show, Failure};
-use kuhlabires::{corner_of, group_of, keywords, material_of, Body, Corner, Decimal, Element, Kind, Outline, Tables};
+use crate::Failure;
+use kuhlabires::{keywords, Body, Corner, Decimal, Element, Kind, Outline, Tables};
 use std::io::{self, Write};
 
 pub fn elements(input: Input, out: &mut dyn Write) -> Result<(), Failure> {
@@ -18,9 +18,9 @@ pub fn show(input: Input, out: &mut dyn Write) -> Result<(), Failure> {
     let curves = tables.curv2_elements();
     for (number, element) in tables.elements() {
         write_element(&input, &tables, number, element, out)?;
-        if let Some(Kind::P | Kind::L | Kind::F) = element.kind {
-            for k in 0..element.corners {
-                write_corner(&tables, corner_of(&tables, number, k), out)?;
+        if let Kind::P | Kind::L | Kind::F = element.kind {
+            for corner in tables.corners(number) {
+                write_corner(&tables, corner, out)?;
             }
         }
         if let Some(body) = tables.body(element.body) {
@@ -47,7 +47,7 @@ fn write_corner(tables: &Tables, corner: Corner, out: &mut dyn Write) -> io::Res
 }
 
 fn write_loops(tables: &Tables, body: Body, curves: &[u32], out: &mut dyn Write) -> io::Result<()> {
-    for part in tables.loop_parts(body) {
+    for part in tables.loop_parts(&body) {
         let curve = part.curve.checked_sub(1).and_then(|index| curves.get(index as usize));
         let curve = curve.map_or("no element".into(), |element| format!("element {element}"));
         let word = part.begins.keyword().unwrap_or("and");
@@ -57,8 +57,7 @@ fn write_loops(tables: &Tables, body: Body, curves: &[u32], out: &mut dyn Write)
 }
 
 fn write_element(input: &Input, tables: &Tables, number: u32, element: Element, out: &mut dyn Write) -> io::Result<()> {
-    let keyword = element.kind.map_or("?", Kind::keyword);
-    write!(out, "{number} {keyword}, {}", counted(element.corners, "corner"))?;
+    write!(out, "{number} {}, {}", element.kind.keyword(), counted(element.corners, "corner"))?;
     if let Some(body) = tables.body(element.body) {
         write!(out, ", {}", body_of(element, body))?;
     }
@@ -68,12 +67,11 @@ fn write_element(input: &Input, tables: &Tables, number: u32, element: Element, 
     if element.smoothing != 0 {
         write!(out, ", smoothing {}", element.smoothing)?;
     }
-    let group = show::names(group_of(&input.text, tables, number));
+    let group: Vec<&str> = tables.group_names(&input.text, number).collect();
     if !group.is_empty() {
-        write!(out, ", group {group}")?;
+        write!(out, ", group {}", group.join(" "))?;
     }
-    let material = show::names(material_of(&input.text, tables, number));
-    if !material.is_empty() {
+    if let Some(material) = tables.material(&input.text, number) {
         write!(out, ", material {material}")?;
     }
     writeln!(out)
@@ -86,13 +84,12 @@ fn counted(many: u32, what: &str) -> String {
 
 fn body_of(element: Element, body: Body) -> String {
     let rational = if body.rational { "rational " } else { "" };
-    let basis = body.basis.map_or("?", |basis| basis.word());
-    let mut shown = format!("{rational}{basis} of degree {}", body.u_degree);
-    if element.kind == Some(Kind::Surf) {
+    let mut shown = format!("{rational}{} of degree {}", body.basis.word(), body.u_degree);
+    if element.kind == Kind::Surf {
         shown += &format!(" by {}", body.v_degree);
     }
     shown += &format!(", from {} to {}", Decimal(body.u_start), Decimal(body.u_end));
-    if element.kind == Some(Kind::Surf) {
+    if element.kind == Kind::Surf {
         shown += &format!(" by {} to {}", Decimal(body.v_start), Decimal(body.v_end));
     }
     if body.loop_parts > 0 {

@@ -1,6 +1,6 @@
 //! A file that is worked on: opened, read into tables, and told of.
 use crate::{show, tell, Failure};
-use kuhlabires::{read, Refusal, Tables, MOST_BYTES};
+use kuhlabires::{Reason, Refusal, Tables, MOST_BYTES};
 use std::ffi::OsStr;
 use std::fs::File;
 use std::io::{self, Read};
@@ -74,8 +74,8 @@ pub fn told<T>(input: &Input, doing: &str, work: impl FnOnce() -> T) -> T {
 /// Tells of a refusal of the text.
 pub fn refused(input: &Input, refusal: Refusal) -> Failure {
     let shown = show::refusal(&input.name, &input.text, refusal);
-    match (refusal.number, input.size) {
-        (1, Some(_)) => tell(format_args!("{}: {}\n", shown.trim_end(), input.bytes())),
+    match (refusal.reason, input.size) {
+        (Reason::TextTooLong, Some(_)) => tell(format_args!("{}: {}\n", shown.trim_end(), input.bytes())),
         _ => tell(shown),
     }
     Failure::Refused
@@ -83,10 +83,7 @@ pub fn refused(input: &Input, refusal: Refusal) -> Failure {
 
 /// The tables of a text, or its refusal, of which nothing is told yet.
 pub fn tables(input: &Input) -> Result<Tables, Refusal> {
-    told(input, "reading", || {
-        let mut tables = Tables::for_text(&input.text);
-        read(&input.text, &mut tables).map(|()| tables)
-    })
+    told(input, "reading", || Tables::read(&input.text))
 }
 
 pub fn tables_of(input: &Input) -> Result<Tables, Failure> {

@@ -3,9 +3,7 @@ use crate::arguments::{millionths, number, Arguments};
 use crate::columns::{Columns, Form, Rows};
 use crate::input::{tables_of, Input};
 use crate::{tell, Failure};
-use kuhlabires::{
-    point_on_curve, point_on_surface, run_on_curve, Body, Decimal, Element, Kind, Point, Refusal, Tables, MOST_STEPS,
-};
+use kuhlabires::{Body, Decimal, Element, Kind, Point, Reason, Tables, MOST_STEPS};
 use std::ffi::OsStr;
 use std::fmt;
 use std::io::{self, Write};
@@ -25,14 +23,14 @@ pub struct Asked {
 }
 
 enum Trouble {
-    Refused(Refusal),
+    Refused(Reason),
     Io(io::Error),
     Usage(String),
 }
 
-impl From<Refusal> for Trouble {
-    fn from(refusal: Refusal) -> Trouble {
-        Trouble::Refused(refusal)
+impl From<Reason> for Trouble {
+    fn from(reason: Reason) -> Trouble {
+        Trouble::Refused(reason)
     }
 }
 
@@ -83,7 +81,7 @@ impl fmt::Display for Places {
 pub fn points(input: Input, asked: &Asked, out: &mut dyn Write) -> Result<(), Failure> {
     let tables = tables_of(&input)?;
     let rows = match asked.element {
-        Some(element) => Rows::Of(tables.element(element).and_then(|found| found.kind)),
+        Some(element) => Rows::Of(tables.element(element).map(|found| found.kind)),
         None => Rows::AllCurves,
     };
     let mut columns = Columns::new(asked.form, rows, asked.parameter, out);
@@ -92,7 +90,7 @@ pub fn points(input: Input, asked: &Asked, out: &mut dyn Write) -> Result<(), Fa
         Some(element) => write_element(&input, &tables, element, asked, &mut columns)?,
         None => {
             for (number, found) in tables.elements() {
-                if found.kind.is_some_and(Kind::is_curve) {
+                if found.kind.is_curve() {
                     match write_element(&input, &tables, number, asked, &mut columns) {
                         Err(Failure::Refused) => ended = Err(Failure::Refused),
                         other => other?,
@@ -113,17 +111,16 @@ fn write_element(
     columns: &mut Columns,
 ) -> Result<(), Failure> {
     let written = match (tables.element(element), &asked.places) {
-        (Some(Element { kind: Some(Kind::Surf), body, .. }), places) => {
+        (Some(Element { kind: Kind::Surf, body, .. }), places) => {
             surface(tables, element, tables.body(body), places, columns)
         }
         (found, places) => curve(tables, element, found, places, columns),
     };
     match written {
         Ok(()) => Ok(()),
-        Err(Trouble::Refused(refusal)) => {
-            let (number, words) = (refusal.number, refusal.words());
+        Err(Trouble::Refused(reason)) => {
             columns.flush()?;
-            tell(format_args!("{}: element {element}{}: refused {number}: {words}\n", input.name, asked.places));
+            tell(format_args!("{}: element {element}{}: {reason}\n", input.name, asked.places));
             Err(Failure::Refused)
         }
         Err(Trouble::Io(error)) => Err(error.into()),
@@ -138,34 +135,26 @@ fn curve(
     places: &Places,
     columns: &mut Columns,
 ) -> Result<(), Trouble> {
-    let kind = found.and_then(|found| found.kind).filter(|kind| kind.is_curve());
+    let kind = found.map(|found| found.kind).filter(|kind| kind.is_curve());
     if let (Some(kind), Places::Steps(_, Some(_)) | Places::At(_, Some(_))) = (kind, places) {
         return Err(Trouble::Usage(format!("element {element} is a {}: one number along it, not two", kind.keyword())));
     }
-    let (numbers, parameters) = match *places {
-        Places::At(t, _) => (coordinates(point_on_curve(tables, element, t)?), vec![t]),
+    let (points, parameters) = match *places {
+        Places::At(t, _) => (vec![tables.point_on_curve(element, t)?], vec![t]),
         Places::Steps(steps, _) => {
-            let numbers = run(tables, element, steps)?;
+            let points = tables.run_on_curve(element, steps)?;
             let body = found.and_then(|found| tables.body(found.body));
             let (start, end) = body.map_or((0, 0), |body| (body.u_start, body.u_end));
-            (numbers, (0..=steps).map(|j| parameter(start, end, steps, j)).collect())
+            (points, (0..=steps).map(|j| parameter(start, end, steps, j)).collect())
         }
     };
     if let Some(kind) = kind {
         columns.element(element, kind)?;
     }
-    let axes = numbers.len() / parameters.len();
-    for (point, t) in numbers.chunks(axes).zip(parameters) {
-        columns.point(element, &[t], point)?;
+    for (point, t) in points.into_iter().zip(parameters) {
+        columns.point(element, &[t], &coordinates(point))?;
     }
     Ok(())
-}
-
-fn run(tables: &Tables, element: u32, steps: u32) -> Result<Vec<i32>, Refusal> {
-    let mut numbers = vec![0; 3 * (steps.min(MOST_STEPS) as usize + 1)];
-    let written = run_on_curve(tables, element, steps, &mut numbers, 0)?;
-    numbers.truncate(written);
-    Ok(numbers)
 }
 
 // On a surface the parameters of a run, along u and along v.
@@ -177,7 +166,7 @@ fn surface(
     columns: &mut Columns,
 ) -> Result<(), Trouble> {
     let write = |s: i32, t: i32, columns: &mut Columns| -> Result<(), Trouble> {
-        let point = coordinates(point_on_surface(tables, element, s, t)?);
+        let point = coordinates(tables.point_on_surface(element, s, t)?);
         Ok(columns.point(element, &[s, t], &point)?)
     };
     let (along_u, along_v) = match *places {
@@ -187,11 +176,11 @@ fn surface(
         }
         Places::Steps(along_u, along_v) => (along_u, along_v.unwrap_or(along_u)),
     };
-    let body = body.ok_or(Refusal { number: 15, place: 0 })?;
+    let body = body.ok_or(Reason::RecordsBreakRules)?;
     // What is refused whatever the steps comes first.
-    point_on_surface(tables, element, body.u_start, body.v_start)?;
+    tables.point_on_surface(element, body.u_start, body.v_start)?;
     if !(1..=MOST_STEPS).contains(&along_u) || !(1..=MOST_STEPS).contains(&along_v) {
-        return Err(Refusal { number: 19, place: 0 }.into());
+        return Err(Reason::ParameterOutside.into());
     }
     for row in 0..=along_v {
         if row > 0 {

@@ -13,6 +13,7 @@ pub struct Tidying {
     pub refusal: u32,
     pub place: usize,
     pub length: usize,
+    pub needed: usize,
     pub used: Used,
 }
 
@@ -42,6 +43,36 @@ pub struct Swept {
     pub refusal: u32,
     pub used: Used,
     pub dropped: Dropped,
+}
+
+#[repr(C)]
+pub struct Element {
+    pub kind: u32,
+    pub first_corner: u32,
+    pub corners: u32,
+    pub body: u32,
+    pub smoothing: u32,
+    pub group_place: u32,
+    pub group_length: u32,
+    pub material_place: u32,
+    pub material_length: u32,
+}
+
+#[repr(C)]
+pub struct Body {
+    pub basis: u32,
+    pub rational: u32,
+    pub u_degree: u32,
+    pub v_degree: u32,
+    pub first_parameter: u32,
+    pub u_parameters: u32,
+    pub v_parameters: u32,
+    pub first_loop_part: u32,
+    pub loop_parts: u32,
+    pub u_start: i32,
+    pub u_end: i32,
+    pub v_start: i32,
+    pub v_end: i32,
 }
 
 #[repr(C)]
@@ -96,6 +127,19 @@ extern "C" {
     pub fn kuhlabires_keyword(row: usize, out: *mut u8, out_length: usize) -> usize;
 
     pub fn kuhlabires_argument(row: usize, out: *mut u8, out_length: usize) -> usize;
+
+    pub fn kuhlabires_element_of(used: Used, elements: *const u32, elements_length: usize, element: u32) -> Element;
+
+    pub fn kuhlabires_body_of(
+        used: Used,
+        bodies: *const u32,
+        bodies_length: usize,
+        ranges: *const i32,
+        ranges_length: usize,
+        body: u32,
+    ) -> Body;
+
+    pub fn kuhlabires_curv2_element(used: Used, elements: *const u32, elements_length: usize, curve: u32) -> u32;
 
     pub fn kuhlabires_corner_of(
         used: Used,
@@ -207,6 +251,24 @@ pub fn polyline(tables: &Tables, element: u32, tolerance: i32, points: &mut [i32
 pub fn sweep(tables: &mut Tables, numbers: &mut [u32]) -> Swept {
     let used = tables.used;
     with_tables!(as_mut_ptr, tables, kuhlabires_sweep(used; numbers.as_mut_ptr(), numbers.len()))
+}
+
+pub fn element_of(tables: &Tables, element: u32) -> Element {
+    let elements = &tables.elements;
+    // SAFETY: as in `with_tables`.
+    unsafe { kuhlabires_element_of(tables.used, elements.as_ptr(), elements.len(), element) }
+}
+
+pub fn body_of(tables: &Tables, body: u32) -> Body {
+    let (bodies, ranges) = (&tables.bodies, &tables.ranges);
+    // SAFETY: as in `with_tables`.
+    unsafe { kuhlabires_body_of(tables.used, bodies.as_ptr(), bodies.len(), ranges.as_ptr(), ranges.len(), body) }
+}
+
+pub fn curv2_element(tables: &Tables, curve: u32) -> u32 {
+    let elements = &tables.elements;
+    // SAFETY: as in `with_tables`.
+    unsafe { kuhlabires_curv2_element(tables.used, elements.as_ptr(), elements.len(), curve) }
 }
 
 pub fn corner_of(tables: &Tables, element: u32, k: u32) -> Corner {

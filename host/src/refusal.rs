@@ -1,49 +1,92 @@
 //! Why a call was refused, and where.
 use std::fmt;
 
-/// A refusal: its number, 1 to 19, and for reading and tidying the place, a byte offset in the text. Sampling has no place: 0.
-///
-/// `docs/REFUSALS.md` lists the numbers, each with a file that gives it.
-#[derive(Clone, Copy, Debug, PartialEq, Eq)]
+// The numbers of refusal in their order, from 1: each with its name and its words, which docs/REFUSALS.md and include/kuhlabires.h have too.
+macro_rules! reasons {
+    ($($name:ident: $words:literal;)*) => {
+        /// Why a call was refused: the numbers of refusal, 1 to 19, by name. It is shown by its words, which `docs/REFUSALS.md` lists, each with a
+        /// file that gives it.
+        #[derive(Clone, Copy, PartialEq, Eq, PartialOrd, Ord, Hash)]
+        pub enum Reason {
+            $(#[doc = $words] $name,)*
+        }
+
+        impl Reason {
+            /// Every reason, in the order of the numbers.
+            pub const ALL: &'static [Reason] = &[$(Reason::$name,)*];
+
+            /// What it means, in words.
+            pub fn words(self) -> &'static str {
+                match self {
+                    $(Reason::$name => $words,)*
+                }
+            }
+        }
+    };
+}
+
+reasons! {
+    TextTooLong: "the text has over 16,777,216 bytes";
+    ByteNotAllowed: "a byte is not allowed";
+    KeywordUnknown: "the keyword is unknown";
+    KnownAndRefused: "the keyword or the type is known and refused";
+    WordCount: "the count of words";
+    WordMalformed: "a word is malformed";
+    OutOfRange: "a number, a degree or a smoothing is out of range";
+    ReferenceToNothing: "a reference to nothing";
+    PatternDiffers: "a corner's pattern differs from the first";
+    NotAllowedHere: "the statement is not allowed here; the text ends in a body";
+    TypeDegreeOrParm: "no type or degree (at the line of curv, curv2, surf), no parm (at end)";
+    ControlCount: "control counts disagree";
+    ParameterOrder: "parameter order or range, or a bspline's inner knot more than n times";
+    TableLacksRoom: "a lent table lacks room";
+    RecordsBreakRules: "a record of the element, names aside, or a vertex that it names breaks a rule or passes the used or lent entries; for a sweep any record, or runs of corners, parameters or loop parts that do not follow on";
+    OutputLacksRoom: "the tidy text passes the lent buffer or 16,777,216 bytes (at place 0); a run or a polyline passes the lent point table, a sweep's new numbers the lent list";
+    NoSuchElement: "no element of that number, or one of another kind";
+    NotSampled: "the body is rational, cardinal or taylor; for a cubic in steps also of another type or degree";
+    ParameterOutside: "a parameter outside start..end; a run of 0 or over 65,536 steps; a negative tolerance; no such step or segment of a cubic, or one outside start..end";
+}
+
+impl Reason {
+    /// The number of refusal, 1 to 19.
+    pub fn number(self) -> u32 {
+        self as u32 + 1
+    }
+
+    /// The reason of that number; `None` for 0, which is no refusal, and for a number that is none.
+    pub fn of(number: u32) -> Option<Reason> {
+        Reason::ALL.get(number.checked_sub(1)? as usize).copied()
+    }
+}
+
+/// A refusal of a text: why, and where.
+#[derive(Clone, Copy, PartialEq, Eq)]
 pub struct Refusal {
-    pub number: u32,
+    /// Why.
+    pub reason: Reason,
+    /// Where, as a byte offset in the text; [`Refusal::position`] is its line and column.
     pub place: usize,
+    /// How long a buffer the tidy text needs, where it has no room ([`Reason::OutputLacksRoom`]): over [`crate::MOST_BYTES`] where none has. Else 0.
+    pub needed: usize,
 }
 
 /// Where a place stands for a person: line and column count from 1, columns in bytes; `start..end` is the line without its ending.
 #[derive(Clone, Copy, Debug, PartialEq, Eq)]
 pub struct Position {
+    /// The line, from 1.
     pub line: usize,
+    /// The column, from 1, in bytes.
     pub column: usize,
+    /// Where the line starts, as a byte offset in the text.
     pub start: usize,
+    /// Where the line ends, without its LF or CR LF.
     pub end: usize,
 }
 
 impl Refusal {
-    /// What the number means, in the words of `docs/REFUSALS.md`.
-    pub fn words(&self) -> &'static str {
-        match self.number {
-            1 => "the text has over 16,777,216 bytes",
-            2 => "a byte is not allowed",
-            3 => "the keyword is unknown",
-            4 => "the keyword or the type is known and refused",
-            5 => "the count of words",
-            6 => "a word is malformed",
-            7 => "a number, a degree or a smoothing is out of range",
-            8 => "a reference to nothing",
-            9 => "a corner's pattern differs from the first",
-            10 => "the statement is not allowed here; the text ends in a body",
-            11 => "no type or degree (at the line of curv, curv2, surf), no parm (at end)",
-            12 => "control counts disagree",
-            13 => "parameter order or range, or a bspline's inner knot more than n times",
-            14 => "a lent table lacks room",
-            15 => "a record of the element, names aside, or a vertex that it names breaks a rule or passes the used or lent entries; for a sweep any record, or runs of corners, parameters or loop parts that do not follow on",
-            16 => "the tidy text passes the lent buffer or 16,777,216 bytes (at place 0); a run or a polyline passes the lent point table, a sweep's new numbers the lent list",
-            17 => "no element of that number, or one of another kind",
-            18 => "the body is rational, cardinal or taylor; for a cubic in steps also of another type or degree",
-            19 => "a parameter outside start..end; a run of 0 or over 65,536 steps; a negative tolerance; no such step or segment of a cubic, or one outside start..end",
-            _ => "no number of refusal",
-        }
+    /// A refusal at that place, of which no length is needed.
+    pub fn new(reason: Reason, place: usize) -> Refusal {
+        Refusal { reason, place, needed: 0 }
     }
 
     /// Line and column of the place in the text that was refused.
@@ -52,11 +95,32 @@ impl Refusal {
     }
 }
 
-impl fmt::Display for Refusal {
+impl fmt::Display for Reason {
     fn fmt(&self, f: &mut fmt::Formatter<'_>) -> fmt::Result {
-        write!(f, "refused {} at {}: {}", self.number, self.place, self.words())
+        write!(f, "refused {}: {}", self.number(), self.words())
     }
 }
+
+impl fmt::Display for Refusal {
+    fn fmt(&self, f: &mut fmt::Formatter<'_>) -> fmt::Result {
+        write!(f, "refused {} at {}: {}", self.reason.number(), self.place, self.reason.words())
+    }
+}
+
+// What a `main` that answers a `Result` prints is the error's Debug form, so that has the words too.
+impl fmt::Debug for Reason {
+    fn fmt(&self, f: &mut fmt::Formatter<'_>) -> fmt::Result {
+        fmt::Display::fmt(self, f)
+    }
+}
+
+impl fmt::Debug for Refusal {
+    fn fmt(&self, f: &mut fmt::Formatter<'_>) -> fmt::Result {
+        fmt::Display::fmt(self, f)
+    }
+}
+
+impl std::error::Error for Reason {}
 
 impl std::error::Error for Refusal {}
 
@@ -81,11 +145,20 @@ mod tests {
     #[test]
     fn words_are_those_of_the_document() {
         let document = include_str!("../../docs/REFUSALS.md");
-        for number in 1..=19 {
-            let refusal = Refusal { number, place: 0 };
-            let row = format!("| {number} | {} |", refusal.words());
+        assert_eq!(Reason::ALL.len(), 19);
+        for reason in Reason::ALL {
+            let row = format!("| {} | {} |", reason.number(), reason.words());
             assert!(document.contains(&row), "docs/REFUSALS.md has no row {row}");
         }
+    }
+
+    #[test]
+    fn every_number_is_that_of_its_reason() {
+        assert_eq!((Reason::of(0), Reason::of(20)), (None, None));
+        for reason in Reason::ALL {
+            assert_eq!(Reason::of(reason.number()), Some(*reason));
+        }
+        assert_eq!(Reason::ReferenceToNothing.number(), 8);
     }
 
     #[test]
@@ -101,7 +174,12 @@ mod tests {
 
     #[test]
     fn a_refusal_reads_as_a_sentence() {
-        let refusal = Refusal { number: 8, place: 14 };
+        let refusal = Refusal::new(Reason::ReferenceToNothing, 14);
         assert_eq!(refusal.to_string(), "refused 8 at 14: a reference to nothing");
+        assert_eq!(format!("{refusal:?}"), refusal.to_string());
+        assert_eq!(
+            format!("{:?}", Reason::NoSuchElement),
+            "refused 17: no element of that number, or one of another kind"
+        );
     }
 }

@@ -1,5 +1,5 @@
-//! What a person is shown: a refusal with its line, names as words, sizes.
-use kuhlabires::{Position, Refusal};
+//! What a person is shown: a refusal with its line, sizes.
+use kuhlabires::{Position, Reason, Refusal};
 
 // The most columns of a line that are shown, around the place.
 const MOST_COLUMNS: usize = 100;
@@ -11,11 +11,11 @@ pub fn refusal(name: &str, text: &[u8], refusal: Refusal) -> String {
         "{name}:{}:{}: refused {} at {}: {}\n",
         at.line,
         at.column,
-        refusal.number,
+        refusal.reason.number(),
         refusal.place,
         reason(text, refusal)
     );
-    if !text.is_empty() && !matches!(refusal.number, 1 | 16) {
+    if !text.is_empty() && !matches!(refusal.reason, Reason::TextTooLong | Reason::OutputLacksRoom) {
         shown.push_str(&marked(text, at));
     }
     shown
@@ -23,10 +23,11 @@ pub fn refusal(name: &str, text: &[u8], refusal: Refusal) -> String {
 
 /// The words of the number; of 10 the half that holds.
 pub fn reason(text: &[u8], refusal: Refusal) -> &'static str {
-    if refusal.number != 10 {
-        return refusal.words();
+    let words = refusal.reason.words();
+    if refusal.reason != Reason::NotAllowedHere {
+        return words;
     }
-    let (here, ends) = refusal.words().split_once("; ").unwrap_or((refusal.words(), refusal.words()));
+    let (here, ends) = words.split_once("; ").unwrap_or((words, words));
     if refusal.place == text.len() {
         ends
     } else {
@@ -52,13 +53,6 @@ fn marked(text: &[u8], at: Position) -> String {
 /// Bytes as a terminal may show them: any but 32 to 126 and tabs as a question mark.
 pub fn visible(bytes: &[u8]) -> String {
     bytes.iter().map(|&b| if matches!(b, 32..=126 | b'\t') { b as char } else { '?' }).collect()
-}
-
-/// Names as words, whatever joins and blanks stand between them.
-pub fn names(part: &[u8]) -> String {
-    let words: Vec<String> =
-        part.split(|b| !matches!(b, 33..=126) || *b == b'\\').filter(|word| !word.is_empty()).map(visible).collect();
-    words.join(" ")
 }
 
 /// The numbers, from 1, of the entries that are 0, after a colon.
@@ -106,7 +100,7 @@ mod tests {
     fn a_refusal_shows_its_line_with_a_mark() {
         let text = b"v 0 0 0\nf 1\t1 2\n";
         assert_eq!(
-            refusal("a.obj", text, Refusal { number: 8, place: 14 }),
+            refusal("a.obj", text, Refusal::new(Reason::ReferenceToNothing, 14)),
             "a.obj:2:7: refused 8 at 14: a reference to nothing\n    2 | f 1\t1 2\n      |    \t  ^\n"
         );
     }
@@ -114,7 +108,7 @@ mod tests {
     #[test]
     fn a_text_that_ends_in_a_body_is_told_so() {
         let text = b"curv 0 1 1 2\n";
-        let shown = refusal("-", text, Refusal { number: 10, place: text.len() });
+        let shown = refusal("-", text, Refusal::new(Reason::NotAllowedHere, text.len()));
         assert!(shown.starts_with("-:2:1: refused 10 at 13: the text ends in a body\n"), "{shown}");
     }
 
@@ -122,7 +116,7 @@ mod tests {
     fn a_long_line_is_cut_around_the_place() {
         let mut text = vec![b'x'; 500];
         text[300] = 7;
-        let shown = refusal("a", &text, Refusal { number: 2, place: 300 });
+        let shown = refusal("a", &text, Refusal::new(Reason::ByteNotAllowed, 300));
         let lines: Vec<&str> = shown.lines().collect();
         assert!(lines[1].len() < 130);
         assert_eq!(lines[1].find('?'), lines[2].find('^'));
@@ -131,7 +125,7 @@ mod tests {
     #[test]
     fn the_mark_stands_under_the_place_whatever_the_line() {
         let text = [b"\n".repeat(1_234_567), b"f 1 2 0".to_vec()].concat();
-        let shown = refusal("a", &text, Refusal { number: 8, place: 1_234_573 });
+        let shown = refusal("a", &text, Refusal::new(Reason::ReferenceToNothing, 1_234_573));
         let lines: Vec<&str> = shown.lines().collect();
         assert_eq!(lines[1].find('0'), lines[2].find('^'));
     }
@@ -144,9 +138,7 @@ mod tests {
     }
 
     #[test]
-    fn names_are_words() {
-        assert_eq!(names(b"rail \\\n\ttop"), "rail top");
-        assert_eq!(names(b""), "");
+    fn thousands_stand_apart() {
         assert_eq!(thousands(16_777_216), "16,777,216");
         assert_eq!(thousands(999), "999");
     }

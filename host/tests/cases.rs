@@ -55,7 +55,7 @@ fn answer(text: &[u8], rooms: &Rooms) -> String {
         }
         Err(refusal) => {
             assert_eq!(tables, Tables::with_rooms(rooms), "a refusal leaves zeros");
-            format!("refused {} at {}", refusal.number, refusal.place)
+            format!("refused {} at {}", refusal.reason.number(), refusal.place)
         }
     }
 }

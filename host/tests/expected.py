@@ -145,7 +145,6 @@ def rows_in(name):
 def main():
     for name, file in rows_in("databases.txt"):
         (HERE / "expected" / f"{name}.txt").write_text(database(file))
-    (HERE / "expected" / "archive.txt").write_text(summary(list(expanded(["second/cases/000/**/*.obj"]))))
     for name, _, *call in rows_in("calls.txt"):
         (HERE / "expected" / f"{name}.txt").write_text(written(*call))
 

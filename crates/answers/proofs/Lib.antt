@@ -4,3 +4,4 @@ pub mod Polylines
 pub mod Readings
 pub mod Tidyings
 pub mod Sweeps
+pub mod CurveNumbers

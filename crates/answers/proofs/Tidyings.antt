@@ -15,10 +15,10 @@ module _ {a : Tidied} where
   pub written-in : {n : ℕ} {used : Used} → a ≡ tidied.Written n used → tidyIn (tidyOutcome (tidied.Written n used)) ≡ tidyIn (tidyOutcome a)
   written-in e = rw e refl
 
-  pub long-in : {used : Used} → a ≡ tidied.TooLong used → tidyIn (tidyOutcome (tidied.TooLong used)) ≡ tidyIn (tidyOutcome a)
+  pub long-in : {k : ℕ} {used : Used} → a ≡ tidied.TooLong k used → tidyIn (tidyOutcome (tidied.TooLong k used)) ≡ tidyIn (tidyOutcome a)
   long-in e = rw e refl
 
-  pub stopped-in : {n p : ℕ} {used : Used} → a ≡ tidied.Refused n p → used ≡ noneUsed → tidyIn (record { number = n; place = p; length = 0; used = used }) ≡ tidyIn (tidyOutcome a)
+  pub stopped-in : {n p : ℕ} {used : Used} → a ≡ tidied.Refused n p → used ≡ noneUsed → tidyIn (record { number = n; place = p; length = 0; needed = 0; used = used }) ≡ tidyIn (tidyOutcome a)
   stopped-in e f = rw (e, f) refl
 
 pub thirds : {a : Tidied} {t : Tables} {out : List ℕ} {q : TidyResult} {r : TidyAnswer} → tidyResult a t out ≡ q → r ≡ tidyIn (tidyOutcome a) → (r ≡ tidyIn (q .outcome)) × (t ≡ q .tables) × (out ≡ q .out)

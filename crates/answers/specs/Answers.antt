@@ -26,7 +26,7 @@ abbrev pub readIn : ReadOutcome → ReadAnswer
 readIn o = record { refusal = o .number; place = o .place; used = o .used }
 
 abbrev pub tidyIn : TidyOutcome → TidyAnswer
-tidyIn o = record { refusal = o .number; place = o .place; length = o .length; used = o .used }
+tidyIn o = record { refusal = o .number; place = o .place; length = o .length; needed = o .needed; used = o .used }
 
 -- the choice of weights that another language names by a number: 1 is always; 0 is when needed, and so is every other number
 abbrev pub weightsIn : ℕ → Weights

@@ -17,6 +17,9 @@ use tables::Used;
 use tidy_file::Tidied;
 use tidying::Weights;
 
+pub mod curve_numbers;
+pub mod records;
+
 // What reading comes to: the used counts, or a refusal at a place where `refusal` is not 0.
 #[repr(C)]
 pub struct ReadAnswer {
@@ -25,12 +28,13 @@ pub struct ReadAnswer {
     pub used: Used,
 }
 
-// What tidying comes to: the tidy text's length and the used counts, or a refusal at a place; the counts stay with 16.
+// What tidying comes to: the tidy text's length and the used counts, or a refusal at a place; with 16 the counts, and the length that is needed.
 #[repr(C)]
 pub struct TidyAnswer {
     pub refusal: u32,
     pub place: usize,
     pub length: usize,
+    pub needed: usize,
     pub used: Used,
 }
 
@@ -124,18 +128,21 @@ pub fn tidy_of(answer: Tidied) -> TidyAnswer
             refusal: 0,
             place: 0,
             length: length,
+            needed: 0,
             used: used,
         },
-        Tidied::TooLong { used } => TidyAnswer {
+        Tidied::TooLong { needed, used } => TidyAnswer {
             refusal: 16,
             place: 0,
             length: 0,
+            needed: needed,
             used: used,
         },
         Tidied::Refused { number, place } => TidyAnswer {
             refusal: number,
             place: place,
             length: 0,
+            needed: 0,
             used: nothing_used(),
         },
     }

@@ -6,7 +6,7 @@ ghost use Rattle.keywords.specs.Rows.{spellingAt, fitting};
 ghost use Rattle.keywords.specs.Keywords.{keywords};
 ghost use Rattle.keywords.specs.Arguments.{arguments};
 ghost use Rattle.tables.specs.Tables.{tables};
-ghost use Rattle.tables.specs.Asking.{cornerOf, groupOf, materialOf};
+ghost use Rattle.tables.specs.Asking.{elementOf, bodyOf, cornerOf, groupOf, materialOf};
 ghost use Rattle.sampler.specs.Answers.{pointOnCurve, pointOnSurface, runInto};
 ghost use Rattle.polyline.specs.Answers.{polylineInto};
 ghost use Rattle.cubics.specs.Answers.{cubicAt};
@@ -15,6 +15,8 @@ ghost use Rattle.reader.specs.Reading.{readInto};
 ghost use Rattle.tidy_file.specs.Tidying.{tidyInto};
 ghost use Rattle.sweep.specs.Swept.{sweepInto};
 ghost use Rattle.answers.specs.Answers.{readIn, tidyIn, weightsIn, pointIn, runIn, polylineIn, sweepIn, groupIn, materialIn, bytesIn};
+ghost use Rattle.answers.specs.CurveNumbers.{curveOf};
+ghost use Rattle.answers.specs.Records.{elementRecord, bodyRecord};
 use answers::Part;
 use answers::Point;
 use answers::PolylinePoints;
@@ -22,6 +24,8 @@ use answers::ReadAnswer;
 use answers::Run;
 use answers::SweepCounts;
 use answers::TidyAnswer;
+use answers::records::BodyRecord;
+use answers::records::ElementRecord;
 use rooms::Rooms;
 use tables::Corner;
 use tables::Used;
@@ -140,6 +144,35 @@ pub extern "C" fn kuhlabires_sweep(
         spans,
         numbers,
     ))
+}
+
+// The element of that number, counted from 1; all zeros for no such element.
+#[no_mangle]
+pub extern "C" fn kuhlabires_element_of(used: Used, elements: &[u32], element: u32) -> ElementRecord
+    ensures { λ r. ⌜ r ≡ elementRecord (elementOf used (now (elements .entry)) element) ⌝ }
+{
+    answers::records::element_record(tables::element_of(used, elements, element))
+}
+
+// The body of that number, counted from 1, with its range; all zeros for no such body.
+#[no_mangle]
+pub extern "C" fn kuhlabires_body_of(
+    used: Used,
+    bodies: &[u32],
+    ranges: &[i32],
+    body: u32,
+) -> BodyRecord
+    ensures { λ r. ⌜ r ≡ bodyRecord (bodyOf used (now (bodies .entry)) (now (ranges .entry)) body) ⌝ }
+{
+    answers::records::body_record(tables::body_of(used, bodies, ranges, body))
+}
+
+// The number of the element that is the curv2 of that number, counted from 1 over the curv2 alone; 0 for none.
+#[no_mangle]
+pub extern "C" fn kuhlabires_curv2_element(used: Used, elements: &[u32], curve: u32) -> u32
+    ensures { λ r. ⌜ r ≡ curveOf used (now (elements .entry)) curve ⌝ }
+{
+    answers::curve_numbers::curve_of(used, elements, curve)
 }
 
 // Corner `k`, counted from 0, of the element of that number, counted from 1; three zeros for no such corner.

@@ -126,7 +126,7 @@ turns-all-away : (c : Weights) (reads : Reader) (tidies : Tidier) → TurnsAllAw
 unfolding tidyText tidied
 turns-all-away c reads tidies h d =
     let r = h [] lent [] in
-    let e : TooLong (r .0) ≡ Written 0 (usedOf nothing) = sym (r .1) ∙ d .writes c [] lent [] nothing none-read (omega arith) (omega arith) in
+    let e : TooLong (r .0) (r .1) ≡ Written 0 (usedOf nothing) = sym (r .2) ∙ d .writes c [] lent [] nothing none-read (omega arith) (omega arith) in
     let z : _≡_ {A = ℕ} 0 1 = cc in
     omega arith
 

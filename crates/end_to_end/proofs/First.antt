@@ -66,8 +66,8 @@ first =
             counts = ap (λ (r : TidyResult). r .outcome .used) e;
             out = d .kept;
           };
-      long-tidying = λ c s S a u h.
-          let l = long-file c s S a u h in
+      long-tidying = λ c s S a k u h.
+          let l = long-file c s S a k u h in
           let e = read-is s S (read (l .model)) (l .is-read) in
           record {
             read = ap (λ (r : Result). r .answer) e ∙ ap (λ (w : Used). reading.Read w) (l .counts);

@@ -23,20 +23,20 @@ use Rattle.tidying.specs.declared.Weights.{Weights}
 use Rattle.tidying.specs.Printed.{tidyText}
 use Rattle.tidy_file.specs.declared.Tidied.{Tidied}
 use Rattle.tidy_file.specs.declared.Tidied.the-variants.{Written, TooLong, Refused}
-use Rattle.tidy_file.specs.Tidying.{TidyResult, tidyResult, hasRoom, written, answered, tidyInto}
+use Rattle.tidy_file.specs.Tidying.{TidyResult, tidyResult, hasRoom, neededFor, written, answered, tidyInto}
 
 -- two answers of other cases are never equal
 apart-read : {A : Type 0} (u : Used) (n p : ℕ) → reading.Refused n p ≡ reading.Read u → A
 apart-read u n p e = absurd (let z : _≡_ {A = ℕ} 0 1 = cc in omega arith)
 
-apart-written : {A : Type 0} (n : ℕ) (u w : Used) → TooLong w ≡ Written n u → A
-apart-written n u w e = absurd (let z : _≡_ {A = ℕ} 0 1 = cc in omega arith)
+apart-written : {A : Type 0} (n : ℕ) (u : Used) (k : ℕ) (w : Used) → TooLong k w ≡ Written n u → A
+apart-written n u k w e = absurd (let z : _≡_ {A = ℕ} 0 1 = cc in omega arith)
 
 apart-refused : {A : Type 0} (n : ℕ) (u : Used) (k p : ℕ) → Refused k p ≡ Written n u → A
 apart-refused n u k p e = absurd (let z : _≡_ {A = ℕ} 0 1 = cc in omega arith)
 
-apart-long : {A : Type 0} (u : Used) (k p : ℕ) → Refused k p ≡ TooLong u → A
-apart-long u k p e = absurd (let z : _≡_ {A = ℕ} 0 1 = cc in omega arith)
+apart-long : {A : Type 0} (j : ℕ) (u : Used) (k p : ℕ) → Refused k p ≡ TooLong j u → A
+apart-long j u k p e = absurd (let z : _≡_ {A = ℕ} 0 1 = cc in omega arith)
 
 -- ---- a refusal's tables
 pub nothing-zeros : (S : Tables) → tablesOf (roomsOf S) nothing ≡ zeros S
@@ -80,8 +80,8 @@ pub record Wrote (w : List ℕ) (used : Used) (a : List ℕ) (n : ℕ) (u : Used
   pub behind : drop n out ≡ drop n a
 
 module _ (w : List ℕ) (used : Used) (t : Tables) (a : List ℕ) where
-  written-with : (b : Bool) → hasRoom w a ≡ b → written w used t a ≡ cond b (tidyResult (Written (length w) used) t (w ++ drop (length w) a)) (tidyResult (TooLong used) t a)
-  written-with b e = ap (λ (c : Bool). cond c (tidyResult (Written (length w) used) t (w ++ drop (length w) a)) (tidyResult (TooLong used) t a)) e
+  written-with : (b : Bool) → hasRoom w a ≡ b → written w used t a ≡ cond b (tidyResult (Written (length w) used) t (w ++ drop (length w) a)) (tidyResult (TooLong (neededFor w) used) t a)
+  written-with b e = ap (λ (c : Bool). cond c (tidyResult (Written (length w) used) t (w ++ drop (length w) a)) (tidyResult (TooLong (neededFor w) used) t a)) e
 
   its-answer : (r : TidyResult) → written w used t a ≡ r → (d : Tidied) → written w used t a .answer ≡ d → r .answer ≡ d
   its-answer r e d h = sym (ap (λ (x : TidyResult). x .answer) e) ∙ h
@@ -97,7 +97,7 @@ module _ (w : List ℕ) (used : Used) (t : Tables) (a : List ℕ) where
   wrote n u h = go (hasRoom w a) refl
     where
       go : (b : Bool) → hasRoom w a ≡ b → Wrote w used a n u (written w used t a .out)
-      go false e = apart-written n u used (its-answer _ (written-with false e) (Written n u) h)
+      go false e = apart-written n u (neededFor w) used (its-answer _ (written-with false e) (Written n u) h)
       go true e =
           let f : Written (length w) used ≡ Written n u = its-answer _ (written-with true e) (Written n u) h in
           let long : length w ≡ n = cc in
@@ -111,13 +111,13 @@ module _ (w : List ℕ) (used : Used) (t : Tables) (a : List ℕ) where
             behind = rw (out, ← long) (drop-append-seam w (drop (length w) a));
           }
 
-  pub too-long : (u : Used) → written w used t a .answer ≡ TooLong u → (used ≡ u) × (written w used t a .out ≡ a)
-  too-long u h = go (hasRoom w a) refl
+  pub too-long : (k : ℕ) (u : Used) → written w used t a .answer ≡ TooLong k u → (used ≡ u) × (written w used t a .out ≡ a)
+  too-long k u h = go (hasRoom w a) refl
     where
       go : (b : Bool) → hasRoom w a ≡ b → (used ≡ u) × (written w used t a .out ≡ a)
-      go true e = apart-written (length w) used u (sym (its-answer _ (written-with true e) (TooLong u) h))
+      go true e = apart-written (length w) used k u (sym (its-answer _ (written-with true e) (TooLong k u) h))
       go false e =
-          let f : TooLong used ≡ TooLong u = its-answer _ (written-with false e) (TooLong u) h in
+          let f : TooLong (neededFor w) used ≡ TooLong k u = its-answer _ (written-with false e) (TooLong k u) h in
           (cc, ap (λ (x : TidyResult). x .out) (written-with false e))
 
   pub never-refused : {A : Type 0} (n p : ℕ) → written w used t a .answer ≡ Refused n p → A
@@ -125,7 +125,7 @@ module _ (w : List ℕ) (used : Used) (t : Tables) (a : List ℕ) where
     where
       go : (b : Bool) → hasRoom w a ≡ b → A
       go true e = apart-refused (length w) used n p (sym (its-answer _ (written-with true e) (Refused n p) h))
-      go false e = apart-long used n p (sym (its-answer _ (written-with false e) (Refused n p) h))
+      go false e = apart-long (neededFor w) used n p (sym (its-answer _ (written-with false e) (Refused n p) h))
 
 -- ---- tidying
 pub record Tidy (c : Weights) (s : List ℕ) (S : Tables) (a : List ℕ) (n : ℕ) (u : Used) : Type 0 where
@@ -174,13 +174,13 @@ module _ (c : Weights) (s : List ℕ) (S : Tables) (a : List ℕ) where
             rest = rw out (wrote (tidyText c m) (usedOf m) (tablesOf (roomsOf S) m) a n u (told (read m) e (Written n u) h));
           }
 
-  pub long-file : (u : Used) → tidyInto c s S a .answer ≡ TooLong u → Long c s S a u
-  long-file u h = go (readOf (roomsOf S) s) refl
+  pub long-file : (k : ℕ) (u : Used) → tidyInto c s S a .answer ≡ TooLong k u → Long c s S a u
+  long-file j u h = go (readOf (roomsOf S) s) refl
     where
       go : (x : Answer) → readOf (roomsOf S) s ≡ x → Long c s S a u
-      go (refused k p) e = apart-long u k p (told (refused k p) e (TooLong u) h)
+      go (refused k p) e = apart-long j u k p (told (refused k p) e (TooLong j u) h)
       go (read m) e =
-          let l = too-long (tidyText c m) (usedOf m) (tablesOf (roomsOf S) m) a u (told (read m) e (TooLong u) h) in
+          let l = too-long (tidyText c m) (usedOf m) (tablesOf (roomsOf S) m) a j u (told (read m) e (TooLong j u) h) in
           record {
             model = m;
             is-read = e;

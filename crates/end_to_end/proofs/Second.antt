@@ -21,7 +21,7 @@ use Rattle.tidying.specs.Printed.{tidyText}
 use Rattle.tidying.specs.Agree.{TablesAgree}
 use Rattle.tidying.proofs.TidyTables.{tidy-tables, same-tidy-tables}
 use Rattle.tidy_file.specs.declared.Tidied.the-variants.{Written, TooLong}
-use Rattle.tidy_file.specs.Tidying.{TidyResult, hasRoom, tidyInto}
+use Rattle.tidy_file.specs.Tidying.{TidyResult, hasRoom, neededFor, tidyInto}
 use Rattle.end_to_end.specs.Demand2.{ReadBack, WrittenTidying, Demand2}
 use Rattle.end_to_end.proofs.Inside.{read-is, tidy-is, Tidy, tidied-file}
 
@@ -63,14 +63,14 @@ module _ (c : Weights) (s : List ℕ) (S : Tables) (a : List ℕ) (n : ℕ) (u :
 -- ---- 16 is exact
 module _ (c : Weights) (s : List ℕ) (S : Tables) (a : List ℕ) (m : Model) (h : readOf (roomsOf S) s ≡ read m) where
   with-room : (b : Bool) → hasRoom (tidyText c m) a ≡ b
-      → tidyInto c s S a .answer ≡ cond b (Written (length (tidyText c m)) (usedOf m)) (TooLong (usedOf m))
+      → tidyInto c s S a .answer ≡ cond b (Written (length (tidyText c m)) (usedOf m)) (TooLong (neededFor (tidyText c m)) (usedOf m))
   with-room true e = ap (λ (r : TidyResult). r .answer) (tidy-is c s S a (read m) h) ∙ rw e refl
   with-room false e = ap (λ (r : TidyResult). r .answer) (tidy-is c s S a (read m) h) ∙ rw e refl
 
   pub fits : length (tidyText c m) ≤ length a → length (tidyText c m) ≤ 16777216 → tidyInto c s S a .answer ≡ Written (length (tidyText c m)) (usedOf m)
   fits f g = with-room true (and-both (le-leb (length (tidyText c m)) (length a) f) (le-leb (length (tidyText c m)) 16777216 g))
 
-  pub passes : (length a < length (tidyText c m)) ⊎ (16777216 < length (tidyText c m)) → tidyInto c s S a .answer ≡ TooLong (usedOf m)
+  pub passes : (length a < length (tidyText c m)) ⊎ (16777216 < length (tidyText c m)) → tidyInto c s S a .answer ≡ TooLong (neededFor (tidyText c m)) (usedOf m)
   passes (inl f) = with-room false (and-first (leb (length (tidyText c m)) 16777216) (lt-leb (length (tidyText c m)) (length a) f))
   passes (inr f) = with-room false (and-second (leb (length (tidyText c m)) (length a)) (lt-leb (length (tidyText c m)) 16777216 f))
 

@@ -37,7 +37,7 @@ abbrev pub CopiesItsInput : Weights → Tidier → Type 0
 CopiesItsInput c tidies = (s : List ℕ) (S : Tables) (a : List ℕ) (n : ℕ) (u : Used) → tidies c s S a .answer ≡ Written n u → take n (tidies c s S a .out) ≡ s
 
 abbrev pub TurnsAllAway : Weights → Tidier → Type 0
-TurnsAllAway c tidies = (s : List ℕ) (S : Tables) (a : List ℕ) → (u : Used) × (tidies c s S a .answer ≡ TooLong u)
+TurnsAllAway c tidies = (s : List ℕ) (S : Tables) (a : List ℕ) → (k : ℕ) × (u : Used) × (tidies c s S a .answer ≡ TooLong k u)
 
 -- "A sampler that refuses all, or gives one fixed point": the same at every parameter
 abbrev pub RefusesAll : Sampler → Type 0

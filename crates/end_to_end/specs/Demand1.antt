@@ -59,7 +59,7 @@ pub record Demand1 (reads : Reader) (tidies : Tidier) (samples : Sampler) : Type
   pub refused-reading : (s : List ℕ) (S : Tables) (n p : ℕ) → reads s S .answer ≡ reading.Refused n p → RefusedReading S n (reads s S)
   pub refuses : (c : Weights) (s : List ℕ) (S : Tables) (a : List ℕ) (n p : ℕ) → reads s S .answer ≡ reading.Refused n p → tidies c s S a .answer ≡ tidying.Refused n p
   pub refused-tidying : (c : Weights) (s : List ℕ) (S : Tables) (a : List ℕ) (n p : ℕ) → tidies c s S a .answer ≡ tidying.Refused n p → RefusedTidying reads s S a n p (tidies c s S a)
-  pub long-tidying : (c : Weights) (s : List ℕ) (S : Tables) (a : List ℕ) (u : Used) → tidies c s S a .answer ≡ tidying.TooLong u → LongTidying reads s S a u (tidies c s S a)
+  pub long-tidying : (c : Weights) (s : List ℕ) (S : Tables) (a : List ℕ) (k : ℕ) (u : Used) → tidies c s S a .answer ≡ tidying.TooLong k u → LongTidying reads s S a u (tidies c s S a)
   pub refused-curve : (u : Used) (t : Tables) (number : ℕ) (p : ℤ) (n : ℕ) → samples .curve u t number p .answer ≡ sampled.Refused n → Between 15 19 n
   pub refused-surface : (u : Used) (t : Tables) (number : ℕ) (p q : ℤ) (n : ℕ) → samples .surface u t number p q .answer ≡ sampled.Refused n → Between 15 19 n
   pub refused-run : (u : Used) (t : Tables) (number steps at : ℕ) (points : List ℤ) (n : ℕ) → samples .run u t number steps at points .answer ≡ ran.Refused n

@@ -1,5 +1,5 @@
 -- Demand 2: a file is accepted exactly when it obeys the rules and its records find room; its tables are what the rules say; its tidy text is one fixed form, read back to tables that agree, and the same for two files exactly when their tables agree.
-use Prim.Native.Nat.{ℕ, _≤_, _<_}
+use Prim.Native.Nat.{ℕ, _≤_, _<_, min}
 use mathlib.Core.Path.{_≡_}
 use mathlib.Core.Logic.{_⊎_}
 use mathlib.Core.List.{List}
@@ -42,11 +42,12 @@ pub record Demand2 (reads : Reader) (tidies : Tidier) : Type 0 where
   -- "A file is accepted exactly when it obeys the OBJ rules as set down in document 01 and its records find room."
   pub accepts : (s : List ℕ) (S : Tables) (m : Model) → readOf (roomsOf S) s ≡ read m → AcceptedReading S m (reads s S)
   pub refuses : (s : List ℕ) (S : Tables) (n p : ℕ) → readOf (roomsOf S) s ≡ refused n p → reads s S .answer ≡ reading.Refused n p
-  -- "Tidying writes an accepted file in one fixed form", one for each choice of weights; 16 exactly where its text passes the lent buffer or 16,777,216 bytes
+  -- "Tidying writes an accepted file in one fixed form", one for each choice of weights; 16 exactly where its text passes the lent buffer or 16,777,216 bytes, with the text's length,
+  -- or 16,777,217 where it passes that
   pub writes : (c : Weights) (s : List ℕ) (S : Tables) (a : List ℕ) (m : Model) → readOf (roomsOf S) s ≡ read m → length (tidyText c m) ≤ length a → length (tidyText c m) ≤ 16777216
       → tidies c s S a .answer ≡ Written (length (tidyText c m)) (usedOf m)
   pub sixteen : (c : Weights) (s : List ℕ) (S : Tables) (a : List ℕ) (m : Model) → readOf (roomsOf S) s ≡ read m → (length a < length (tidyText c m)) ⊎ (16777216 < length (tidyText c m))
-      → tidies c s S a .answer ≡ TooLong (usedOf m)
+      → tidies c s S a .answer ≡ TooLong (min (length (tidyText c m)) 16777217) (usedOf m)
   pub form : (c : Weights) (s : List ℕ) (S : Tables) (a : List ℕ) (m : Model) → readOf (roomsOf S) s ≡ read m → (n : ℕ) (u : Used) → tidies c s S a .answer ≡ Written n u
       → take n (tidies c s S a .out) ≡ tidyText c m
   pub written : (c : Weights) (s : List ℕ) (S : Tables) (a : List ℕ) (n : ℕ) (u : Used) → tidies c s S a .answer ≡ Written n u → WrittenTidying reads s S a n u (tidies c s S a)

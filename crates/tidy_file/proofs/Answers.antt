@@ -24,23 +24,25 @@ use Rattle.all_lines.specs.declared.Reading.{Reading}
 use Rattle.all_lines.specs.declared.Reading.the-variants as reading
 use Rattle.tidy_file.specs.declared.Tidied.{Tidied}
 use Rattle.tidy_file.specs.declared.Tidied.the-variants.{Written, TooLong, Refused}
-use Rattle.tidy_file.specs.Tidying.{TidyResult, tidyResult, hasRoom, written, answered, tidyInto}
+use Rattle.tidy_file.specs.Tidying.{TidyResult, tidyResult, hasRoom, neededFor, written, answered, tidyInto}
 
 -- ---- writing: k is the length of w, as `write_tidy` answers it, and m what the buffer holds then
 module _ (w out m : List ℕ) (used : Used) (t : Tables) (k : ℕ) (e : emission k m ≡ emittedWhole 0 w out) where
   ends : k ≡ min (0 + length w) 16777217
   ends = emitted-whole e .ends
 
-  no-room : hasRoom w out ≡ false → min (length out) 16777216 < 0 + length w → tidyResult (TooLong used) t m ≡ written w used t out
-  no-room h g = rw (h, whole-kept 0 w out e g) refl
+  no-room : hasRoom w out ≡ false → min (length out) 16777216 < 0 + length w → tidyResult (TooLong k used) t m ≡ written w used t out
+  no-room h g =
+      let needed : k ≡ neededFor w = ends ∙ ap (λ (n : ℕ). min n 16777217) (let z : 0 + length w ≡ length w = omega arith in z) in
+      rw (h, whole-kept 0 w out e g) (ap (λ (n : ℕ). tidyResult (TooLong n used) t out) needed)
 
-  pub past-buffer : length m < k → tidyResult (TooLong used) t m ≡ written w used t out
+  pub past-buffer : length m < k → tidyResult (TooLong k used) t m ≡ written w used t out
   past-buffer h =
       let same : length m ≡ length out = emitted-whole e .same in
       let long : k ≡ min (0 + length w) 16777217 = ends in
       no-room (and-first (leb (length w) 16777216) (lt-leb (length w) (length out) (omega arith))) (omega arith)
 
-  pub past-longest : 16777216 < k → tidyResult (TooLong used) t m ≡ written w used t out
+  pub past-longest : 16777216 < k → tidyResult (TooLong k used) t m ≡ written w used t out
   past-longest h =
       let long : k ≡ min (0 + length w) 16777217 = ends in
       no-room (and-second (leb (length w) (length out)) (lt-leb (length w) 16777216 (omega arith))) (omega arith)
@@ -66,7 +68,7 @@ isRead (reading.Read n) = true
 isRead (reading.Refused n p) = false
 
 abbrev passedOn : Reading → Tables → List ℕ → TidyResult
-passedOn (reading.Read n) t out = tidyResult (TooLong n) t out
+passedOn (reading.Read n) t out = tidyResult (TooLong 0 n) t out
 passedOn (reading.Refused n p) t out = tidyResult (Refused n p) t out
 
 module _ (c : Weights) (s : List ℕ) (t u : Tables) (out : List ℕ) where

@@ -8,10 +8,10 @@ ghost use Rattle.tables.specs.Tables.{tables};
 ghost use Rattle.tidier.specs.TidyFrom.{tidyFrom};
 ghost use Rattle.tidy_file.specs.Tidying.{tidyResult, written, tidyInto};
 
-// What tidying a text comes to: the tidy text's length, a tidy text that does not fit (16 at place 0), or the reader's refusal.
+// What tidying a text comes to: the tidy text's length; a tidy text that does not fit (16 at place 0), with the length that it needs; or the reader's refusal.
 pub enum Tidied {
     Written { length: usize, used: Used },
-    TooLong { used: Used },
+    TooLong { needed: usize, used: Used },
     Refused { number: u32, place: usize },
 }
 
@@ -53,10 +53,16 @@ fn write_whole(
         out,
     );
     if out.len() < length {
-        return Tidied::TooLong { used: used };
+        return Tidied::TooLong {
+            needed: length,
+            used: used,
+        };
     }
     if 16_777_216 < length {
-        return Tidied::TooLong { used: used };
+        return Tidied::TooLong {
+            needed: length,
+            used: used,
+        };
     }
     Tidied::Written {
         length: length,

@@ -77,7 +77,7 @@ module _ (l : List ℕ) {a : Tidied} {r : ℕ} where
   pub text-answer : {n : ℕ} {u : Used} → a ≡ Written n u → r ≡ min n (length l) → printing r l ≡ printedIn (answerBytes a l) l
   text-answer {n} e h = front-printed n r l h ∙ ap (λ (x : Tidied). printedIn (answerBytes x l) l) (sym e)
 
-  pub long-answer : {u : Used} {m : List ℕ} → a ≡ TooLong u → printing r m ≡ printedIn (refusalLine 16 0) l → printing r m ≡ printedIn (answerBytes a l) l
+  pub long-answer : {k : ℕ} {u : Used} {m : List ℕ} → a ≡ TooLong k u → printing r m ≡ printedIn (refusalLine 16 0) l → printing r m ≡ printedIn (answerBytes a l) l
   long-answer e h = h ∙ ap (λ (x : Tidied). printedIn (answerBytes x l) l) (sym e)
 
   pub refused-answer : {n p : ℕ} {m : List ℕ} → a ≡ Refused n p → (q : ℕ) → q ≡ min p 4294967295 → printing r m ≡ printedIn (refusalLine n q) l → printing r m ≡ printedIn (answerBytes a l) l

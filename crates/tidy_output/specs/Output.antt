@@ -20,7 +20,7 @@ refusalLine n p = bytes "refused" ++ ((32 ∷ writtenWhole n) ++ (bytes " at" ++
 -- 4,294,967,295, the largest that is written.
 abbrev pub answerBytes : Tidied → List ℕ → List ℕ
 answerBytes (Written n u) out = take n out
-answerBytes (TooLong u) out = refusalLine 16 0
+answerBytes (TooLong k u) out = refusalLine 16 0
 answerBytes (Refused n p) out = refusalLine n (min p 4294967295)
 
 -- how many bytes at the front of the buffer are printed, with its final contents

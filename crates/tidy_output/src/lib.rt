@@ -60,7 +60,7 @@ pub fn print_answer(tidied: Tidied, out: &mut [u8]) -> usize
 {
     match tidied {
         Tidied::Written { length, used: _ } => least(length, out.len()),
-        Tidied::TooLong { used: _ } => print_refusal(16, 0, out),
+        Tidied::TooLong { needed: _, used: _ } => print_refusal(16, 0, out),
         Tidied::Refused { number, place } => {
             print_refusal(number, least(place, 4_294_967_295) as u32, out)
         }
