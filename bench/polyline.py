@@ -3,7 +3,7 @@
     rt staticlib boundary && python3 bench/polyline.py [ROUNDS]
 
 Prints the table of docs/SPEED.md: points handed out, intervals looked at, samples
-(calls of sampler::point_on_curve, counted by callgrind), and nanoseconds for a
+(calls of sampler::sampling::curve_at, counted by callgrind), and nanoseconds for a
 polyline; the fewest steps of a run whose every chord passes the same test, and
 its nanoseconds.  KUHLABIRES_ARCHIVE names an archive that stands elsewhere.
 """
@@ -22,7 +22,7 @@ ROOT = Path(__file__).resolve().parent.parent
 ARCHIVE = Path(os.environ.get("KUHLABIRES_ARCHIVE", ROOT / "target" / "staticlib" / "libboundary.a"))
 CURVES = [("foam-wing", 1), ("chair-rail", 1), ("seat", 2)]
 TOLERANCES = [10_000, 1_000, 500, 100, 10, 1, 0]
-SAMPLE = "sampler::point_on_curve"
+SAMPLE = "sampler::sampling::curve_at"
 TIMED = 20_000                              # points that one timing makes, about
 
 

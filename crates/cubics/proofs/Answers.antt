@@ -22,13 +22,14 @@ use Rattle.rows.specs.declared.Along.{Along}
 use Rattle.rows.proofs.Places.{bezierOnly}
 use Rattle.rows.proofs.Grids.{held-part}
 use Rattle.sampler.specs.Points.{alongOf, controlOf}
-use Rattle.sampler.specs.Answers.{sampledResult, elementOf, bodyOf, refusalOf, inside}
+use Rattle.sampler.specs.Answers.{sampledResult, inside}
 use Rattle.sampler.specs.declared.Sampled.the-variants as sampled
-use Rattle.sampler.proofs.Obeyed.{Curved}
-use Rattle.sampler.proofs.Entries.{space-eq, plane-control, space-control}
+use Rattle.sampler.specs.Sampling.{Curved}
+use Rattle.sampler.proofs.Refusals.{Missed, Looked}
+use Rattle.sampler.proofs.Entries.{curve-tables, space-eq, plane-control, space-control}
 use Rattle.cubics.specs.Weights.{cubicSampled}
 use Rattle.cubics.specs.Answers.{cubic, parameter64, reached, cubicPoint, cubicAt}
-use Rattle.cubics.specs.Inner.{axisBy, pointBy}
+use Rattle.cubics.specs.Inner.{axisBy, pointBy, stepAnswer}
 
 -- ---- the points
 same-controls : (g j : ℕ) (c d : ℕ → ℤ) → ((i : ℕ) → c i ≡ d i) → cubicSampled g j c ≡ cubicSampled g j d
@@ -51,26 +52,35 @@ module _ (t : Tables) (e : Element) (b : Body) (g j : ℕ) where
   point-is = by-kind (eqb (e .kind) 5) refl
 
 -- ---- the answers
-module _ (used : Used) (t : Tables) (number g j : ℕ) where
-  pub refused : {r : ℕ} → r ≡ refusalOf false used t number → (r ≡ 0 → ⊥) → sampledResult (sampled.Refused r) ≡ cubicAt used t number g j
+module _ (t : Tables) (e : Element) (b : Body) (g j : ℕ) where
+  pub not-cubic : cubic (b .basis) (b .«degree_u») ≡ false → sampledResult (sampled.Refused 18) ≡ stepAnswer t e b g j
+  unfolding stepAnswer
+  not-cubic h = rw h
+
+  module _ (is : cubic (b .basis) (b .«degree_u») ≡ true) where
+    pub not-reached : reached (parametersU t b) (b .«start_u») (b .«end_u») g j ≡ false → sampledResult (sampled.Refused 19) ≡ stepAnswer t e b g j
+    unfolding stepAnswer
+    not-reached h = rw (is, h)
+
+    pub handed-out : reached (parametersU t b) (b .«start_u») (b .«end_u») g j ≡ true → cubicPoint t e g j ≡ stepAnswer t e b g j
+    unfolding stepAnswer
+    handed-out h = rw (is, h)
+
+  step-parts : stepAnswer (curve-tables t) e b g j ≡ stepAnswer t e b g j
+  unfolding stepAnswer cubicPoint controlOf
+  step-parts = refl
+
+module _ {used : Used} {t : Tables} {number : ℕ} (g j : ℕ) where
+  pub refused : {n : ℕ} → Missed false used t number n → sampledResult (sampled.Refused n) ≡ cubicAt used t number g j
   unfolding cubicAt
-  refused {r} e h = rw (sym e, ne-eqb r 0 h)
+  refused {n} m = rw (sym (m .is), ne-eqb n 0 (m .some))
 
-  module _ (granted : refusalOf false used t number ≡ 0) where
-    pub not-cubic : cubic (bodyOf t number .basis) (bodyOf t number .«degree_u») ≡ false → sampledResult (sampled.Refused 18) ≡ cubicAt used t number g j
-    unfolding cubicAt
-    not-cubic h = rw (granted, h)
+  pub found : {e : Element} {b : Body} → Looked false used t number e b → stepAnswer t e b g j ≡ cubicAt used t number g j
+  unfolding cubicAt stepAnswer
+  found l = rw (l .given, l .element-is, l .body-is)
 
-    module _ (is : cubic (bodyOf t number .basis) (bodyOf t number .«degree_u») ≡ true) where
-      pub not-reached : reached (parametersU t (bodyOf t number)) (bodyOf t number .«start_u») (bodyOf t number .«end_u») g j ≡ false
-          → sampledResult (sampled.Refused 19) ≡ cubicAt used t number g j
-      unfolding cubicAt
-      not-reached h = rw (granted, is, h)
-
-      pub handed-out : reached (parametersU t (bodyOf t number)) (bodyOf t number .«start_u») (bodyOf t number .«end_u») g j ≡ true
-          → cubicPoint t (elementOf t number) g j ≡ cubicAt used t number g j
-      unfolding cubicAt
-      handed-out h = rw (granted, is, h)
+  pub answered : {e : Element} {b : Body} → Looked false used t number e b → stepAnswer (curve-tables t) e b g j ≡ cubicAt used t number g j
+  answered {e} {b} l = step-parts t e b g j ∙ found l
 
 -- ---- what the tests say
 pub cubic-type : (type degree : ℕ) → cubic type degree ≡ true → type ≡ 1

@@ -28,13 +28,14 @@ use Rattle.runs.proofs.Written.{listed-length}
 use Rattle.sampler.specs.Points.{directionU, alongOf, controlOf, axesOf}
 use Rattle.sampler.specs.Answers.{SampledResult, elementOf, bodyOf, refusalOf}
 use Rattle.sampler.specs.Demand3.{sampling}
-use Rattle.sampler.proofs.Obeyed.{granted, Curved, curved}
+use Rattle.sampler.specs.Sampling.{Curved}
+use Rattle.sampler.proofs.Obeyed.{granted, curved}
 use Rattle.sampler.proofs.Demanded.{curve-given, listed-at, points-on-curves}
 use Rattle.cubics.specs.Weights.{cubicSampled}
 use Rattle.cubics.specs.Answers.{cubic, parameter64, reached, cubicPoint, cubicAt}
 use Rattle.cubics.specs.Near.{Step, StepAnswer, PointsInSteps, PathsAgree, TwoPaths}
 use Rattle.cubics.proofs.Segments.{cubic-close, same-exact, from-zero}
-use Rattle.cubics.proofs.Answers.{handed-out, rules, controls-there}
+use Rattle.cubics.proofs.Answers.{handed-out, rules, controls-there, found}
 
 coordinates-are : (t : Tables) (e : Element) (g j : ℕ) (q : Bool) → eqb (e .kind) 5 ≡ q
     → (cubicPoint t e g j .outcome .coordinates ≡ listed (axesOf e) (λ axis. cubicSampled g j (controlOf t e axis))) × (cubicPoint t e g j .outcome .number ≡ 0)
@@ -68,7 +69,7 @@ module _ {used : Used} {t : Tables} {number g j : ℕ} (s : Step used t number g
       (and-both (le-yes (pos 64 *ℤ b .«start_u») (parameter64 (parametersU t b) g j) (s .from)) (le-yes (parameter64 (parametersU t b) g j) (pos 64 *ℤ b .«end_u») (s .upto)))
 
   answer-is : cubicAt used t number g j ≡ cubicPoint t e g j
-  answer-is = sym (handed-out used t number g j given is-cubic is-reached)
+  answer-is = sym (handed-out t e b g j is-cubic is-reached ∙ found g j (record { given = given; element-is = refl; body-is = refl }))
 
   coordinates : cubicAt used t number g j .outcome .coordinates ≡ listed (axesOf e) (λ axis. cubicSampled g j (controlOf t e axis))
   coordinates = ap (λ (r : SampledResult). r .outcome .coordinates) answer-is ∙ coordinates-are t e g j (eqb (e .kind) 5) refl .0

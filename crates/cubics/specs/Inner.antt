@@ -6,10 +6,16 @@ use Prim.Native.Nat.{ℕ}
 use lib.Dec.{eqb}
 use lib.IntN.{ℤ}
 use Rattle.whole.specs.Round.{Small}
+use Rattle.tables.specs.Tables.{Tables}
+use Rattle.tables.specs.Records.{parametersU}
+use Rattle.tables.specs.declared.Element.{Element}
+use Rattle.tables.specs.declared.Body.{Body}
 use Rattle.rows.specs.Controls.{controlAt}
+use Rattle.sampler.specs.Answers.{SampledResult, refusedPoint}
 use Rattle.sampler.specs.declared.Sampled.{Sampled}
 use Rattle.sampler.specs.declared.Sampled.the-variants as sampled
 use Rattle.cubics.specs.Weights.{cubicSampled}
+use Rattle.cubics.specs.Answers.{cubic, reached, cubicPoint}
 use Rattle.cubics.specs.declared.Triple.{Triple}
 
 -- three numbers, each of them in range
@@ -30,3 +36,10 @@ pointBy kind v vp corners first g j =
     cond (eqb kind 5)
     (sampled.Plane (axisBy vp corners first g j 1) (axisBy vp corners first g j 2))
     (sampled.Space (axisBy v corners first g j 0) (axisBy v corners first g j 1) (axisBy v corners first g j 2))
+
+-- the answer for an element that was looked up: "18 also for another type or degree", 19, or the point
+unfoldable pub stepAnswer : Tables → Element → Body → (g j : ℕ) → SampledResult
+stepAnswer t e b g j =
+    cond (cubic (b .basis) (b .«degree_u»))
+    (cond (reached (parametersU t b) (b .«start_u») (b .«end_u») g j) (cubicPoint t e g j) (refusedPoint 19))
+    (refusedPoint 18)

@@ -138,10 +138,10 @@ module _ {used : Used} {t : Tables} {number : ℕ} (c : Curve used t number) whe
       x = numbersOf used t number tolerance
 
       filled : polylineAnswer (result.Filled (length (parametersOf used t number tolerance))) (sets points at x) ≡ polylineInto used t number tolerance at points
-      filled = grants.is-filled used t number tolerance at points passed (not-below tolerance n) refl room refl
+      filled = grants.into-filled used t number tolerance at points passed (not-below tolerance n) refl room refl
 
       many : length x ≡ axes * length (parametersOf used t number tolerance)
-      many = grants.numbers-many used t number tolerance at points passed (not-below tolerance n)
+      many = grants.into-many used t number tolerance at points passed
 
       there : (i : ℕ) → i < length x → getD (polylineInto used t number tolerance at points .points) (at + i) (pos 0) ≡ getD x i (pos 0)
       there i l =

@@ -2,12 +2,20 @@
 use mathlib.Core.Path.{_≡_}
 use mathlib.Core.Bool.{cond}
 use mathlib.Core.List.{List}
-use Prim.Native.Nat.{ℕ, zero, suc}
-use lib.ListN.{getD}
+use Prim.Native.Nat.{ℕ, zero, suc, _+_, _*_}
+use lib.Dec.{leb}
+use lib.ListN.{length, getD}
 use lib.IntN.{ℤ, pos}
+use lib.Signed.{leZ}
+use Rattle.tables.specs.Tables.{Tables}
+use Rattle.tables.specs.declared.Element.{Element}
+use Rattle.tables.specs.declared.Body.{Body}
+use Rattle.sampler.specs.Points.{axesOf}
 use Rattle.sampler.specs.Answers.{SampledResult, pointOutcome}
+use Rattle.sampler.specs.Sampling.{curveAnswer}
 use Rattle.sampler.specs.declared.Sampled.{Sampled}
-use Rattle.polyline.specs.Chords.{middle, chord}
+use Rattle.polyline.specs.Chords.{middle, chord, parameters, numbers}
+use Rattle.polyline.specs.Answers.{PolylineAnswer, refusedPolyline, filledPolyline}
 use Rattle.polyline.specs.declared.chords.Space.{Space}
 use Rattle.polyline.specs.declared.Split.{Split}
 use Rattle.polyline.specs.declared.Split.the-variants as split
@@ -26,3 +34,19 @@ unfoldable pub splitOf : (sample : ℤ → SampledResult) (tolerance : ℤ) (dep
 splitOf sample tolerance zero a b = split.Chord
 splitOf sample tolerance (suc depth) a b =
     cond (chord (λ p. sample p .outcome .coordinates) tolerance a b) split.Chord (split.Halves (middle a b) (sample (middle a b) .answer))
+
+-- the coordinates at a parameter of an element that was looked up
+abbrev pub coordinatesOf : Tables → Element → Body → (p : ℤ) → List ℤ
+coordinatesOf t e b p = curveAnswer t e b p .outcome .coordinates
+
+-- 19, 16 or the points, of a curve that gives `axes` coordinates at each parameter from start to end
+unfoldable pub polylineOver : (point : ℤ → List ℤ) (axes : ℕ) (start end tolerance : ℤ) (at : ℕ) → List ℤ → PolylineAnswer
+polylineOver point axes start end tolerance at points =
+    let x = parameters point tolerance start end in
+    cond (leZ (pos 0) tolerance)
+    (cond (leb (at + axes * length x) (length points)) (filledPolyline (length x) at (numbers point x) points) (refusedPolyline 16 points))
+    (refusedPolyline 19 points)
+
+-- the same of an element that was looked up
+abbrev pub polylineBy : Tables → Element → Body → (tolerance : ℤ) (at : ℕ) → List ℤ → PolylineAnswer
+polylineBy t e b tolerance at points = polylineOver (coordinatesOf t e b) (axesOf e) (b .«start_u») (b .«end_u») tolerance at points

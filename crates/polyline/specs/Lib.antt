@@ -1,4 +1,4 @@
 pub mod Chords
-pub mod Inner
 pub mod Answers
+pub mod Inner
 pub mod Promises

@@ -66,17 +66,6 @@ pub fn is_straight(tolerance: i32, p: Sampled, m: Sampled, q: Sampled) -> bool
     is_near(tolerance, a.z, b.z, c.z)
 }
 
-// Why there is no point, 0 where there is one.
-pub fn refusal_in(p: Sampled) -> u32
-    ensures { λ r. ⌜ r ≡ pointOutcome p .number ⌝ }
-{
-    match p {
-        Sampled::Space { x: _, y: _, z: _ } => 0,
-        Sampled::Plane { u: _, v: _ } => 0,
-        Sampled::Refused { number } => number,
-    }
-}
-
 pub fn axes_in(p: Sampled) -> usize
     ensures { λ r. ⌜ (r ≡ length (pointOutcome p .coordinates)) × (r ≤ 3) ⌝ }
 {

@@ -1,21 +1,25 @@
 // The polyline of a curve: few points where it is straight.
 ghost use mathlib.Core.Path.{_≡_};
+ghost use mathlib.Core.List.{[]};
 ghost use Prim.Native.Nat.{_+_, _≤_};
 ghost use lib.ListN.{length};
 ghost use lib.Seq.{sets};
 ghost use Rattle.tables.specs.Tables.{tables};
-ghost use Rattle.sampler.specs.Answers.{pointOnCurve};
+ghost use Rattle.sampler.specs.Sampling.{Curved, curveAnswer};
 ghost use Rattle.polyline.specs.Chords.{ends, numbers};
-ghost use Rattle.polyline.specs.Answers.{pointAt, polylineInto, polylineAnswer};
-ghost use Rattle.polyline.specs.Inner.{Interval, splitOf};
+ghost use Rattle.polyline.specs.Answers.{polylineInto, polylineAnswer};
+ghost use Rattle.polyline.specs.Inner.{Interval, coordinatesOf, splitOf, polylineBy};
 use crate::chords::axes_in;
 use crate::chords::is_short;
 use crate::chords::is_straight;
 use crate::chords::middle_of;
-use crate::chords::refusal_in;
 use crate::chords::store;
+use sampler::Lookup;
 use sampler::Sampled;
-use sampler::point_on_curve;
+use sampler::look_up;
+use sampler::sampling::curve_at;
+use tables::Body;
+use tables::Element;
 use tables::Used;
 
 mod chords;
@@ -37,19 +41,12 @@ pub enum Split {
 
 // What the interval from a to b comes to, where p and q are sampled.
 fn split_of(
-    used: Used,
     v: &[i32],
-    vt: &[i32],
-    vn: &[i32],
     vp: &[i32],
     corners: &[u32],
-    elements: &[u32],
-    bodies: &[u32],
-    ranges: &[i32],
     parameters: &[i32],
-    loops: &[u32],
-    spans: &[i32],
-    element: u32,
+    element: Element,
+    body: Body,
     tolerance: i32,
     depth: u32,
     a: i32,
@@ -57,8 +54,8 @@ fn split_of(
     p: Sampled,
     q: Sampled,
 ) -> Split
-    requires { ⌜ Interval (pointAt used (tables (now v) (now vt) (now vn) (now vp) (now corners) (now elements) (now bodies) (now ranges) (now parameters) (now loops) (now spans)) element) a b p q ⌝ }
-    ensures { λ r. ⌜ r ≡ splitOf (pointOnCurve used (tables (now (v .entry)) (now (vt .entry)) (now (vn .entry)) (now (vp .entry)) (now (corners .entry)) (now (elements .entry)) (now (bodies .entry)) (now (ranges .entry)) (now (parameters .entry)) (now (loops .entry)) (now (spans .entry))) element) tolerance depth a b ⌝ }
+    requires { ⌜ Curved (tables (now v) [] [] (now vp) (now corners) [] [] [] (now parameters) [] []) element body × Interval (coordinatesOf (tables (now v) [] [] (now vp) (now corners) [] [] [] (now parameters) [] []) element body) a b p q ⌝ }
+    ensures { λ r. ⌜ r ≡ splitOf (curveAnswer (tables (now (v .entry)) [] [] (now (vp .entry)) (now (corners .entry)) [] [] [] (now (parameters .entry)) [] []) element body) tolerance depth a b ⌝ }
 {
     if depth == 0 {
         return Split::Chord;
@@ -67,22 +64,7 @@ fn split_of(
         return Split::Chord;
     }
     let middle = middle_of(a, b);
-    let point = point_on_curve(
-        used,
-        v,
-        vt,
-        vn,
-        vp,
-        corners,
-        elements,
-        bodies,
-        ranges,
-        parameters,
-        loops,
-        spans,
-        element,
-        middle,
-    );
+    let point = curve_at(v, vp, corners, parameters, element, body, middle);
     if is_straight(tolerance, p, point, q) {
         return Split::Chord;
     }
@@ -91,19 +73,12 @@ fn split_of(
 
 // How many chords there are from a to b.
 fn count(
-    used: Used,
     v: &[i32],
-    vt: &[i32],
-    vn: &[i32],
     vp: &[i32],
     corners: &[u32],
-    elements: &[u32],
-    bodies: &[u32],
-    ranges: &[i32],
     parameters: &[i32],
-    loops: &[u32],
-    spans: &[i32],
-    element: u32,
+    element: Element,
+    body: Body,
     tolerance: i32,
     depth: u32,
     a: i32,
@@ -111,23 +86,16 @@ fn count(
     p: Sampled,
     q: Sampled,
 ) -> u32
-    requires { ⌜ (depth ≤ 12) × Interval (pointAt used (tables (now v) (now vt) (now vn) (now vp) (now corners) (now elements) (now bodies) (now ranges) (now parameters) (now loops) (now spans)) element) a b p q ⌝ }
-    ensures { λ r. ⌜ r ≡ length (ends (pointAt used (tables (now (v .entry)) (now (vt .entry)) (now (vn .entry)) (now (vp .entry)) (now (corners .entry)) (now (elements .entry)) (now (bodies .entry)) (now (ranges .entry)) (now (parameters .entry)) (now (loops .entry)) (now (spans .entry))) element) tolerance depth a b) ⌝ }
+    requires { ⌜ (depth ≤ 12) × (Curved (tables (now v) [] [] (now vp) (now corners) [] [] [] (now parameters) [] []) element body × Interval (coordinatesOf (tables (now v) [] [] (now vp) (now corners) [] [] [] (now parameters) [] []) element body) a b p q) ⌝ }
+    ensures { λ r. ⌜ r ≡ length (ends (coordinatesOf (tables (now (v .entry)) [] [] (now (vp .entry)) (now (corners .entry)) [] [] [] (now (parameters .entry)) [] []) element body) tolerance depth a b) ⌝ }
 {
     let split = split_of(
-        used,
         v,
-        vt,
-        vn,
         vp,
         corners,
-        elements,
-        bodies,
-        ranges,
         parameters,
-        loops,
-        spans,
         element,
+        body,
         tolerance,
         depth,
         a,
@@ -139,19 +107,12 @@ fn count(
         return 1;
     };
     let left = count(
-        used,
         v,
-        vt,
-        vn,
         vp,
         corners,
-        elements,
-        bodies,
-        ranges,
         parameters,
-        loops,
-        spans,
         element,
+        body,
         tolerance,
         depth - 1,
         a,
@@ -160,19 +121,12 @@ fn count(
         point,
     );
     let right = count(
-        used,
         v,
-        vt,
-        vn,
         vp,
         corners,
-        elements,
-        bodies,
-        ranges,
         parameters,
-        loops,
-        spans,
         element,
+        body,
         tolerance,
         depth - 1,
         middle,
@@ -185,19 +139,12 @@ fn count(
 
 // Writes the end of each chord from a to b, from place `at` on; the place after them.
 fn write(
-    used: Used,
     v: &[i32],
-    vt: &[i32],
-    vn: &[i32],
     vp: &[i32],
     corners: &[u32],
-    elements: &[u32],
-    bodies: &[u32],
-    ranges: &[i32],
     parameters: &[i32],
-    loops: &[u32],
-    spans: &[i32],
-    element: u32,
+    element: Element,
+    body: Body,
     tolerance: i32,
     depth: u32,
     a: i32,
@@ -207,23 +154,16 @@ fn write(
     points: &mut [i32],
     at: usize,
 ) -> usize
-    requires { ⌜ (at + length (numbers (pointAt used (tables (now v) (now vt) (now vn) (now vp) (now corners) (now elements) (now bodies) (now ranges) (now parameters) (now loops) (now spans)) element) (ends (pointAt used (tables (now v) (now vt) (now vn) (now vp) (now corners) (now elements) (now bodies) (now ranges) (now parameters) (now loops) (now spans)) element) tolerance depth a b)) ≤ length (now points)) × Interval (pointAt used (tables (now v) (now vt) (now vn) (now vp) (now corners) (now elements) (now bodies) (now ranges) (now parameters) (now loops) (now spans)) element) a b p q ⌝ }
-    ensures { λ r. ⌜ (r ≡ at + length (numbers (pointAt used (tables (now (v .entry)) (now (vt .entry)) (now (vn .entry)) (now (vp .entry)) (now (corners .entry)) (now (elements .entry)) (now (bodies .entry)) (now (ranges .entry)) (now (parameters .entry)) (now (loops .entry)) (now (spans .entry))) element) (ends (pointAt used (tables (now (v .entry)) (now (vt .entry)) (now (vn .entry)) (now (vp .entry)) (now (corners .entry)) (now (elements .entry)) (now (bodies .entry)) (now (ranges .entry)) (now (parameters .entry)) (now (loops .entry)) (now (spans .entry))) element) tolerance depth a b))) × (now (points .exit) ≡ sets (now (points .entry)) at (numbers (pointAt used (tables (now (v .entry)) (now (vt .entry)) (now (vn .entry)) (now (vp .entry)) (now (corners .entry)) (now (elements .entry)) (now (bodies .entry)) (now (ranges .entry)) (now (parameters .entry)) (now (loops .entry)) (now (spans .entry))) element) (ends (pointAt used (tables (now (v .entry)) (now (vt .entry)) (now (vn .entry)) (now (vp .entry)) (now (corners .entry)) (now (elements .entry)) (now (bodies .entry)) (now (ranges .entry)) (now (parameters .entry)) (now (loops .entry)) (now (spans .entry))) element) tolerance depth a b))) ⌝ }
+    requires { ⌜ (at + length (numbers (coordinatesOf (tables (now v) [] [] (now vp) (now corners) [] [] [] (now parameters) [] []) element body) (ends (coordinatesOf (tables (now v) [] [] (now vp) (now corners) [] [] [] (now parameters) [] []) element body) tolerance depth a b)) ≤ length (now points)) × (Curved (tables (now v) [] [] (now vp) (now corners) [] [] [] (now parameters) [] []) element body × Interval (coordinatesOf (tables (now v) [] [] (now vp) (now corners) [] [] [] (now parameters) [] []) element body) a b p q) ⌝ }
+    ensures { λ r. ⌜ (r ≡ at + length (numbers (coordinatesOf (tables (now (v .entry)) [] [] (now (vp .entry)) (now (corners .entry)) [] [] [] (now (parameters .entry)) [] []) element body) (ends (coordinatesOf (tables (now (v .entry)) [] [] (now (vp .entry)) (now (corners .entry)) [] [] [] (now (parameters .entry)) [] []) element body) tolerance depth a b))) × (now (points .exit) ≡ sets (now (points .entry)) at (numbers (coordinatesOf (tables (now (v .entry)) [] [] (now (vp .entry)) (now (corners .entry)) [] [] [] (now (parameters .entry)) [] []) element body) (ends (coordinatesOf (tables (now (v .entry)) [] [] (now (vp .entry)) (now (corners .entry)) [] [] [] (now (parameters .entry)) [] []) element body) tolerance depth a b))) ⌝ }
 {
     let split = split_of(
-        used,
         v,
-        vt,
-        vn,
         vp,
         corners,
-        elements,
-        bodies,
-        ranges,
         parameters,
-        loops,
-        spans,
         element,
+        body,
         tolerance,
         depth,
         a,
@@ -235,19 +175,12 @@ fn write(
         return store(points, at, q);
     };
     let next = write(
-        used,
         v,
-        vt,
-        vn,
         vp,
         corners,
-        elements,
-        bodies,
-        ranges,
         parameters,
-        loops,
-        spans,
         element,
+        body,
         tolerance,
         depth - 1,
         a,
@@ -258,19 +191,12 @@ fn write(
         at,
     );
     write(
-        used,
         v,
-        vt,
-        vn,
         vp,
         corners,
-        elements,
-        bodies,
-        ranges,
         parameters,
-        loops,
-        spans,
         element,
+        body,
         tolerance,
         depth - 1,
         middle,
@@ -280,6 +206,69 @@ fn write(
         points,
         next,
     )
+}
+
+// The polyline of an element that was looked up.
+fn polyline_at(
+    v: &[i32],
+    vp: &[i32],
+    corners: &[u32],
+    parameters: &[i32],
+    element: Element,
+    body: Body,
+    tolerance: i32,
+    points: &mut [i32],
+    at: usize,
+) -> PolylineResult
+    requires { ⌜ Curved (tables (now v) [] [] (now vp) (now corners) [] [] [] (now parameters) [] []) element body ⌝ }
+    ensures { λ r. ⌜ polylineAnswer r (now (points .exit)) ≡ polylineBy (tables (now (v .entry)) [] [] (now (vp .entry)) (now (corners .entry)) [] [] [] (now (parameters .entry)) [] []) element body tolerance at (now (points .entry)) ⌝ }
+{
+    if tolerance < 0 {
+        return PolylineResult::Refused { number: 19 };
+    }
+    let start = body.start_u;
+    let end = body.end_u;
+    let first = curve_at(v, vp, corners, parameters, element, body, start);
+    let last = curve_at(v, vp, corners, parameters, element, body, end);
+    let chords = count(
+        v,
+        vp,
+        corners,
+        parameters,
+        element,
+        body,
+        tolerance,
+        DEPTH,
+        start,
+        end,
+        first,
+        last,
+    );
+    let numbers = axes_in(first) * (chords as usize + 1);
+    if points.len() < numbers {
+        return PolylineResult::Refused { number: 16 };
+    }
+    if points.len() - numbers < at {
+        return PolylineResult::Refused { number: 16 };
+    }
+    let next = store(points, at, first);
+    write(
+        v,
+        vp,
+        corners,
+        parameters,
+        element,
+        body,
+        tolerance,
+        DEPTH,
+        start,
+        end,
+        first,
+        last,
+        points,
+        next,
+    );
+    PolylineResult::Filled { points: chords + 1 }
 }
 
 // The polyline of the curv or curv2 of that number, counted from 1 over all elements: its points fill the table from entry `at` on, counted in numbers.
@@ -303,11 +292,8 @@ pub fn polyline(
 ) -> PolylineResult
     ensures { λ r. ⌜ polylineAnswer r (now (points .exit)) ≡ polylineInto used (tables (now (v .entry)) (now (vt .entry)) (now (vn .entry)) (now (vp .entry)) (now (corners .entry)) (now (elements .entry)) (now (bodies .entry)) (now (ranges .entry)) (now (parameters .entry)) (now (loops .entry)) (now (spans .entry))) element tolerance at (now (points .entry)) ⌝ }
 {
-    let e = tables::element_of(used, elements, element);
-    let body = tables::body_of(used, bodies, ranges, e.body);
-    let start = body.start_u;
-    let end = body.end_u;
-    let first = point_on_curve(
+    let found = look_up(
+        false,
         used,
         v,
         vt,
@@ -321,82 +307,19 @@ pub fn polyline(
         loops,
         spans,
         element,
-        start,
     );
-    let refused = refusal_in(first);
-    if refused != 0 {
-        return PolylineResult::Refused { number: refused };
+    match found {
+        Lookup::Refused { number } => PolylineResult::Refused { number },
+        Lookup::Found { element, body } => polyline_at(
+            v,
+            vp,
+            corners,
+            parameters,
+            element,
+            body,
+            tolerance,
+            points,
+            at,
+        ),
     }
-    if tolerance < 0 {
-        return PolylineResult::Refused { number: 19 };
-    }
-    let last = point_on_curve(
-        used,
-        v,
-        vt,
-        vn,
-        vp,
-        corners,
-        elements,
-        bodies,
-        ranges,
-        parameters,
-        loops,
-        spans,
-        element,
-        end,
-    );
-    let chords = count(
-        used,
-        v,
-        vt,
-        vn,
-        vp,
-        corners,
-        elements,
-        bodies,
-        ranges,
-        parameters,
-        loops,
-        spans,
-        element,
-        tolerance,
-        DEPTH,
-        start,
-        end,
-        first,
-        last,
-    );
-    let numbers = axes_in(first) * (chords as usize + 1);
-    if points.len() < numbers {
-        return PolylineResult::Refused { number: 16 };
-    }
-    if points.len() - numbers < at {
-        return PolylineResult::Refused { number: 16 };
-    }
-    let next = store(points, at, first);
-    write(
-        used,
-        v,
-        vt,
-        vn,
-        vp,
-        corners,
-        elements,
-        bodies,
-        ranges,
-        parameters,
-        loops,
-        spans,
-        element,
-        tolerance,
-        DEPTH,
-        start,
-        end,
-        first,
-        last,
-        points,
-        next,
-    );
-    PolylineResult::Filled { points: chords + 1 }
 }

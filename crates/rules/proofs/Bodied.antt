@@ -1,4 +1,4 @@
--- An element of a kind that has a body, by the tests of its own numbers and corners and the test of its body: a body that is not held is all zeros, and no type is 0.
+-- The body of an element as it is asked for: one that is not held is all zeros, and no type is 0. And the tests of an element but for its body.
 use Prim.Native.Nat.{ℕ, _+_, _*_, _-_, _≤_}
 use mathlib.Core.Path.{_≡_, refl, _∙_}
 use mathlib.Core.Bool.{Bool, true, false, _&&_}
@@ -36,23 +36,3 @@ module _ (used : Used) (t : Tables) (curves : ℕ) where
       go : (q : Bool) → bodyHeld used (t .bodies) (t .ranges) k ≡ q → recordObeys used t curves kind count (bodyOf used (t .bodies) (t .ranges) k) ≡ true → bodyOf used (t .bodies) (t .ranges) k ≡ bodyAt t (k - 1)
       go true h r = rw h
       go false h r = never (rw h at r)
-
-  -- the element's body as it is asked for
-  abbrev pub bodied : Element → Bool
-  bodied e = recordObeys used t curves (e .kind) (e .count) (bodyOf used (t .bodies) (t .ranges) (e .body))
-
-  module _ (i : ℕ) (lent : 9 * i + 9 ≤ length (t .elements)) (kind : 4 ≤ elementAt t i .kind) where
-    obeys-is : obeys used t curves i ≡ (outline used t (elementAt t i) && bodied (elementAt t i))
-    unfolding obeys elementObeys
-    obeys-is =
-        let e = elementAt t i in
-        rw (le-leb (9 * i + 9) (length (t .elements)) lent, lt-leb (e .kind) 3 kind, body-is (e .kind) (e .count) (e .body))
-
-    pub outline-fails : outline used t (elementAt t i) ≡ false → obeys used t curves i ≡ false
-    outline-fails h = obeys-is ∙ rw h
-
-    pub body-fails : outline used t (elementAt t i) ≡ true → bodied (elementAt t i) ≡ false → obeys used t curves i ≡ false
-    body-fails h k = obeys-is ∙ rw (h, k)
-
-    pub both-hold : outline used t (elementAt t i) ≡ true → bodied (elementAt t i) ≡ true → obeys used t curves i ≡ true
-    both-hold h k = obeys-is ∙ rw (h, k)

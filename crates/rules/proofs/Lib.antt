@@ -10,3 +10,4 @@ pub mod Facts
 pub mod Element
 pub mod Examples
 pub mod Bodied
+pub mod Records

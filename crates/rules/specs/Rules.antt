@@ -7,9 +7,10 @@ use lib.Dec.{leb, eqb}
 use Rattle.tables.specs.Tables.{Tables}
 use Rattle.tables.specs.Records.{elementAt, numberAt, elementWidth, faceKind, curve2Kind, surfaceKind}
 use Rattle.tables.specs.declared.Element.{Element}
+use Rattle.tables.specs.declared.Body.{Body}
 use Rattle.tables.specs.declared.Used.{Used}
 use Rattle.rules.specs.Corners.{cornersObey}
-use Rattle.rules.specs.Bodies.{bodyObeys}
+use Rattle.rules.specs.Bodies.{bodyObeys, recordObeys}
 
 -- "Smoothing: off (0) or 1 to 5 digits, at most 65,535"; p, l and f have no body
 unfoldable pub elementObeys : Used → Tables → ℕ → Element → Bool
@@ -31,3 +32,12 @@ curvesAmong elements (suc i) = curvesAmong elements i + cond (eqb (numberAt elem
 
 abbrev pub curvesBefore : Tables → ℕ → ℕ
 curvesBefore t i = curvesAmong (t .elements) i
+
+-- an element with its body at hand, after `curves` curv2 elements
+unfoldable pub recordsObey : Used → Tables → ℕ → Element → Body → Bool
+recordsObey used t curves e b =
+    leb 1 (e .kind)
+    && leb (e .kind) surfaceKind
+    && leb (e .smoothing) 65535
+    && cornersObey used t (e .kind) (e .first) (e .count)
+    && cond (leb (e .kind) faceKind) (eqb (e .body) 0) (recordObeys used t curves (e .kind) (e .count) b)

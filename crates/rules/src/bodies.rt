@@ -3,10 +3,8 @@ ghost use mathlib.Core.List.{[]};
 ghost use Prim.Native.Nat.{_+_, _≤_};
 ghost use lib.ListN.{length};
 ghost use Rattle.rules.specs.Directions.{degreeObeys, typeObeys, parametersObey};
-ghost use Rattle.rules.specs.Rules.{curvesAmong};
 ghost use Rattle.rules.specs.Bodies.{flatObeys, curveObeys, directionsObey, surfaceObeys, recordObeys};
 ghost use Rattle.tables.specs.Tables.{tables};
-use crate::loops::curves_for;
 use crate::loops::loops_with;
 use crate::numbers::same;
 use crate::numbers::small_run;
@@ -182,22 +180,4 @@ pub fn record_with(
     let start = body.first_parameter as usize;
     let end = start + body.count_u as usize;
     curve_obeys(kind == 5, &parameters[start..end], body, count)
-}
-
-// The body of the element at `index`, which is of that kind and has `count` corners; curv2 elements are counted for loop parts alone.
-pub fn record_obeys(
-    used: Used,
-    elements: &[u32],
-    parameters: &[i32],
-    loops: &[u32],
-    spans: &[i32],
-    index: u32,
-    kind: u32,
-    count: u32,
-    body: Body,
-) -> bool
-    ensures { λ r. ⌜ r ≡ recordObeys used (tables [] [] [] [] [] [] [] [] (now (parameters .entry)) (now (loops .entry)) (now (spans .entry))) (curvesAmong (now (elements .entry)) index) kind count body ⌝ }
-{
-    let curves = curves_for(elements, index, body.loops);
-    record_with(used, parameters, loops, spans, curves, kind, count, body)
 }

@@ -6,19 +6,22 @@ ghost use lib.Dec.{leb};
 ghost use Rattle.tables.specs.Tables.{tables};
 ghost use Rattle.tables.specs.Records.{surfaceKind};
 ghost use Rattle.rules.specs.Corners.{cornersObey};
+ghost use Rattle.rules.specs.Rules.{recordsObey};
+use crate::bodies::record_with;
 use crate::corners::corners_obey;
+use tables::Body;
 use tables::Element;
 use tables::Used;
 
 mod bare;
-pub mod bodies;
+mod bodies;
 mod corners;
 pub mod loops;
 pub mod numbers;
 pub mod vertices;
 
 // An element but for its body: its kind, its smoothing and its corners.
-pub fn element_obeys(
+fn element_obeys(
     used: Used,
     v: &[i32],
     vt: &[i32],
@@ -48,5 +51,40 @@ pub fn element_obeys(
         element.kind,
         element.first,
         element.count,
+    )
+}
+
+// An element with its body, after `curves` curv2 elements.
+pub fn records_obey(
+    used: Used,
+    v: &[i32],
+    vt: &[i32],
+    vn: &[i32],
+    vp: &[i32],
+    corners: &[u32],
+    parameters: &[i32],
+    loops: &[u32],
+    spans: &[i32],
+    curves: u32,
+    element: Element,
+    body: Body,
+) -> bool
+    ensures { λ r. ⌜ r ≡ recordsObey used (tables (now (v .entry)) (now (vt .entry)) (now (vn .entry)) (now (vp .entry)) (now (corners .entry)) [] [] [] (now (parameters .entry)) (now (loops .entry)) (now (spans .entry))) curves element body ⌝ }
+{
+    if !element_obeys(used, v, vt, vn, vp, corners, element) {
+        return false;
+    }
+    if element.kind <= 3 {
+        return element.body == 0;
+    }
+    record_with(
+        used,
+        parameters,
+        loops,
+        spans,
+        curves,
+        element.kind,
+        element.count,
+        body,
     )
 }

@@ -28,9 +28,10 @@ use Rattle.runs.specs.Runs.{joined, listed, parameterAt}
 use Rattle.sampler.specs.Points.{directionU, controlOf, axesOf, curveAt, runNumbers}
 use Rattle.sampler.specs.Answers.{SampledResult, RanResult, wanted, carried, elementOf, bodyOf, refusalOf, filledRun, curvePoint, pointOnCurve, runInto}
 use Rattle.sampler.specs.Demand3.{sampling, Curve, OnCurve, CurveAnswer, PointsOnCurves, RunAnswer, RunsOnCurves}
-use Rattle.sampler.proofs.Obeyed.{granted, Curved, curved}
+use Rattle.sampler.specs.Sampling.{Curved}
+use Rattle.sampler.proofs.Obeyed.{granted, curved}
 use Rattle.sampler.proofs.Refusals.{none-given}
-use Rattle.sampler.proofs.Runners.{filled-is}
+use Rattle.sampler.proofs.Runners.{run-given}
 use Rattle.runs.proofs.Steps.{parameter-from, parameter-upto}
 use Rattle.runs.proofs.Written.{joined-length, listed-length}
 
@@ -136,7 +137,7 @@ module _ {used : Used} {t : Tables} {number : ℕ} (c : Curve used t number) (st
   m = bodyOf t number
 
   pub filled : runInto used t number steps at points ≡ filledRun (axesOf e * (steps + 1)) at (runNumbers t e m steps) points
-  filled = sym (filled-is used t number steps at points (curve-given c) some most room)
+  filled = sym (run-given used t number steps at points (curve-given c) some most room)
 
   abbrev f : ℕ → List ℤ
   f j = listed (axesOf e) (curveAt t e m (parameterAt (m .«start_u») (m .«end_u») steps j))

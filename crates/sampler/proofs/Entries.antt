@@ -1,7 +1,7 @@
 -- The answers by the tests that lead to each, and the points of the parts that are lent as those of the tables.
 use mathlib.Core.Path.{_≡_, refl, sym, ap, ap₂, _∙_}
 use mathlib.Core.Bool.{Bool, true, false, cond, _&&_}
-use mathlib.Core.List.{List}
+use mathlib.Core.List.{List, []}
 use Prim.Native.Nat.{ℕ, _+_, _*_, _-_, _≤_, _<_}
 use borrow.Author.Tests.{ne-eqb}
 use lib.Dec.{leb, eqb}
@@ -11,7 +11,7 @@ use native.Mathlib.Omega.{arith}
 use lib.Signed.{leZ}
 use Rattle.lists.proofs.Tests.{and-left, and-right}
 use Rattle.whole.proofs.Order.{yes-le}
-use Rattle.tables.specs.Tables.{Tables}
+use Rattle.tables.specs.Tables.{Tables, tables}
 use Rattle.tables.specs.Records.{parametersU}
 use Rattle.tables.specs.declared.Body.{Body}
 use Rattle.tables.specs.declared.Used.{Used}
@@ -23,10 +23,12 @@ use Rattle.rows.specs.Controls.{controlAt, Held}
 use Rattle.runs.specs.Runs.{Ranged}
 use Rattle.rows.specs.declared.Along.{Along}
 use Rattle.sampler.specs.Points.{alongOf, controlOf, curveAt}
-use Rattle.sampler.specs.Answers.{elementOf, bodyOf, sampledResult, refusalOf, inside, curvePoint, pointOnCurve}
+use Rattle.sampler.specs.Answers.{sampledResult, inside, curvePoint, pointOnCurve}
 use Rattle.sampler.specs.Inner.{pointBy, coordinateBy}
 use Rattle.sampler.specs.declared.Sampled.the-variants as sampled
-use Rattle.sampler.proofs.Obeyed.{Curved}
+use Rattle.sampler.specs.Sampling.{Curved, curveAnswer}
+use Rattle.sampler.proofs.Refusals.{Missed, Looked}
+use Rattle.sampler.proofs.Obeyed.{granted, curved}
 
 -- a coordinate of the lent parts is one of the tables
 module _ (t : Tables) (e : Element) (b : Body) (p : ℤ) (axis : ℕ) where
@@ -62,22 +64,41 @@ unfolding pointBy curvePoint
 point-is t e b p true h = rw h (ap sampledResult (ap₂ sampled.Plane (plane-coordinate t e b p 0 h) (plane-coordinate t e b p 1 h)))
 point-is t e b p false h = rw h (ap sampledResult (space-eq (space-coordinate t e b p 0 h) (space-coordinate t e b p 1 h) (space-coordinate t e b p 2 h)))
 
-module _ (used : Used) (t : Tables) (number : ℕ) (p : ℤ) where
-  pub refused-curve : {r : ℕ} → r ≡ refusalOf false used t number → (r ≡ 0 → ⊥) → sampledResult (sampled.Refused r) ≡ pointOnCurve used t number p
+-- the tables that a curve's points are made of
+abbrev pub curve-tables : Tables → Tables
+curve-tables t = tables (t .v) [] [] (t .vp) (t .corners) [] [] [] (t .parameters) [] []
+
+pub curve-lent : {t : Tables} {e : Element} {b : Body} → Curved t e b → Curved (curve-tables t) e b
+curve-lent c = record { run = c .run; counted = c .counted; held = c .held; along = c .along }
+
+pub curve-found : {used : Used} {t : Tables} {number : ℕ} {e : Element} {b : Body} → Looked false used t number e b → Curved t e b
+curve-found {used} {t} {number} l = rw (l .element-is, l .body-is) (curved used t number (granted false used t number (l .given)))
+
+module _ (t : Tables) (e : Element) (b : Body) (p : ℤ) where
+  pub curve-outside : inside (b .«start_u») (b .«end_u») p ≡ false → sampledResult (sampled.Refused 19) ≡ curveAnswer t e b p
+  unfolding curveAnswer
+  curve-outside h = rw h
+
+  pub curve-there : inside (b .«start_u») (b .«end_u») p ≡ true
+      → sampledResult (pointBy (e .kind) (t .v) (t .vp) (t .corners) (e .first) (alongOf (b .basis) (b .«degree_u») (b .«count_u»)) (parametersU t b) p) ≡ curveAnswer t e b p
+  unfolding curveAnswer
+  curve-there h = rw h (point-is t e b p (eqb (e .kind) 5) refl)
+
+  curve-parts : curveAnswer (curve-tables t) e b p ≡ curveAnswer t e b p
+  unfolding curveAnswer curvePoint curveAt controlOf
+  curve-parts = refl
+
+module _ {used : Used} {t : Tables} {number : ℕ} (p : ℤ) where
+  pub refused-curve : {n : ℕ} → Missed false used t number n → sampledResult (sampled.Refused n) ≡ pointOnCurve used t number p
   unfolding pointOnCurve
-  refused-curve {r} e h = rw (sym e, ne-eqb r 0 h)
+  refused-curve {n} m = rw (sym (m .is), ne-eqb n 0 (m .some))
 
-  module _ (granted : refusalOf false used t number ≡ 0) where
-    pub curve-outside : inside (bodyOf t number .«start_u») (bodyOf t number .«end_u») p ≡ false → sampledResult (sampled.Refused 19) ≡ pointOnCurve used t number p
-    unfolding pointOnCurve
-    curve-outside h = rw (granted, h)
+  found-curve : {e : Element} {b : Body} → Looked false used t number e b → curveAnswer t e b p ≡ pointOnCurve used t number p
+  unfolding pointOnCurve curveAnswer
+  found-curve l = rw (l .given, l .element-is, l .body-is)
 
-    pub curve-there : inside (bodyOf t number .«start_u») (bodyOf t number .«end_u») p ≡ true
-        → sampledResult (pointBy (elementOf t number .kind) (t .v) (t .vp) (t .corners) (elementOf t number .first)
-        (alongOf (bodyOf t number .basis) (bodyOf t number .«degree_u») (bodyOf t number .«count_u»)) (parametersU t (bodyOf t number)) p)
-        ≡ pointOnCurve used t number p
-    unfolding pointOnCurve
-    curve-there h = rw (granted, h) (point-is t (elementOf t number) (bodyOf t number) p (eqb (elementOf t number .kind) 5) refl)
+  pub curve-answered : {e : Element} {b : Body} → Looked false used t number e b → curveAnswer (curve-tables t) e b p ≡ pointOnCurve used t number p
+  curve-answered {e} {b} l = curve-parts t e b p ∙ found-curve l
 
 -- a parameter that was found inside is sound in its direction
 pub sound-inside : {a : Along} {x : List ℤ} {s e : ℤ} → Ranged a x s e → (p : ℤ) → inside s e p ≡ true → Sound a x p

@@ -32,6 +32,7 @@ use Rattle.rows.specs.Controls.{controlAt, Held}
 use Rattle.runs.specs.Runs.{Ranged}
 use Rattle.sampler.specs.Points.{alongOf}
 use Rattle.sampler.specs.Answers.{wanted, carried, elementOf, bodyOf, refusalOf}
+use Rattle.sampler.specs.Sampling.{Directed, Curved, Surfaced}
 use Rattle.sampler.proofs.Ranges.{ranged-of}
 
 is-small : (z : ℤ) → small z ≡ true → Small z
@@ -62,11 +63,6 @@ knots-of : (type n p : ℕ) → enough (basisOf type) n p ≡ true → eqb type 
 knots-of type n p h e =
     let k : leb (n + 1) (p - n - 1) ≡ true = subst (λ (q : ℕ). enough (basisOf q) n p ≡ true) (eqb-true type 2 e) h in
     omega (arith, leb-true (n + 1) (p - n - 1) k)
-
--- one direction of a body: its p parameters stand from number `first` on
-pub record Directed (l : List ℤ) (first type n p : ℕ) (s e : ℤ) : Type 0 where
-  pub sized : Sized type n p
-  pub ranged : Ranged (alongOf type n p) (take p (drop first l)) s e
 
 module _ (l : List ℤ) (first p : ℕ) (h : first + p ≤ length l) where
   part-length : length (take p (drop first l)) ≡ p
@@ -134,36 +130,6 @@ curve-kinds kind h = go (eqb kind 4) refl h
     go true e k = let s = eqb-true kind 4 e in (omega arith, λ n. omega arith)
     go false e k = let s = eqb-true kind 5 k in (omega arith, λ n. omega arith)
 
--- the records of a body that an element names
-pub record Lent (t : Tables) (e : Element) : Type 0 where
-  pub some : 1 ≤ e .body
-  pub body : 9 * (e .body - 1) + 9 ≤ length (t .bodies)
-  pub range : 4 * (e .body - 1) + 4 ≤ length (t .ranges)
-  pub run : bodyAt t (e .body - 1) .«first_parameter» + (bodyAt t (e .body - 1) .«count_u» + bodyAt t (e .body - 1) .«count_v») ≤ length (t .parameters)
-
--- a curve that is granted
-pub record Curved (t : Tables) (e : Element) (b : Body) : Type 0 where
-  pub lent : Lent t e
-  pub counted : e .count ≡ alongOf (b .basis) (b .«degree_u») (b .«count_u») .controls
-  pub held : Held (cond (eqb (e .kind) 5) (t .vp) (t .v)) (t .corners) (e .first) 0 (alongOf (b .basis) (b .«degree_u») (b .«count_u») .controls)
-  pub along : Directed (t .parameters) (b .«first_parameter») (b .basis) (b .«degree_u») (b .«count_u») (b .«start_u») (b .«end_u»)
-
--- a surface that is granted
-pub record Surfaced (t : Tables) (e : Element) (b : Body) : Type 0 where
-  pub lent : Lent t e
-  pub counted : e .count ≡ alongOf (b .basis) (b .«degree_u») (b .«count_u») .controls * alongOf (b .basis) (b .«degree_v») (b .«count_v») .controls
-  pub held : Held (t .v) (t .corners) (e .first) 0 (alongOf (b .basis) (b .«degree_u») (b .«count_u») .controls * alongOf (b .basis) (b .«degree_v») (b .«count_v») .controls)
-  pub along-u : Directed (t .parameters) (b .«first_parameter») (b .basis) (b .«degree_u») (b .«count_u») (b .«start_u») (b .«end_u»)
-  pub along-v : Directed (t .parameters) (b .«first_parameter» + b .«count_u») (b .basis) (b .«degree_v») (b .«count_v») (b .«start_v») (b .«end_v»)
-
-pub lent-of : {used : Used} {t : Tables} {e : Element} → Recorded used t (e .kind) (e .body) → Lent t e
-lent-of {used} {t} {e} r = record {
-  some = r .some;
-  body = omega (arith, r .some, r .lent-body);
-  range = omega (arith, r .some, r .lent-range);
-  run = r .run .lent-ones;
-}
-
 pub curved : (used : Used) (t : Tables) (number : ℕ) → Granted false used t number → Curved t (elementOf t number) (bodyOf t number)
 unfolding curveCount
 curved used t number g =
@@ -180,7 +146,7 @@ curved used t number g =
     let same = eqb-true (e .count) (controls (basisOf (b .basis)) (b .«degree_u») (b .«count_u»)) (and-right (enough (basisOf (b .basis)) (b .«degree_u») (b .«count_u»)) _ (c .counted))
     ∙ same-controls (b .basis) (b .«degree_u») (b .«count_u») (g .type) in
     record {
-      lent = lent-of r;
+      run = r .run .lent-ones;
       counted = same;
       held = subst (λ (q : ℕ). Held (cond (eqb (e .kind) 5) (t .vp) (t .v)) (t .corners) (e .first) 0 q) same (held-either used t (e .kind) (e .first) (e .count) (o .corners));
       along = directed (t .parameters) (b .«first_parameter») (b .«count_u») (omega (arith, r .run .lent-ones)) (b .basis) (b .«degree_u») (b .«start_u») (b .«end_u») (g .type)
@@ -208,7 +174,8 @@ surfaced used t number g =
     (and-right (enough (basisOf (b .basis)) (b .«degree_u») (b .«count_u») && enough (basisOf (b .basis)) (b .«degree_v») (b .«count_v»)) _ (c .counted))
     ∙ ap₂ (λ (k l : ℕ). k * l) (same-controls (b .basis) (b .«degree_u») (b .«count_u») (g .type)) (same-controls (b .basis) (b .«degree_v») (b .«count_v») (g .type)) in
     record {
-      lent = lent-of r;
+      kind = six;
+      run = r .run .lent-ones;
       counted = same;
       held = subst (λ (q : ℕ). Held (t .v) (t .corners) (e .first) 0 q) same (held-space used t (e .kind) (e .first) (e .count) (o .corners) (λ k. omega (arith, six)));
       along-u = directed (t .parameters) (b .«first_parameter») (b .«count_u») (omega (arith, r .run .lent-ones)) (b .basis) (b .«degree_u») (b .«start_u») (b .«end_u») (g .type)

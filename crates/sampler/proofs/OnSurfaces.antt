@@ -18,7 +18,8 @@ use Rattle.runs.specs.Runs.{listed}
 use Rattle.sampler.specs.Points.{directionU, directionV, gridOf, surfaceAt}
 use Rattle.sampler.specs.Answers.{SampledResult, elementOf, bodyOf, refusalOf, surfacePoint, pointOnSurface}
 use Rattle.sampler.specs.Demand3.{sampling, Surface, OnSurface, SurfaceAnswer, PointsOnSurfaces}
-use Rattle.sampler.proofs.Obeyed.{granted, Surfaced, surfaced}
+use Rattle.sampler.specs.Sampling.{Surfaced}
+use Rattle.sampler.proofs.Obeyed.{granted, surfaced}
 use Rattle.runs.proofs.Written.{listed-length}
 use Rattle.sampler.proofs.Demanded.{all-passed, listed-at}
 

@@ -20,14 +20,15 @@ use Rattle.curves.specs.Sampled.{curveSampled}
 use Rattle.rows.specs.Places.{direction}
 use Rattle.rows.specs.Controls.{controlAt, Held}
 use Rattle.runs.specs.Runs.{joined, listed, parameterAt, pointAt, pointsUpto, Ranged}
-use Rattle.sampler.specs.Points.{alongOf, axesOf, curveAt, runNumbers}
+use Rattle.sampler.specs.Points.{alongOf, axesOf, controlOf, curveAt, runNumbers}
 use Rattle.sampler.specs.Answers.{ranResult, elementOf, bodyOf, refusalOf, filledRun, runInto}
 use Rattle.runs.specs.Runs.{runBy, axesBy}
 use Rattle.rows.specs.declared.Along.{Along}
 use Rattle.sampler.specs.declared.Ran.{Ran}
 use Rattle.sampler.specs.declared.Ran.the-variants as ran
-use Rattle.sampler.proofs.Obeyed.{Curved}
-use Rattle.sampler.proofs.Entries.{Read, run-is, plane-coordinate, space-coordinate}
+use Rattle.sampler.specs.Sampling.{Curved, runAnswer}
+use Rattle.sampler.proofs.Refusals.{Missed, Looked}
+use Rattle.sampler.proofs.Entries.{curve-tables, Read, run-is, plane-coordinate, space-coordinate}
 
 joined-cong : (n : ℕ) (f g : ℕ → List ℤ) → ((i : ℕ) → f i ≡ g i) → joined n f ≡ joined n g
 joined-cong zero f g h = refl
@@ -44,52 +45,68 @@ run-numbers t e b steps true h =
 run-numbers t e b steps false h =
     rw h (joined-cong (steps + 1) _ _ (λ j. listed-cong 3 _ _ (λ k. space-coordinate t e b (parameterAt (b .«start_u») (b .«end_u») steps j) k h)))
 
-module _ (used : Used) (t : Tables) (number steps at : ℕ) (points : List ℤ) where
+module _ (t : Tables) (e : Element) (b : Body) (steps at : ℕ) (points : List ℤ) where
   abbrev pub Same : Ran → List ℤ → Type 0
-  Same r last = ranResult r last ≡ runInto used t number steps at points
+  Same r last = ranResult r last ≡ runAnswer t e b steps at points
 
-  pub run-refused : {r : ℕ} → r ≡ refusalOf false used t number → (r ≡ 0 → ⊥) → Same (ran.Refused r) points
+  run-steps : (leb 1 steps && leb steps 65536) ≡ false → Same (ran.Refused 19) points
+  unfolding runAnswer
+  run-steps h = rw h
+
+  pub run-none : steps < 1 → Same (ran.Refused 19) points
+  run-none h = run-steps (and-first (leb steps 65536) (lt-leb 1 steps h))
+
+  pub run-many : 65536 < steps → Same (ran.Refused 19) points
+  run-many h = run-steps (and-second (leb 1 steps) (lt-leb steps 65536 h))
+
+  module _ (some : 1 ≤ steps) (most : steps ≤ 65536) where
+    pub run-room : length points < at + axesOf e * (steps + 1) → Same (ran.Refused 16) points
+    unfolding runAnswer
+    run-room h = rw (le-leb 1 steps some, le-leb steps 65536 most, lt-leb (at + axesOf e * (steps + 1)) (length points) h)
+
+    module _ (room : at + axesOf e * (steps + 1) ≤ length points) where
+      filled-is : filledRun (axesOf e * (steps + 1)) at (runNumbers t e b steps) points ≡ runAnswer t e b steps at points
+      unfolding runAnswer
+      filled-is = rw (le-leb 1 steps some, le-leb steps 65536 most, le-leb (at + axesOf e * (steps + 1)) (length points) room)
+
+      -- the part from `at` on was lent
+      pub run-filled : {last : List ℤ} → last ≡ runNumbers t e b steps ++ drop (axesOf e * (steps + 1)) (take (length points - at) (drop at points))
+          → Same (ran.Filled (axesOf e * (steps + 1))) (putMid at (length points - at) points last)
+      run-filled {last} z =
+          ap (ranResult (ran.Filled (axesOf e * (steps + 1))))
+          (ap (λ (q : List ℤ). take at points ++ (last ++ q)) none ∙ ap (λ (q : List ℤ). take at points ++ q) (append-nil last ∙ z ∙ ap (λ (q : List ℤ). runNumbers t e b steps ++ drop (axesOf e * (steps + 1)) q) every))
+          ∙ filled-is
+        where
+          rest : length (drop at points) ≡ length points - at
+          rest = length-drop at points
+
+          every : take (length points - at) (drop at points) ≡ drop at points
+          every = take-all (length points - at) (drop at points) (omega (arith, rest))
+
+          none : drop (length points - at) (drop at points) ≡ []
+          none = ap (λ (k : ℕ). drop k (drop at points)) (sym rest) ∙ drop-length (drop at points)
+
+  run-parts : runAnswer (curve-tables t) e b steps at points ≡ runAnswer t e b steps at points
+  unfolding runAnswer runNumbers curveAt controlOf
+  run-parts = refl
+
+module _ {used : Used} {t : Tables} {number : ℕ} (steps at : ℕ) (points : List ℤ) where
+  pub run-refused : {n : ℕ} → Missed false used t number n → ranResult (ran.Refused n) points ≡ runInto used t number steps at points
   unfolding runInto
-  run-refused {r} e h = rw (sym e, ne-eqb r 0 h)
+  run-refused {n} m = rw (sym (m .is), ne-eqb n 0 (m .some))
 
-  module _ (granted : refusalOf false used t number ≡ 0) where
-    run-steps : (leb 1 steps && leb steps 65536) ≡ false → Same (ran.Refused 19) points
-    unfolding runInto
-    run-steps h = rw (granted, h)
+  found-run : {e : Element} {b : Body} → Looked false used t number e b → runAnswer t e b steps at points ≡ runInto used t number steps at points
+  unfolding runInto runAnswer
+  found-run l = rw (l .given, l .element-is, l .body-is)
 
-    pub run-none : steps < 1 → Same (ran.Refused 19) points
-    run-none h = run-steps (and-first (leb steps 65536) (lt-leb 1 steps h))
+  pub run-answered : {e : Element} {b : Body} → Looked false used t number e b → runAnswer (curve-tables t) e b steps at points ≡ runInto used t number steps at points
+  run-answered {e} {b} l = run-parts t e b steps at points ∙ found-run l
 
-    pub run-many : 65536 < steps → Same (ran.Refused 19) points
-    run-many h = run-steps (and-second (leb 1 steps) (lt-leb steps 65536 h))
-
-    module _ (some : 1 ≤ steps) (most : steps ≤ 65536) where
-      pub run-room : length points < at + axesOf (elementOf t number) * (steps + 1) → Same (ran.Refused 16) points
-      unfolding runInto
-      run-room h = rw (granted, le-leb 1 steps some, le-leb steps 65536 most, lt-leb (at + axesOf (elementOf t number) * (steps + 1)) (length points) h)
-
-      module _ (room : at + axesOf (elementOf t number) * (steps + 1) ≤ length points) where
-        pub filled-is : filledRun (axesOf (elementOf t number) * (steps + 1)) at (runNumbers t (elementOf t number) (bodyOf t number) steps) points ≡ runInto used t number steps at points
-        unfolding runInto
-        filled-is = rw (granted, le-leb 1 steps some, le-leb steps 65536 most, le-leb (at + axesOf (elementOf t number) * (steps + 1)) (length points) room)
-
-        -- the part from `at` on was lent
-        pub run-filled : {last : List ℤ} → last ≡ runNumbers t (elementOf t number) (bodyOf t number) steps
-            ++ drop (axesOf (elementOf t number) * (steps + 1)) (take (length points - at) (drop at points))
-            → Same (ran.Filled (axesOf (elementOf t number) * (steps + 1))) (putMid at (length points - at) points last)
-        run-filled {last} e =
-            ap (ranResult (ran.Filled (axesOf (elementOf t number) * (steps + 1))))
-            (ap (λ (q : List ℤ). take at points ++ (last ++ q)) none ∙ ap (λ (q : List ℤ). take at points ++ q) (append-nil last ∙ e ∙ ap (λ (q : List ℤ). runNumbers t (elementOf t number) (bodyOf t number) steps ++ drop (axesOf (elementOf t number) * (steps + 1)) q) every))
-            ∙ filled-is
-          where
-            rest : length (drop at points) ≡ length points - at
-            rest = length-drop at points
-
-            every : take (length points - at) (drop at points) ≡ drop at points
-            every = take-all (length points - at) (drop at points) (omega (arith, rest))
-
-            none : drop (length points - at) (drop at points) ≡ []
-            none = ap (λ (k : ℕ). drop k (drop at points)) (sym rest) ∙ drop-length (drop at points)
+pub run-given : (used : Used) (t : Tables) (number steps at : ℕ) (points : List ℤ) → refusalOf false used t number ≡ 0 → 1 ≤ steps → steps ≤ 65536
+    → at + axesOf (elementOf t number) * (steps + 1) ≤ length points
+    → filledRun (axesOf (elementOf t number) * (steps + 1)) at (runNumbers t (elementOf t number) (bodyOf t number) steps) points ≡ runInto used t number steps at points
+run-given used t number steps at points g some most room =
+    filled-is t (elementOf t number) (bodyOf t number) steps at points some most room ∙ found-run steps at points (record { given = g; element-is = refl; body-is = refl })
 
 module _ {t : Tables} {e : Element} {b : Body} {kind first from count : ℕ} {a : Along} (r : Read t e b kind first from count a) where
   pub run-asked : (s f : ℤ) → s ≡ b .«start_u» → f ≡ b .«end_u» → Curved t e b

@@ -1,13 +1,14 @@
 -- A surface's answers by the tests that lead to each, and its points of the parts that are lent as those of the tables.
 use mathlib.Core.Path.{_≡_, refl, sym, ap, _∙_}
-use mathlib.Core.Bool.{true, false}
+use mathlib.Core.Bool.{true, false, cond, _&&_}
+use mathlib.Core.List.{[]}
 use Prim.Native.Nat.{ℕ, _+_, _*_, _-_}
 use native.Mathlib.Omega.{arith}
-use borrow.Author.Tests.{ne-eqb, eqb-true}
+use borrow.Author.Tests.{ne-eqb}
 use lib.Dec.{eqb}
 use lib.IntN.{ℤ}
 use lib.ListN.{take, drop}
-use Rattle.tables.specs.Tables.{Tables}
+use Rattle.tables.specs.Tables.{Tables, tables}
 use Rattle.tables.specs.Records.{parametersU, parametersV}
 use Rattle.tables.specs.declared.Body.{Body}
 use Rattle.tables.specs.declared.Used.{Used}
@@ -17,10 +18,12 @@ use Rattle.rows.specs.Places.{direction, Sound}
 use Rattle.rows.specs.Controls.{controlAt, Held}
 use Rattle.rows.specs.declared.Along.{Along}
 use Rattle.sampler.specs.Points.{alongOf, gridOf, surfaceAt}
-use Rattle.sampler.specs.Answers.{elementOf, bodyOf, sampledResult, refusalOf, inside, surfacePoint, pointOnSurface}
+use Rattle.sampler.specs.Answers.{SampledResult, sampledResult, refusedPoint, inside, surfacePoint, pointOnSurface}
 use Rattle.sampler.specs.Inner.{acrossBy, surfaceBy}
 use Rattle.sampler.specs.declared.Sampled.the-variants as sampled
-use Rattle.sampler.proofs.Obeyed.{Surfaced, granted}
+use Rattle.sampler.specs.Sampling.{Surfaced, surfaceAnswer}
+use Rattle.sampler.proofs.Refusals.{Missed, Looked}
+use Rattle.sampler.proofs.Obeyed.{granted, surfaced}
 use Rattle.sampler.proofs.Entries.{space-control, space-eq, sound-inside, part-is}
 
 module _ (t : Tables) (e : Element) (b : Body) (p q : ℤ) (other : eqb (e .kind) 5 ≡ false) where
@@ -41,30 +44,54 @@ module _ (t : Tables) (e : Element) (b : Body) (p q : ℤ) (other : eqb (e .kind
   unfolding surfaceBy surfacePoint
   surface-is = ap sampledResult (space-eq (across-is 0) (across-is 1) (across-is 2))
 
-no-curve2 : (kind : ℕ) → eqb kind 6 ≡ true → eqb kind 5 ≡ false
-no-curve2 kind h = let s = eqb-true kind 6 h in ne-eqb kind 5 (λ k. omega (arith, s))
+no-curve2 : (kind : ℕ) → kind ≡ 6 → eqb kind 5 ≡ false
+no-curve2 kind s = ne-eqb kind 5 (λ k. omega (arith, s))
 
-module _ (used : Used) (t : Tables) (number : ℕ) (p q : ℤ) where
-  pub refused-surface : {r : ℕ} → r ≡ refusalOf true used t number → (r ≡ 0 → ⊥) → sampledResult (sampled.Refused r) ≡ pointOnSurface used t number p q
+-- the tables that a surface's points are made of
+abbrev pub surface-tables : Tables → Tables
+surface-tables t = tables (t .v) [] [] [] (t .corners) [] [] [] (t .parameters) [] []
+
+pub surface-lent : {t : Tables} {e : Element} {b : Body} → Surfaced t e b → Surfaced (surface-tables t) e b
+surface-lent c = record { kind = c .kind; run = c .run; counted = c .counted; held = c .held; along-u = c .along-u; along-v = c .along-v }
+
+pub surface-found : {used : Used} {t : Tables} {number : ℕ} {e : Element} {b : Body} → Looked true used t number e b → Surfaced t e b
+surface-found {used} {t} {number} l = rw (l .element-is, l .body-is) (surfaced used t number (granted true used t number (l .given)))
+
+module _ (t : Tables) (e : Element) (b : Body) (p q : ℤ) where
+  pub outside-u : inside (b .«start_u») (b .«end_u») p ≡ false → sampledResult (sampled.Refused 19) ≡ surfaceAnswer t e b p q
+  unfolding surfaceAnswer
+  outside-u h = rw h
+
+  module _ (in-u : inside (b .«start_u») (b .«end_u») p ≡ true) where
+    pub outside-v : inside (b .«start_v») (b .«end_v») q ≡ false → sampledResult (sampled.Refused 19) ≡ surfaceAnswer t e b p q
+    unfolding surfaceAnswer
+    outside-v h = rw (in-u, h)
+
+    pub surface-there : e .kind ≡ 6 → inside (b .«start_v») (b .«end_v») q ≡ true
+        → sampledResult (surfaceBy (t .v) (t .corners) (e .first) (alongOf (b .basis) (b .«degree_u») (b .«count_u»)) (alongOf (b .basis) (b .«degree_v») (b .«count_v»)) (parametersU t b) (parametersV t b) p q)
+        ≡ surfaceAnswer t e b p q
+    unfolding surfaceAnswer
+    surface-there k h = rw (in-u, h) (surface-is t e b p q (no-curve2 (e .kind) k))
+
+-- a surface's controls are v's, whatever vp holds
+surface-parts : (t : Tables) (e : Element) (b : Body) (p q : ℤ) → e .kind ≡ 6 → surfaceAnswer (surface-tables t) e b p q ≡ surfaceAnswer t e b p q
+unfolding surfaceAnswer
+surface-parts t e b p q k =
+    let o = no-curve2 (e .kind) k in
+    ap (λ (x : SampledResult). cond (inside (b .«start_u») (b .«end_u») p && inside (b .«start_v») (b .«end_v») q) x (refusedPoint 19))
+    (sym (surface-is (surface-tables t) e b p q o) ∙ surface-is t e b p q o)
+
+module _ {used : Used} {t : Tables} {number : ℕ} (p q : ℤ) where
+  pub refused-surface : {n : ℕ} → Missed true used t number n → sampledResult (sampled.Refused n) ≡ pointOnSurface used t number p q
   unfolding pointOnSurface
-  refused-surface {r} e h = rw (sym e, ne-eqb r 0 h)
+  refused-surface {n} m = rw (sym (m .is), ne-eqb n 0 (m .some))
 
-  module _ (given : refusalOf true used t number ≡ 0) where
-    pub outside-u : inside (bodyOf t number .«start_u») (bodyOf t number .«end_u») p ≡ false → sampledResult (sampled.Refused 19) ≡ pointOnSurface used t number p q
-    unfolding pointOnSurface
-    outside-u h = rw (given, h)
+  found-surface : {e : Element} {b : Body} → Looked true used t number e b → surfaceAnswer t e b p q ≡ pointOnSurface used t number p q
+  unfolding pointOnSurface surfaceAnswer
+  found-surface l = rw (l .given, l .element-is, l .body-is)
 
-    module _ (in-u : inside (bodyOf t number .«start_u») (bodyOf t number .«end_u») p ≡ true) where
-      pub outside-v : inside (bodyOf t number .«start_v») (bodyOf t number .«end_v») q ≡ false → sampledResult (sampled.Refused 19) ≡ pointOnSurface used t number p q
-      unfolding pointOnSurface
-      outside-v h = rw (given, in-u, h)
-
-      pub surface-there : inside (bodyOf t number .«start_v») (bodyOf t number .«end_v») q ≡ true
-          → sampledResult (surfaceBy (t .v) (t .corners) (elementOf t number .first) (alongOf (bodyOf t number .basis) (bodyOf t number .«degree_u») (bodyOf t number .«count_u»))
-          (alongOf (bodyOf t number .basis) (bodyOf t number .«degree_v») (bodyOf t number .«count_v»)) (parametersU t (bodyOf t number)) (parametersV t (bodyOf t number)) p q)
-          ≡ pointOnSurface used t number p q
-      unfolding pointOnSurface
-      surface-there h = rw (given, in-u, h) (surface-is t (elementOf t number) (bodyOf t number) p q (no-curve2 (elementOf t number .kind) (granted true used t number given .kind)))
+  pub surface-answered : {e : Element} {b : Body} → Looked true used t number e b → surfaceAnswer (surface-tables t) e b p q ≡ pointOnSurface used t number p q
+  surface-answered {e} {b} l = surface-parts t e b p q (surface-found l .kind) ∙ found-surface l
 
 -- what was read of the element and its body
 pub record Laid (t : Tables) (e : Element) (b : Body) (first from m n : ℕ) (u v : Along) : Type 0 where

@@ -17,6 +17,8 @@ use Rattle.sampler.specs.declared.Sampled.{Sampled}
 use Rattle.sampler.specs.declared.Sampled.the-variants as sampled
 use Rattle.sampler.specs.declared.Ran.{Ran}
 use Rattle.sampler.specs.declared.Ran.the-variants as ran
+use Rattle.sampler.specs.declared.Lookup.{Lookup}
+use Rattle.sampler.specs.declared.Lookup.the-variants as lookup
 
 -- "Any answer that is an enum has a definition that gives this paper's number and values for each of the enum's cases".
 -- A point: the number of refusal, 0 where it is handed out, and its coordinates, "surf and curv give x y z, curv2 u v".
@@ -82,6 +84,13 @@ refusalOf surface used t number =
     17)
     15)
     17
+
+-- the element with its body where none of them is given
+unfoldable pub lookupOf : (surface : Bool) → Used → Tables → ℕ → Lookup
+lookupOf surface used t number =
+    cond (eqb (refusalOf surface used t number) 0)
+    (lookup.Found (elementOf t number) (bodyOf t number))
+    (lookup.Refused (refusalOf surface used t number))
 
 -- "19 parameter outside start..end"
 abbrev pub inside : (start end p : ℤ) → Bool

@@ -1,21 +1,21 @@
 // Points on curves and surfaces, alone and in runs.
 ghost use mathlib.Core.Path.{_≡_};
 ghost use Rattle.tables.specs.Tables.{tables};
-ghost use Rattle.sampler.specs.Answers.{refusalOf, sampledResult, pointOnCurve, pointOnSurface, ranResult, runInto};
-use crate::points::curve_point;
-use crate::points::surface_point;
-use crate::records::along_of;
-use crate::records::axes_of;
+ghost use Rattle.sampler.specs.Answers.{lookupOf, sampledResult, pointOnCurve, pointOnSurface, ranResult, runInto};
 use crate::records::is_carried;
-use crate::records::is_inside;
 use crate::records::is_wanted;
-use rules::bodies::record_obeys;
-use rules::element_obeys;
-use runs::write_run;
+use crate::sampling::curve_at;
+use crate::sampling::run_at;
+use crate::sampling::surface_at;
+use rules::loops::curves_for;
+use rules::records_obey;
+use tables::Body;
+use tables::Element;
 use tables::Used;
 
 mod points;
 mod records;
+pub mod sampling;
 
 pub enum Sampled {
     Space { x: i32, y: i32, z: i32 },
@@ -29,8 +29,14 @@ pub enum Ran {
     Refused { number: u32 },
 }
 
-// 17, 15 and 18, in this order; 0 where none of them is given.
-pub fn refusal(
+// An element that can be sampled, with its body; or the refusal.
+pub enum Lookup {
+    Found { element: Element, body: Body },
+    Refused { number: u32 },
+}
+
+// 17, 15 and 18, in this order; where none of them is given, what was read.
+pub fn look_up(
     surface: bool,
     used: Used,
     v: &[i32],
@@ -45,44 +51,45 @@ pub fn refusal(
     loops: &[u32],
     spans: &[i32],
     element: u32,
-) -> u32
-    ensures { λ r. ⌜ r ≡ refusalOf surface used (tables (now (v .entry)) (now (vt .entry)) (now (vn .entry)) (now (vp .entry)) (now (corners .entry)) (now (elements .entry)) (now (bodies .entry)) (now (ranges .entry)) (now (parameters .entry)) (now (loops .entry)) (now (spans .entry))) element ⌝ }
+) -> Lookup
+    ensures { λ r. ⌜ r ≡ lookupOf surface used (tables (now (v .entry)) (now (vt .entry)) (now (vn .entry)) (now (vp .entry)) (now (corners .entry)) (now (elements .entry)) (now (bodies .entry)) (now (ranges .entry)) (now (parameters .entry)) (now (loops .entry)) (now (spans .entry))) element ⌝ }
 {
     if element < 1 {
-        return 17;
+        return Lookup::Refused { number: 17 };
     }
     if used.elements < element {
-        return 17;
+        return Lookup::Refused { number: 17 };
     }
     let index = element - 1;
     if !tables::element_fits(elements, index) {
-        return 15;
+        return Lookup::Refused { number: 15 };
     }
     let e = tables::lent_element(elements, index);
     if !is_wanted(surface, e.kind) {
-        return 17;
-    }
-    if !element_obeys(used, v, vt, vn, vp, corners, e) {
-        return 15;
+        return Lookup::Refused { number: 17 };
     }
     let body = tables::body_of(used, bodies, ranges, e.body);
-    if !record_obeys(
+    let curves = curves_for(elements, index, body.loops);
+    if !records_obey(
         used,
-        elements,
+        v,
+        vt,
+        vn,
+        vp,
+        corners,
         parameters,
         loops,
         spans,
-        index,
-        e.kind,
-        e.count,
+        curves,
+        e,
         body,
     ) {
-        return 15;
+        return Lookup::Refused { number: 15 };
     }
     if !is_carried(body.rational, body.basis) {
-        return 18;
+        return Lookup::Refused { number: 18 };
     }
-    0
+    Lookup::Found { element: e, body }
 }
 
 // The point at t of the curv or curv2 of that number, counted from 1 over all elements.
@@ -104,7 +111,7 @@ pub fn point_on_curve(
 ) -> Sampled
     ensures { λ r. ⌜ sampledResult r ≡ pointOnCurve used (tables (now (v .entry)) (now (vt .entry)) (now (vn .entry)) (now (vp .entry)) (now (corners .entry)) (now (elements .entry)) (now (bodies .entry)) (now (ranges .entry)) (now (parameters .entry)) (now (loops .entry)) (now (spans .entry))) element t ⌝ }
 {
-    let refused = refusal(
+    let found = look_up(
         false,
         used,
         v,
@@ -120,19 +127,10 @@ pub fn point_on_curve(
         spans,
         element,
     );
-    if refused != 0 {
-        return Sampled::Refused { number: refused };
+    match found {
+        Lookup::Refused { number } => Sampled::Refused { number },
+        Lookup::Found { element, body } => curve_at(v, vp, corners, parameters, element, body, t),
     }
-    let e = tables::lent_element(elements, element - 1);
-    let body = tables::lent_body(bodies, ranges, e.body - 1);
-    if !is_inside(body.start_u, body.end_u, t) {
-        return Sampled::Refused { number: 19 };
-    }
-    let along = along_of(body.basis, body.degree_u, body.count_u);
-    let from = body.first_parameter as usize;
-    let to = from + body.count_u as usize;
-    let x = &parameters[from..to];
-    curve_point(e.kind, v, vp, corners, e.first, x, along, t)
 }
 
 // The point at s along u and t along v of the surf of that number.
@@ -155,7 +153,7 @@ pub fn point_on_surface(
 ) -> Sampled
     ensures { λ r. ⌜ sampledResult r ≡ pointOnSurface used (tables (now (v .entry)) (now (vt .entry)) (now (vn .entry)) (now (vp .entry)) (now (corners .entry)) (now (elements .entry)) (now (bodies .entry)) (now (ranges .entry)) (now (parameters .entry)) (now (loops .entry)) (now (spans .entry))) element s t ⌝ }
 {
-    let refused = refusal(
+    let found = look_up(
         true,
         used,
         v,
@@ -171,25 +169,10 @@ pub fn point_on_surface(
         spans,
         element,
     );
-    if refused != 0 {
-        return Sampled::Refused { number: refused };
+    match found {
+        Lookup::Refused { number } => Sampled::Refused { number },
+        Lookup::Found { element, body } => surface_at(v, corners, parameters, element, body, s, t),
     }
-    let e = tables::lent_element(elements, element - 1);
-    let body = tables::lent_body(bodies, ranges, e.body - 1);
-    if !is_inside(body.start_u, body.end_u, s) {
-        return Sampled::Refused { number: 19 };
-    }
-    if !is_inside(body.start_v, body.end_v, t) {
-        return Sampled::Refused { number: 19 };
-    }
-    let along_u = along_of(body.basis, body.degree_u, body.count_u);
-    let along_v = along_of(body.basis, body.degree_v, body.count_v);
-    let from = body.first_parameter as usize;
-    let middle = from + body.count_u as usize;
-    let to = middle + body.count_v as usize;
-    let x = &parameters[from..middle];
-    let y = &parameters[middle..to];
-    surface_point(v, corners, e.first, x, along_u, s, y, along_v, t)
 }
 
 // A run of `steps` steps on a curv or curv2: its points fill the table from entry `at` on, counted in numbers.
@@ -213,7 +196,7 @@ pub fn run_on_curve(
 ) -> Ran
     ensures { λ r. ⌜ ranResult r (now (points .exit)) ≡ runInto used (tables (now (v .entry)) (now (vt .entry)) (now (vn .entry)) (now (vp .entry)) (now (corners .entry)) (now (elements .entry)) (now (bodies .entry)) (now (ranges .entry)) (now (parameters .entry)) (now (loops .entry)) (now (spans .entry))) element steps at (now (points .entry)) ⌝ }
 {
-    let refused = refusal(
+    let found = look_up(
         false,
         used,
         v,
@@ -229,40 +212,18 @@ pub fn run_on_curve(
         spans,
         element,
     );
-    if refused != 0 {
-        return Ran::Refused { number: refused };
+    match found {
+        Lookup::Refused { number } => Ran::Refused { number },
+        Lookup::Found { element, body } => run_at(
+            v,
+            vp,
+            corners,
+            parameters,
+            element,
+            body,
+            steps,
+            points,
+            at,
+        ),
     }
-    if steps < 1 {
-        return Ran::Refused { number: 19 };
-    }
-    if 65536 < steps {
-        return Ran::Refused { number: 19 };
-    }
-    let e = tables::lent_element(elements, element - 1);
-    let numbers = axes_of(e.kind) * (steps as usize + 1);
-    if points.len() < numbers {
-        return Ran::Refused { number: 16 };
-    }
-    if points.len() - numbers < at {
-        return Ran::Refused { number: 16 };
-    }
-    let body = tables::lent_body(bodies, ranges, e.body - 1);
-    let along = along_of(body.basis, body.degree_u, body.count_u);
-    let from = body.first_parameter as usize;
-    let to = from + body.count_u as usize;
-    let x = &parameters[from..to];
-    write_run(
-        &mut points[at..],
-        e.kind,
-        v,
-        vp,
-        corners,
-        e.first,
-        x,
-        along,
-        body.start_u,
-        body.end_u,
-        steps,
-    );
-    Ran::Filled { numbers }
 }

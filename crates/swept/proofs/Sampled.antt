@@ -23,7 +23,8 @@ use Rattle.runs.specs.Runs.{joined, listed, parameterAt}
 use Rattle.runs.proofs.Steps.{parameter-from, parameter-upto}
 use Rattle.sampler.specs.Points.{axesOf, curveAt, surfaceAt, runNumbers}
 use Rattle.sampler.specs.Answers.{SampledResult, wanted, carried, elementOf, bodyOf, refusalOf, RanResult, inside, refusedPoint, curvePoint, pointOnCurve, surfacePoint, pointOnSurface, refusedRun, filledRun, runInto}
-use Rattle.sampler.proofs.Obeyed.{Granted, granted, Curved, curved, Surfaced, surfaced}
+use Rattle.sampler.specs.Sampling.{Curved, Surfaced}
+use Rattle.sampler.proofs.Obeyed.{Granted, granted, curved, surfaced}
 use Rattle.sampler.proofs.Refusals.{kinds, past-used}
 use Rattle.sampler.proofs.Entries.{sound-inside}
 use Rattle.polyline.specs.Chords.{parameters, numbers}

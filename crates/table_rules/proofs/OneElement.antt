@@ -1,28 +1,23 @@
--- One element of the pass: its tests are those of the definitions, its body the next one, and its runs end among the used entries.
+-- One element of the pass: its body is the next one, and its runs end among the used entries.
 use Prim.Native.Nat.{ℕ, suc, _+_, _*_, _-_, _≤_}
 use native.Mathlib.Omega.{arith}
 use mathlib.Core.Path.{_≡_, refl, sym, ap, subst, _∙_}
-use mathlib.Core.List.{[]}
 use mathlib.Core.Bool.{Bool, true, false, cond, _&&_}
-use borrow.Author.Tests.{le-leb, leb-false, eqb-true, eqb-false}
+use borrow.Author.Tests.{leb-false, eqb-true, eqb-false}
 use lib.Dec.{eqb}
-use lib.ListN.{length}
 use mathlib.Core.Logic.{_⊎_, inl, inr}
 use Rattle.lists.proofs.Tests.{and-left, and-right, test}
-use Rattle.tables.specs.Tables.{Tables, tables}
+use Rattle.tables.specs.Tables.{Tables}
 use Rattle.tables.specs.Records.{elementAt, bodyAt}
 use Rattle.tables.specs.Asking.{bodyOf}
 use Rattle.tables.specs.declared.Used.{Used}
 use Rattle.tables.specs.declared.Element.{Element}
 use Rattle.tables.specs.declared.Body.{Body}
-use Rattle.rules.specs.Corners.{cornerObeys, eachCorner, cornersObey}
-use Rattle.rules.specs.Loops.{eachPart, loopsObey}
-use Rattle.rules.specs.Bodies.{surfaceObeys, bodyObeys, recordObeys}
-use Rattle.rules.specs.Rules.{obeys, elementObeys}
+use Rattle.rules.specs.Bodies.{bodyObeys}
+use Rattle.rules.specs.Rules.{obeys}
 use Rattle.rules.proofs.Bodied.{body-is, body-there}
 use Rattle.rules.proofs.Element.{Obeys, obeys-facts, body-of, recorded, parts-used}
 use Rattle.table_rules.specs.Whole.{Ends, isPlain, endsAfter, bodyFollows, elementFollows}
-use Rattle.table_rules.specs.Pass.{recordsObey}
 
 -- every end is among the used entries
 pub record Within (used : Used) (n : Ends) : Type 0 where
@@ -31,12 +26,6 @@ pub record Within (used : Used) (n : Ends) : Type 0 where
   pub parameters : n .parameters ≤ used .parameters
   pub parts : n .parts ≤ used .loops
 
--- an element and its body look at their own tables alone
-pub records-lent : (used : Used) (t : Tables) (curves : ℕ) (e : Element) (b : Body)
-    → recordsObey used (tables (t .v) (t .vt) (t .vn) (t .vp) (t .corners) [] [] [] (t .parameters) (t .loops) (t .spans)) curves e b ≡ recordsObey used t curves e b
-unfolding recordsObey cornersObey eachCorner cornerObeys recordObeys surfaceObeys loopsObey eachPart
-records-lent used t curves e b = refl
-
 module _ (used : Used) (t : Tables) (curves i : ℕ) where
   abbrev e : Element
   e = elementAt t i
@@ -44,10 +33,6 @@ module _ (used : Used) (t : Tables) (curves i : ℕ) where
   -- the element's body as it is asked for
   abbrev b : Body
   b = bodyOf used (t .bodies) (t .ranges) (e .body)
-
-  pub records-are : 9 * i + 9 ≤ length (t .elements) → recordsObey used t curves e b ≡ obeys used t curves i
-  unfolding recordsObey obeys elementObeys
-  records-are lent = rw (le-leb (9 * i + 9) (length (t .elements)) lent, body-is used t curves (e .kind) (e .count) (e .body))
 
   module _ (h : obeys used t curves i ≡ true) (n : Ends) where
     abbrev next : Body

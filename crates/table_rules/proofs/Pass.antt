@@ -14,12 +14,12 @@ use Rattle.tables.specs.declared.Used.{Used}
 use Rattle.tables.specs.declared.Element.{Element}
 use Rattle.tables.specs.declared.Body.{Body}
 use Rattle.rules.specs.Numbers.{allBelow}
-use Rattle.rules.specs.Rules.{obeys, curvesBefore}
+use Rattle.rules.specs.Rules.{obeys, curvesBefore, recordsObey}
 use Rattle.rules.proofs.Below.{below-more, below-fails}
 use Rattle.rules.proofs.OneBody.{curves-more}
+use Rattle.rules.proofs.Records.{records-are}
 use Rattle.table_rules.specs.Whole.{Ends, noEnds, endsAfter, endsBefore, elementFollows, followsAt, endsUsed, elementsObey, runsFollow}
-use Rattle.table_rules.specs.Pass.{recordsObey}
-use Rattle.table_rules.proofs.OneElement.{Within, records-are, follows-are, ends-are, ends-within}
+use Rattle.table_rules.proofs.OneElement.{Within, follows-are, ends-are, ends-within}
 
 module _ (used : Used) (t : Tables) where
   abbrev pub obeysAt : ℕ → Bool

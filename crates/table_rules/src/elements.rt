@@ -1,58 +1,18 @@
 // One pass over the elements, with the curv2 elements and the ends of runs so far.
 ghost use mathlib.Core.Path.{_≡_};
-ghost use mathlib.Core.List.{[]};
 ghost use mathlib.Core.Bool.{_&&_};
 ghost use Prim.Native.Nat.{_*_, _≤_};
 ghost use lib.ListN.{length};
 ghost use Rattle.tables.specs.Tables.{tables};
 ghost use Rattle.tables.specs.Records.{elementWidth};
 ghost use Rattle.table_rules.specs.Whole.{elementsObey, runsFollow};
-ghost use Rattle.table_rules.specs.Pass.{recordsObey};
 use crate::ends::Ends;
 use crate::ends::element_follows;
 use crate::ends::ends_after;
 use crate::ends::ends_used;
-use rules::bodies::record_with;
-use rules::element_obeys;
 use rules::loops::curve_or_none;
-use tables::Body;
-use tables::Element;
+use rules::records_obey;
 use tables::Used;
-
-// An element with its body, after `curves` curv2 elements.
-fn records_obey(
-    used: Used,
-    v: &[i32],
-    vt: &[i32],
-    vn: &[i32],
-    vp: &[i32],
-    corners: &[u32],
-    parameters: &[i32],
-    loops: &[u32],
-    spans: &[i32],
-    curves: u32,
-    element: Element,
-    body: Body,
-) -> bool
-    ensures { λ r. ⌜ r ≡ recordsObey used (tables (now (v .entry)) (now (vt .entry)) (now (vn .entry)) (now (vp .entry)) (now (corners .entry)) [] [] [] (now (parameters .entry)) (now (loops .entry)) (now (spans .entry))) curves element body ⌝ }
-{
-    if !element_obeys(used, v, vt, vn, vp, corners, element) {
-        return false;
-    }
-    if element.kind <= 3 {
-        return element.body == 0;
-    }
-    record_with(
-        used,
-        parameters,
-        loops,
-        spans,
-        curves,
-        element.kind,
-        element.count,
-        body,
-    )
-}
 
 pub fn elements_obey(
     used: Used,

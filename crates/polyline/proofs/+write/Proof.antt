@@ -1,7 +1,7 @@
 -- The proof of the cycle of calls {write}. The measure is the depth.
 use borrow.Author.Needs.{needs}
 use mathlib.Core.Path.{_≡_, sym, ap, _∙_, subst}
-use mathlib.Core.List.{List, _++_}
+use mathlib.Core.List.{List, [], _++_}
 use Prim.Native.Nat.{ℕ, _+_, _-_, _≤_, _<_}
 use native.Mathlib.Omega.{arith}
 use lib.IntN.{ℤ}
@@ -12,9 +12,9 @@ use mir.Val.{toZ, ofZ}
 use mir.Facts.{toZ-ofZ}
 use Rattle.tables.specs.Tables.{Tables, tables}
 use Rattle.tables.proofs.Bits.{fitted}
-use Rattle.sampler.specs.Answers.{pointOutcome, pointOnCurve}
+use Rattle.sampler.specs.Answers.{SampledResult, pointOutcome}
+use Rattle.sampler.specs.Sampling.{Curved, curveAnswer}
 use Rattle.polyline.specs.Chords.{ends, numbers}
-use Rattle.polyline.specs.Answers.{pointAt}
 use Rattle.polyline.specs.Inner.{Interval, splitOf}
 use Rattle.polyline.proofs.Halves.{Parted, one-chord, two-halves, interval-read, numbers-chord, numbers-joined, room-first, room-second, both-written, room-read, written}
 use Rattle.polyline.proofs.Granted.{agreed}
@@ -28,27 +28,33 @@ use Rattle.polyline.proofs.split_of.Reads as split-of-reads
 use Rattle.polyline.proofs.+write.{statement}
 use Rattle.polyline.proofs.+write.Tie.{close}
 
-abbrev μ-write : Measures 12 write-kinds.ps ℕ
-μ-write κs a = a .1 .1 .1 .1 .1 .1 .1 .1 .1 .1 .1 .1 .1 .1 .0
+abbrev μ-write : Measures 5 write-kinds.ps ℕ
+μ-write κs a = a .1 .1 .1 .1 .1 .1 .1 .0
 
-abbrev write-at : ℕ → In 12 write-kinds.ps
-write-at t = and 12 write-kinds.ps (is 12 write-kinds.ps μ-write t) write.Pre
+abbrev write-at : ℕ → In 5 write-kinds.ps
+write-at t = and 5 write-kinds.ps (is 5 write-kinds.ps μ-write t) write.Pre
 
-abbrev write-below : ℕ → In 12 write-kinds.ps
-write-below t = and 12 write-kinds.ps (falls 12 write-kinds.ps _<_ μ-write t) write.Pre
+abbrev write-below : ℕ → In 5 write-kinds.ps
+write-below t = and 5 write-kinds.ps (falls 5 write-kinds.ps _<_ μ-write t) write.Pre
 
 abbrev claims : ℕ → write-lts.Claims
 claims t = (split-of-reads.Asked, split-of-reads.Learnt, store-reads.Asked, store-reads.Learnt, write-below t, write.Post)
 
 module _ {t : ℕ} (s : write-lts.Start (claims t) (write-at t) write.Post) where
   abbrev lent : Tables
-  lent = tables (s .args .v .now) (s .args .vt .now) (s .args .vn .now) (s .args .vp .now) (s .args .corners .now) (s .args .elements .now) (s .args .bodies .now) (s .args .ranges .now) (s .args .parameters .now) (s .args .loops .now) (s .args .spans .now)
+  lent = tables (s .args .v .now) [] [] (s .args .vp .now) (s .args .corners .now) [] [] [] (s .args .parameters .now) [] []
+
+  abbrev sample : ℤ → SampledResult
+  sample = curveAnswer lent (s .args .element) (s .args .body)
 
   abbrev point : ℤ → List ℤ
-  point = pointAt (s .args .used) lent (s .args .element)
+  point p = sample p .outcome .coordinates
+
+  curved : Curved lent (s .args .element) (s .args .body)
+  curved = s .pre .1 .1 .0
 
   interval : Interval point (s .args .a) (s .args .b) (s .args .p) (s .args .q)
-  interval = s .pre .1 .1
+  interval = s .pre .1 .1 .1
 
   abbrev parameters : List ℤ
   parameters = ends point (s .args .tolerance) (s .args .depth) (s .args .a) (s .args .b)
@@ -61,9 +67,9 @@ module _ {t : ℕ} (s : write-lts.Start (claims t) (write-at t) write.Post) wher
 
 module _ {t : ℕ} (c : write-lts.After-split-of (claims t) (write-at t) write.Post) where
   abbrev s1 : write-lts.Start (claims t) (write-at t) write.Post
-  s1 = c .before .before .before .before .before
+  s1 = c .before .before
 
-  split-is : splitOf (pointOnCurve (s1 .args .used) (lent s1) (s1 .args .element)) (s1 .args .tolerance) (s1 .args .depth) (s1 .args .a) (s1 .args .b) ≡ c .split-of .result
+  split-is : splitOf (sample s1) (s1 .args .tolerance) (s1 .args .depth) (s1 .args .a) (s1 .args .b) ≡ c .split-of .result
   split-is = sym (rw (toZ-ofZ (s1 .fits .tolerance), toZ-ofZ (s1 .fits .a), toZ-ofZ (s1 .fits .b)) at (c .split-of .ensures))
 
 -- one chord
@@ -74,7 +80,7 @@ module _ {t : ℕ} (c : write-lts.After-enum-told (claims t) (write-at t) write.
   is-chord : numbers (point s2) (parameters s2) ≡ pointOutcome (s2 .args .q) .coordinates
   is-chord =
       numbers-chord (interval s2)
-      (one-chord (pointOnCurve (s2 .args .used) (lent s2) (s2 .args .element)) (agreed (s2 .args .used) (lent s2) (s2 .args .element)) (s2 .args .tolerance) (s2 .args .a) (s2 .args .b) (s2 .args .depth)
+      (one-chord (sample s2) (agreed (lent s2) (s2 .args .element) (s2 .args .body)) (s2 .args .tolerance) (s2 .args .a) (s2 .args .b) (s2 .args .depth)
       (split-is (c .before .before) ∙ c .enum-told .given .1))
 
 -- halved at the middle
@@ -87,7 +93,7 @@ module _ {t : ℕ} (c : write-lts.After-known-told (claims t) (write-at t) write
 
   parted : Parted (point s3) (s3 .args .tolerance) (s3 .args .depth) (s3 .args .a) (s3 .args .b) m (c .before .split .given .0 .1 .0)
   parted =
-      two-halves (pointOnCurve (s3 .args .used) (lent s3) (s3 .args .element)) (agreed (s3 .args .used) (lent s3) (s3 .args .element)) (s3 .args .tolerance) (s3 .args .a) (s3 .args .b) (s3 .args .depth)
+      two-halves (sample s3) (agreed (lent s3) (s3 .args .element) (s3 .args .body)) (s3 .args .tolerance) (s3 .args .a) (s3 .args .b) (s3 .args .depth)
       (split-is (c .before .before .before) ∙ c .before .split .given .1)
 
   middle-is : toZ w32 (ofZ w32 m) ≡ m
@@ -105,7 +111,7 @@ module _ {t : ℕ} (c : write-lts.After-known-told (claims t) (write-at t) write
       ∙ numbers-joined (point s3) (ends (point s3) (s3 .args .tolerance) (s3 .args .depth - 1) (s3 .args .a) m) (ends (point s3) (s3 .args .tolerance) (s3 .args .depth - 1) m (s3 .args .b))
 
 write-split-of-requires : (t : ℕ) → write-lts.Need-split-of-requires (claims t) (write-at t) write.Post
-write-split-of-requires t c κs = let s = c .before .before .before .before in interval-read (toZ-ofZ (s .fits .a)) (toZ-ofZ (s .fits .b)) (interval s)
+write-split-of-requires t c κs = let s = c .before in (curved s, interval-read (toZ-ofZ (s .fits .a)) (toZ-ofZ (s .fits .b)) (interval s))
 
 write-enum-known-split : (t : ℕ) → write-lts.Need-enum-known-split (claims t) (write-at t) write.Post
 write-enum-known-split t c = search needs
@@ -133,7 +139,7 @@ write-write-requires t c κs =
       (
         room-read (point s) (s .args .depth - 1) (toZ-ofZ (s .fits .tolerance)) (toZ-ofZ (s .fits .a)) (middle-is e) (s .args .at) (length (s .args .points .now))
             (room-first (s .args .at) (length (s .args .points .now)) (first e) (second e) (halves e) (room s)),
-        interval-read (toZ-ofZ (s .fits .a)) (middle-is e) (record { start-is = interval s .start-is; end-is = parted e .point-is }),
+        (curved s, interval-read (toZ-ofZ (s .fits .a)) (middle-is e) (record { start-is = interval s .start-is; end-is = parted e .point-is })),
       ),
     )
 
@@ -145,7 +151,7 @@ module _ {t : ℕ} (c : write-lts.After-write (claims t) (write-at t) write.Post
   s4 = s3 e4
 
   abbrev left : List ℤ
-  left = c .write .last .1 .1 .1 .1 .1 .1 .1 .1 .1 .1 .1 .1 .1 .1 .1 .1 .1 .1 .1 .0
+  left = c .write .last .1 .1 .1 .1 .1 .1 .1 .1 .1 .1 .1 .1 .0
 
   first-written : (c .write .result ≡ s4 .args .at + length (first e4)) × (left ≡ sets (s4 .args .points .now) (s4 .args .at) (first e4))
   first-written = written (point s4) (s4 .args .depth - 1) (toZ-ofZ (s4 .fits .tolerance)) (toZ-ofZ (s4 .fits .a)) (middle-is e4) (s4 .args .at) (s4 .args .points .now) (c .write .ensures)
@@ -165,7 +171,7 @@ write-write-requires-2 t c κs =
       (
         room-read (point s) (s .args .depth - 1) (toZ-ofZ (s .fits .tolerance)) (middle-is e) (toZ-ofZ (s .fits .b)) (w .write .result) (length (left w))
             (room-second (s .args .at) (length (s .args .points .now)) (first e) (second e) (halves e) (first-written w .0) (left-long w) (room s)),
-        interval-read (middle-is e) (toZ-ofZ (s .fits .b)) (record { start-is = parted e .point-is; end-is = interval s .end-is }),
+        (curved s, interval-read (middle-is e) (toZ-ofZ (s .fits .b)) (record { start-is = parted e .point-is; end-is = interval s .end-is })),
       ),
     )
 
@@ -177,7 +183,7 @@ module _ {t : ℕ} (c : write-lts.After-write2 (claims t) (write-at t) write.Pos
   s5 = s4 w5
 
   abbrev all : List ℤ
-  all = c .write2 .last .1 .1 .1 .1 .1 .1 .1 .1 .1 .1 .1 .1 .1 .1 .1 .1 .1 .1 .1 .0
+  all = c .write2 .last .1 .1 .1 .1 .1 .1 .1 .1 .1 .1 .1 .1 .0
 
   second-written : (c .write2 .result ≡ w5 .write .result + length (second (e4 w5))) × (all ≡ sets (left w5) (w5 .write .result) (second (e4 w5)))
   second-written = written (point s5) (s5 .args .depth - 1) (toZ-ofZ (s5 .fits .tolerance)) (middle-is (e4 w5)) (toZ-ofZ (s5 .fits .b)) (w5 .write .result) (left w5) (c .write2 .ensures)

@@ -2,13 +2,14 @@
 use borrow.Author.Needs.{needs}
 use mathlib.Core.Path.{_≡_, sym, ap, ap₂, _∙_}
 use mathlib.Core.Bool.{Bool}
-use mathlib.Core.List.{List}
+use mathlib.Core.List.{List, []}
 use lib.IntN.{ℤ}
 use mir.Syntax.{w32}
 use mir.Val.{toZ, ofZ}
 use mir.Facts.{toZ-ofZ}
 use Rattle.tables.specs.Tables.{tables}
-use Rattle.sampler.specs.Answers.{SampledResult, sampledResult, pointOnCurve}
+use Rattle.sampler.specs.Answers.{SampledResult, sampledResult}
+use Rattle.sampler.specs.Sampling.{curveAnswer}
 use Rattle.polyline.specs.Chords.{middle, short, straight}
 use Rattle.polyline.specs.declared.Split.the-variants as split
 use Rattle.polyline.proofs.Halves.{split-none, split-short, split-straight, split-halves}
@@ -16,7 +17,7 @@ use Rattle.polyline.proofs.split_of.Statement.{statement}
 use Rattle.polyline.proofs.split_of.Tie as tie
 
 abbrev sample : tie.Start → ℤ → SampledResult
-sample s = pointOnCurve (s .args .used) (tables (s .args .v .now) (s .args .vt .now) (s .args .vn .now) (s .args .vp .now) (s .args .corners .now) (s .args .elements .now) (s .args .bodies .now) (s .args .ranges .now) (s .args .parameters .now) (s .args .loops .now) (s .args .spans .now)) (s .args .element)
+sample s = curveAnswer (tables (s .args .v .now) [] [] (s .args .vp .now) (s .args .corners .now) [] [] [] (s .args .parameters .now) [] []) (s .args .element) (s .args .body)
 
 abbrev point : tie.Start → ℤ → List ℤ
 point s p = sample s p .outcome .coordinates
@@ -27,20 +28,20 @@ straight-read e f g h k = rw (f, g, h, k) at e
 
 module _ (c : tie.After-is-short) where
   abbrev s1 : tie.Start
-  s1 = c .before .before .before .before .before .before
+  s1 = c .before .before .before
 
   short-is : c .is-short .result ≡ short (s1 .args .a) (s1 .args .b)
   short-is = rw (toZ-ofZ (s1 .fits .a), toZ-ofZ (s1 .fits .b)) at (c .is-short .ensures)
 
-module _ (c : tie.After-point-on-curve) where
+module _ (c : tie.After-curve-at) where
   abbrev s2 : tie.Start
   s2 = s1 (c .before .before .before)
 
   middle-is : toZ w32 (ofZ w32 (c .before .middle-of .result)) ≡ middle (s2 .args .a) (s2 .args .b)
   middle-is = toZ-ofZ {w = w32} (record { sfits = c .before .middle-of .ok }) ∙ (rw (toZ-ofZ (s2 .fits .a), toZ-ofZ (s2 .fits .b)) at (c .before .middle-of .ensures))
 
-  sampled-is : sampledResult (c .point-on-curve .result) ≡ sample s2 (middle (s2 .args .a) (s2 .args .b))
-  sampled-is = c .point-on-curve .ensures ∙ ap (sample s2) middle-is
+  sampled-is : sampledResult (c .curve-at .result) ≡ sample s2 (middle (s2 .args .a) (s2 .args .b))
+  sampled-is = c .curve-at .ensures ∙ ap (sample s2) middle-is
 
 module _ (c : tie.After-is-straight) where
   abbrev s3 : tie.Start
@@ -48,10 +49,10 @@ module _ (c : tie.After-is-straight) where
 
   straight-is : c .is-straight .result ≡ straight (s3 .args .tolerance) (point s3 (s3 .args .a)) (point s3 (middle (s3 .args .a) (s3 .args .b))) (point s3 (s3 .args .b))
   straight-is =
-      straight-read (c .is-straight .ensures) (toZ-ofZ (s3 .fits .tolerance)) (s3 .pre .start-is) (ap (λ (x : SampledResult). x .outcome .coordinates) (sampled-is (c .before))) (s3 .pre .end-is)
+      straight-read (c .is-straight .ensures) (toZ-ofZ (s3 .fits .tolerance)) (s3 .pre .1 .start-is) (ap (λ (x : SampledResult). x .outcome .coordinates) (sampled-is (c .before))) (s3 .pre .1 .end-is)
 
 returns : tie.Need-returns
-returns c = let s = c .before .before .before .before .before in split-none (sample s) (s .args .tolerance) (s .args .a) (s .args .b) (s .args .depth) (c .if1 .taken)
+returns c = let s = c .before .before in split-none (sample s) (s .args .tolerance) (s .args .a) (s .args .b) (s .args .depth) (c .if1 .taken)
 
 is-short-requires : tie.Need-is-short-requires
 is-short-requires c κs = search needs
@@ -62,8 +63,8 @@ returns-2 c = let s = s1 (c .before) in split-short (sample s) (s .args .toleran
 middle-of-requires : tie.Need-middle-of-requires
 middle-of-requires c κs = search needs
 
-point-on-curve-requires : tie.Need-point-on-curve-requires
-point-on-curve-requires c κs = search needs
+curve-at-requires : tie.Need-curve-at-requires
+curve-at-requires c κs = s1 (c .before .before) .pre .0
 
 is-straight-requires : tie.Need-is-straight-requires
 is-straight-requires c κs = search needs
@@ -90,7 +91,7 @@ split-of-spec =
     is-short-requires
     returns-2
     middle-of-requires
-    point-on-curve-requires
+    curve-at-requires
     is-straight-requires
     returns-3
     returns-4)

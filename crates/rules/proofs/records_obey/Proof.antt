@@ -3,13 +3,13 @@ use mathlib.Core.Path.{_≡_, _∙_}
 use mathlib.Core.List.{[]}
 use borrow.Author.Tests.{le-leb, lt-leb}
 use Rattle.tables.specs.Tables.{Tables, tables}
 use Rattle.rules.proofs.Bodied.{outline}
 use Rattle.rules.proofs.OneBody.{corners-lent, record-lent}
 use Rattle.basis.proofs.Tests.{failed, passed}
-use Rattle.table_rules.specs.Pass.{recordsObey}
+use Rattle.rules.specs.Rules.{recordsObey}
 use borrow.Author.Needs.{needs}
-use Rattle.table_rules.proofs.elements.records_obey.Statement.{statement}
-use Rattle.table_rules.proofs.elements.records_obey.Tie as tie
+use Rattle.rules.proofs.records_obey.Statement.{statement}
+use Rattle.rules.proofs.records_obey.Tie as tie
 
 element-obeys-requires : tie.Need-element-obeys-requires
 element-obeys-requires c κs = search needs

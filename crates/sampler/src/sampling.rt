@@ -1,0 +1,113 @@
+// Points of an element that was looked up.
+ghost use mathlib.Core.Path.{_≡_};
+ghost use mathlib.Core.List.{[]};
+ghost use Rattle.tables.specs.Tables.{tables};
+ghost use Rattle.sampler.specs.Answers.{sampledResult, ranResult};
+ghost use Rattle.sampler.specs.Sampling.{Curved, Surfaced, curveAnswer, surfaceAnswer, runAnswer};
+use crate::Ran;
+use crate::Sampled;
+use crate::points::curve_point;
+use crate::points::surface_point;
+use crate::records::along_of;
+use crate::records::axes_of;
+use crate::records::is_inside;
+use runs::write_run;
+use tables::Body;
+use tables::Element;
+
+pub fn curve_at(
+    v: &[i32],
+    vp: &[i32],
+    corners: &[u32],
+    parameters: &[i32],
+    element: Element,
+    body: Body,
+    t: i32,
+) -> Sampled
+    requires { ⌜ Curved (tables (now v) [] [] (now vp) (now corners) [] [] [] (now parameters) [] []) element body ⌝ }
+    ensures { λ r. ⌜ sampledResult r ≡ curveAnswer (tables (now (v .entry)) [] [] (now (vp .entry)) (now (corners .entry)) [] [] [] (now (parameters .entry)) [] []) element body t ⌝ }
+{
+    if !is_inside(body.start_u, body.end_u, t) {
+        return Sampled::Refused { number: 19 };
+    }
+    let along = along_of(body.basis, body.degree_u, body.count_u);
+    let from = body.first_parameter as usize;
+    let to = from + body.count_u as usize;
+    let x = &parameters[from..to];
+    curve_point(element.kind, v, vp, corners, element.first, x, along, t)
+}
+
+pub fn surface_at(
+    v: &[i32],
+    corners: &[u32],
+    parameters: &[i32],
+    element: Element,
+    body: Body,
+    s: i32,
+    t: i32,
+) -> Sampled
+    requires { ⌜ Surfaced (tables (now v) [] [] [] (now corners) [] [] [] (now parameters) [] []) element body ⌝ }
+    ensures { λ r. ⌜ sampledResult r ≡ surfaceAnswer (tables (now (v .entry)) [] [] [] (now (corners .entry)) [] [] [] (now (parameters .entry)) [] []) element body s t ⌝ }
+{
+    if !is_inside(body.start_u, body.end_u, s) {
+        return Sampled::Refused { number: 19 };
+    }
+    if !is_inside(body.start_v, body.end_v, t) {
+        return Sampled::Refused { number: 19 };
+    }
+    let along_u = along_of(body.basis, body.degree_u, body.count_u);
+    let along_v = along_of(body.basis, body.degree_v, body.count_v);
+    let from = body.first_parameter as usize;
+    let middle = from + body.count_u as usize;
+    let to = middle + body.count_v as usize;
+    let x = &parameters[from..middle];
+    let y = &parameters[middle..to];
+    surface_point(v, corners, element.first, x, along_u, s, y, along_v, t)
+}
+
+pub fn run_at(
+    v: &[i32],
+    vp: &[i32],
+    corners: &[u32],
+    parameters: &[i32],
+    element: Element,
+    body: Body,
+    steps: u32,
+    points: &mut [i32],
+    at: usize,
+) -> Ran
+    requires { ⌜ Curved (tables (now v) [] [] (now vp) (now corners) [] [] [] (now parameters) [] []) element body ⌝ }
+    ensures { λ r. ⌜ ranResult r (now (points .exit)) ≡ runAnswer (tables (now (v .entry)) [] [] (now (vp .entry)) (now (corners .entry)) [] [] [] (now (parameters .entry)) [] []) element body steps at (now (points .entry)) ⌝ }
+{
+    if steps < 1 {
+        return Ran::Refused { number: 19 };
+    }
+    if 65536 < steps {
+        return Ran::Refused { number: 19 };
+    }
+    let numbers = axes_of(element.kind) * (steps as usize + 1);
+    if points.len() < numbers {
+        return Ran::Refused { number: 16 };
+    }
+    if points.len() - numbers < at {
+        return Ran::Refused { number: 16 };
+    }
+    let along = along_of(body.basis, body.degree_u, body.count_u);
+    let from = body.first_parameter as usize;
+    let to = from + body.count_u as usize;
+    let x = &parameters[from..to];
+    write_run(
+        &mut points[at..],
+        element.kind,
+        v,
+        vp,
+        corners,
+        element.first,
+        x,
+        along,
+        body.start_u,
+        body.end_u,
+        steps,
+    );
+    Ran::Filled { numbers }
+}
