@@ -20,7 +20,7 @@ use Rattle.tables.specs.Asking.{partOf}
 use Rattle.model.specs.Layout.{runOf}
 use Rattle.tidying.specs.Tidied.{sameWords}
 use Rattle.tidying.specs.Agree.{wordsAt}
-use Rattle.tidying.proofs.Named.{Stands}
+use Rattle.model.proofs.Placed.{WordsStand}
 use Rattle.emitting.specs.Naming.{sameBytes, partNames, NextMet}
 
 -- ---- names compared as words
@@ -135,6 +135,6 @@ names-same s place count place′ count′ p q e =
     e ∙ ap₂ (λ (x y : List ℕ). sameBytes (partNames x) (partNames y)) p q ∙ ap₂ sameBytes (part-names s place count) (part-names s place′ count′)
 
 -- names that stand in the text are compared as the words of their parts
-pub named-same : (s : List ℕ) (v w : List Word) → Stands s v → Stands s w
+pub named-same : (s : List ℕ) (v w : List Word) → WordsStand s v → WordsStand s w
     → sameWords v w ≡ sameBytes (wordsAt s (runOf v .place) (runOf v .length)) (wordsAt s (runOf w .place) (runOf w .length))
-named-same s v w p q = words-bytes v w ∙ sym (ap₂ sameBytes p q)
+named-same s v w p q = words-bytes v w ∙ sym (ap₂ sameBytes (ap bytesOf p) (ap bytesOf q))

@@ -28,7 +28,7 @@ use Rattle.sampler.proofs.Demanded.{points-on-curves, runs-on-curves}
 use Rattle.sampler.proofs.OnSurfaces.{points-on-surfaces}
 use Rattle.joining.specs.Files.{alongU, alongV, controlIn, axesIn, gridIn}
 use Rattle.joining.specs.Joined.{Holds, Carried, PointOnCurve, AcceptedCurves, PointsOfRun, AcceptedRuns, PointOnSurface, AcceptedSurfaces}
-use Rattle.joining.proofs.BodyRows.{laidBody, parametersIn}
+use Rattle.model.proofs.BodyRows.{laidBody, parametersIn}
 use Rattle.joining.proofs.Curves.{curve-kept, curve2-kept}
 use Rattle.joining.proofs.Surfaces.{surface-kept}
 use Rattle.joining.proofs.Own.{exact-same, grid-same, count-is, counts-are, in-grid}

@@ -1,6 +1,6 @@
 -- The corners of an accepted text obey the rules: each is held against the counts, and all have the first one's pattern. By the corners.
-use Prim.Native.Nat.{ℕ, zero, suc, _+_, _*_, _-_, _≤_, _<_}
-use mathlib.Core.Path.{_≡_, refl, ap, ap₂, _∙_}
+use Prim.Native.Nat.{ℕ, zero, suc, _+_, _*_, _≤_, _<_}
+use mathlib.Core.Path.{_≡_, refl, ap₂, _∙_}
 use mathlib.Core.List.{List, [], _∷_}
 use mathlib.Core.Bool.{Bool, true, false, cond, not, _&&_, _||_}
 use native.Mathlib.Omega.{arith}
@@ -13,26 +13,22 @@ use Rattle.lists.proofs.Tests.{and-left, and-right, and-both, never}
 use Rattle.forms.specs.Corner.{Corner, agree, alike}
 use Rattle.forms.specs.Fits.{referenceFits, partFits}
 use Rattle.tables.specs.Tables.{Tables}
-use Rattle.tables.specs.Records.{cornerAt, vtWidth}
-use Rattle.tables.specs.declared.Corner as records
+use Rattle.tables.specs.Records.{cornerAt, vtWidth, cornerWidth}
 use Rattle.tables.specs.declared.Used.{Used}
-use Rattle.tables.proofs.Flat.{getD-flat}
 use Rattle.model.specs.Layout.{cornerRow}
 use Rattle.tidying.proofs.Standing.{uniform}
 use Rattle.model.proofs.Rows.{corners-length}
 use Rattle.rules.specs.Vertices.{vertexObeys}
 use Rattle.rules.specs.Corners.{leastCorners, withTexture, withNormal, attributeObeys, pointObeys, cornerObeys, eachCorner, cornersObey}
 use Rattle.rules.proofs.Below.{below-all}
-use Rattle.joining.proofs.Stands.{Stands, stands-at}
+use Rattle.model.proofs.Stands.{Stands}
+use Rattle.model.proofs.ElementRows.{noCorner, laidCorner, corner-at}
 use Rattle.joining.proofs.Vertices.{all-at}
 
 -- ---- one pattern
 agree-same : (a : Bool) → agree a a ≡ true
 agree-same true = refl
 agree-same false = refl
-
-abbrev pub noCorner : Corner
-noCorner = record { v = 0; vt = 0; vn = 0 }
 
 pub alike-first : (cs : List Corner) (k : ℕ) → uniform cs ≡ true → k < length cs → alike (getD cs 0 noCorner) (getD cs k noCorner) ≡ true
 alike-first [] k u h = absurd (omega arith)
@@ -63,26 +59,7 @@ pub record Named (u : Used) (t : Tables) : Type 0 where
   pub vt : (k : ℕ) → 1 ≤ k → k ≤ u .vt → vertexObeys 3 (t .vt) (u .vt) k ≡ true
   pub vn : (k : ℕ) → 1 ≤ k → k ≤ u .vn → vertexObeys 3 (t .vn) (u .vn) k ≡ true
 
-abbrev pub laidCorner : Corner → records.Corner
-laidCorner c = record { v = c .v; vt = c .vt; vn = c .vn }
-
 module _ (u : Used) (t : Tables) (n : Named u t) (kind first : ℕ) (cs : List Corner) (s : Stands (t .corners) first (flat cornerRow cs)) where
-  number-at : (k j : ℕ) → k < length cs → j < 3 → getD (t .corners) (first + 3 * k + j) 0 ≡ getD (cornerRow (getD cs k noCorner)) j 0
-  number-at k j h b =
-      let l = corners-length cs in
-      let e : first + 3 * k + j ≡ first + (3 * k + j) = omega arith in
-      ap (λ (q : ℕ). getD (t .corners) q 0) e ∙ stands-at (t .corners) first (flat cornerRow cs) (3 * k + j) 0 s (omega arith)
-      ∙ getD-flat cornerRow 3 (λ c. refl) cs k j noCorner 0 h b
-
-  pub corner-at : (k : ℕ) → k < length cs → cornerAt t first k ≡ laidCorner (getD cs k noCorner)
-  corner-at k h =
-      let z : first + 3 * k ≡ first + 3 * k + 0 = omega arith in
-      let a : getD (t .corners) (first + 3 * k) 0 ≡ getD cs k noCorner .v = ap (λ (q : ℕ). getD (t .corners) q 0) z ∙ number-at k 0 h (omega arith) in
-      let b : getD (t .corners) (first + 3 * k + 1) 0 ≡ getD cs k noCorner .vt = number-at k 1 h (omega arith) in
-      let c : getD (t .corners) (first + 3 * k + 2) 0 ≡ getD cs k noCorner .vn = number-at k 2 h (omega arith) in
-      ap₂ (λ (x y : ℕ). record { v = x; vt = y; vn = getD (t .corners) (first + 3 * k + 2) 0 }) a b
-      ∙ ap (λ (x : ℕ). record { v = getD cs k noCorner .v; vt = getD cs k noCorner .vt; vn = x }) c
-
   corner-obeys : (f c : Corner) → CornerKept u t kind c → alike f c ≡ true → cornerObeys u t kind (laidCorner f) (laidCorner c) ≡ true
   unfolding cornerObeys
   corner-obeys f c k a =
@@ -90,15 +67,15 @@ module _ (u : Used) (t : Tables) (n : Named u t) (kind first : ℕ) (cs : List C
       (and-both (k .point) (attribute (withTexture kind) (t .vt) (u .vt) (f .vt) (c .vt) (k .vt) (and-left (agree (eqb (f .vt) 0) (eqb (c .vt) 0)) _ a) (n .vt (c .vt))))
       (attribute (withNormal kind) (t .vn) (u .vn) (f .vn) (c .vn) (k .vn) (and-right (agree (eqb (f .vt) 0) (eqb (c .vt) 0)) _ a) (n .vn (c .vn)))
 
-  pub corners-obey : first + 3 * length cs ≤ u .corners → leastCorners kind ≤ length cs → uniform cs ≡ true → ((k : ℕ) → k < length cs → CornerKept u t kind (getD cs k noCorner))
+  pub corners-obey : first + cornerWidth * length cs ≤ u .corners → leastCorners kind ≤ length cs → uniform cs ≡ true → ((k : ℕ) → k < length cs → CornerKept u t kind (getD cs k noCorner))
       → cornersObey u t kind first (length cs) ≡ true
   unfolding cornersObey eachCorner
   corners-obey a b e f =
       and-both
       (and-both
-      (and-both (le-leb (first + 3 * length cs) (u .corners) a) (le-leb (first + 3 * length cs) (length (t .corners)) (let l = s .lent in let m = corners-length cs in omega arith)))
+      (and-both (le-leb (first + cornerWidth * length cs) (u .corners) a) (le-leb (first + cornerWidth * length cs) (length (t .corners)) (let l = s .lent in let m = corners-length cs in omega arith)))
       (le-leb (leastCorners kind) (length cs) b))
       (below-all (λ k. cornerObeys u t kind (cornerAt t first 0) (cornerAt t first k)) (length cs)
       (λ k h.
-      ap₂ (cornerObeys u t kind) (corner-at 0 (omega arith)) (corner-at k h)
+      ap₂ (cornerObeys u t kind) (corner-at t first cs s 0 (omega arith)) (corner-at t first cs s k h)
       ∙ corner-obeys (getD cs 0 noCorner) (getD cs k noCorner) (f k h) (alike-first cs k e h)))

@@ -31,7 +31,7 @@ use Rattle.rules.specs.Numbers.{eqZ}
 use Rattle.basis.specs.Widest.{widest}
 use Rattle.rules.specs.Bodies.{flatObeys, curveObeys, recordObeys}
 use Rattle.tidying.proofs.Bodies.{unsettled-free}
-use Rattle.joining.proofs.BodyRows.{laidBody, BodyRow, us-are}
+use Rattle.model.proofs.BodyRows.{laidBody, BodyRow, us-are}
 use Rattle.tables.proofs.Types.{basis-back}
 use Rattle.joining.proofs.Directions.{Needed, degree-obeys, needed-u, type-obeys, Parameters, parameters-obey}
 

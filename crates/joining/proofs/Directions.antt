@@ -26,7 +26,7 @@ use Rattle.tidying.proofs.Shapes.{fitting-is}
 use Rattle.tidying.proofs.Standing.{seenOf, Fine}
 use Rattle.tidying.proofs.Good.{Always}
 use Rattle.rules.specs.Directions.{degreeObeys, typeObeys, parametersObey}
-use Rattle.joining.proofs.Stands.{Stands}
+use Rattle.model.proofs.Stands.{Stands}
 use Rattle.joining.proofs.Vertices.{numbers-all, small-run}
 
 -- ---- degrees

@@ -1,10 +1,7 @@
-pub mod Stands
 pub mod Vertices
 pub mod Corners
-pub mod Laid
 pub mod Elements
 pub mod Plain
-pub mod BodyRows
 pub mod Directions
 pub mod Curves
 pub mod Loops

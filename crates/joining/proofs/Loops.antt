@@ -1,11 +1,11 @@
 -- The trimming loops of an accepted text obey the rules: its parts in order, each with what begins at it. By the loops.
 use Prim.Native.Nat.{ℕ, zero, suc, _+_, _*_, _%_, _≤_, _<_}
-use mathlib.Core.Path.{_≡_, refl, sym, ap, ap₂, _∙_, subst}
+use mathlib.Core.Path.{_≡_, refl, sym, ap, _∙_, subst}
 use mathlib.Core.List.{List, [], _∷_, _++_, map}
 use mathlib.Core.Bool.{Bool, true, false, cond, _&&_}
 use native.Mathlib.Omega.{arith}
 use borrow.Author.Tests.{le-leb, ne-eqb, eq-eqb}
-use lib.ListN.{length, getD, length-append, length-map}
+use lib.ListN.{length, getD}
 use lib.Dec.{leb, eqb}
 use lib.IntN.{ℤ, pos}
 use Rattle.lists.specs.Lists.{all, flat}
@@ -13,95 +13,35 @@ use Rattle.lists.proofs.Tests.{and-left, and-right, and-both}
 use Rattle.lists.proofs.Laws.{all-append}
 use Rattle.forms.specs.Fits.{numberFits, referenceFits}
 use Rattle.tables.specs.Tables.{Tables}
-use Rattle.tables.specs.Records.{partAt}
+use Rattle.tables.specs.Records.{partAt, loopWidth, spanWidth}
 use Rattle.tables.specs.Records as records
-use Rattle.tables.proofs.Flat.{flat-append, length-flat, getD-flat}
+use Rattle.tables.proofs.Flat.{length-flat}
 use Rattle.model.specs.Model.{Vertices, Part, Loop}
 use Rattle.model.specs.Statements.{loop}
 use Rattle.model.specs.Parse.{WordForm, a-number, a-curve, number, whole, Seen}
 use Rattle.model.specs.Room.{summed}
-use Rattle.model.specs.Layout.{firstPart, beginning, partRow, partRows, loopRow, spanRow}
+use Rattle.model.specs.Layout.{firstPart, beginning, loopRow, spanRow}
 use Rattle.tidying.specs.declared.Weights.the-variants as weights
 use Rattle.tidying.proofs.Values.{partValues}
 use Rattle.tidying.proofs.Words.{Fits, Fitting}
 use Rattle.tidying.proofs.Shapes.{fits-is}
 use Rattle.tidying.proofs.Standing.{seenOf, Fine}
 use Rattle.tidying.proofs.Good.{GoodLoops}
-use Rattle.tidying.proofs.Rows.{Parted}
+use Rattle.model.proofs.Placed.{Parted}
 use Rattle.rules.specs.Numbers.{small}
 use Rattle.rules.specs.Loops.{beginsObeys, partObeys, eachPart, loopsObey}
 use Rattle.rules.proofs.Below.{below-all}
-use Rattle.joining.proofs.Stands.{Stands, stands-at}
+use Rattle.model.specs.In.{partFrom}
+use Rattle.model.proofs.Stands.{Stands, among, among-at}
+use Rattle.model.proofs.Parts.{laidPart, begunParts, laidLoop, laidParts, rowOf, spanOf, parts-rows, parts-spans, parts-count, part-among}
 use Rattle.joining.proofs.Vertices.{all-at}
-
--- ---- parts with what begins at each: 1 a trim, 2 a hole, 0 nothing
-pub record Begun : Type 0 where
-  pub begins : ℕ
-  pub part : Part
-
-abbrev goesOn : Part → Begun
-goesOn p = record { begins = 0; part = p }
-
-abbrev begunParts : ℕ → List Part → List Begun
-begunParts n [] = []
-begunParts n (p ∷ ps) = record { begins = n; part = p } ∷ map goesOn ps
-
-abbrev begunLoop : Loop → List Begun
-begunLoop l = begunParts (beginning (l .hole)) (l .parts)
-
-abbrev pub begun : List Loop → List Begun
-begun ls = flat begunLoop ls
-
-abbrev pub begunRow : Begun → List ℕ
-begunRow q = partRow (q .begins) (q .part)
-
-abbrev pub begunSpan : Begun → List ℤ
-begunSpan q = spanRow (q .part)
-
-on-rows : (ps : List Part) → flat (partRow 0) ps ≡ flat begunRow (map goesOn ps)
-on-rows [] = refl
-on-rows (p ∷ ps) = ap (λ (r : List ℕ). 0 ∷ p .curve ∷ r) (on-rows ps)
-
-part-rows : (n : ℕ) (ps : List Part) → partRows n ps ≡ flat begunRow (begunParts n ps)
-part-rows n [] = refl
-part-rows n (p ∷ ps) = ap (λ (r : List ℕ). n ∷ p .curve ∷ r) (on-rows ps)
-
-on-spans : (ps : List Part) → flat spanRow ps ≡ flat begunSpan (map goesOn ps)
-on-spans [] = refl
-on-spans (p ∷ ps) = ap (λ (r : List ℤ). p .from ∷ p .to ∷ r) (on-spans ps)
-
-part-spans : (n : ℕ) (ps : List Part) → flat spanRow ps ≡ flat begunSpan (begunParts n ps)
-part-spans n [] = refl
-part-spans n (p ∷ ps) = ap (λ (r : List ℤ). p .from ∷ p .to ∷ r) (on-spans ps)
-
-pub begun-rows : (ls : List Loop) → flat loopRow ls ≡ flat begunRow (begun ls)
-begun-rows [] = refl
-begun-rows (l ∷ ls) =
-    ap₂ (λ (a b : List ℕ). a ++ b) (part-rows (beginning (l .hole)) (l .parts)) (begun-rows ls) ∙ sym (flat-append begunRow (begunLoop l) (begun ls))
-
-pub begun-spans : (ls : List Loop) → flat (λ (l : Loop). flat spanRow (l .parts)) ls ≡ flat begunSpan (begun ls)
-begun-spans [] = refl
-begun-spans (l ∷ ls) =
-    ap₂ (λ (a b : List ℤ). a ++ b) (part-spans (beginning (l .hole)) (l .parts)) (begun-spans ls) ∙ sym (flat-append begunSpan (begunLoop l) (begun ls))
-
-parts-many : (n : ℕ) (ps : List Part) → length (begunParts n ps) ≡ length ps
-parts-many n [] = refl
-parts-many n (p ∷ ps) = ap suc (length-map ps goesOn)
-
-pub begun-many : (ls : List Loop) → length (begun ls) ≡ summed (λ (l : Loop). length (l .parts)) ls
-begun-many [] = refl
-begun-many (l ∷ ls) =
-    let a = length-append (begunLoop l) (begun ls) in
-    let b = parts-many (beginning (l .hole)) (l .parts) in
-    let c = begun-many ls in
-    omega arith
 
 -- ---- each part is held against the curves before it, its numbers in range
 abbrev partOk : ℕ → Part → Bool
 partOk n p = referenceFits n (p .curve) && numberFits (p .from) && numberFits (p .to)
 
-abbrev pub begunOk : ℕ → Begun → Bool
-begunOk n q = leb (q .begins) 2 && partOk n (q .part)
+abbrev pub begunOk : ℕ → records.Part → Bool
+begunOk n q = leb (q .begins) 2 && partOk n (partFrom q)
 
 module _ (s : Seen) where
   abbrev loopForm : ℕ → WordForm
@@ -133,7 +73,7 @@ fine-parts x n l f = go (l .hole) f
     go true f = parts-kept (seenOf x n) 0 (l .parts) refl (f .fits weights.Always)
     go false f = parts-kept (seenOf x n) 0 (l .parts) refl (f .fits weights.Always)
 
-on-ok : (n : ℕ) (ps : List Part) → all (partOk n) ps ≡ true → all (begunOk n) (map goesOn ps) ≡ true
+on-ok : (n : ℕ) (ps : List Part) → all (partOk n) ps ≡ true → all (begunOk n) (map (laidPart 0) ps) ≡ true
 on-ok n [] h = refl
 on-ok n (p ∷ ps) h = and-both (and-left (partOk n p) (all (partOk n) ps) h) (on-ok n ps (and-right (partOk n p) (all (partOk n) ps) h))
 
@@ -149,59 +89,41 @@ begun-part : (n m : ℕ) (ps : List Part) → leb m 2 ≡ true → all (partOk n
 begun-part n m [] b h = refl
 begun-part n m (p ∷ ps) b h = and-both (and-both b (and-left (partOk n p) (all (partOk n) ps) h)) (on-ok n ps (and-right (partOk n p) (all (partOk n) ps) h))
 
-pub begun-ok : (x : Vertices) (n : ℕ) (ls : List Loop) → GoodLoops x n ls → all (begunOk n) (begun ls) ≡ true
+pub begun-ok : (x : Vertices) (n : ℕ) (ls : List Loop) → GoodLoops x n ls → all (begunOk n) (laidParts ls) ≡ true
 begun-ok x n [] g = refl
 begun-ok x n (l ∷ ls) g =
-    all-append (begunOk n) (begunLoop l) (begun ls) (begun-part n (beginning (l .hole)) (l .parts) (begins-few (l .hole)) (fine-parts x n l (g .0))) (begun-ok x n ls (g .1))
+    all-append (begunOk n) (laidLoop l) (laidParts ls) (begun-part n (beginning (l .hole)) (l .parts) (begins-few (l .hole)) (fine-parts x n l (g .0))) (begun-ok x n ls (g .1))
 
 -- the first of all begins a loop
-abbrev noPart : Begun
-noPart = record { begins = 0; part = record { from = pos 0; to = pos 0; curve = 0 } }
+abbrev noPart : records.Part
+noPart = record { begins = 0; curve = 0; from = pos 0; to = pos 0 }
 
-first-begins : (ls : List Loop) → Parted ls → 0 < length (begun ls) → leb 1 (getD (begun ls) 0 noPart .begins) ≡ true
+first-begins : (ls : List Loop) → Parted ls → 0 < length (laidParts ls) → leb 1 (getD (laidParts ls) 0 noPart .begins) ≡ true
 first-begins [] g h = absurd (omega arith)
 first-begins (l ∷ ls) g h = go (l .parts) (g .0)
   where
-    go : (ps : List Part) → 0 < length ps → leb 1 (getD (begunParts (beginning (l .hole)) ps ++ begun ls) 0 noPart .begins) ≡ true
+    go : (ps : List Part) → 0 < length ps → leb 1 (getD (begunParts (beginning (l .hole)) ps ++ laidParts ls) 0 noPart .begins) ≡ true
     go [] k = absurd (omega arith)
     go (p ∷ ps) k = begins-some (l .hole)
 
 -- ---- read back
-module _ (t : Tables) (n l : ℕ) (qs : List Begun) (s : Stands (t .loops) (2 * l) (flat begunRow qs)) (r : Stands (t .spans) (2 * l) (flat begunSpan qs)) where
-  abbrev laidPart : Begun → records.Part
-  laidPart q = record { begins = q .begins; curve = q .part .curve; from = q .part .from; to = q .part .to }
+module _ (t : Tables) (n l : ℕ) (qs : List records.Part) (s : Stands (t .loops) (loopWidth * l) (flat rowOf qs)) (r : Stands (t .spans) (spanWidth * l) (flat spanOf qs)) where
+  part-is : (k : ℕ) → k < length qs → partAt t (l + k) ≡ getD qs k noPart
+  part-is k h = let a = among qs k h in part-among t l qs s r k a ∙ sym (among-at qs k a noPart)
 
-  module _ (k : ℕ) (h : k < length qs) where
-    number-at : (j : ℕ) → j < 2 → getD (t .loops) (2 * (l + k) + j) 0 ≡ getD (begunRow (getD qs k noPart)) j 0
-    number-at j b =
-        let e : 2 * (l + k) + j ≡ 2 * l + (2 * k + j) = omega arith in
-        let w = length-flat begunRow 2 (λ q. refl) qs in
-        ap (λ (i : ℕ). getD (t .loops) i 0) e ∙ stands-at (t .loops) (2 * l) (flat begunRow qs) (2 * k + j) 0 s (omega arith)
-        ∙ getD-flat begunRow 2 (λ q. refl) qs k j noPart 0 h b
-
-    value-at : (j : ℕ) → j < 2 → getD (t .spans) (2 * (l + k) + j) (pos 0) ≡ getD (begunSpan (getD qs k noPart)) j (pos 0)
-    value-at j b =
-        let e : 2 * (l + k) + j ≡ 2 * l + (2 * k + j) = omega arith in
-        let w = length-flat begunSpan 2 (λ q. refl) qs in
-        ap (λ (i : ℕ). getD (t .spans) i (pos 0)) e ∙ stands-at (t .spans) (2 * l) (flat begunSpan qs) (2 * k + j) (pos 0) r (omega arith)
-        ∙ getD-flat begunSpan 2 (λ q. refl) qs k j noPart (pos 0) h b
-
-    part-is : partAt t (l + k) ≡ laidPart (getD qs k noPart)
-    part-is = rw (number-at 0 (omega arith), number-at 1 (omega arith), value-at 0 (omega arith), value-at 1 (omega arith)) refl
-
-  part-obeys : (k : ℕ) (q : Begun) → begunOk n q ≡ true → cond (eqb k 0) (leb 1 (q .begins)) true ≡ true → partObeys n k (laidPart q) ≡ true
+  part-obeys : (k : ℕ) (q : records.Part) → begunOk n q ≡ true → cond (eqb k 0) (leb 1 (q .begins)) true ≡ true → partObeys n k q ≡ true
   unfolding partObeys beginsObeys small
   part-obeys k q o f =
-      let c = q .part .curve in
+      let c = q .curve in
       let b = leb (q .begins) 2 in
-      let p = and-right b (partOk n (q .part)) o in
-      let v = referenceFits n c && numberFits (q .part .from) in
-      let w = and-left v (numberFits (q .part .to)) p in
-      let z = and-left (referenceFits n c) (numberFits (q .part .from)) w in
+      let p = and-right b (partOk n (partFrom q)) o in
+      let v = referenceFits n c && numberFits (q .from) in
+      let w = and-left v (numberFits (q .to)) p in
+      let z = and-left (referenceFits n c) (numberFits (q .from)) w in
       and-both
-      (and-both (and-both (and-both (and-both (and-left b (partOk n (q .part)) o) f) (and-left (leb 1 c) (leb c n) z)) (and-right (leb 1 c) (leb c n) z))
-      (and-right (referenceFits n c) (numberFits (q .part .from)) w))
-      (and-right v (numberFits (q .part .to)) p)
+      (and-both (and-both (and-both (and-both (and-left b (partOk n (partFrom q)) o) f) (and-left (leb 1 c) (leb c n) z)) (and-right (leb 1 c) (leb c n) z))
+      (and-right (referenceFits n c) (numberFits (q .from)) w))
+      (and-right v (numberFits (q .to)) p)
 
   pub each-part : all (begunOk n) qs ≡ true → (0 < length qs → leb 1 (getD qs 0 noPart .begins) ≡ true) → eachPart t n l (length qs) ≡ true
   unfolding eachPart
@@ -214,27 +136,27 @@ module _ (t : Tables) (n l : ℕ) (qs : List Begun) (s : Stands (t .loops) (2 * 
       begins (suc k) h = rw (ne-eqb (suc k) 0 (λ e. omega arith)) refl
 
 pub loops-obey : (used : ℕ) (t : Tables) (n l : ℕ) (ls : List Loop) → l + summed (λ (y : Loop). length (y .parts)) ls ≤ used
-    → Stands (t .loops) (2 * l) (flat loopRow ls) → Stands (t .spans) (2 * l) (flat (λ (y : Loop). flat spanRow (y .parts)) ls)
-    → all (begunOk n) (begun ls) ≡ true → Parted ls → (c : ℕ) → c ≡ summed (λ (y : Loop). length (y .parts)) ls → loopsObey used t n (firstPart l c) c ≡ true
+    → Stands (t .loops) (loopWidth * l) (flat loopRow ls) → Stands (t .spans) (spanWidth * l) (flat (λ (y : Loop). flat spanRow (y .parts)) ls)
+    → all (begunOk n) (laidParts ls) ≡ true → Parted ls → (c : ℕ) → c ≡ summed (λ (y : Loop). length (y .parts)) ls → loopsObey used t n (firstPart l c) c ≡ true
 unfolding loopsObey
 loops-obey used t n l ls a s r o p c q = go (eqb c 0)
   where
-    s' : Stands (t .loops) (2 * l) (flat begunRow (begun ls))
-    s' = subst (Stands (t .loops) (2 * l)) (begun-rows ls) s
+    s' : Stands (t .loops) (loopWidth * l) (flat rowOf (laidParts ls))
+    s' = subst (Stands (t .loops) (loopWidth * l)) (parts-rows ls) s
 
-    r' : Stands (t .spans) (2 * l) (flat begunSpan (begun ls))
-    r' = subst (Stands (t .spans) (2 * l)) (begun-spans ls) r
+    r' : Stands (t .spans) (spanWidth * l) (flat spanOf (laidParts ls))
+    r' = subst (Stands (t .spans) (spanWidth * l)) (parts-spans ls) r
 
     go : (z : Bool) → cond z (eqb (cond z 0 l) 0)
-        (leb (cond z 0 l + c) used && leb (2 * (cond z 0 l + c)) (length (t .loops)) && leb (2 * (cond z 0 l + c)) (length (t .spans)) && eachPart t n (cond z 0 l) c) ≡ true
+        (leb (cond z 0 l + c) used && leb (loopWidth * (cond z 0 l + c)) (length (t .loops)) && leb (spanWidth * (cond z 0 l + c)) (length (t .spans)) && eachPart t n (cond z 0 l) c) ≡ true
     go true = refl
     go false =
-        let m = begun-many ls in
-        let e : c ≡ length (begun ls) = omega arith in
-        let w₁ = length-flat begunRow 2 (λ q. refl) (begun ls) in
-        let w₂ = length-flat begunSpan 2 (λ q. refl) (begun ls) in
+        let m = parts-count ls in
+        let e : c ≡ length (laidParts ls) = omega arith in
+        let w₁ = length-flat rowOf loopWidth (λ q. refl) (laidParts ls) in
+        let w₂ = length-flat spanOf spanWidth (λ q. refl) (laidParts ls) in
         let h₁ = s' .lent in
         let h₂ = r' .lent in
         and-both
-        (and-both (and-both (le-leb (l + c) used (omega arith)) (le-leb (2 * (l + c)) (length (t .loops)) (omega arith))) (le-leb (2 * (l + c)) (length (t .spans)) (omega arith)))
-        (ap (eachPart t n l) e ∙ each-part t n l (begun ls) s' r' o (first-begins ls p))
+        (and-both (and-both (le-leb (l + c) used (omega arith)) (le-leb (loopWidth * (l + c)) (length (t .loops)) (omega arith))) (le-leb (spanWidth * (l + c)) (length (t .spans)) (omega arith)))
+        (ap (eachPart t n l) e ∙ each-part t n l (laidParts ls) s' r' o (first-begins ls p))

@@ -8,7 +8,7 @@ use lib.ListN.{length}
 use lib.Dec.{leb, eqb}
 use lib.IntN.{ℤ}
 use Rattle.tables.specs.Tables.{Tables}
-use Rattle.tables.specs.Records.{numberAt, elementAt, bodyAt}
+use Rattle.tables.specs.Records.{numberAt, elementAt, bodyAt, elementWidth}
 use Rattle.tables.specs.declared.Body.{Body}
 use Rattle.tables.specs.declared.Element.{Element}
 use Rattle.tables.specs.declared.Used.{Used}
@@ -18,12 +18,8 @@ use Rattle.rules.specs.Bodies.{surfaceObeys, recordObeys, bodyObeys}
 use Rattle.rules.specs.Rules.{elementObeys, obeys, curvesAmong}
 use Rattle.sampler.specs.Points.{axesOf, controlOf, curveAt, surfaceAt, runNumbers}
 use Rattle.sampler.specs.Answers.{SampledResult, wanted, carried, elementOf, bodyOf, refusalOf, inside, refusedPoint, curvePoint, pointOnCurve, surfacePoint, pointOnSurface, runInto}
+use Rattle.tidying.proofs.Layouts.{withElements}
 use Rattle.joining.specs.Joined.{SampledAlike}
-
--- the same tables with another table of elements
-abbrev pub withElements : List ℕ → Tables → Tables
-withElements l t =
-    record { v = t .v; vt = t .vt; vn = t .vn; vp = t .vp; corners = t .corners; elements = l; bodies = t .bodies; ranges = t .ranges; parameters = t .parameters; loops = t .loops; spans = t .spans }
 
 -- an element of these numbers, without names
 abbrev unnamed : (kind first count body smoothing : ℕ) → Element
@@ -51,7 +47,7 @@ unfolding runNumbers curveAt controlOf
 run-reads t l e b steps = refl
 
 -- ---- two tables of elements
-module _ (u : Used) (t : Tables) (k l : List ℕ) (same : (i j : ℕ) → j < 5 → numberAt 9 k i j ≡ numberAt 9 l i j) (long : length k ≡ length l) where
+module _ (u : Used) (t : Tables) (k l : List ℕ) (same : (i j : ℕ) → j < 5 → numberAt elementWidth k i j ≡ numberAt elementWidth l i j) (long : length k ≡ length l) where
   abbrev T : Tables
   T = withElements k t
 
@@ -68,7 +64,7 @@ module _ (u : Used) (t : Tables) (k l : List ℕ) (same : (i j : ℕ) → j < 5 
   obeys-same : (n i : ℕ) → obeys u T n i ≡ obeys u W n i
   unfolding obeys
   obeys-same n i =
-      ap₂ (λ (x : ℕ) (b : Bool). leb (9 * i + 9) x && b) long
+      ap₂ (λ (x : ℕ) (b : Bool). leb (elementWidth * i + elementWidth) x && b) long
       (element-reads u t k n (elementAt T i) ∙ ap (elementObeys u t n) (bared-same i) ∙ sym (element-reads u t l n (elementAt W i)))
 
   module _ (number : ℕ) where
@@ -84,7 +80,7 @@ module _ (u : Used) (t : Tables) (k l : List ℕ) (same : (i j : ℕ) → j < 5 
         let inner : (o : Bool) (b : Body) (kind len : ℕ) → ℕ =
         λ o b kind len.
         cond (leb 1 number && leb number (u .elements))
-        (cond (leb (9 * number) len) (cond (wanted surface kind) (cond o (cond (carried (b .rational) (b .basis)) 0 18) 15) 17) 15) 17 in
+        (cond (leb (elementWidth * number) len) (cond (wanted surface kind) (cond o (cond (carried (b .rational) (b .basis)) 0 18) 15) 17) 15) 17 in
         ap₂ (λ (o : Bool) (b : Body). inner o b (elementOf T number .kind) (length k))
         (ap (λ (n : ℕ). obeys u T n i) (curves-same i) ∙ obeys-same (curvesAmong l i) i) body-same
         ∙ ap₂ (λ (kind len : ℕ). inner (obeys u W (curvesAmong l i) i) (bodyOf W number) kind len) (same i 0 (omega arith)) long

@@ -1,16 +1,18 @@
 -- Every element of an accepted text obeys the rules: kind by kind, its row, its corners and its body read back.
-use Prim.Native.Nat.{ℕ, suc, _+_, _*_, _<_}
+use Prim.Native.Nat.{ℕ, suc, _+_, _*_, _-_, _<_}
 use mathlib.Core.Path.{_≡_, refl, ap, _∙_, subst}
 use mathlib.Core.List.{List}
 use mathlib.Core.Bool.{true, false, _&&_, _||_}
 use native.Mathlib.Omega.{arith}
-use borrow.Author.Tests.{leb-true}
+use borrow.Author.Tests.{leb-true, le-leb}
 use lib.ListN.{length, getD}
 use lib.Dec.{leb, eqb}
-use Rattle.lists.proofs.Tests.{and-left, and-right}
+use Rattle.lists.proofs.Tests.{and-left, and-right, and-both}
 use Rattle.forms.specs.Corner.{Corner, Parts}
 use Rattle.forms.specs.Fits.{referenceFits}
 use Rattle.tables.specs.Tables.{Tables}
+use Rattle.tables.specs.Records.{bodyWidth, rangeWidth, bodyAt}
+use Rattle.tables.specs.Asking.{held, bodyHeld}
 use Rattle.tables.specs.declared.Used.{Used}
 use Rattle.model.specs.Model.{Vertices, Free, curve, curve2, surface, along-u, Body, Kind, plain, free, Element, Model, curves}
 use Rattle.model.specs.Statements.{body}
@@ -23,17 +25,19 @@ use Rattle.tidying.proofs.Standing.{seenOf, wide, wideIn}
 use Rattle.tidying.proofs.Good.{GoodKind, GoodBody}
 use Rattle.tidying.proofs.Keep.{degrees-form}
 use Rattle.rules.specs.Corners.{leastCorners, withTexture, withNormal, pointObeys, cornersObey}
-use Rattle.rules.specs.Bodies.{recordObeys}
+use Rattle.rules.specs.Bodies.{recordObeys, bodyObeys}
 use Rattle.rules.specs.Rules.{obeys, curvesBefore}
 use Rattle.joining.specs.Joined.{EveryElementObeys}
 use Rattle.tidying.proofs.Bodies.{unsettled-free}
-use Rattle.joining.proofs.Stands.{Among, among}
+use Rattle.model.proofs.Stands.{Among, among}
 use Rattle.joining.proofs.Vertices.{all-at, control-obeys}
-use Rattle.joining.proofs.Corners.{noCorner, CornerKept}
-use Rattle.joining.proofs.Laid.{Kept, Laid, kept, laid}
-use Rattle.joining.proofs.Elements.{Good, good-element, cornersIn, row-of, curves-before, element-obeys}
+use Rattle.joining.proofs.Corners.{CornerKept}
+use Rattle.model.proofs.Laid.{Laid, laid}
+use Rattle.tidying.proofs.Placed.{Kept, kept}
+use Rattle.model.proofs.ElementRows.{noCorner, cornersIn, laidElement, row-of}
+use Rattle.joining.proofs.Elements.{Good, good-element, curves-before, element-obeys}
 use Rattle.joining.proofs.Plain.{fitting-at, corner-fits, Pattern, corner-kept, its-corners, plain-obeys}
-use Rattle.joining.proofs.BodyRows.{body-among, laidBody, parametersIn, BodyRow, body-row, body-obeys}
+use Rattle.model.proofs.BodyRows.{body-among, laidBody, parametersIn, BodyRow, body-row}
 use Rattle.joining.proofs.Directions.{Controls, controls-of, parameters-of}
 use Rattle.joining.proofs.Curves.{curve-kept, curve2-kept, curve-record}
 use Rattle.joining.proofs.Surfaces.{surface-kept, surface-record}
@@ -100,13 +104,23 @@ module _ (u : Used) (t : Tables) (m : Model) (L : Laid u t m) (K : Kept m) where
     its-wide : (k : Free) → b .free ≡ k → wideIn k x cs ≡ true
     its-wide k e = subst (λ (y : Free). wideIn y x cs ≡ true) (unsettled-free (b .free) b ∙ e) (good .line .whole .1)
 
+    body-obeys : (kind count : ℕ) → recordObeys u t n kind count (laidBody P N b) ≡ true → bodyObeys u t n kind count (suc j) ≡ true
+    unfolding bodyObeys bodyHeld held
+    body-obeys kind count h =
+        let r = its-body in
+        let e : suc j - 1 ≡ j = omega arith in
+        and-both
+        (and-both (and-both (and-both (le-leb 1 (suc j) (omega arith)) (le-leb (suc j) (u .bodies) (r .used))) (le-leb (bodyWidth * suc j) (length (t .bodies)) (r .lent-body)))
+        (le-leb (rangeWidth * suc j) (length (t .ranges)) (r .lent-range)))
+        (ap (recordObeys u t n kind count) (ap (bodyAt t) e ∙ r .is) ∙ h)
+
     free-obeys : (k : Free) → b .free ≡ k → leb 1 (freeNumber k) ≡ true → leb (freeNumber k) 6 ≡ true → leb (freeNumber k) 3 ≡ false
-        → cornersObey u t (freeNumber k) (3 * cornersIn (a .before)) (length cs) ≡ true → recordObeys u t n (freeNumber k) (length cs) (laidBody P N b) ≡ true → obeys u t n i ≡ true
+        → cornersObey u t (freeNumber k) (cornersIn (a .before)) (length cs) ≡ true → recordObeys u t n (freeNumber k) (length cs) (laidBody P N b) ≡ true → obeys u t n i ≡ true
     free-obeys k e l₁ l₂ l₃ c r =
         let w = row-of t es i (L .elements) a in
-        element-obeys u t n i (freeNumber k) (3 * cornersIn (a .before)) (length cs) (suc j) (a .one .names .smoothing) (w .lent)
-        (w .kind ∙ ap kindNumber q ∙ ap freeNumber e) (w .first) (w .count) (w .body ∙ ap (λ (y : Kind). bodyNumber y j) q) (w .smoothing)
-        l₁ l₂ (g .smoothing) c (rw l₃ (body-obeys u t j P N b its-body n (freeNumber k) (length cs) r))
+        element-obeys u t n i (freeNumber k) (suc j) (laidElement (cornersIn (a .before)) j (a .one)) (w .lent) (w .is)
+        (ap kindNumber q ∙ ap freeNumber e) (ap (λ (y : Kind). bodyNumber y j) q)
+        l₁ l₂ (g .smoothing) c (rw l₃ (body-obeys (freeNumber k) (length cs) r))
 
     few : (leb (b .degree-u) 20 ≡ true) × (leb (b .degree-v) 20 ≡ true)
     few = degrees-form x n (b .degree-u) (b .degree-v) (good .degrees x n)
@@ -153,4 +167,4 @@ module _ (u : Used) (t : Tables) (m : Model) (L : Laid u t m) (K : Kept m) where
       ap (λ (n : ℕ). obeys u t n i) (curves-before t es i (L .elements) a h) ∙ its-kind i a (good-element x es (K .last) i (K .elements) a) (a .one .kind) refl
 
 pub every-element-obeys : EveryElementObeys
-every-element-obeys R s m h i l = each-obeys (usedOf m) (tablesOf R m) m (laid R s m h) (kept R s m h) i l
+every-element-obeys R s m h i l = each-obeys (usedOf m) (tablesOf R m) m (laid R m) (kept R s m h) i l

@@ -16,7 +16,7 @@ use Rattle.forms.specs.Corner.{Corner}
 use Rattle.whole.specs.Fractions.{Frac, whole, _*ᶠ_, _+ᶠ_, sumTo}
 use Rattle.tables.specs.Tables.{Tables}
 use Rattle.tables.specs.Bodies.{Basis, bezier, bspline, basisNumber, controls, enough, curveCount, surfaceCount}
-use Rattle.tables.specs.Records.{parametersU, parametersV, cornerAt, valueAt}
+use Rattle.tables.specs.Records.{parametersU, parametersV, cornerAt, valueAt, vWidth, vpWidth}
 use Rattle.tables.specs.declared.Element.{Element}
 use Rattle.tables.proofs.Filled.{getD-filled}
 use Rattle.curves.specs.Directions.{Direction}
@@ -24,13 +24,13 @@ use Rattle.curves.specs.Exact.{weightAt, curveExact, surfaceExact}
 use Rattle.model.specs.Model.{geometric, parametric, Free, curve, curve2, surface, Body, Model}
 use Rattle.model.specs.Room.{Rooms}
 use Rattle.model.specs.Layout.{freeNumber, itself, tablesOf}
-use Rattle.tidying.proofs.Rows.{Wide}
-use Rattle.tidying.proofs.SameElements.{vertices-wide}
+use Rattle.model.proofs.Placed.{Wide}
+use Rattle.tidying.proofs.Placed.{vertices-wide}
 use Rattle.rows.specs.Places.{direction}
 use Rattle.sampler.specs.Points.{alongOf, directionU, directionV, controlOf}
 use Rattle.joining.specs.Files.{along, alongU, alongV, cornerOf, controlIn, axesIn}
-use Rattle.joining.proofs.Laid.{Kept}
-use Rattle.joining.proofs.BodyRows.{laidBody}
+use Rattle.tidying.proofs.Placed.{Kept}
+use Rattle.model.proofs.BodyRows.{laidBody}
 
 -- ---- sums of the same terms
 sum-same : (n : ℕ) (f g : ℕ → Frac) → ((i : ℕ) → i < n → f i ≡ g i) → sumTo n f ≡ sumTo n g
@@ -75,17 +75,17 @@ wide-at w (z ∷ zs) h (suc i) k l =
     ap (λ (n : ℕ). getD (z ++ flat itself zs) n (pos 0)) e ∙ getD-append-add z (flat itself zs) (w * i + k) (pos 0) ∙ wide-at w zs (h .1) i k l
 
 module _ (R : Rooms) (m : Model) (K : Kept m) where
-  v-at : (i k : ℕ) → k < 4 → valueAt 4 (tablesOf R m .v) i k ≡ getD (getD (m .vertices .v) i []) k (pos 0)
+  v-at : (i k : ℕ) → k < vWidth → valueAt vWidth (tablesOf R m .v) i k ≡ getD (getD (m .vertices .v) i []) k (pos 0)
   unfolding tablesOf
   v-at i k l =
-      getD-filled (R .v) (pos 0) (flat itself (m .vertices .v)) (4 * i + k)
-      ∙ wide-at 4 (m .vertices .v) (vertices-wide geometric (m .vertices .v) (K .v)) i k l
+      getD-filled (R .v) (pos 0) (flat itself (m .vertices .v)) (vWidth * i + k)
+      ∙ wide-at vWidth (m .vertices .v) (vertices-wide geometric (m .vertices .v) (K .v)) i k l
 
-  vp-at : (i k : ℕ) → k < 4 → valueAt 4 (tablesOf R m .vp) i k ≡ getD (getD (m .vertices .vp) i []) k (pos 0)
+  vp-at : (i k : ℕ) → k < vpWidth → valueAt vpWidth (tablesOf R m .vp) i k ≡ getD (getD (m .vertices .vp) i []) k (pos 0)
   unfolding tablesOf
   vp-at i k l =
-      getD-filled (R .vp) (pos 0) (flat itself (m .vertices .vp)) (4 * i + k)
-      ∙ wide-at 4 (m .vertices .vp) (vertices-wide parametric (m .vertices .vp) (K .vp)) i k l
+      getD-filled (R .vp) (pos 0) (flat itself (m .vertices .vp)) (vpWidth * i + k)
+      ∙ wide-at vpWidth (m .vertices .vp) (vertices-wide parametric (m .vertices .vp) (K .vp)) i k l
 
   -- a control, by its element's kind and its corner
   pub control-is : (k : Free) (e : Element) (cs : List Corner) (axis i : ℕ) → e .kind ≡ freeNumber k → cornerAt (tablesOf R m) (e .first) i .v ≡ cornerOf cs i → axis < axesIn k

@@ -11,6 +11,7 @@ use Rattle.lists.proofs.Tests.{and-left, and-right}
 use Rattle.forms.specs.Corner.{Corner, Parts}
 use Rattle.forms.specs.Fits.{referenceFits, partFits, cornerFits}
 use Rattle.tables.specs.Tables.{Tables}
+use Rattle.tables.specs.Records.{cornerWidth}
 use Rattle.tables.specs.declared.Used.{Used}
 use Rattle.model.specs.Model.{geometric, texture, normal, Vertices, Shape, point, line, face, Kind, plain, Element, Model, curves, countsOf}
 use Rattle.model.specs.Statements.{element}
@@ -23,11 +24,13 @@ use Rattle.tidying.proofs.Standing.{seenOf, uniform, Fine}
 use Rattle.tidying.proofs.Good.{GoodKind}
 use Rattle.rules.specs.Corners.{leastCorners, withTexture, withNormal, pointObeys, cornersObey}
 use Rattle.rules.specs.Rules.{obeys}
-use Rattle.joining.proofs.Stands.{Among}
+use Rattle.model.proofs.Stands.{Among}
 use Rattle.joining.proofs.Vertices.{vertex-obeys}
-use Rattle.joining.proofs.Corners.{noCorner, CornerKept, Named, corners-obey}
-use Rattle.joining.proofs.Laid.{Kept, Laid}
-use Rattle.joining.proofs.Elements.{Good, cornersIn, row-of, corners-stand, element-obeys}
+use Rattle.joining.proofs.Corners.{CornerKept, Named, corners-obey}
+use Rattle.model.proofs.Laid.{Laid}
+use Rattle.tidying.proofs.Placed.{Kept}
+use Rattle.model.proofs.ElementRows.{noCorner, cornersIn, laidElement, row-of, corners-stand}
+use Rattle.joining.proofs.Elements.{Good, element-obeys}
 
 -- ---- corners by their words
 pub fitting-at : (n : Seen) (f : WordForm) (i : ℕ) (cs : List Corner) (k : ℕ) → Fitting n (λ j. f) i (map corner cs) → k < length cs → Fits n f (corner (getD cs k noCorner))
@@ -82,7 +85,7 @@ module _ (u : Used) (t : Tables) (m : Model) (L : Laid u t m) (K : Kept m) where
     abbrev e : Element
     e = a .one
 
-    corners-used : 3 * cornersIn (a .before) + 3 * length (e .corners) ≤ u .corners
+    corners-used : cornersIn (a .before) + cornerWidth * length (e .corners) ≤ u .corners
     corners-used =
         let s = summed-append (λ (q : Element). length (q .corners)) (a .before) (e ∷ a .after) in
         let w : cornersIn es ≡ cornersIn (a .before ++ e ∷ a .after) = ap cornersIn (a .is) in
@@ -92,11 +95,11 @@ module _ (u : Used) (t : Tables) (m : Model) (L : Laid u t m) (K : Kept m) where
     -- its corners, whatever its kind
     pub its-corners : (kind : ℕ) → leastCorners kind ≤ length (e .corners) → uniform (e .corners) ≡ true
         → ((k : ℕ) → k < length (e .corners) → CornerKept u t kind (getD (e .corners) k noCorner))
-        → cornersObey u t kind (3 * cornersIn (a .before)) (length (e .corners)) ≡ true
+        → cornersObey u t kind (cornersIn (a .before)) (length (e .corners)) ≡ true
     its-corners kind l w f =
-        corners-obey u t named kind (3 * cornersIn (a .before)) (e .corners) (corners-stand t es i (L .corners) a) corners-used l w f
+        corners-obey u t named kind (cornersIn (a .before)) (e .corners) (corners-stand t es i (L .corners) a) corners-used l w f
 
-    plain-corners : (n : ℕ) (k : Shape) → Fine x n (element k (e .corners)) → cornersObey u t (shapeNumber k) (3 * cornersIn (a .before)) (length (e .corners)) ≡ true
+    plain-corners : (n : ℕ) (k : Shape) → Fine x n (element k (e .corners)) → cornersObey u t (shapeNumber k) (cornersIn (a .before)) (length (e .corners)) ≡ true
     plain-corners n k f =
         let p = pattern-of k in
         its-corners (shapeNumber k)
@@ -109,8 +112,8 @@ module _ (u : Used) (t : Tables) (m : Model) (L : Laid u t m) (K : Kept m) where
     plain-obeys n k q g =
         let r = row-of t es i (L .elements) a in
         let f : Fine x (curves (a .before)) (element k (e .corners)) = subst (λ (z : Kind). GoodKind x (curves (a .before)) z (e .corners)) q (g .kind) in
-        element-obeys u t n i (shapeNumber k) (3 * cornersIn (a .before)) (length (e .corners)) 0 (e .names .smoothing) (r .lent)
-        (r .kind ∙ ap kindNumber q) (r .first) (r .count) (r .body ∙ ap (λ (z : Kind). bodyNumber z (length (bodiesOf (a .before)))) q) (r .smoothing)
+        element-obeys u t n i (shapeNumber k) 0 (laidElement (cornersIn (a .before)) (length (bodiesOf (a .before))) e) (r .lent) (r .is)
+        (ap kindNumber q) (ap (λ (z : Kind). bodyNumber z (length (bodiesOf (a .before)))) q)
         (least k) (most k) (g .smoothing) (plain-corners _ k f) (no-body k _)
       where
         least : (k : Shape) → leb 1 (shapeNumber k) ≡ true

@@ -1,5 +1,5 @@
 -- An element of an accepted text with a body, and what the tables hold of it: its kind, its body, its corners, its directions and its controls.
-use Prim.Native.Nat.{ℕ, suc, _+_, _*_, _-_, _≤_, _<_}
+use Prim.Native.Nat.{ℕ, suc, _+_, _-_, _≤_, _<_}
 use mathlib.Core.Path.{_≡_, ap, _∙_, subst}
 use mathlib.Core.Logic.{_⊎_}
 use mathlib.Core.List.{List, _∷_, _++_}
@@ -19,12 +19,12 @@ use Rattle.sampler.specs.Points.{directionU, directionV, controlOf}
 use Rattle.sampler.specs.Answers.{elementOf, bodyOf}
 use Rattle.joining.specs.Files.{alongU, alongV, cornerOf, controlIn, axesIn}
 use Rattle.joining.specs.Joined.{Holds}
-use Rattle.joining.proofs.Stands.{Among}
-use Rattle.joining.proofs.Corners.{corner-at}
-use Rattle.joining.proofs.Laid.{laid, kept}
-use Rattle.joining.proofs.Elements.{cornersIn, Row, row-of, corners-stand, good-element}
-use Rattle.joining.proofs.Plain.{named}
-use Rattle.joining.proofs.BodyRows.{body-among, laidBody, parametersIn, BodyRow, body-row, us-are, vs-are}
+use Rattle.model.proofs.Stands.{Among}
+use Rattle.model.proofs.Laid.{laid}
+use Rattle.tidying.proofs.Placed.{kept}
+use Rattle.model.proofs.ElementRows.{corner-at, cornersIn, Row, row-of, corners-stand}
+use Rattle.joining.proofs.Elements.{good-element}
+use Rattle.model.proofs.BodyRows.{body-among, laidBody, parametersIn, BodyRow, body-row, us-are, vs-are}
 use Rattle.joining.proofs.Own.{u-is, v-is, control-is}
 
 module _ (R : Rooms) (s : List ℕ) (m : Model) (h : readOf R s ≡ read m) (number : ℕ) (b : Body) (o : Holds m number b) where
@@ -51,7 +51,7 @@ module _ (R : Rooms) (s : List ℕ) (m : Model) (h : readOf R s ≡ read m) (num
   at = record { before = o .before; one = o .one; after = o .after; is = o .elements; many = (let e = o .place in omega arith) }
 
   row : Row t (m .elements) i at
-  row = row-of t (m .elements) i (laid R s m h .elements) at
+  row = row-of t (m .elements) i (laid R m .elements) at
 
   pub its-kind : elementOf t number .kind ≡ freeNumber (b .free)
   its-kind = row .kind ∙ ap kindNumber (o .body)
@@ -72,7 +72,7 @@ module _ (R : Rooms) (s : List ℕ) (m : Model) (h : readOf R s ≡ read m) (num
   N = 0 + summed partCount (bodiesOf (o .before))
 
   its-row : BodyRow (usedOf m) t j P N b
-  its-row = body-row (usedOf m) t m (laid R s m h) j (body-among (m .elements) i at b (o .body))
+  its-row = body-row (usedOf m) t m (laid R m) j (body-among (m .elements) i at b (o .body))
 
   pub its-body : bodyOf t number ≡ laidBody P N b
   its-body =
@@ -90,11 +90,11 @@ module _ (R : Rooms) (s : List ℕ) (m : Model) (h : readOf R s ≡ read m) (num
   -- ---- its controls
   its-corner : (n : ℕ) → n < length cs → cornerAt t (elementOf t number .first) n .v ≡ cornerOf cs n
   its-corner n l =
-      let L = laid R s m h in
-      let first = 3 * cornersIn (o .before) in
+      let L = laid R m in
+      let first = cornersIn (o .before) in
       ap (λ (f : ℕ). cornerAt t f n .v) (row .first)
       ∙ ap (λ (c : records-corner.Corner). c .v)
-      (corner-at (usedOf m) t (named (usedOf m) t m L (kept R s m h)) 0 first cs (corners-stand t (m .elements) i (L .corners) at) n l)
+      (corner-at t first cs (corners-stand t (m .elements) i (L .corners) at) n l)
 
   pub its-control : (axis n : ℕ) → n < length cs → axis < axesIn (b .free) → controlOf t (elementOf t number) axis n ≡ controlIn (m .vertices) (b .free) cs axis n
   its-control axis n l a = control-is R m (kept R s m h) (b .free) (elementOf t number) cs axis n its-kind (its-corner n l) a

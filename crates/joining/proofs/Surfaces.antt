@@ -16,9 +16,9 @@ use Rattle.tables.specs.declared.Used.{Used}
 use Rattle.model.specs.Model.{Vertices, surface, along-v, Body}
 use Rattle.model.specs.Room.{partCount}
 use Rattle.tidying.proofs.Good.{formIn, GoodLoops, GoodBody}
-use Rattle.tidying.proofs.SameElements.{loops-parted}
+use Rattle.tidying.proofs.Placed.{loops-parted}
 use Rattle.rules.specs.Bodies.{directionsObey, surfaceObeys, recordObeys}
-use Rattle.joining.proofs.BodyRows.{laidBody, BodyRow, us-are, vs-are}
+use Rattle.model.proofs.BodyRows.{laidBody, BodyRow, us-are, vs-are}
 use Rattle.tables.proofs.Types.{basis-back}
 use Rattle.joining.proofs.Directions.{Needed, degree-obeys, needed-u, needed-v, type-obeys, Parameters, parameters-of, parameters-obey}
 use Rattle.joining.proofs.Curves.{forced, gives, counts, ranged, seconds, loops-in}

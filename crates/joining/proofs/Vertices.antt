@@ -6,14 +6,13 @@ use mathlib.Core.Bool.{Bool, true}
 use native.Mathlib.Omega.{arith}
 use borrow.Author.Tests.{leb-true, le-leb}
 use lib.ListN.{length, getD, length-map}
-use lib.Seq.{getD-at}
 use lib.Dec.{leb}
 use lib.IntN.{ℤ, pos, natAbs}
 use lib.Signed.{leZ}
 use Rattle.lists.specs.Lists.{all, flat}
 use Rattle.lists.proofs.Tests.{and-left, and-right, and-both, never}
 use Rattle.forms.specs.Fits.{numberFits}
-use Rattle.tables.specs.Records.{valueAt}
+use Rattle.tables.specs.Records.{valueAt, vpWidth}
 use Rattle.model.specs.Model.{VertexKind, geometric, texture, normal, parametric, start}
 use Rattle.model.specs.Statements.{vertex}
 use Rattle.model.specs.Parse.{number, countedVertex, numbersOf, a-number, Seen, recordOf, given}
@@ -26,12 +25,12 @@ use Rattle.model.proofs.Values.{numbers-of}
 use Rattle.tidying.proofs.Shapes.{numbers-fit}
 use Rattle.tidying.proofs.Coordinates.{completed-numbers}
 use Rattle.tidying.proofs.Good.{Always, GoodVertices}
-use Rattle.tidying.proofs.Rows.{wide-length}
-use Rattle.tidying.proofs.SameElements.{record-length, vertices-wide}
+use Rattle.model.proofs.Placed.{wide-stands}
+use Rattle.tidying.proofs.Placed.{record-length, vertices-wide}
 use Rattle.rules.specs.Numbers.{small, smallRun}
 use Rattle.rules.specs.Vertices.{vertexObeys, givenObeys, parameterVertexObeys, controlObeys}
 use Rattle.rules.proofs.Below.{below-all}
-use Rattle.joining.proofs.Stands.{Stands, stands-at, stands-is, stands-flat, Among, among}
+use Rattle.model.proofs.Stands.{Stands, stands-at, Among, among, among-at}
 
 -- ---- numbers in range
 pub all-at : {A : Type 0} (f : A → Bool) (xs : List A) (i : ℕ) (z : A) → all f xs ≡ true → i < length xs → f (getD xs i z) ≡ true
@@ -85,12 +84,12 @@ vertex-kept k z a =
 abbrev pub width : VertexKind → ℕ
 width k = length (recordOf k [])
 
-pub good-among : (k : VertexKind) (zs : List (List ℤ)) (i : ℕ) → GoodVertices k zs → (a : Among zs i) → GoodVertices k (a .before) × Always (vertex k (a .one))
+good-among : (k : VertexKind) (zs : List (List ℤ)) (i : ℕ) → GoodVertices k zs → (a : Among zs i) → Always (vertex k (a .one))
 good-among k zs i g a = go (a .before) (subst (GoodVertices k) (a .is) g)
   where
-    go : (xs : List (List ℤ)) → GoodVertices k (xs ++ a .one ∷ a .after) → GoodVertices k xs × Always (vertex k (a .one))
-    go [] h = (tt, h .0)
-    go (x ∷ xs) h = let r = go xs (h .1) in ((h .0, r .0), r .1)
+    go : (xs : List (List ℤ)) → GoodVertices k (xs ++ a .one ∷ a .after) → Always (vertex k (a .one))
+    go [] h = h .0
+    go (x ∷ xs) h = go xs (h .1)
 
 pub record Vertex (k : VertexKind) (l : List ℤ) (zs : List (List ℤ)) (i : ℕ) : Type 0 where
   pub one : List ℤ
@@ -101,14 +100,11 @@ pub record Vertex (k : VertexKind) (l : List ℤ) (zs : List (List ℤ)) (i : �
 pub vertex-at : (k : VertexKind) (l : List ℤ) (zs : List (List ℤ)) (i : ℕ) → GoodVertices k zs → Stands l 0 (flat itself zs) → i < length zs → Vertex k l zs i
 vertex-at k l zs i g s h =
     let a = among zs i h in
-    let p = good-among k zs i g a in
-    let w : length (flat itself (a .before)) ≡ width k * i = wide-length (width k) (a .before) (vertices-wide k (a .before) (p .0)) ∙ ap (λ (n : ℕ). width k * n) (a .many) in
     record {
       one = a .one;
-      kept = vertex-kept k (a .one) (p .1);
-      stands = stands-is l (length (flat itself (a .before))) (width k * i) (a .one) w
-          (stands-flat itself l (a .before) (a .one) (a .after) (subst (λ (q : List (List ℤ)). Stands l 0 (flat itself q)) (a .is) s));
-      is = ap (λ (q : List (List ℤ)). getD q i []) (a .is) ∙ getD-at (a .before) (a .one) (a .after) [] i (a .many);
+      kept = vertex-kept k (a .one) (good-among k zs i g a);
+      stands = wide-stands (width k) l zs i a (vertices-wide k zs g) s;
+      is = among-at zs i a [];
     }
 
 module _ (k : VertexKind) (l : List ℤ) (zs : List (List ℤ)) (g : GoodVertices k zs) (s : Stands l 0 (flat itself zs)) where
@@ -142,8 +138,8 @@ module _ (l : List ℤ) (zs : List (List ℤ)) (g : GoodVertices parametric zs) 
     its-given : Given (here .one)
     its-given = subst Given (here .kept .whole) (given-of (coordinates weights.Always parametric (here .one)) (here .kept .some))
 
-    number-at : (k : ℕ) → k < 4 → valueAt 4 l (n - 1) k ≡ getD (here .one) k (pos 0)
-    number-at k r = stands-at l (4 * (n - 1)) (here .one) k (pos 0) (here .stands) (let w = here .kept .wide in omega arith)
+    number-at : (k : ℕ) → k < vpWidth → valueAt vpWidth l (n - 1) k ≡ getD (here .one) k (pos 0)
+    number-at k r = stands-at l (vpWidth * (n - 1)) (here .one) k (pos 0) (here .stands) (let w = here .kept .wide in omega arith)
 
   pub parameter-obeys : (used n : ℕ) → used ≡ length zs → 1 ≤ n → n ≤ length zs → parameterVertexObeys l used n ≡ true
   unfolding parameterVertexObeys
@@ -153,7 +149,7 @@ module _ (l : List ℤ) (zs : List (List ℤ)) (g : GoodVertices parametric zs) 
       let e₂ = number-at n a b 2 (omega arith) in
       let e₃ = number-at n a b 3 (omega arith) in
       and-both (vertex-obeys parametric l zs g s 4 used n refl u a b)
-      (ap₂ (λ (x y : ℤ). givenObeys x y (valueAt 4 l (n - 1) 3)) e₀ e₂ ∙ ap (givenObeys (getD z 0 (pos 0)) (getD z 2 (pos 0))) e₃ ∙ its-given n a b .obeys)
+      (ap₂ (λ (x y : ℤ). givenObeys x y (valueAt vpWidth l (n - 1) 3)) e₀ e₂ ∙ ap (givenObeys (getD z 0 (pos 0)) (getD z 2 (pos 0))) e₃ ∙ its-given n a b .obeys)
 
   pub control-obeys : (used n : ℕ) → used ≡ length zs → 1 ≤ n → n ≤ length zs → leb 2 (given zs n) ≡ true → controlObeys l used n ≡ true
   unfolding controlObeys

@@ -20,7 +20,10 @@ use Rattle.model.specs.Room.{Rooms, fits}
 use Rattle.model.specs.Parse.{parse}
 use Rattle.model.specs.Read.{Answer, read, refused, readOf, statement}
 use Rattle.model.specs.Layout.{tablesOf, usedOf, nothing}
+use Rattle.model.specs.In.{begunIn, modelIn}
 use Rattle.tables.specs.Tables.{Tables}
+use Rattle.tables.specs.Records as records
+use Rattle.tables.specs.Asking.{partOf}
 
 many : Rooms
 many = record { v = 100; vt = 100; vn = 100; vp = 100; corners = 100; elements = 100; bodies = 100; ranges = 100; parameters = 100; loops = 100; spans = 100 }
@@ -48,3 +51,25 @@ ex3 = refl
 ex4 : tab (readOf small (bytes "v 0 0 0\np -1\nv 1 0 0\n")) .corners ≡ 1 ∷ 0 ∷ 0 ∷ 0 ∷ 0 ∷ 0 ∷ 0 ∷ 0 ∷ 0 ∷ 0 ∷ 0 ∷ 0 ∷ []
 unfolding tab tablesOf readOf linesOf numberOf decimal numerator denominator nearest whole isReference refer referenceOf cornerOf degreeOf smoothingOf nameOf statementOf keywords argumentOf arguments argumentBytes inOrder curveCount surfaceCount fits parse statement small
 ex4 = refl
+
+-- a model read back from its tables: a group of two names, a material, a curve with its parameters; no refusal has the number 0
+again : List ℕ → Answer → Answer
+again s (read m) = read (modelIn s (usedOf m) (tablesOf small m))
+again s (refused n p) = refused 0 0
+
+said : List ℕ
+said = bytes "cstype rat bspline\ndeg 1\nv 0 0 0\nv 1.5 0 0\ng top side\nusemtl red\ncurv 0 1 -2 -1\nparm u 0 0 1 1\nend\nl 1 2\n"
+
+ex5 : again said (readOf small said) ≡ readOf small said
+unfolding again said modelIn usedOf partOf tablesOf readOf linesOf numberOf decimal numerator denominator nearest whole isReference refer referenceOf cornerOf degreeOf smoothingOf nameOf statementOf keywords argumentOf arguments argumentBytes inOrder curveCount surfaceCount fits parse statement small
+ex5 = refl
+
+-- of parts that no reading stored, those before the first that begins a loop are in none
+part : ℕ → ℕ → records.Part
+part n c = record { begins = n; curve = c; from = pos 0; to = pos 1 }
+
+ex6 : begunIn (part 0 1 ∷ part 2 2 ∷ part 0 3 ∷ part 1 4 ∷ []) .loops
+    ≡ record { hole = true; parts = record { from = pos 0; to = pos 1; curve = 2 } ∷ record { from = pos 0; to = pos 1; curve = 3 } ∷ [] }
+    ∷ record { hole = false; parts = record { from = pos 0; to = pos 1; curve = 4 } ∷ [] } ∷ []
+unfolding part
+ex6 = refl

@@ -2,3 +2,10 @@ mod Examples
 pub mod Parsed
 pub mod Values
 pub mod Rows
+pub mod Stands
+pub mod Placed
+pub mod Laid
+pub mod ElementRows
+pub mod BodyRows
+pub mod Parts
+pub mod In

@@ -5,3 +5,4 @@ pub mod Parse
 pub mod Room
 pub mod Read
 pub mod Layout
+pub mod In

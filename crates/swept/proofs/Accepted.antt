@@ -18,15 +18,16 @@ use Rattle.model.specs.Model.{geometric, texture, normal, parametric, point, li
 use Rattle.model.specs.Room.{summed, partCount}
 use Rattle.model.specs.Layout.{shapeNumber, freeNumber, kindNumber, bodyNumber, bodyOf, bodiesOf, tablesOf, usedOf}
 use Rattle.model.proofs.Rows.{summed-append, elementRows-length, cornerRows-length, bodyRows-length, rangeRows-length, loopRows-length, spanRows-length, parameterRows-length, bodies-append}
-use Rattle.tidying.proofs.Rows.{wide-length}
-use Rattle.tidying.proofs.SameElements.{vertices-wide}
+use Rattle.model.proofs.Placed.{wide-length}
+use Rattle.tidying.proofs.Placed.{vertices-wide}
 use Rattle.rules.proofs.Below.{below-all}
 use Rattle.table_rules.specs.Whole.{Ends, isPlain, endsAfter, endsBefore, bodyFollows, elementFollows, followsAt, endsUsed, lentAll, verticesObey, elementsObey, runsFollow, wholeObeys}
-use Rattle.joining.proofs.Stands.{Among, among}
-use Rattle.joining.proofs.Laid.{Kept, Laid, kept, laid}
+use Rattle.model.proofs.Stands.{Among, among}
+use Rattle.model.proofs.Laid.{Laid, laid}
+use Rattle.tidying.proofs.Placed.{Kept, kept}
 use Rattle.joining.proofs.Vertices.{vertex-obeys, parameter-obeys}
-use Rattle.joining.proofs.Elements.{cornersIn, Row, row-of}
-use Rattle.joining.proofs.BodyRows.{body-among, laidBody, parametersIn, body-row}
+use Rattle.model.proofs.ElementRows.{cornersIn, Row, row-of}
+use Rattle.model.proofs.BodyRows.{body-among, laidBody, parametersIn, body-row}
 use Rattle.joining.proofs.Obeyed.{each-obeys}
 use Rattle.joining.proofs.Never15.{used-elements}
 use Rattle.reader.specs.Reading.{roomsOf, readInto}
@@ -43,7 +44,7 @@ ends-same : {c d b e p q l k : ℕ} → c ≡ d → b ≡ e → p ≡ q → l �
 ends-same x y z w = rw (x, y, z, w)
 
 abbrev endsOf : List Element → Ends
-endsOf es = ends (3 * cornersIn es) (length (bodiesOf es)) (parametersIn (bodiesOf es)) (summed partCount (bodiesOf es))
+endsOf es = ends (cornersIn es) (length (bodiesOf es)) (parametersIn (bodiesOf es)) (summed partCount (bodiesOf es))
 
 plain-kind : (k : Shape) → leb (shapeNumber k) 3 ≡ true
 plain-kind point = refl
@@ -55,7 +56,7 @@ free-kind curve = refl
 free-kind curve2 = refl
 free-kind surface = refl
 
-corners-more : (qs : List Element) (e : Element) → 3 * cornersIn qs + 3 * length (e .corners) ≡ 3 * cornersIn (qs ++ e ∷ [])
+corners-more : (qs : List Element) (e : Element) → cornersIn qs + 3 * length (e .corners) ≡ cornersIn (qs ++ e ∷ [])
 corners-more qs e = let k = summed-append (λ (x : Element). length (x .corners)) qs (e ∷ []) in omega arith
 
 bodies-more : (qs : List Element) (e : Element) (k : Kind) → e .kind ≡ k → bodiesOf (qs ++ e ∷ []) ≡ bodiesOf qs ++ bodyOf k
@@ -79,11 +80,11 @@ module _ (u : Used) (t : Tables) (m : Model) (L : Laid u t m) where
     kind-is : (k : Kind) → a .one .kind ≡ k → elementAt t i .kind ≡ kindNumber k
     kind-is k q = w .kind ∙ ap kindNumber q
 
-    count-is : 3 * cornersIn qs + 3 * elementAt t i .count ≡ 3 * cornersIn (qs ++ a .one ∷ [])
-    count-is = ap (λ (n : ℕ). 3 * cornersIn qs + 3 * n) (w .count) ∙ corners-more qs (a .one)
+    count-is : cornersIn qs + 3 * elementAt t i .count ≡ cornersIn (qs ++ a .one ∷ [])
+    count-is = ap (λ (n : ℕ). cornersIn qs + 3 * n) (w .count) ∙ corners-more qs (a .one)
 
-    first-is : eqb (elementAt t i .first) (3 * cornersIn qs) ≡ true
-    first-is = eq-eqb (elementAt t i .first) (3 * cornersIn qs) (w .first)
+    first-is : eqb (elementAt t i .first) (cornersIn qs) ≡ true
+    first-is = eq-eqb (elementAt t i .first) (cornersIn qs) (w .first)
 
     plain-test : (k : Shape) → a .one .kind ≡ plain k → isPlain (elementAt t i) ≡ true
     plain-test k q = ap (λ (n : ℕ). leb n 3) (kind-is (plain k) q) ∙ plain-kind k
@@ -104,7 +105,7 @@ module _ (u : Used) (t : Tables) (m : Model) (L : Laid u t m) where
         let p = summed-append (λ (x : Body). length (x .us) + length (x .vs)) (bodiesOf qs) (b ∷ []) in
         let l = summed-append partCount (bodiesOf qs) (b ∷ []) in
         rw (free-test b q, e)
-        (ap (λ (x : records.Body). ends (3 * cornersIn qs + 3 * elementAt t i .count) (suc j) (parametersIn (bodiesOf qs) + (x .«count_u» + x .«count_v»)) (summed partCount (bodiesOf qs) + x .loops)) (body-is b q)
+        (ap (λ (x : records.Body). ends (cornersIn qs + 3 * elementAt t i .count) (suc j) (parametersIn (bodiesOf qs) + (x .«count_u» + x .«count_v»)) (summed partCount (bodiesOf qs) + x .loops)) (body-is b q)
         ∙ ends-same count-is (omega arith) (omega arith) (omega arith))
 
     parts-follow : (N n : ℕ) → cond (eqb n 0) true (eqb (cond (eqb n 0) 0 (0 + N)) N) ≡ true
@@ -158,7 +159,7 @@ module _ (u : Used) (t : Tables) (m : Model) (L : Laid u t m) where
         (ap (endsUsed u) ends-are
         ∙ and-both
         (and-both
-        (and-both (eq-eqb (3 * cornersIn es) (u .corners) (omega arith)) (eq-eqb (length (bodiesOf es)) (u .bodies) (omega arith)))
+        (and-both (eq-eqb (cornersIn es) (u .corners) (omega arith)) (eq-eqb (length (bodiesOf es)) (u .bodies) (omega arith)))
         (eq-eqb (parametersIn (bodiesOf es)) (u .parameters) (omega arith)))
         (eq-eqb (summed partCount (bodiesOf es)) (u .loops) (omega arith)))
 
@@ -214,7 +215,7 @@ module _ (u : Used) (t : Tables) (m : Model) (L : Laid u t m) where
       whole-obeys = and-both (and-both (and-both lent-all vertices-obey) elements-obey) runs-follow
 
 pub accepted-obeys : AcceptedObeys
-accepted-obeys R s m h = whole-obeys (usedOf m) (tablesOf R m) m (laid R s m h) (used-elements m) (kept R s m h)
+accepted-obeys R s m h = whole-obeys (usedOf m) (tablesOf R m) m (laid R m) (used-elements m) (kept R s m h)
 
 -- ---- sweeping tables that obey
 module _ (u : Used) (t : Tables) (h : wholeObeys u t ≡ true) (numbers : List ℕ) where

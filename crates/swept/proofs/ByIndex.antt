@@ -7,6 +7,7 @@ use native.Mathlib.Omega.{arith}
 use lib.ListN.{length, getD}
 use Rattle.lists.specs.Lists.{flat}
 use Rattle.model.specs.Layout.{itself}
+use Rattle.model.proofs.Placed.{Each}
 use Rattle.sweep_rows.specs.Counting.{anyBelow, keptUpto, flatBelow}
 use Rattle.swept.specs.Files.{anyOf, keptOf}
 use Rattle.sweep_rows.proofs.FlatBelow.{flatBelow-same}
@@ -86,10 +87,6 @@ module _ {A : Type 0} (P : A → Type 0) (Q : List A → Type 0) (split : (a : A
       go false p r = r
 
 -- ---- each element of a list
-abbrev pub Each : {A : Type 0} → (A → Type 0) → List A → Type 0
-Each P [] = Unit {0}
-Each P (a ∷ xs) = P a × Each P xs
-
 pub each-by : {A : Type 0} (P : A → Type 0) (z : A) (xs : List A) → ((i : ℕ) → i < length xs → P (getD xs i z)) → Each P xs
 each-by P z [] h = tt
 each-by P z (x ∷ xs) h = (h 0 (omega arith), each-by P z xs (λ i l. h (suc i) (omega arith)))

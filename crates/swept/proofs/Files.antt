@@ -19,11 +19,11 @@ use Rattle.model.proofs.Rows.{cornerRows-length, elementRows-length, bodyRows-l
 use Rattle.reader.specs.Reading.{roomsOf, readInto, Result, answered}
 use Rattle.tidying.proofs.Good.{GoodVertices}
 use Rattle.tidying.proofs.Reading.{read-came}
-use Rattle.tidying.proofs.Rows.{used-of, wide-length}
-use Rattle.tidying.proofs.SameElements.{vertices-wide}
-use Rattle.joining.proofs.Stands.{Stands}
+use Rattle.model.proofs.Placed.{wide-length}
+use Rattle.model.proofs.Stands.{Stands, stands-filled, stands-used}
 use Rattle.joining.proofs.Vertices.{width}
-use Rattle.joining.proofs.Laid.{laid, kept}
+use Rattle.model.proofs.Laid.{laid}
+use Rattle.tidying.proofs.Placed.{vertices-wide, kept}
 use Rattle.sweep_rows.specs.Counting.{keptUpto, keptRows}
 use Rattle.sweep.specs.Named.{widthIn, named, cornersAfter}
 use Rattle.sweep.specs.Swept.{sweptUsed, sweptTables}
@@ -40,7 +40,7 @@ module _ {A : Type 0} (n : ℕ) (z : A) (xs : List A) where
 
   -- with what is used of it
   kept-whole : (k : ℕ) → length xs ≡ k → filled (length (filled n z xs)) z (take k (filled n z xs)) ≡ filled n z xs
-  kept-whole k e = ap (filled (length (filled n z xs)) z) (used-of k n z xs e) ∙ refilled xs refl
+  kept-whole k e = ap (filled (length (filled n z xs)) z) (stands-used (filled n z xs) xs k e (stands-filled n z xs)) ∙ refilled xs refl
 
 -- ---- what the elements of a swept model keep
 module _ (m : Model) where
@@ -112,7 +112,7 @@ module _ (R : Rooms) (s : List ℕ) (m : Model) (h : readOf R s ≡ read m) wher
       let c = read-came R s m h in
       let w = fits-parts R (c .state) (c .room) in
       let K = kept R s m h in
-      let L = laid R s m h in
+      let L = laid R m in
       record {
         v = table-left geometric (R .v) (m .vertices .v) (K .v) (L .v) (subst (λ (k : Model). 4 * length (k .vertices .v) ≤ R .v) (c .model) (w .v)) i;
         vt = table-left texture (R .vt) (m .vertices .vt) (K .vt) (L .vt) (subst (λ (k : Model). 3 * length (k .vertices .vt) ≤ R .vt) (c .model) (w .vt)) i;

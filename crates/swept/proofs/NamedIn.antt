@@ -4,7 +4,6 @@ use mathlib.Core.Path.{_≡_, refl, sym, ap, ap₂, _∙_, fun-ext, subst}
 use mathlib.Core.Bool.{Bool, cond}
 use mathlib.Core.List.{List, [], _∷_, _++_, map}
 use lib.ListN.{length, getD, take, drop}
-use lib.Seq.{getD-at}
 use lib.Dec.{eqb}
 use lib.IntN.{ℤ}
 use Rattle.lists.specs.Lists.{flat}
@@ -17,12 +16,10 @@ use Rattle.model.specs.Room.{Rooms}
 use Rattle.model.specs.Read.{read, readOf}
 use Rattle.model.specs.Layout.{cornerRow, cornerRows, kindNumber, itself, tablesOf, usedOf}
 use Rattle.tidying.proofs.Good.{GoodVertices}
-use Rattle.joining.proofs.Stands.{Stands, Among, among}
+use Rattle.model.proofs.Stands.{Stands, Among, among, among-at}
 use Rattle.joining.proofs.Vertices.{width, vertex-at}
-use Rattle.joining.proofs.Corners.{noCorner, laidCorner, corner-at}
-use Rattle.joining.proofs.Laid.{laid, kept}
-use Rattle.joining.proofs.Elements.{cornersIn, Row, row-of, corners-stand}
-use Rattle.joining.proofs.Plain.{named as vertices-named}
+use Rattle.model.proofs.Laid.{laid}
+use Rattle.model.proofs.ElementRows.{cornersIn, Row, row-of, corners-stand, noCorner, laidCorner, corner-at}
 use Rattle.sweep_rows.specs.Counting.{reference, anyBelow, flatBelow, keptRows}
 use Rattle.sweep.specs.Named.{widthIn, named, cornerAfter, cornersAfter}
 use Rattle.swept.specs.Files.{numberIn, anyOf, namedIn, keptOf, sweptCorner, sweptElement}
@@ -93,10 +90,10 @@ module _ (R : Rooms) (s : List ℕ) (m : Model) (h : readOf R s ≡ read m) wher
     at = among es i l
 
     row : Row t es i at
-    row = row-of t es i (laid R s m h .elements) at
+    row = row-of t es i (laid R m .elements) at
 
     one-is : at .one ≡ e
-    one-is = sym (ap (λ (q : List Element). getD q i noElement) (at .is) ∙ getD-at (at .before) (at .one) (at .after) noElement i (at .many))
+    one-is = sym (among-at es i at noElement)
 
     kind-is : elementAt t i .kind ≡ kindNumber (e .kind)
     kind-is = row .kind ∙ ap (λ (x : Element). kindNumber (x .kind)) one-is
@@ -108,7 +105,7 @@ module _ (R : Rooms) (s : List ℕ) (m : Model) (h : readOf R s ≡ read m) wher
     corner-is =
         subst (λ (x : Element). (j : ℕ) → j < length (x .corners) → cornerAt t (elementAt t i .first) j ≡ laidCorner (getD (x .corners) j noCorner)) one-is
         (λ j b. ap (λ (first : ℕ). cornerAt t first j) (row .first)
-        ∙ corner-at u t (vertices-named u t m (laid R s m h) (kept R s m h)) 0 (3 * cornersIn (at .before)) (at .one .corners) (corners-stand t es i (laid R s m h .corners) at) j b)
+        ∙ corner-at t (cornersIn (at .before)) (at .one .corners) (corners-stand t es i (laid R m .corners) at) j b)
 
   -- some corner names record k
   named-at : (kind : VertexKind) (k : ℕ) → named u t kind k ≡ namedIn m kind k

@@ -26,11 +26,12 @@ use Rattle.tidying.proofs.Standing.{seenOf, uniform, wide, wideIn, Fine, Sound}
 use Rattle.tidying.proofs.Good.{GoodLoops, LoopsIn, GoodBody, GoodKind, plus, GoodElements}
 use Rattle.sweep_rows.specs.Counting.{newNumber}
 use Rattle.swept.specs.Files.{numberIn, anyOf, namedIn, sweptVertices, sweptCorner, sweptElement}
-use Rattle.swept.proofs.ByIndex.{Each, any-of-at, each-by}
+use Rattle.model.proofs.Placed.{Each}
+use Rattle.swept.proofs.ByIndex.{any-of-at, each-by}
 use Rattle.swept.proofs.NamedIn.{noElement}
 use Rattle.swept.proofs.Counting.{new-zero}
 use Rattle.swept.proofs.NewNumbers.{new-none, new-record, reference-new, part-new}
-use Rattle.joining.proofs.Corners.{noCorner}
+use Rattle.model.proofs.ElementRows.{noCorner}
 
 -- a curv2's controls are vp
 abbrev planar : Free → Bool

@@ -25,10 +25,10 @@ use Rattle.tidying.proofs.Standing.{seenOf}
 use Rattle.tidying.proofs.Good.{Always, Good, GoodVertices, GoodElements}
 use Rattle.tidying.proofs.Rooms.{NoMore, fits-down}
 use Rattle.tidying.proofs.Reading.{Bounded, Came, read-came, read-small}
-use Rattle.tidying.proofs.Rows.{Wide}
-use Rattle.tidying.proofs.Named.{ElementsStand}
+use Rattle.model.proofs.Placed.{Wide, PartedAll, ElementsStand, Placed}
 use Rattle.tidying.proofs.TidyRead.{good-read}
-use Rattle.tidying.proofs.TablesAgree.{Placed, read-placed, placed-agree}
+use Rattle.tidying.proofs.Placed.{read-placed}
+use Rattle.tidying.proofs.TablesAgree.{placed-agree}
 use Rattle.swept.specs.Files.{namedIn, keptOf, sweptElement, sweptModel, usedLeft, tablesLeft, SweptTexts}
 use Rattle.swept.proofs.ByIndex.{kept-keeps}
 use Rattle.swept.proofs.SweptGood.{corners-named, good-elements}
@@ -45,6 +45,10 @@ module _ (m : Model) where
   names-kept : (s : List ℕ) (es : List Element) → ElementsStand s es → ElementsStand s (map (sweptElement m) es)
   names-kept s [] h = tt
   names-kept s (e ∷ es) h = (h .0, names-kept s es (h .1))
+
+  parted-kept : (es : List Element) → PartedAll es → PartedAll (map (sweptElement m) es)
+  parted-kept [] h = tt
+  parted-kept (e ∷ es) h = (h .0, parted-kept es (h .1))
 
   curves-kept : (es : List Element) → curves (map (sweptElement m) es) ≡ curves es
   curves-kept [] = refl
@@ -64,6 +68,7 @@ module _ (m : Model) where
           wide-kept 3 (namedIn m normal) (x .vn) (p .rows .2),
           wide-kept 4 (namedIn m parametric) (x .vp) (p .rows .3),
         );
+        loops = parted-kept (m .elements) (p .loops);
         names = names-kept s (m .elements) (p .names);
       }
 

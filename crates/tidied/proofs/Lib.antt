@@ -1,6 +1,3 @@
-pub mod Vertices
-pub mod Loops
-pub mod Bodies
-pub mod BodiesLeft
+pub mod Streams
 pub mod Elements
 pub mod TidyFrom

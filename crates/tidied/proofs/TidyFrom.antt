@@ -1,31 +1,39 @@
--- The tidy text written from the tables of an accepted text is the tidy text of its model: vertices by the widths of their rows, elements one after the other.
-use Prim.Native.Nat.{ℕ, _-_}
+-- The tidy text written from the tables of an accepted text is the tidy text of its model: what the tables give back, by the law that this is the model.
+use Prim.Native.Nat.{ℕ, suc, _+_, _*_, _-_}
 use mathlib.Core.Path.{_≡_, refl, sym, ap, ap₂, _∙_}
-use mathlib.Core.List.{List, _++_, map}
-use mathlib.Core.Bool.{true, false}
+use mathlib.Core.List.{List, _∷_, _++_, map}
+use mathlib.Core.Bool.{Bool, true, false, cond}
 use native.Mathlib.Omega.{arith}
-use lib.ListN.{length, replicate}
-use lib.IntN.{pos}
-use Rattle.lists.specs.Lists.{flat}
+use borrow.Author.Tests.{le-leb}
+use lib.ListN.{length, length-append}
+use Rattle.lists.proofs.Tests.{and-both}
 use Rattle.text.specs.Written.{writtenLines}
 use Rattle.tables.specs.Tables.{Tables}
+use Rattle.tables.specs.Records.{vWidth, vtWidth, vnWidth, vpWidth, elementWidth, elementIn}
 use Rattle.tables.specs.Asking.{held, noElement, elementOf}
 use Rattle.tables.specs.declared.Used.{Used}
-use Rattle.model.specs.Model.{geometric, texture, normal, parametric, Model, start}
+use Rattle.model.specs.Model.{geometric, texture, normal, parametric, Element, Model, start}
 use Rattle.model.specs.Statements.{vertex}
 use Rattle.model.specs.Room.{Rooms}
 use Rattle.model.specs.Read.{read, readOf}
-use Rattle.model.specs.Layout.{cornerRows, elementRows, bodiesOf, bodyRows, rangeRow, parameterRow, loopRows, spanRows, itself, tablesOf, usedOf}
+use Rattle.model.specs.Layout.{bodiesOf, tablesOf, usedOf}
+use Rattle.model.specs.In as model
+use Rattle.model.specs.In.{elementFrom, modelIn}
+use Rattle.model.proofs.Stands.{Among}
+use Rattle.model.proofs.Placed.{Placed}
+use Rattle.model.proofs.Laid.{laid}
+use Rattle.model.proofs.ElementRows.{cornersIn, laidElement, row-of}
+use Rattle.model.proofs.In.{element-back, model-in}
 use Rattle.tidying.specs.declared.Weights.{Weights}
 use Rattle.tidying.specs.declared.Weights.the-variants.{Always}
 use Rattle.tidying.specs.Tidied.{vertexLines, elementsLines, tidied}
 use Rattle.tidying.specs.Printed.{printed, tidyText}
 use Rattle.tidying.proofs.Values.{map-append}
-use Rattle.tidying.proofs.TablesAgree.{parted, widths}
-use Rattle.tidier.specs.TidyFrom.{verticesFrom, elementsFrom, tidyFrom}
+use Rattle.tidying.proofs.Placed.{read-placed}
+use Rattle.tidier.specs.TidyFrom.{verticesFrom, tidyFrom}
 use Rattle.tidier.proofs.NamedLines.{names-go}
-use Rattle.tidied.proofs.Vertices.{vertices-are}
-use Rattle.tidied.proofs.Elements.{elements-are}
+use Rattle.tidied.proofs.Streams.{vertices-are}
+use Rattle.tidied.proofs.Elements.{linesFrom, Told, elements-are}
 
 -- number 0 is no element
 no-element : (used : Used) (E : List ℕ) → elementOf used E 0 ≡ noElement
@@ -36,43 +44,59 @@ map-four : {A C : Type 0} (f : A → C) (a b c d : List A) → map f (a ++ (b ++
 map-four {A} {C} f a b c d =
     map-append f a (b ++ (c ++ d)) ∙ ap (λ (q : List C). map f a ++ q) (map-append f b (c ++ d) ∙ ap (λ (q : List C). map f b ++ q) (map-append f c d))
 
+-- the vertices of any tables, as `modelIn` reads them
+vertices-from : (W : Weights) (u : Used) (t : Tables) → verticesFrom W u (t .v) (t .vt) (t .vn) (t .vp) ≡ map (printed W) (vertexLines (model.verticesFrom u t))
+vertices-from W u t =
+    let x = model.verticesFrom u t in
+    ap₂ (λ (a b : List (List (List ℕ))). a ++ b) (vertices-are W W geometric false (λ z. refl) vWidth (t .v) (u .v) 0)
+    (ap₂ (λ (a b : List (List (List ℕ))). a ++ b) (vertices-are W Always texture false (λ z. refl) vtWidth (t .vt) (u .vt) 0)
+    (ap₂ (λ (a b : List (List (List ℕ))). a ++ b) (vertices-are W Always normal false (λ z. refl) vnWidth (t .vn) (u .vn) 0)
+    (vertices-are W W parametric true (λ z. refl) vpWidth (t .vp) (u .vp) 0)))
+    ∙ sym (map-four (printed W) (map (vertex geometric) (x .v)) (map (vertex texture) (x .vt)) (map (vertex normal) (x .vn)) (map (vertex parametric) (x .vp)))
+
 module _ (W : Weights) (R : Rooms) (s : List ℕ) (m : Model) (h : readOf R s ≡ read m) where
   abbrev T : Tables
   T = tablesOf R m
 
-  vertices : verticesFrom W (usedOf m) (T .v) (T .vt) (T .vn) (T .vp) ≡ map (printed W) (vertexLines (m .vertices))
-  unfolding tablesOf usedOf
-  vertices =
-      let x = m .vertices in
-      let w = widths R s m h in
-      ap₂ (λ (a b : List (List (List ℕ))). a ++ b) (vertices-are W W geometric false (λ z. refl) 4 (x .v) (replicate (R .v - length (flat itself (x .v))) (pos 0)) (w .0))
-      (ap₂ (λ (a b : List (List (List ℕ))). a ++ b) (vertices-are W Always texture false (λ z. refl) 3 (x .vt) (replicate (R .vt - length (flat itself (x .vt))) (pos 0)) (w .1))
-      (ap₂ (λ (a b : List (List (List ℕ))). a ++ b) (vertices-are W Always normal false (λ z. refl) 3 (x .vn) (replicate (R .vn - length (flat itself (x .vn))) (pos 0)) (w .2))
-      (vertices-are W W parametric true (λ z. refl) 4 (x .vp) (replicate (R .vp - length (flat itself (x .vp))) (pos 0)) (w .3))))
-      ∙ sym (map-four (printed W) (map (vertex geometric) (x .v)) (map (vertex texture) (x .vt)) (map (vertex normal) (x .vn)) (map (vertex parametric) (x .vp)))
+  abbrev u : Used
+  u = usedOf m
 
-  elements : elementsFrom s (usedOf m) (T .elements) (T .corners) (T .bodies) (T .ranges) (T .parameters) (T .loops) (T .spans) (usedOf m .elements) 0
-      ≡ map (printed W) (elementsLines (start .names) (m .elements))
-  unfolding tablesOf usedOf
-  elements =
-      let es = m .elements in
-      let bs = bodiesOf es in
-      let n = names-go s R m h in
-      elements-are W s (usedOf m) (T .elements) (T .corners) (T .bodies) (T .ranges) (T .parameters) (T .loops) (T .spans)
-      (replicate (R .elements - length (elementRows 0 0 es)) 0)
-      (replicate (R .corners - length (flat cornerRows es)) 0)
-      (replicate (R .bodies - length (bodyRows 0 0 bs)) 0)
-      (replicate (R .ranges - length (flat rangeRow bs)) (pos 0))
-      (replicate (R .parameters - length (flat parameterRow bs)) (pos 0))
-      (replicate (R .loops - length (flat loopRows bs)) 0)
-      (replicate (R .spans - length (flat spanRows bs)) (pos 0))
-      0 0 0 0 0 (start .names) es 0 0 0 0 (no-element (usedOf m) (T .elements)) (n .0) (n .1) (parted R s m h)
-      (record {
-        count = (let e = length es in omega arith);
-        elements = refl;
-        corners = refl;
-        bodies = record { bodies = refl; ranges = refl; parameters = refl; loops = refl; spans = refl };
-      })
+  P : Placed s m
+  P = read-placed R s m h
+
+  vertices : verticesFrom W u (T .v) (T .vt) (T .vn) (T .vp) ≡ map (printed W) (vertexLines (m .vertices))
+  unfolding modelIn
+  vertices = vertices-from W u T ∙ ap (λ (k : Model). map (printed W) (vertexLines (k .vertices))) (model-in s R m P)
+
+  told : (k : ℕ) (a : Among (m .elements) k) → Told W s u T (0 + suc k) (a .one)
+  unfolding elementOf held
+  told k a =
+      let L = laid R m in
+      let r = row-of T (m .elements) k (L .elements) a in
+      let n = L .used-elements in
+      let l : length (m .elements) ≡ length (a .before ++ a .one ∷ a .after) = ap length (a .is) in
+      let j = length-append (a .before) (a .one ∷ a .after) in
+      let o = a .many in
+      let q = r .lent in
+      let c = cornersIn (a .before) in
+      let b = length (bodiesOf (a .before)) in
+      let e = element-back s u T m L P k a in
+      let f : elementFrom s T (laidElement c b (a .one)) ≡ a .one = sym (ap (elementFrom s T) (r .is)) ∙ e in
+      record {
+        first = c;
+        body = b;
+        is =
+            ap₂ (λ (x : Bool) (i : ℕ). cond x (elementIn (T .elements) i) noElement)
+            (and-both (and-both (le-leb 1 (0 + suc k) (omega arith)) (le-leb (0 + suc k) (u .elements) (omega arith))) (le-leb (elementWidth * (0 + suc k)) (length (T .elements)) (omega arith)))
+            (let i : 0 + suc k - 1 ≡ k = omega arith in i)
+            ∙ r .is;
+        kind = ap (λ (y : Element). y .kind) f;
+        corners = ap (λ (y : Element). y .corners) f;
+      }
+
+  elements : linesFrom W s u T (u .elements) 0 ≡ map (printed W) (elementsLines (start .names) (m .elements))
+  unfolding usedOf
+  elements = let n = names-go s R m h in elements-are W s u T 0 (start .names) (m .elements) 0 0 0 0 (no-element u (T .elements)) (n .0) (n .1) told
 
   pub tidy-from : tidyFrom W s (usedOf m) (tablesOf R m) ≡ tidyText W m
   unfolding tidyFrom tidyText tidied

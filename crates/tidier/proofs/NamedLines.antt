@@ -20,7 +20,8 @@ use Rattle.tidying.specs.Printed.{printed}
 use Rattle.tidying.specs.Agree.{wordsAt}
 use Rattle.tidying.proofs.Good.{stays, plus, GoodElements}
 use Rattle.tidying.proofs.Reading.{read-came}
-use Rattle.tidying.proofs.Named.{Stands, NamesStand, ElementsStand, none-stands, read-stands}
+use Rattle.model.proofs.Placed.{WordsStand, NamesStand, ElementsStand}
+use Rattle.tidying.proofs.Named.{none-stands, read-stands}
 use Rattle.emitting.specs.Naming.{sameBytes}
 use Rattle.emitting.specs.Emitting.{spaced}
 use Rattle.emitting.proofs.Naming.{named-same}
@@ -54,16 +55,16 @@ module _ (s : List ℕ) where
   abbrev pub standing : List Word → List (List ℕ)
   standing ws = wordsAt s (runOf ws .place) (runOf ws .length)
 
-  pub group-lines : (c : Weights) (v w : List Word) → Stands s v → Stands s w → map (printed c) (groupLines v w) ≡ cond (sameBytes (standing v) (standing w)) [] ((keywordOf Group ∷ standing w) ∷ [])
+  pub group-lines : (c : Weights) (v w : List Word) → WordsStand s v → WordsStand s w → map (printed c) (groupLines v w) ≡ cond (sameBytes (standing v) (standing w)) [] ((keywordOf Group ∷ standing w) ∷ [])
   group-lines c v w p q =
       group-if c (sameWords v w) w
-      ∙ ap₂ (λ (t : Bool) (b : List (List ℕ)). cond t [] ((keywordOf Group ∷ b) ∷ [])) (named-same s v w p q) (sym q)
+      ∙ ap₂ (λ (t : Bool) (b : List (List ℕ)). cond t [] ((keywordOf Group ∷ b) ∷ [])) (named-same s v w p q) (sym (ap bytesOf q))
 
-  pub material-lines : (c : Weights) (o x : Option Word) → stays o x ≡ true → Stands s (listed o) → Stands s (listed x)
+  pub material-lines : (c : Weights) (o x : Option Word) → stays o x ≡ true → WordsStand s (listed o) → WordsStand s (listed x)
       → map (printed c) (materialLines o x) ≡ cond (sameBytes (standing (listed o)) (standing (listed x))) [] ((keywordOf Material ∷ standing (listed x)) ∷ [])
   material-lines c o x h p q =
       material-if c o x h
-      ∙ ap₂ (λ (t : Bool) (b : List (List ℕ)). cond t [] ((keywordOf Material ∷ b) ∷ [])) (named-same s (listed o) (listed x) p q) (sym q)
+      ∙ ap₂ (λ (t : Bool) (b : List (List ℕ)). cond t [] ((keywordOf Material ∷ b) ∷ [])) (named-same s (listed o) (listed x) p q) (sym (ap bytesOf q))
 
   -- ---- an accepted text: the names of each element stand in it, and no material is taken away
   abbrev pub NamesGo : Option Word → List Element → Type 0

@@ -25,8 +25,7 @@ pub mod SameTidy
 pub mod Parts
 pub mod Runs
 pub mod Named
-pub mod Rows
 pub mod Layouts
-pub mod SameElements
+pub mod Placed
 pub mod TablesAgree
 pub mod TidyTables

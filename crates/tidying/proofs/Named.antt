@@ -11,17 +11,15 @@ use borrow.Author.Tests.{le-leb, eqb-true}
 use Rattle.lists.proofs.Tests.{never}
 use Rattle.text.specs.Lines.{Line as JoinedLine, gap, lineOf, strideOf, linesFrom, linesOf}
 use Rattle.text.specs.Words.{Word, words, wordsOf, badOf}
-use Rattle.text.specs.Written.{bytesOf}
 use Rattle.digits.specs.Degree.{nameOf}
 use Rattle.keywords.specs.Keywords.{statementOf}
 use Rattle.tables.specs.Asking.{partOf}
-use Rattle.model.specs.Model.{Names, Free, Element, Model, Open, State, start}
+use Rattle.model.specs.Model.{Free, Element, Model, Open, State, start}
 use Rattle.model.specs.Statements.{Statement, vertex, element, group, smoothing, material, type, degree, body, parameters, loop, end, passed, apply, onOpen, withBody, withParameters, withLoop, ended}
 use Rattle.model.specs.Parse.{fine, unless, Keyword, a-vertex, an-element, a-body, parm, trim, hole, ends, cstype, deg, g, s, usemtl, over, a-name, Value, name, Seen, saidOf, placed, valuesOf, counted, checked, namesOf, cornersOf, unlike, opened, inForce, narrowIn, rangeWords, finished, complete, countsAgree, inRange, seenIn, parse, formOf, materialOf}
-use Rattle.model.specs.Layout.{runOf, listed}
 use Rattle.model.specs.Room.{Rooms, fits}
 use Rattle.model.specs.Read.{keywordOf, statement, step, read, readLines, readOf}
-use Rattle.tidying.specs.Agree.{wordsAt}
+use Rattle.model.proofs.Placed.{WordsStand, NamesStand, ElementsStand}
 use Rattle.tidying.proofs.Words.{then-fine, placed-fine, on-says}
 use Rattle.tidying.proofs.Back.{names-of}
 use Rattle.tidying.proofs.Ready.{must-fine, unless-fine}
@@ -31,33 +29,22 @@ use Rattle.tidying.proofs.Runs.{names-run}
 
 -- ---- names that stand in the text t
 module _ (t : List ℕ) where
-  abbrev pub Stands : List Word → Type 0
-  Stands ws = wordsAt t (runOf ws .place) (runOf ws .length) ≡ bytesOf ws
-
-  pub record NamesStand (n : Names) : Type 0 where
-    pub group : Stands (n .group)
-    pub material : Stands (listed (n .material))
-
-  abbrev pub ElementsStand : List Element → Type 0
-  ElementsStand [] = Unit {0}
-  ElementsStand (e ∷ es) = NamesStand (e .names) × ElementsStand es
-
   abbrev OpenStands : Option Open → Type 0
   OpenStands none = Unit {0}
-  OpenStands (some o) = NamesStand (o .names)
+  OpenStands (some o) = NamesStand t (o .names)
 
   record Standing (x : State) : Type 0 where
-    names : NamesStand (x .names)
-    elements : ElementsStand (x .model .elements)
+    names : NamesStand t (x .names)
+    elements : ElementsStand t (x .model .elements)
     opened : OpenStands (x .open-body)
 
   -- the names that a statement sets
   abbrev Sets : Statement → Type 0
   Sets (vertex k z) = Unit {0}
   Sets (element k cs) = Unit {0}
-  Sets (group ws) = Stands ws
+  Sets (group ws) = WordsStand t ws
   Sets (smoothing n) = Unit {0}
-  Sets (material w) = Stands (w ∷ [])
+  Sets (material w) = WordsStand t (w ∷ [])
   Sets (type r b) = Unit {0}
   Sets (degree m n) = Unit {0}
   Sets (body b cs) = Unit {0}
@@ -66,11 +53,11 @@ module _ (t : List ℕ) where
   Sets end = Unit {0}
   Sets passed = Unit {0}
 
-  add : (es : List Element) (e : Element) → ElementsStand es → NamesStand (e .names) → ElementsStand (es ++ e ∷ [])
+  add : (es : List Element) (e : Element) → ElementsStand t es → NamesStand t (e .names) → ElementsStand t (es ++ e ∷ [])
   add [] e h n = (n, tt)
   add (x ∷ es) e h n = (h .0, add es e (h .1) n)
 
-  pub none-stands : Stands []
+  pub none-stands : WordsStand t []
   unfolding partOf
   none-stands = rw (le-leb 0 (length t) (omega arith)) refl
 
@@ -81,9 +68,9 @@ module _ (t : List ℕ) where
 
     inside : (o : Option Open) (f : Open → Open) → ((b : Open) → f b .names ≡ b .names) → OpenStands o → OpenStands (onOpen f (holding o) .open-body)
     inside none f e k = tt
-    inside (some o) f e k = subst NamesStand (sym (e o)) k
+    inside (some o) f e k = subst (NamesStand t) (sym (e o)) k
 
-    close : (o : Option Open) → OpenStands o → ElementsStand (ended o (x .model) .elements)
+    close : (o : Option Open) → OpenStands o → ElementsStand t (ended o (x .model) .elements)
     close none k = h .elements
     close (some o) k = add (x .model .elements) _ (h .elements) k
 
@@ -131,12 +118,12 @@ module _ (t : List ℕ) where
         let c = must-fine (inRange (o .body .free) (o .body)) 13 p _ u (b .1) in
         put end (c .1) tt
 
-    material-sets : (ws : List Word) → counted usemtl (length ws) ≡ true → Stands ws → fine (materialOf ws) ≡ fine u → Sets u
+    material-sets : (ws : List Word) → counted usemtl (length ws) ≡ true → WordsStand t ws → fine (materialOf ws) ≡ fine u → Sets u
     material-sets [] c h e = never c
     material-sets (w ∷ []) c h e = put (material w) e h
     material-sets (w ∷ v ∷ ws) c h e = absurd (let l = eqb-true (suc (suc (length ws))) 1 c in omega arith)
 
-    sets : (k : Keyword) (ws : List Word) (xs : List Value) → Stands ws → counted k (length ws) ≡ true → valuesOf (seenIn x) (formOf k (length ws)) 0 ws ≡ fine xs
+    sets : (k : Keyword) (ws : List Word) (xs : List Value) → WordsStand t ws → counted k (length ws) ≡ true → valuesOf (seenIn x) (formOf k (length ws)) 0 ws ≡ fine xs
         → checked k x p ws xs ≡ fine u → Sets u
     sets (a-vertex k) ws xs h c v e = put _ e tt
     sets (an-element k) ws xs h c v e = put _ (unless-fine (unlike ws (cornersOf xs)) 9 _ u e .1) tt
@@ -156,7 +143,7 @@ module _ (t : List ℕ) where
         material-sets ws c h (ap (λ (y : List Word). fine (materialOf y)) (sym q) ∙ e)
     sets over ws xs h c v e = put _ e tt
 
-    parse-sets : (k : Keyword) (ws : List Word) → Stands ws → parse k x p ws ≡ fine u → Sets u
+    parse-sets : (k : Keyword) (ws : List Word) → WordsStand t ws → parse k x p ws ≡ fine u → Sets u
     unfolding parse
     parse-sets k ws h e =
         let a = must-fine (Rattle.model.specs.Parse.allowed k (x .open-body) ws) 10 p _ u e in
@@ -185,14 +172,14 @@ module _ (t : List ℕ) where
       let r = names-run t (l .place) w ws (ap (words gap (l .place)) (sym b) ∙ q) in
       subst Standing (let y' = d .1 in let z : apply (c .0) x ≡ y = cc in z) (apply-stands x h (c .0) (parse-sets x (w .place) (c .0) (a .0) ws r (c .1)))
 
-  lines-stand : (R : Rooms) (n : ℕ) (ls : List JoinedLine) (x : State) (m : Model) → InText ls → readLines R n ls x ≡ read m → Standing x → ElementsStand (m .elements)
-  lines-stand R n [] x m i e h = subst (λ (k : Model). ElementsStand (k .elements)) (reading.finished n (x .open-body) (x .model) m e .1) (h .elements)
+  lines-stand : (R : Rooms) (n : ℕ) (ls : List JoinedLine) (x : State) (m : Model) → InText ls → readLines R n ls x ≡ read m → Standing x → ElementsStand t (m .elements)
+  lines-stand R n [] x m i e h = subst (λ (k : Model). ElementsStand t (k .elements)) (reading.finished n (x .open-body) (x .model) m e .1) (h .elements)
   lines-stand R n (l ∷ ls) x m i e h =
       let a = on-read (unless (badOf l) 2 (step R x (wordsOf l))) (readLines R n ls) m e in
       let b = unless-fine (badOf l) 2 (step R x (wordsOf l)) (a .0) (a .1) in
       lines-stand R n ls (a .0) m (i .1) (a .2) (step-stands R x (a .0) l (wordsOf l) (i .0) refl (b .1) h)
 
-  pub read-stands : (R : Rooms) (m : Model) → readOf R t ≡ read m → ElementsStand (m .elements)
+  pub read-stands : (R : Rooms) (m : Model) → readOf R t ≡ read m → ElementsStand t (m .elements)
   unfolding linesOf
   read-stands R m e =
       lines-stand R (length t) (linesFrom (length t) 0 t) start m (lines-in (length t) 0 t refl) (sized R t m e .1)

@@ -11,11 +11,10 @@ use Rattle.lists.proofs.Tests.{test, never, and-right}
 use Rattle.text.specs.Bytes.{isWord, isBlank, lineEnd}
 use Rattle.text.specs.Lines.{Mode, gap, word, comment, join, Look, goes, ends, refused, look, onward, lineOf}
 use Rattle.text.specs.Words.{Word, wordOf, isGap, isInWord, opens, words}
-use Rattle.text.specs.Written.{bytesOf}
 use Rattle.text.proofs.Cut.{words-cut}
 use Rattle.tables.specs.Asking.{partOf}
-use Rattle.model.specs.Layout.{lastEnd, runOf}
-use Rattle.tidying.specs.Agree.{wordsAt}
+use Rattle.model.specs.Layout.{lastEnd}
+use Rattle.model.proofs.Placed.{WordsStand}
 use Rattle.text.proofs.Cut.{tested}
 use Rattle.tidying.proofs.Parts.{onward-from, longer, upto, longer-one, words-upto, upto-some, upto-short}
 
@@ -148,7 +147,7 @@ last-end m p (b ∷ bs) w ws h =
 
 -- ---- the run of names
 run-words : (s : List ℕ) (w : Word) (ws : List Word) → words gap (w .place) (drop (w .place) s) ≡ w ∷ ws
-    → wordsAt s (runOf (w ∷ ws) .place) (runOf (w ∷ ws) .length) ≡ bytesOf (w ∷ ws)
+    → WordsStand s (w ∷ ws)
 unfolding partOf
 run-words s w ws h =
     let q = w .place in
@@ -159,16 +158,16 @@ run-words s w ws h =
     let u = upto-some gap q L w ws h in
     let k : lastEnd w ws - q ≡ upto gap L = omega arith in
     let b : q + upto gap L ≤ length s = omega arith in
-    rw (k, le-leb (q + upto gap L) (length s) b) (ap bytesOf (words-upto gap q L ∙ h))
+    rw (k, le-leb (q + upto gap L) (length s) b) (words-upto gap q L ∙ h)
 
 -- the names after the keyword of a line of s
 pub names-run : (s : List ℕ) (p : ℕ) (key : Word) (ws : List Word) → words gap p (lineOf (drop p s)) ≡ key ∷ ws
-    → wordsAt s (runOf ws .place) (runOf ws .length) ≡ bytesOf ws
+    → WordsStand s ws
 unfolding partOf
 names-run s p key ws h =
     let o = onward-from s gap p (drop p s) key ws refl (sym (words-cut gap p (drop p s)) ∙ h) in
     go ws (o .mode) (o .place) (o .after)
   where
-    go : (ws : List Word) (m : Mode) (q : ℕ) → words m q (drop q s) ≡ ws → wordsAt s (runOf ws .place) (runOf ws .length) ≡ bytesOf ws
+    go : (ws : List Word) (m : Mode) (q : ℕ) → words m q (drop q s) ≡ ws → WordsStand s ws
     go [] m q e = rw (le-leb 0 (length s) (omega arith)) refl
     go (w ∷ ws) m q e = run-words s w ws (onward-from s m q (drop q s) w ws refl e .from)

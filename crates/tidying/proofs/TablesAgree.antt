@@ -1,28 +1,33 @@
--- Demand 2, of the lent tables: those of two accepted texts agree exactly where the models do. From the models the tables by the layout, and back by its rows.
-use Prim.Native.Nat.{ℕ, _+_, _*_, _-_}
-use mathlib.Core.Path.{_≡_, refl, sym, ap, ap₂, _∙_, subst}
+-- Demand 2, of the lent tables: those of two accepted texts agree exactly where the models do. From the models the tables by the layout, and back by the law that
+-- tables give their model back.
+use Prim.Native.Nat.{ℕ, zero, suc, _+_, _*_, _-_, _<_}
+use mathlib.Core.Path.{_≡_, refl, sym, ap, ap₂, _∙_}
 use mathlib.Core.List.{List, [], _∷_, _++_}
 use mathlib.Core.Option.{Option, none, some}
-use lib.ListN.{length, replicate, take}
-use lib.IntN.{ℤ, pos}
+use native.Mathlib.Omega.{arith}
+use lib.ListN.{length, getD, replicate, take}
 use Rattle.lists.specs.Lists.{flat}
 use Rattle.text.specs.Words.{Word}
 use Rattle.text.specs.Written.{bytesOf}
-use Rattle.tables.specs.Records.{cornerWidth}
+use Rattle.tables.specs.Tables.{Tables}
+use Rattle.tables.specs.Records.{elementWidth, cornerWidth, numberAt, elementAt, vWidth, vtWidth, vnWidth, vpWidth, bodyWidth, rangeWidth, loopWidth, spanWidth}
 use Rattle.tables.specs.declared.Used.{Used}
-use Rattle.model.specs.Model.{geometric, texture, normal, parametric, Vertices, Body, Element, Model}
+use Rattle.tables.specs.declared.Element as records
+use Rattle.model.specs.Model.{Vertices, Body, Element, Model}
 use Rattle.model.specs.Room.{Rooms, summed, ofKind, partCount}
 use Rattle.model.specs.Read.{read, readOf}
 use Rattle.model.specs.Layout.{listed, kindNumber, bodyNumber, cornerRows, elementRows, bodyOf, bodiesOf, bodyRows, rangeRow, parameterRow, loopRows, spanRows, itself, tablesOf, usedOf}
-use Rattle.tidying.specs.Agree.{bareOption, bareElements, bare, Agree, unnamed, namesIn, TablesAgree}
-use Rattle.tidying.proofs.Reading.{read-came}
-use Rattle.tidying.proofs.Bare.{summed-bare, length-bare}
+use Rattle.model.specs.In.{each, verticesFrom, wordsIn, firstOf, elementFrom, modelIn}
+use Rattle.model.proofs.Rows.{cornerRows-length, elementRows-length, bodyRows-length, rangeRows-length, parameterRows-length, loopRows-length, spanRows-length}
+use Rattle.model.proofs.Stands.{stands-used}
+use Rattle.model.proofs.Placed.{wide-length, Placed}
+use Rattle.model.proofs.Laid.{laid}
+use Rattle.model.proofs.In.{model-in}
+use Rattle.tidying.specs.Agree.{bareOption, bareElement, bareElements, bare, Agree, wordsAt, unnamed, namesIn, TablesAgree}
+use Rattle.tidying.proofs.Bare.{bare-words, summed-bare, length-bare}
 use Rattle.tidying.proofs.SameTidy.{bytes-bare}
-use Rattle.tidying.proofs.Named.{ElementsStand, read-stands}
-use Rattle.tidying.proofs.Rows.{used-of, Wide, wide-length, wide-inj}
-use Rattle.model.proofs.Rows.{cornerRows-length, bodyRows-length, rangeRows-length, parameterRows-length, loopRows-length, spanRows-length}
-use Rattle.tidying.proofs.Layouts.{fives, unnamed-is, wordsIn, names-in, SameBodies}
-use Rattle.tidying.proofs.SameElements.{vertices-wide, PartedAll, elements-parted, same-elements}
+use Rattle.tidying.proofs.Layouts.{fives, unnamed-is, namesOf, names-in, withElements, unnamed-at, group-at, material-at}
+use Rattle.tidying.proofs.Placed.{read-placed}
 
 -- ---- the layout looks at places in the elements' last four numbers alone
 pub bodies-bare : (es : List Element) → bodiesOf (bareElements es) ≡ bodiesOf es
@@ -43,54 +48,15 @@ option-bare : (o : Option Word) → bytesOf (listed (bareOption o)) ≡ bytesOf 
 option-bare none = refl
 option-bare (some w) = refl
 
-words-bare : (es : List Element) → wordsIn (bareElements es) ≡ wordsIn es
+words-bare : (es : List Element) → namesOf (bareElements es) ≡ namesOf es
 words-bare [] = refl
 words-bare (e ∷ es) =
-    ap₂ (λ (x y : List (List ℕ)). x ∷ y ∷ wordsIn (bareElements es)) (bytes-bare (e .names .group)) (option-bare (e .names .material))
+    ap₂ (λ (x y : List (List ℕ)). x ∷ y ∷ namesOf (bareElements es)) (bytes-bare (e .names .group)) (option-bare (e .names .material))
     ∙ ap (λ (r : List (List (List ℕ))). bytesOf (e .names .group) ∷ bytesOf (listed (e .names .material)) ∷ r) (words-bare es)
 
 -- what a layout holds of elements, places forgotten, is the same of elements that agree
 pub agreed : {A : Type 0} (f : List Element → A) → ((es : List Element) → f (bareElements es) ≡ f es) → (es fs : List Element) → bareElements es ≡ bareElements fs → f es ≡ f fs
 agreed f h es fs e = sym (h es) ∙ ap f e ∙ h fs
-
-abbrev counting : Vertices → ℕ → ℕ → List Body → Used
-counting x c n bs =
-    record {
-      v = length (x .v);
-      vt = length (x .vt);
-      vn = length (x .vn);
-      vp = length (x .vp);
-      corners = cornerWidth * c;
-      elements = n;
-      bodies = length bs;
-      parameters = summed (λ b. length (b .us) + length (b .vs)) bs;
-      loops = summed partCount bs;
-    }
-
--- ---- a model whose rows have their widths, its names standing in the text t
-abbrev pub Widths : Vertices → Type 0
-Widths x = Wide 4 (x .v) × Wide 3 (x .vt) × Wide 3 (x .vn) × Wide 4 (x .vp)
-
-pub record Placed (t : List ℕ) (m : Model) : Type 0 where
-  pub rows : Widths (m .vertices)
-  pub names : ElementsStand t (m .elements)
-
-module _ (R : Rooms) (t : List ℕ) (m : Model) (h : readOf R t ≡ read m) where
-  pub parted : PartedAll (m .elements)
-  parted =
-      let c = read-came R t m h in
-      subst (λ (i : Model). PartedAll (i .elements)) (c .model) (elements-parted (m .vertices) 0 none (c .state .model .elements) (c .state .names .material) (c .good .elements))
-
-  pub widths : Widths (m .vertices)
-  widths =
-      let c = read-came R t m h in
-      let x = c .state .model .vertices in
-      let g = c .good in
-      subst (λ (i : Model). Widths (i .vertices)) (c .model)
-      (vertices-wide geometric (x .v) (g .v), vertices-wide texture (x .vt) (g .vt), vertices-wide normal (x .vn) (g .vn), vertices-wide parametric (x .vp) (g .vp))
-
-  pub read-placed : Placed t m
-  read-placed = record { rows = widths; names = read-stands t R m h }
 
 -- ---- what is used of each table is the rows
 module _ (R : Rooms) (t : List ℕ) (m : Model) (p : Placed t m) where
@@ -101,39 +67,61 @@ module _ (R : Rooms) (t : List ℕ) (m : Model) (p : Placed t m) where
   bs = bodiesOf es
 
   record UsedRows : Type 0 where
-    v : take (4 * length (m .vertices .v)) (tablesOf R m .v) ≡ flat itself (m .vertices .v)
-    vt : take (3 * length (m .vertices .vt)) (tablesOf R m .vt) ≡ flat itself (m .vertices .vt)
-    vn : take (3 * length (m .vertices .vn)) (tablesOf R m .vn) ≡ flat itself (m .vertices .vn)
-    vp : take (4 * length (m .vertices .vp)) (tablesOf R m .vp) ≡ flat itself (m .vertices .vp)
-    corners : take (3 * summed (λ e. length (e .corners)) es) (tablesOf R m .corners) ≡ flat cornerRows es
+    v : take (vWidth * length (m .vertices .v)) (tablesOf R m .v) ≡ flat itself (m .vertices .v)
+    vt : take (vtWidth * length (m .vertices .vt)) (tablesOf R m .vt) ≡ flat itself (m .vertices .vt)
+    vn : take (vnWidth * length (m .vertices .vn)) (tablesOf R m .vn) ≡ flat itself (m .vertices .vn)
+    vp : take (vpWidth * length (m .vertices .vp)) (tablesOf R m .vp) ≡ flat itself (m .vertices .vp)
+    corners : take (cornerWidth * summed (λ e. length (e .corners)) es) (tablesOf R m .corners) ≡ flat cornerRows es
     elements : unnamed (length es) (tablesOf R m .elements) ≡ fives 0 0 es
-    bodies : take (9 * length bs) (tablesOf R m .bodies) ≡ bodyRows 0 0 bs
-    ranges : take (4 * length bs) (tablesOf R m .ranges) ≡ flat rangeRow bs
+    bodies : take (bodyWidth * length bs) (tablesOf R m .bodies) ≡ bodyRows 0 0 bs
+    ranges : take (rangeWidth * length bs) (tablesOf R m .ranges) ≡ flat rangeRow bs
     parameters : take (summed (λ b. length (b .us) + length (b .vs)) bs) (tablesOf R m .parameters) ≡ flat parameterRow bs
-    loops : take (2 * summed partCount bs) (tablesOf R m .loops) ≡ flat loopRows bs
-    spans : take (2 * summed partCount bs) (tablesOf R m .spans) ≡ flat spanRows bs
-    names : namesIn t (length es) (tablesOf R m .elements) ≡ wordsIn es
+    loops : take (loopWidth * summed partCount bs) (tablesOf R m .loops) ≡ flat loopRows bs
+    spans : take (spanWidth * summed partCount bs) (tablesOf R m .spans) ≡ flat spanRows bs
+    names : namesIn t (length es) (tablesOf R m .elements) ≡ namesOf es
 
   used-rows : UsedRows
   unfolding tablesOf
   used-rows =
       let x = m .vertices in
       let w = p .rows in
+      let L = laid R m in
+      let T = tablesOf R m in
       let spare : List ℕ = replicate (R .elements - length (elementRows 0 0 es)) 0 in
       record {
-        v = used-of (4 * length (x .v)) (R .v) (pos 0) (flat itself (x .v)) (wide-length 4 (x .v) (w .0));
-        vt = used-of (3 * length (x .vt)) (R .vt) (pos 0) (flat itself (x .vt)) (wide-length 3 (x .vt) (w .1));
-        vn = used-of (3 * length (x .vn)) (R .vn) (pos 0) (flat itself (x .vn)) (wide-length 3 (x .vn) (w .2));
-        vp = used-of (4 * length (x .vp)) (R .vp) (pos 0) (flat itself (x .vp)) (wide-length 4 (x .vp) (w .3));
-        corners = used-of (3 * summed (λ e. length (e .corners)) es) (R .corners) 0 (flat cornerRows es) (cornerRows-length es);
+        v = stands-used (T .v) (flat itself (x .v)) (vWidth * length (x .v)) (wide-length vWidth (x .v) (w .0)) (L .v);
+        vt = stands-used (T .vt) (flat itself (x .vt)) (vtWidth * length (x .vt)) (wide-length vtWidth (x .vt) (w .1)) (L .vt);
+        vn = stands-used (T .vn) (flat itself (x .vn)) (vnWidth * length (x .vn)) (wide-length vnWidth (x .vn) (w .2)) (L .vn);
+        vp = stands-used (T .vp) (flat itself (x .vp)) (vpWidth * length (x .vp)) (wide-length vpWidth (x .vp) (w .3)) (L .vp);
+        corners = stands-used (T .corners) (flat cornerRows es) (cornerWidth * summed (λ e. length (e .corners)) es) (cornerRows-length es) (L .corners);
         elements = unnamed-is 0 0 es spare;
-        bodies = used-of (9 * length bs) (R .bodies) 0 (bodyRows 0 0 bs) (bodyRows-length 0 0 bs);
-        ranges = used-of (4 * length bs) (R .ranges) (pos 0) (flat rangeRow bs) (rangeRows-length bs);
-        parameters = used-of (summed (λ b. length (b .us) + length (b .vs)) bs) (R .parameters) (pos 0) (flat parameterRow bs) (parameterRows-length bs);
-        loops = used-of (2 * summed partCount bs) (R .loops) 0 (flat loopRows bs) (loopRows-length bs);
-        spans = used-of (2 * summed partCount bs) (R .spans) (pos 0) (flat spanRows bs) (spanRows-length bs);
+        bodies = stands-used (T .bodies) (bodyRows 0 0 bs) (bodyWidth * length bs) (bodyRows-length 0 0 bs) (L .bodies);
+        ranges = stands-used (T .ranges) (flat rangeRow bs) (rangeWidth * length bs) (rangeRows-length bs) (L .ranges);
+        parameters = stands-used (T .parameters) (flat parameterRow bs) (summed (λ b. length (b .us) + length (b .vs)) bs) (parameterRows-length bs) (L .parameters);
+        loops = stands-used (T .loops) (flat loopRows bs) (loopWidth * summed partCount bs) (loopRows-length bs) (L .loops);
+        spans = stands-used (T .spans) (flat spanRows bs) (spanWidth * summed partCount bs) (spanRows-length bs) (L .spans);
         names = names-in t 0 0 es spare (p .names);
       }
+
+-- ---- an element read back, places forgotten, from the first five numbers of its record and the words of its names
+bare-first : (vs ws : List Word) → bytesOf vs ≡ bytesOf ws → bareOption (firstOf vs) ≡ bareOption (firstOf ws)
+bare-first [] [] e = refl
+bare-first [] (w ∷ ws) e = absurd (let z : _≡_ {A = ℕ} 0 1 = cc in omega arith)
+bare-first (v ∷ vs) [] e = absurd (let z : _≡_ {A = ℕ} 0 1 = cc in omega arith)
+bare-first (v ∷ vs) (w ∷ ws) e = let z : v .bytes ≡ w .bytes = cc in ap (λ (b : List ℕ). some (record { place = 0; bytes = b })) z
+
+same-from : (t u : List ℕ) (T : Tables) (r q : records.Element) → r .kind ≡ q .kind → r .first ≡ q .first → r .count ≡ q .count → r .body ≡ q .body → r .smoothing ≡ q .smoothing
+    → wordsAt t (r .«group_place») (r .«group_length») ≡ wordsAt u (q .«group_place») (q .«group_length»)
+    → wordsAt t (r .«material_place») (r .«material_length») ≡ wordsAt u (q .«material_place») (q .«material_length»)
+    → bareElement (elementFrom t T r) ≡ bareElement (elementFrom u T q)
+same-from t u T r q e₁ e₂ e₃ e₄ e₅ g o =
+    let b = bare-words (wordsIn t (r .«group_place») (r .«group_length»)) (wordsIn u (q .«group_place») (q .«group_length»)) g in
+    let f = bare-first (wordsIn t (r .«material_place») (r .«material_length»)) (wordsIn u (q .«material_place») (q .«material_length»)) o in
+    rw (e₁, e₂, e₃, e₄, e₅, b, f) refl
+
+each-bare : (f g : ℕ → Element) (n i : ℕ) → ((k : ℕ) → k < i + n → bareElement (f k) ≡ bareElement (g k)) → bareElements (each f n i) ≡ bareElements (each g n i)
+each-bare f g zero i h = refl
+each-bare f g (suc n) i h = ap₂ (λ (x : Element) (xs : List Element). x ∷ xs) (h i (omega arith)) (each-bare f g n (suc i) (λ k l. h k (omega arith)))
 
 -- ---- the theorem
 module _ (R S : Rooms) (t u : List ℕ) (m n : Model) (h : Placed t m) (k : Placed u n) where
@@ -152,9 +140,7 @@ module _ (R S : Rooms) (t u : List ℕ) (m n : Model) (h : Placed t m) (k : Plac
       let M = used-rows R t m h in
       let N = used-rows S u n k in
       record {
-        used =
-            ap₂ (λ (y : Vertices) (i : ℕ). counting y i (length es) (bodiesOf es)) x c
-            ∙ ap₂ (λ (i : ℕ) (bs : List Body). counting (n .vertices) (summed (λ (e : Element). length (e .corners)) fs) i bs) l b;
+        used = rw (x, c, l, b) refl;
         v = M .v ∙ ap (λ (y : Vertices). flat itself (y .v)) x ∙ sym (N .v);
         vt = M .vt ∙ ap (λ (y : Vertices). flat itself (y .vt)) x ∙ sym (N .vt);
         vn = M .vn ∙ ap (λ (y : Vertices). flat itself (y .vn)) x ∙ sym (N .vn);
@@ -166,40 +152,80 @@ module _ (R S : Rooms) (t u : List ℕ) (m n : Model) (h : Placed t m) (k : Plac
         parameters = M .parameters ∙ ap (flat parameterRow) b ∙ sym (N .parameters);
         loops = M .loops ∙ ap (flat loopRows) b ∙ sym (N .loops);
         spans = M .spans ∙ ap (flat spanRows) b ∙ sym (N .spans);
-        names = M .names ∙ agreed wordsIn words-bare es fs q ∙ sym (N .names);
+        names = M .names ∙ agreed namesOf words-bare es fs q ∙ sym (N .names);
       }
+
+  -- ---- from the tables to the models, in one room: the tables differ in the names of elements alone
+  module _ (a : TablesAgree t (tablesOf R m) (usedOf m) u (tablesOf S n) (usedOf n)) where
+    abbrev M : UsedRows R t m h
+    M = used-rows R t m h
+
+    abbrev N : UsedRows S u n k
+    N = used-rows S u n k
+
+    abbrev T : Tables
+    T = tablesOf R m
+
+    abbrev U : Tables
+    U = tablesOf R n
+
+    pub others-same : withElements (U .elements) T ≡ U
+    unfolding tablesOf usedOf
+    others-same =
+        rw (
+          sym (M .v) ∙ a .v ∙ N .v,
+          sym (M .vt) ∙ a .vt ∙ N .vt,
+          sym (M .vn) ∙ a .vn ∙ N .vn,
+          sym (M .vp) ∙ a .vp ∙ N .vp,
+          sym (M .corners) ∙ a .corners ∙ N .corners,
+          sym (M .bodies) ∙ a .bodies ∙ N .bodies,
+          sym (M .ranges) ∙ a .ranges ∙ N .ranges,
+          sym (M .parameters) ∙ a .parameters ∙ N .parameters,
+          sym (M .loops) ∙ a .loops ∙ N .loops,
+          sym (M .spans) ∙ a .spans ∙ N .spans,
+        ) refl
+
+    pub counts-same : length (m .elements) ≡ length (n .elements)
+    unfolding usedOf
+    counts-same = ap (λ (p : Used). p .elements) (a .used)
+
+    pub number-same : (i j : ℕ) → i < length (m .elements) → j < 5 → numberAt elementWidth (T .elements) i j ≡ numberAt elementWidth (U .elements) i j
+    unfolding usedOf
+    number-same i j l b =
+        let c = counts-same in
+        let x = elementRows-length 0 0 (m .elements) in
+        let y = elementRows-length 0 0 (n .elements) in
+        sym (unnamed-at (length (m .elements)) (T .elements) (let s = laid R m .elements .lent in omega arith) i j l b)
+        ∙ ap (λ (r : List ℕ). getD r (5 * i + j) 0) (a .elements ∙ N .elements ∙ sym (used-rows R u n k .elements))
+        ∙ unnamed-at (length (n .elements)) (U .elements) (let s = laid R n .elements .lent in omega arith) i j (omega arith) b
+
+    names-same : namesIn t (length (m .elements)) (T .elements) ≡ namesIn u (length (n .elements)) (U .elements)
+    unfolding usedOf
+    names-same = a .names ∙ N .names ∙ sym (used-rows R u n k .names)
+
+    element-same : (i : ℕ) → i < length (m .elements) → bareElement (elementFrom t T (elementAt T i)) ≡ bareElement (elementFrom u U (elementAt U i))
+    element-same i l =
+        let c = counts-same in
+        let g = sym (group-at t (length (m .elements)) (T .elements) i l) ∙ ap (λ (r : List (List (List ℕ))). getD r (2 * i) []) names-same ∙ group-at u (length (n .elements)) (U .elements) i (omega arith) in
+        let o = sym (material-at t (length (m .elements)) (T .elements) i l) ∙ ap (λ (r : List (List (List ℕ))). getD r (2 * i + 1) []) names-same ∙ material-at u (length (n .elements)) (U .elements) i (omega arith) in
+        same-from t u T (elementAt T i) (elementAt U i) (number-same i 0 l (omega arith)) (number-same i 1 l (omega arith)) (number-same i 2 l (omega arith)) (number-same i 3 l (omega arith)) (number-same i 4 l (omega arith)) g o
+        ∙ ap (λ (w : Tables). bareElement (elementFrom u w (elementAt U i))) others-same
+
+    models-same : bare (modelIn t (usedOf m) T) ≡ bare (modelIn u (usedOf n) U)
+    unfolding bare modelIn usedOf
+    models-same =
+        ap₂ (λ (x : Vertices) (es : List Element). record { vertices = x; elements = es })
+        (ap (λ (w : Used). verticesFrom w T) (a .used) ∙ ap (verticesFrom (usedOf n)) others-same)
+        (each-bare (λ i. elementFrom t T (elementAt T i)) (λ i. elementFrom u U (elementAt U i)) (length (m .elements)) 0 (λ i l. element-same i (omega arith))
+        ∙ ap (λ (j : ℕ). bareElements (each (λ i. elementFrom u U (elementAt U i)) j 0)) counts-same)
+
+    pub placed-models : Agree m n
+    unfolding Agree
+    placed-models = ap bare (sym (model-in t R m h)) ∙ models-same ∙ ap bare (model-in u R n k)
 
 module _ (R S : Rooms) (t u : List ℕ) (m n : Model) (h : readOf R t ≡ read m) (k : readOf S u ≡ read n) where
   pub agree-tables : Agree m n → TablesAgree t (tablesOf R m) (usedOf m) u (tablesOf S n) (usedOf n)
   agree-tables = placed-agree R S t u m n (read-placed R t m h) (read-placed S u n k)
 
-  -- from the tables to the models
   pub tables-agree : TablesAgree t (tablesOf R m) (usedOf m) u (tablesOf S n) (usedOf n) → Agree m n
-  unfolding Agree bare usedOf
-  tables-agree a =
-      let U = a .used in
-      let M = used-rows R t m (read-placed R t m h) in
-      let N = used-rows S u n (read-placed S u n k) in
-      let K = widths R t m h in
-      let W = widths S u n k in
-      let x = m .vertices in
-      let y = n .vertices in
-      let v₁ = wide-inj 4 (x .v) (y .v) (K .0) (W .0) (ap (λ (p : Used). p .v) U) (sym (M .v) ∙ a .v ∙ N .v) in
-      let v₂ = wide-inj 3 (x .vt) (y .vt) (K .1) (W .1) (ap (λ (p : Used). p .vt) U) (sym (M .vt) ∙ a .vt ∙ N .vt) in
-      let v₃ = wide-inj 3 (x .vn) (y .vn) (K .2) (W .2) (ap (λ (p : Used). p .vn) U) (sym (M .vn) ∙ a .vn ∙ N .vn) in
-      let v₄ = wide-inj 4 (x .vp) (y .vp) (K .3) (W .3) (ap (λ (p : Used). p .vp) U) (sym (M .vp) ∙ a .vp ∙ N .vp) in
-      let s : SameBodies 0 0 (bodiesOf (m .elements)) (bodiesOf (n .elements)) =
-      record {
-        rows = sym (M .bodies) ∙ a .bodies ∙ N .bodies;
-        ranges = sym (M .ranges) ∙ a .ranges ∙ N .ranges;
-        parameters = sym (M .parameters) ∙ a .parameters ∙ N .parameters;
-        loops = sym (M .loops) ∙ a .loops ∙ N .loops;
-        spans = sym (M .spans) ∙ a .spans ∙ N .spans;
-      } in
-      let q =
-      same-elements 0 0 0 0 (m .elements) (n .elements) (parted R t m h) (parted S u n k) (ap (λ (p : Used). p .elements) U)
-      (sym (M .elements) ∙ a .elements ∙ N .elements) (sym (M .names) ∙ a .names ∙ N .names) (sym (M .corners) ∙ a .corners ∙ N .corners) s in
-      let z : x ≡ y =
-      ap₂ (λ (i j : List (List ℤ)). record { v = i; vt = j; vn = x .vn; vp = x .vp }) v₁ v₂
-      ∙ ap₂ (λ (i j : List (List ℤ)). record { v = y .v; vt = y .vt; vn = i; vp = j }) v₃ v₄ in
-      ap₂ (λ (i : Vertices) (j : List Element). record { vertices = i; elements = j }) z q
+  tables-agree = placed-models R S t u m n (read-placed R t m h) (read-placed S u n k)

@@ -4,13 +4,13 @@ use mathlib.Core.Path.{_≡_}
 use mathlib.Core.List.{List, [], _∷_, _++_}
 use mathlib.Core.Option.{Option, none, some}
 use lib.ListN.{getD, take, drop}
-use Rattle.text.specs.Words.{Word, wordsOf}
+use Rattle.text.specs.Words.{Word}
 use Rattle.text.specs.Written.{bytesOf}
 use Rattle.tables.specs.Tables.{Tables}
 use Rattle.tables.specs.Records.{vWidth, vtWidth, vnWidth, vpWidth, elementWidth, bodyWidth, rangeWidth, loopWidth, spanWidth}
-use Rattle.tables.specs.Asking.{partOf}
 use Rattle.tables.specs.declared.Used.{Used}
 use Rattle.model.specs.Model.{Names, Element, Model}
+use Rattle.model.specs.In.{wordsIn}
 
 -- a word, wherever it stands
 abbrev pub bareWord : Word → Word
@@ -45,7 +45,7 @@ Agree m n = bare m ≡ bare n
 
 -- the words of a part of the text
 abbrev pub wordsAt : List ℕ → ℕ → ℕ → List (List ℕ)
-wordsAt s place count = bytesOf (wordsOf (record { place = place; bytes = partOf s place count }))
+wordsAt s place count = bytesOf (wordsIn s place count)
 
 -- the table of n elements without the last four numbers of each: the place and length of its group and of its material
 abbrev pub unnamed : ℕ → List ℕ → List ℕ

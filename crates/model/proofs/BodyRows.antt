@@ -1,27 +1,22 @@
 -- Body j of the tables is body j of the model, with its range, its parameters and its loop parts. By its rows.
-use Prim.Native.Nat.{ℕ, suc, _+_, _*_, _-_, _≤_, _<_}
+use Prim.Native.Nat.{ℕ, suc, _+_, _*_, _≤_, _<_}
 use mathlib.Core.Path.{_≡_, refl, sym, ap, _∙_, subst}
 use mathlib.Core.List.{List, [], _∷_, _++_, append-nil}
-use mathlib.Core.Bool.{true}
 use native.Mathlib.Omega.{arith}
-use borrow.Author.Tests.{le-leb}
 use lib.ListN.{length, getD, length-append}
 use lib.IntN.{ℤ, pos}
 use Rattle.lists.specs.Lists.{flat}
-use Rattle.lists.proofs.Tests.{and-both}
 use Rattle.tables.specs.Tables.{Tables}
 use Rattle.tables.specs.Bodies.{basisNumber}
-use Rattle.tables.specs.Records.{bodyAt, numberAt, valueAt, parametersU, parametersV}
-use Rattle.tables.specs.Asking.{held, bodyHeld}
+use Rattle.tables.specs.Records.{bodyAt, numberAt, valueAt, parametersU, parametersV, bodyWidth, rangeWidth, loopWidth, spanWidth}
 use Rattle.tables.specs.declared.Body as records
 use Rattle.tables.specs.declared.Used.{Used}
 use Rattle.model.specs.Model.{Body, Kind, free, Element, Model}
 use Rattle.model.specs.Room.{summed, partCount}
 use Rattle.model.specs.Layout.{firstPart, flag, bodyRow, bodyRows, rangeRow, bodyOf, bodiesOf, parameterRow, loopRows, spanRows}
-use Rattle.model.proofs.Rows.{bodyRows-length, bodyRows-append, rangeRows-length, parameterRows-length, loopRows-length, spanRows-length, bodies-append, summed-append}
-use Rattle.rules.specs.Bodies.{recordObeys, bodyObeys}
-use Rattle.joining.proofs.Stands.{Stands, stands-at, stands-is, stands-part, stands-flat, Among}
-use Rattle.joining.proofs.Laid.{Laid}
+use Rattle.model.proofs.Rows.{bodyRows-length, bodyRows-append, parameterRows-length, loopRows-length, spanRows-length, bodies-append, summed-append}
+use Rattle.model.proofs.Stands.{Stands, stands-at, stands-is, stands-part, stands-flat, stands-record, Among}
+use Rattle.model.proofs.Laid.{Laid}
 
 -- the body of an element, among the bodies
 abbrev pub body-among : (es : List Element) (i : ℕ) (a : Among es i) (b : Body) → a .one .kind ≡ free b → Among (bodiesOf es) (length (bodiesOf (a .before)))
@@ -58,14 +53,14 @@ parametersIn bs = summed (λ (b : Body). length (b .us) + length (b .vs)) bs
 
 pub record BodyRow (u : Used) (t : Tables) (j p l : ℕ) (b : Body) : Type 0 where
   pub used : suc j ≤ u .bodies
-  pub lent-body : 9 * suc j ≤ length (t .bodies)
-  pub lent-range : 4 * suc j ≤ length (t .ranges)
+  pub lent-body : bodyWidth * suc j ≤ length (t .bodies)
+  pub lent-range : rangeWidth * suc j ≤ length (t .ranges)
   pub is : bodyAt t j ≡ laidBody p l b
   pub used-parameters : p + (length (b .us) + length (b .vs)) ≤ u .parameters
   pub used-loops : l + partCount b ≤ u .loops
   pub parameters : Stands (t .parameters) p (b .us ++ b .vs)
-  pub loops : Stands (t .loops) (2 * l) (loopRows b)
-  pub spans : Stands (t .spans) (2 * l) (spanRows b)
+  pub loops : Stands (t .loops) (loopWidth * l) (loopRows b)
+  pub spans : Stands (t .spans) (spanWidth * l) (spanRows b)
 
 module _ (u : Used) (t : Tables) (m : Model) (L : Laid u t m) (j : ℕ) (a : Among (bodiesOf (m .elements)) j) where
   abbrev bs : List Body
@@ -80,22 +75,20 @@ module _ (u : Used) (t : Tables) (m : Model) (L : Laid u t m) (j : ℕ) (a : Amo
   abbrev N : ℕ
   N = 0 + summed partCount (a .before)
 
-  numbers : Stands (t .bodies) (9 * j) (bodyRow P N b)
+  numbers : Stands (t .bodies) (bodyWidth * j) (bodyRow P N b)
   numbers =
       let s = subst (Stands (t .bodies) 0) (ap (bodyRows 0 0) (a .is) ∙ bodyRows-append 0 0 (a .before) (b ∷ a .after)) (L .bodies) in
-      stands-is (t .bodies) (0 + length (bodyRows 0 0 (a .before))) (9 * j) (bodyRow P N b) (let k = bodyRows-length 0 0 (a .before) in let i = a .many in omega arith)
+      stands-is (t .bodies) (0 + length (bodyRows 0 0 (a .before))) (bodyWidth * j) (bodyRow P N b) (let k = bodyRows-length 0 0 (a .before) in let i = a .many in omega arith)
       (stands-part (t .bodies) 0 (bodyRows 0 0 (a .before)) (bodyRow P N b) (bodyRows (P + (length (b .us) + length (b .vs))) (N + partCount b) (a .after)) s)
 
-  range : Stands (t .ranges) (4 * j) (rangeRow b)
-  range =
-      stands-is (t .ranges) (length (flat rangeRow (a .before))) (4 * j) (rangeRow b) (let k = rangeRows-length (a .before) in let i = a .many in omega arith)
-      (stands-flat rangeRow (t .ranges) (a .before) b (a .after) (subst (λ (q : List Body). Stands (t .ranges) 0 (flat rangeRow q)) (a .is) (L .ranges)))
+  range : Stands (t .ranges) (rangeWidth * j) (rangeRow b)
+  range = stands-is (t .ranges) (0 + rangeWidth * j) (rangeWidth * j) (rangeRow b) (omega arith) (stands-record rangeRow rangeWidth (λ b. refl) (t .ranges) 0 bs j a (L .ranges))
 
-  number-at : (k : ℕ) → k < 9 → numberAt 9 (t .bodies) j k ≡ getD (bodyRow P N b) k 0
-  number-at k h = stands-at (t .bodies) (9 * j) (bodyRow P N b) k 0 numbers (omega arith)
+  number-at : (k : ℕ) → k < bodyWidth → numberAt bodyWidth (t .bodies) j k ≡ getD (bodyRow P N b) k 0
+  number-at k h = stands-at (t .bodies) (bodyWidth * j) (bodyRow P N b) k 0 numbers (omega arith)
 
-  value-at : (k : ℕ) → k < 4 → valueAt 4 (t .ranges) j k ≡ getD (rangeRow b) k (pos 0)
-  value-at k h = stands-at (t .ranges) (4 * j) (rangeRow b) k (pos 0) range (omega arith)
+  value-at : (k : ℕ) → k < rangeWidth → valueAt rangeWidth (t .ranges) j k ≡ getD (rangeRow b) k (pos 0)
+  value-at k h = stands-at (t .ranges) (rangeWidth * j) (rangeRow b) k (pos 0) range (omega arith)
 
   body-is : bodyAt t j ≡ laidBody P N b
   body-is =
@@ -132,24 +125,15 @@ module _ (u : Used) (t : Tables) (m : Model) (L : Laid u t m) (j : ℕ) (a : Amo
         is = body-is;
         used-parameters = (let k = L .used-parameters in omega arith);
         used-loops = (let k = L .used-loops in omega arith);
-        parameters = stands-is (t .parameters) (length (flat parameterRow (a .before))) P (b .us ++ b .vs) (let k = parameterRows-length (a .before) in omega arith)
-            (stands-flat parameterRow (t .parameters) (a .before) b (a .after) (subst (λ (q : List Body). Stands (t .parameters) 0 (flat parameterRow q)) (a .is) (L .parameters)));
-        loops = stands-is (t .loops) (length (flat loopRows (a .before))) (2 * N) (loopRows b) (let k = loopRows-length (a .before) in omega arith)
-            (stands-flat loopRows (t .loops) (a .before) b (a .after) (subst (λ (q : List Body). Stands (t .loops) 0 (flat loopRows q)) (a .is) (L .loops)));
-        spans = stands-is (t .spans) (length (flat spanRows (a .before))) (2 * N) (spanRows b) (let k = spanRows-length (a .before) in omega arith)
-            (stands-flat spanRows (t .spans) (a .before) b (a .after) (subst (λ (q : List Body). Stands (t .spans) 0 (flat spanRows q)) (a .is) (L .spans)));
+        parameters = stands-is (t .parameters) (0 + length (flat parameterRow (a .before))) P (b .us ++ b .vs) (let k = parameterRows-length (a .before) in omega arith)
+            (stands-flat parameterRow (t .parameters) 0 bs j a (L .parameters));
+        loops = stands-is (t .loops) (0 + length (flat loopRows (a .before))) (loopWidth * N) (loopRows b) (let k = loopRows-length (a .before) in omega arith)
+            (stands-flat loopRows (t .loops) 0 bs j a (L .loops));
+        spans = stands-is (t .spans) (0 + length (flat spanRows (a .before))) (spanWidth * N) (spanRows b) (let k = spanRows-length (a .before) in omega arith)
+            (stands-flat spanRows (t .spans) 0 bs j a (L .spans));
       }
 
 module _ (u : Used) (t : Tables) (j p l : ℕ) (b : Body) (r : BodyRow u t j p l b) where
-  pub body-obeys : (n kind count : ℕ) → recordObeys u t n kind count (laidBody p l b) ≡ true → bodyObeys u t n kind count (suc j) ≡ true
-  unfolding bodyObeys bodyHeld held
-  body-obeys n kind count h =
-      let e : suc j - 1 ≡ j = omega arith in
-      and-both
-      (and-both (and-both (and-both (le-leb 1 (suc j) (omega arith)) (le-leb (suc j) (u .bodies) (r .used))) (le-leb (9 * suc j) (length (t .bodies)) (r .lent-body)))
-      (le-leb (4 * suc j) (length (t .ranges)) (r .lent-range)))
-      (ap (recordObeys u t n kind count) (ap (bodyAt t) e ∙ r .is) ∙ h)
-
   -- its parameters, read back
   pub us-are : parametersU t (laidBody p l b) ≡ b .us
   us-are = (stands-is (t .parameters) (p + 0) p (b .us) (omega arith) (stands-part (t .parameters) p [] (b .us) (b .vs) (r .parameters))) .run
