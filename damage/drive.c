@@ -18,10 +18,11 @@
  *     K corner    element, corner
  *     G group     element
  *     M material  element
- * An answer is the letter, a byte (0 where all canaries stand and nothing lent to be read has changed), the numbers of the C struct, of an element
- * and a body its bytes, and the bytes of everything that was lent to be written; of a group or material its length and, where that is not 0, its place
- * and its bytes. That of O is reading's, each table as far as it is used; its byte is 1, too, where the lengths are more than is promised or what is not
- * used is not 0.
+ *     X explain   place
+ * An answer is the letter, a byte (0 where all canaries stand and nothing lent to be read has changed), the numbers of the C struct (of explain its
+ * tally's), of an element and a body its bytes, and the bytes of everything that was lent to be written; of a group or material its length and, where
+ * that is not 0, its place and its bytes. That of O is reading's, each table as far as it is used; its byte is 1, too, where the lengths are more than
+ * is promised or what is not used is not 0.
  */
 #include "lent.h"
 
@@ -309,6 +310,19 @@ static void part(char letter) {
     say(text.data + p.place, p.length);
 }
 
+static void explain(void) {
+    size_t place = number();
+    const kuhlabires_tally a = kuhlabires_explain(text.data, text.size, place).tally;
+    say_head('X', unchanged(text, text_before));
+    say_number(a.v);
+    say_number(a.vt);
+    say_number(a.vn);
+    say_number(a.vp);
+    say_number(a.curves);
+    say_number(a.kind);
+    say_number(a.opened);
+}
+
 int main(void) {
     const size_t none[TABLES] = {0};
     char letter;
@@ -335,6 +349,7 @@ int main(void) {
         case 'K': corner(); break;
         case 'G':
         case 'M': part(letter); break;
+        case 'X': explain(); break;
         default: fprintf(stderr, "no request: %d\n", letter); return 2;
         }
     }

@@ -69,9 +69,32 @@ static kuhlabires_tidying tidy_into(struct block text, uint32_t weights, const s
     return r;
 }
 
+/* What is told of a place is what reading the text up to its line comes to: the counts of what is read there, or that a body is open. */
+static void explained(struct block text, size_t place) {
+    kuhlabires_advice a = kuhlabires_explain(text.data, text.size, place);
+    HOLD(intact(text) && a.key <= text.size && a.words <= text.size);
+    struct block before = lend_copy(text.data, a.key);
+    size_t lengths[TABLES];
+    rooms_of(before, lengths);
+    struct tables t = lend_tables(lengths);
+    kuhlabires_reading r = read_into(before, &t);
+    if (a.tally.kind == 0) {
+        uint32_t curves = 0;
+        for (size_t i = 0; i < r.used.elements; i++) curves += entry(&t, ELEMENTS, KUHLABIRES_ELEMENT_WIDTH * i) == KUHLABIRES_CURV2;
+        HOLD(r.refusal == 0 && a.tally.opened == 0 && a.controls == 0 && a.tally.curves == curves);
+        HOLD(r.used.v == a.tally.v && r.used.vt == a.tally.vt && r.used.vn == a.tally.vn && r.used.vp == a.tally.vp);
+    } else {
+        HOLD(r.refusal == 10 && r.place == before.size && a.tally.opened < before.size);
+    }
+    take_tables_back(&t);
+    take_back(before);
+}
+
 /* Refused is refused for any room, with the same number and place unless a table lacks room before. */
 static void refused(struct block text, kuhlabires_reading first) {
     const size_t none[TABLES] = {0};
+    explained(text, first.place);
+    kuhlabires_explain(text.data, text.size, SIZE_MAX);
     struct tables t = lend_tables(none);
     kuhlabires_reading r = read_into(text, &t);
     HOLD(r.refusal == 14 ? r.place <= first.place : r.refusal == first.refusal && r.place == first.place);

@@ -115,6 +115,8 @@ def shaken(rng, used, tables):
 def one(rng, stream, data):
     needs = needed(data)
     stream.in_rooms(data, needs)
+    if isinstance(read(data, needs), Refused):
+        stream.explain(needs)
     stream.read(data, rooms(rng, needs))
     if stream.used.elements:
         ask(rng, stream, 3)

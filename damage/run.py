@@ -170,7 +170,7 @@ def counted(stream, totals):
 LETTERS = {
     "R": "read", "O": "rooms and read", "T": "tidy", "C": "point_on_curve", "F": "point_on_surface", "N": "run_on_curve",
     "P": "polyline", "B": "cubic_at", "W": "sweep", "E": "element_of", "Y": "body_of", "U": "curv2_element", "K": "corner_of", "G": "group_of",
-    "M": "material_of",
+    "M": "material_of", "X": "explain",
 }
 
 

@@ -15,10 +15,12 @@ sys.path.append(str(SECOND))
 from outline import inside
 from polyline import polyline
 from reader import corner_of, group_of, material_of, read
-from records import CURV2, SIGNED, TABLES, Refused, Used, zeros
+from records import CURV2, SIGNED, TABLES, Fault, Refused, Used, lengths, zeros
 from sampler import RefusedPoint, cubic_at, point_on_curve, point_on_surface, run_on_curve
+from statements import Reader
 from sweep import RefusedSweep, sweep
 from tidier import TooLong, tidy
+from words import joined_lines
 
 FILLER = b"\xa5"
 NONE = Used(*[0] * len(Used._fields))
@@ -35,6 +37,29 @@ def entries(tables):
         array("i" if name in SIGNED else "I", table).tobytes()
         for name, table in zip(TABLES, tables)
     )
+
+
+def before_fault(text, needs):
+    """Of a text that is refused the place, and what was counted and open before the line at fault."""
+    reader, opened = Reader(lengths(needs)), 0
+
+    def tally():
+        """A curv2 counts from its end on: no line in its body can name it."""
+        kind, place = (reader.body.kind, opened) if reader.body else (0, 0)
+        return *(reader.count(table) for table in TABLES[:4]), reader.curv2_count - (kind == CURV2), kind, place
+
+    before = tally()
+    try:
+        for words in joined_lines(text):
+            before = tally()
+            was_open = reader.body is not None
+            reader.line(words)
+            if reader.body and not was_open:
+                opened = words[0][0]
+            before = tally()
+    except Fault as fault:
+        return fault.refused.place, before
+    return len(text), before
 
 
 class Stream:
@@ -71,6 +96,11 @@ class Stream:
             "O", number, (numbers(len(text)), text),
             numbers(number, place, *self.used), entries(self.tables),
         )
+
+    def explain(self, needs):
+        """Of a text that reading in ample rooms refuses, at its place."""
+        place, before = before_fault(self.text, needs)
+        self.ask("X", 0, (numbers(place),), numbers(*before))
 
     def tidy(self, text, rooms, room, weights):
         """Of the weights' numbers 1 is always; any other is when needed."""

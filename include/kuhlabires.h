@@ -330,6 +330,91 @@ size_t kuhlabires_keyword(size_t row, uint8_t *out, size_t out_length);
 /* The same of the fixed words after a keyword. */
 size_t kuhlabires_argument(size_t row, uint8_t *out, size_t out_length);
 
+/* ---- What is told of a refusal besides its number and place: advice ---- */
+
+/* How many v, vt, vn, vp and ended curv2 there are so far; the kind of the open body's element, 0 where none is open, and the place of its keyword. */
+typedef struct kuhlabires_tally {
+    uint32_t v;
+    uint32_t vt;
+    uint32_t vn;
+    uint32_t vp;
+    uint32_t curves;
+    uint32_t kind;
+    size_t opened;
+} kuhlabires_tally;
+
+/*
+ * The parameters along one direction of the open body: where the numbers of its last parm start, 0 where there is none, and how many they are; how many
+ * controls the type asks for them; 1 where a bspline's are enough; the number, from 1, of the first parameter that may not stand after the one before it,
+ * 0 where all may; the ends of the widest range; the range, and 1 where all are in order and it stands within the widest.
+ */
+typedef struct kuhlabires_along {
+    size_t place;
+    uint32_t parameters;
+    size_t controls;
+    uint32_t enough;
+    uint32_t wrong;
+    int32_t low;
+    int32_t high;
+    int32_t start;
+    int32_t end;
+    uint32_t fits;
+} kuhlabires_along;
+
+/*
+ * The keyword of the line that holds the place, and how many words follow it; what the lines before say; the type and the degrees in force, 0 for none; of
+ * the open body how many controls it has, and its parameters along u and v.
+ */
+typedef struct kuhlabires_advice {
+    size_t key;
+    size_t words;
+    kuhlabires_tally tally;
+    uint32_t basis;
+    uint32_t degree_u;
+    uint32_t degree_v;
+    size_t controls;
+    kuhlabires_along u;
+    kuhlabires_along v;
+} kuhlabires_advice;
+
+/* What is told of the place of a refusal of kuhlabires_read or kuhlabires_tidy in that text. */
+kuhlabires_advice kuhlabires_explain(const uint8_t *text, size_t text_length, size_t place);
+
+/* What a word has to be. */
+enum kuhlabires_form {
+    KUHLABIRES_ANYTHING = 0,
+    KUHLABIRES_NUMBER = 1,
+    KUHLABIRES_V_CORNER = 2,   /* v */
+    KUHLABIRES_VT_CORNER = 3,  /* v or v/vt */
+    KUHLABIRES_ANY_CORNER = 4, /* v, v/vt, v//vn or v/vt/vn */
+    KUHLABIRES_CONTROL = 5,    /* a vp */
+    KUHLABIRES_CURVE = 6,      /* a curv2 */
+    KUHLABIRES_DIRECTION = 7,
+    KUHLABIRES_TYPE = 8,
+    KUHLABIRES_RATIONAL = 9,
+    KUHLABIRES_DEGREE = 10,
+    KUHLABIRES_SMOOTHING = 11,
+    KUHLABIRES_NAME = 12
+};
+
+/*
+ * A keyword's rules: where its statement stands (0 outside a body, 1 in one, 2 in a surf's, 3 as a parm); how many words follow it, at least, at most
+ * (KUHLABIRES_MOST_BYTES for any number), and a multiple of how many; the form of a word, and the least and the greatest value that it may have, of a name
+ * how many bytes.
+ */
+typedef struct kuhlabires_rule_row {
+    uint32_t standing;
+    size_t least;
+    size_t most;
+    size_t multiple;
+    uint32_t form;
+    int32_t low;
+    int32_t high;
+} kuhlabires_rule_row;
+
+/* The rules of the keyword that the bytes begin with, and the form of word `index`, from 0, of `words` words after it. */
+kuhlabires_rule_row kuhlabires_rules(const uint8_t *keyword, size_t keyword_length, size_t words, size_t index);
+
 /* ---- The same with the tables in one struct, for shorter calls ---- */
 
 /* The eleven tables, each a pointer and a length in entries, and their used counts, which reading, tidying and the sweep set. */

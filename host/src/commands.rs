@@ -1,7 +1,7 @@
 //! `tidy`, `polyline`, `cubic` and `sweep`.
 use crate::input::{refused, tables_of, told, Input};
 use crate::{show, tell, Failure};
-use kuhlabires::{keywords, tidy_text, Decimal, Reason, Used, Weights, CUBIC_STEPS};
+use kuhlabires::{keywords, tidy_text, Asked, Decimal, Reason, Used, Weights, CUBIC_STEPS};
 use std::io::Write;
 
 pub fn tidy(input: Input, weights: Weights, out: &mut dyn Write) -> Result<(), Failure> {
@@ -13,8 +13,9 @@ pub fn tidy(input: Input, weights: Weights, out: &mut dyn Write) -> Result<(), F
 pub fn polyline(input: Input, element: u32, tolerance: i32, out: &mut dyn Write) -> Result<(), Failure> {
     let tables = tables_of(&input)?;
     let points = tables.polyline(element, tolerance).map_err(|reason| {
-        let tolerance = Decimal(tolerance);
-        tell(format_args!("{}: element {element}, tolerance {tolerance}: {reason}\n", input.name));
+        let shown = Decimal(tolerance);
+        tell(format_args!("{}: element {element}, tolerance {shown}: {reason}\n", input.name));
+        show::tell_why(&tables, element, Asked::Polyline(tolerance), reason);
         Failure::Refused
     })?;
     for point in points {
@@ -66,6 +67,7 @@ pub fn cubic(input: Input, element: u32, out: &mut dyn Write) -> Result<(), Fail
     }
     if none {
         tell(format_args!("{}: element {element}: {last}\n", input.name));
+        show::tell_why(&tables, element, Asked::Cubic, last);
         return Err(Failure::Refused);
     }
     Ok(())

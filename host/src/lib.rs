@@ -22,6 +22,8 @@
 //! ```
 #![warn(missing_docs)]
 
+mod advice;
+mod messages;
 mod raw;
 mod records;
 mod refusal;
@@ -29,6 +31,8 @@ mod sampling;
 mod tables;
 mod words;
 
+pub use advice::{explain, rules_of_keyword, Advice, Along, Form, RuleRow, Tally};
+pub use messages::{lacking, message, sampling_message, thousands, Asked};
 pub use records::*;
 pub use refusal::{position, Position, Reason, Refusal};
 pub use tables::Tables;

@@ -2,7 +2,7 @@
 use crate::arguments::{millionths, number, Arguments};
 use crate::columns::{Columns, Form, Rows};
 use crate::input::{tables_of, Input};
-use crate::{tell, Failure};
+use crate::{show, tell, Failure};
 use kuhlabires::{Body, Decimal, Element, Kind, Point, Reason, Tables, MOST_STEPS};
 use std::ffi::OsStr;
 use std::fmt;
@@ -66,6 +66,15 @@ impl Asked {
     }
 }
 
+impl Places {
+    fn asked(&self) -> kuhlabires::Asked {
+        match *self {
+            Places::Steps(along_u, along_v) => kuhlabires::Asked::Steps(along_u, along_v.unwrap_or(along_u)),
+            Places::At(s, t) => kuhlabires::Asked::At(s, t),
+        }
+    }
+}
+
 impl fmt::Display for Places {
     fn fmt(&self, f: &mut fmt::Formatter<'_>) -> fmt::Result {
         match *self {
@@ -121,6 +130,7 @@ fn write_element(
         Err(Trouble::Refused(reason)) => {
             columns.flush()?;
             tell(format_args!("{}: element {element}{}: {reason}\n", input.name, asked.places));
+            show::tell_why(tables, element, asked.places.asked(), reason);
             Err(Failure::Refused)
         }
         Err(Trouble::Io(error)) => Err(error.into()),

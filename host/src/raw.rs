@@ -1,5 +1,5 @@
-//! The boundary as the archive has it: `src/lib.rt` of `crates/boundary`, `crates/answers` and `crates/rooms`, and `include/kuhlabires.h`, say the same. A slice is a pointer, then a length.
-use crate::{Corner, Dropped, Rooms, Tables, Used};
+//! The boundary as the archive has it: `src/lib.rt` of `crates/boundary`, `crates/answers`, `crates/advice` and `crates/rooms`, and `include/kuhlabires.h`, say the same. A slice is a pointer, then a length.
+use crate::{Advice, Corner, Dropped, Rooms, RuleRow, Tables, Used};
 
 #[repr(C)]
 pub struct Reading {
@@ -150,6 +150,10 @@ extern "C" {
         element: u32,
         k: u32,
     ) -> Corner;
+
+    pub fn kuhlabires_explain(text: *const u8, text_length: usize, place: usize) -> Advice;
+
+    pub fn kuhlabires_rules(keyword: *const u8, keyword_length: usize, words: usize, index: usize) -> RuleRow;
 }
 
 macro_rules! names {
@@ -299,4 +303,14 @@ pub fn material_of(text: &[u8], tables: &Tables, element: u32) -> Part {
     unsafe {
         kuhlabires_material_of(text.as_ptr(), text.len(), tables.used, elements.as_ptr(), elements.len(), element)
     }
+}
+
+pub fn explain(text: &[u8], place: usize) -> Advice {
+    // SAFETY: as in `with_tables`.
+    unsafe { kuhlabires_explain(text.as_ptr(), text.len(), place) }
+}
+
+pub fn rules_of_keyword(keyword: &[u8], words: usize, index: usize) -> RuleRow {
+    // SAFETY: as in `with_tables`.
+    unsafe { kuhlabires_rules(keyword.as_ptr(), keyword.len(), words, index) }
 }

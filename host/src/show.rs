@@ -1,5 +1,7 @@
 //! What a person is shown: a refusal with its line, sizes.
-use kuhlabires::{Position, Reason, Refusal};
+use crate::tell;
+pub use kuhlabires::thousands;
+use kuhlabires::{message, sampling_message, Asked, Position, Reason, Refusal, Tables};
 
 // The most columns of a line that are shown, around the place.
 const MOST_COLUMNS: usize = 100;
@@ -15,23 +17,31 @@ pub fn refusal(name: &str, text: &[u8], refusal: Refusal) -> String {
         refusal.place,
         reason(text, refusal)
     );
+    if let Some(message) = message(text, refusal) {
+        shown.push_str(&format!("  {}\n", printable(&message)));
+    }
     if !text.is_empty() && !matches!(refusal.reason, Reason::TextTooLong | Reason::OutputLacksRoom) {
         shown.push_str(&marked(text, at));
     }
     shown
 }
 
-/// The words of the number; of 10 the half that holds.
+/// Tells what sampling found, and what was expected, after its refusal: a sampling refusal has no place.
+pub fn tell_why(tables: &Tables, element: u32, asked: Asked, reason: Reason) {
+    if let Some(message) = sampling_message(tables, element, asked, reason) {
+        tell(format_args!("  {message}\n"));
+    }
+}
+
+/// The words of the number; of 10 the half that holds, of 16 those of a tidy text.
 pub fn reason(text: &[u8], refusal: Refusal) -> &'static str {
     let words = refusal.reason.words();
-    if refusal.reason != Reason::NotAllowedHere {
-        return words;
-    }
     let (here, ends) = words.split_once("; ").unwrap_or((words, words));
-    if refusal.place == text.len() {
-        ends
-    } else {
-        here
+    match refusal.reason {
+        Reason::NotAllowedHere if refusal.place == text.len() => ends,
+        Reason::NotAllowedHere => here,
+        Reason::OutputLacksRoom => "the tidy text is too long",
+        _ => words,
     }
 }
 
@@ -53,6 +63,11 @@ fn marked(text: &[u8], at: Position) -> String {
 /// Bytes as a terminal may show them: any but 32 to 126 and tabs as a question mark.
 pub fn visible(bytes: &[u8]) -> String {
     bytes.iter().map(|&b| if matches!(b, 32..=126 | b'\t') { b as char } else { '?' }).collect()
+}
+
+// A message as a terminal may show it.
+fn printable(message: &str) -> String {
+    message.chars().map(|letter| if letter.is_control() { '?' } else { letter }).collect()
 }
 
 /// The numbers, from 1, of the entries that are 0, after a colon.
@@ -79,19 +94,6 @@ pub fn runs(numbers: impl IntoIterator<Item = u32>) -> String {
     shown.join(" ")
 }
 
-/// A number with its thousands apart.
-pub fn thousands(number: usize) -> String {
-    let digits = number.to_string();
-    let mut shown = String::new();
-    for (index, digit) in digits.chars().enumerate() {
-        if index > 0 && (digits.len() - index) % 3 == 0 {
-            shown.push(',');
-        }
-        shown.push(digit);
-    }
-    shown
-}
-
 #[cfg(test)]
 mod tests {
     use super::*;
@@ -101,7 +103,7 @@ mod tests {
         let text = b"v 0 0 0\nf 1\t1 2\n";
         assert_eq!(
             refusal("a.obj", text, Refusal::new(Reason::ReferenceToNothing, 14)),
-            "a.obj:2:7: refused 8 at 14: a reference to nothing\n    2 | f 1\t1 2\n      |    \t  ^\n"
+            "a.obj:2:7: refused 8 at 14: a reference to nothing\n  there is no v 2: there is 1 v so far\n    2 | f 1\t1 2\n      |    \t  ^\n"
         );
     }
 
@@ -118,8 +120,8 @@ mod tests {
         text[300] = 7;
         let shown = refusal("a", &text, Refusal::new(Reason::ByteNotAllowed, 300));
         let lines: Vec<&str> = shown.lines().collect();
-        assert!(lines[1].len() < 130);
-        assert_eq!(lines[1].find('?'), lines[2].find('^'));
+        assert!(lines[2].len() < 130);
+        assert_eq!(lines[2].find('?'), lines[3].find('^'));
     }
 
     #[test]
@@ -127,7 +129,7 @@ mod tests {
         let text = [b"\n".repeat(1_234_567), b"f 1 2 0".to_vec()].concat();
         let shown = refusal("a", &text, Refusal::new(Reason::ReferenceToNothing, 1_234_573));
         let lines: Vec<&str> = shown.lines().collect();
-        assert_eq!(lines[1].find('0'), lines[2].find('^'));
+        assert_eq!(lines[2].find('0'), lines[3].find('^'));
     }
 
     #[test]

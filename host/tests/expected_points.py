@@ -3,7 +3,7 @@
 import json
 from decimal import Decimal
 
-from expected_words import WORDS, decimal, point
+from expected_words import WORDS, decimal, message_of, point
 from polyline import polyline
 from records import CURV, CURV2, KINDS, SURF
 from rules import body_of, element_record
@@ -61,7 +61,8 @@ def points(name, text, used, tables, *words):
     for element in asked:
         rows, words_of_call = rows_of(used, tables, element, numbers, flags)
         if isinstance(rows, RefusedPoint):
-            refusal = f"{name}: element {element}{words_of_call}: refused {rows.number}: {WORDS[rows.number]}\n"
+            key = f"{name}: element {element}{words_of_call}"
+            refusal = f"{key}: refused {rows.number}: {WORDS[rows.number]}\n{message_of(key)}"
             plain, told = plain + refusal, told + refusal
             continue
         shown = [[parameters * ("--parameter" in flags) + tuple(each) for parameters, each in row] for row in rows]
@@ -90,7 +91,8 @@ def cut(name, text, used, tables, element, tolerance):
     element, millionths = int(element), round(Decimal(tolerance) * 1_000_000)
     answer = polyline(used, tables, element, millionths, [0] * 12_291, 0)
     if isinstance(answer, RefusedPoint):
-        return f"{name}: element {element}, tolerance {decimal(millionths)}: refused {answer.number}: {WORDS[answer.number]}\n"
+        key = f"{name}: element {element}, tolerance {decimal(millionths)}"
+        return f"{key}: refused {answer.number}: {WORDS[answer.number]}\n{message_of(key)}"
     axes = 2 if element_record(tables, element)[0] == CURV2 else 3
     numbers = answer.points[:axes * answer.count]
     return "".join(point(numbers[k:k + axes]) + "\n" for k in range(0, len(numbers), axes))
@@ -103,4 +105,5 @@ def cubic(name, text, used, tables, element):
     asked = [(g, j, cubic_at(used, tables, element, g, j)) for g in range(segments) for j in range(65)]
     given = [f"{g} {j} {point(answer)}\n" for g, j, answer in asked if not isinstance(answer, RefusedPoint)]
     number = asked[-1][2].number if not given else 0
-    return "".join(given) or f"{name}: element {element}: refused {number}: {WORDS[number]}\n"
+    key = f"{name}: element {element}"
+    return "".join(given) or f"{key}: refused {number}: {WORDS[number]}\n{message_of(key)}"

@@ -16,6 +16,19 @@ def words_of_refusals():
 WORDS = words_of_refusals()
 
 
+def stored_messages():
+    """What is told besides, by the file or by the element asked for: stored, and looked through by hand."""
+    rows = [line.split(" | ", 1) for line in (HERE / "messages.txt").read_text().splitlines() if line and not line.startswith("#")]
+    return {key: message for key, message in rows}
+
+
+MESSAGES = stored_messages()
+
+
+def message_of(key):
+    return f"  {MESSAGES[key]}\n" if key in MESSAGES else ""
+
+
 def decimal(number):
     sign = "-" if number < 0 else ""
     return f"{sign}{abs(number) // 1_000_000}.{abs(number) % 1_000_000:06d}"
@@ -40,7 +53,7 @@ def refused(name, text, answer):
     whole = text.split(b"\n")[line].removesuffix(b"\r")
     blanks = "".join("\t" if b == 9 else " " for b in text[start:place])
     return (
-        f"{name}:{line + 1}:{place - start + 1}: refused {number} at {place}: {reason}\n"
+        f"{name}:{line + 1}:{place - start + 1}: refused {number} at {place}: {reason}\n{message_of(name)}"
         f"{line + 1:>5} | {visible(whole)}\n      | {blanks}^\n"
     )
 

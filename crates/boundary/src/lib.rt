@@ -3,7 +3,7 @@ ghost use mathlib.Core.Path.{_≡_};
 ghost use lib.ListN.{length};
 ghost use lib.Seq.{sets};
 ghost use Rattle.keywords.specs.Rows.{spellingAt, fitting};
-ghost use Rattle.keywords.specs.Keywords.{keywords};
+ghost use Rattle.keywords.specs.Keywords.{keywords, statementOf};
 ghost use Rattle.keywords.specs.Arguments.{arguments};
 ghost use Rattle.tables.specs.Tables.{tables};
 ghost use Rattle.tables.specs.Asking.{elementOf, bodyOf, cornerOf, groupOf, materialOf};
@@ -14,9 +14,14 @@ ghost use Rattle.rooms.specs.Rooms.{roomsOfText};
 ghost use Rattle.reader.specs.Reading.{readInto};
 ghost use Rattle.tidy_file.specs.Tidying.{tidyInto};
 ghost use Rattle.sweep.specs.Swept.{sweepInto};
+ghost use Rattle.text.specs.Words.{wordOf};
+ghost use Rattle.advice.specs.Advice.{adviceIs};
+ghost use Rattle.advice.specs.Asked.{carriedOf, rowOf};
 ghost use Rattle.answers.specs.Answers.{readIn, tidyIn, weightsIn, pointIn, runIn, polylineIn, sweepIn, groupIn, materialIn, bytesIn};
 ghost use Rattle.answers.specs.CurveNumbers.{curveOf};
 ghost use Rattle.answers.specs.Records.{elementRecord, bodyRecord};
+use advice::Advice;
+use advice::asked::RuleRow;
 use answers::Part;
 use answers::Point;
 use answers::PolylinePoints;
@@ -433,4 +438,20 @@ pub extern "C" fn kuhlabires_argument(row: usize, out: &mut [u8]) -> usize
     ensures { λ r. ⌜ (r ≡ length (fitting (length (now (out .entry))) (spellingAt arguments row))) × (now (out .exit) ≡ sets (now (out .entry)) 0 (fitting (length (now (out .entry))) (spellingAt arguments row))) ⌝ }
 {
     keywords::argument_spelling(row, out)
+}
+
+// What is told of the place of a refusal besides its number.
+#[no_mangle]
+pub extern "C" fn kuhlabires_explain(text: &[u8], place: usize) -> Advice
+    ensures { λ r. ⌜ adviceIs (now (text .entry)) place r ⌝ }
+{
+    advice::explain(text, place)
+}
+
+// The rules of the keyword that the bytes begin with, and the form of word `index`, from 0, of `words` after it.
+#[no_mangle]
+pub extern "C" fn kuhlabires_rules(keyword: &[u8], words: usize, index: usize) -> RuleRow
+    ensures { λ r. ⌜ r ≡ rowOf (carriedOf (statementOf (wordOf (now (keyword .entry))))) words index ⌝ }
+{
+    advice::asked::rules_of_keyword(keyword, words, index)
 }
