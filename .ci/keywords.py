@@ -22,8 +22,8 @@ def rows_of(text, table):
 def kinds_of(text, function):
     """What each letter stands for, in words."""
     body = re.search(rf"(?ms)^fn {function}\(.*?^}}", text)[0]
-    named = re.findall(r"b'(.)' => \w+::(\w+)", body)
-    return {letter: re.sub(r"(?<!^)(?=[A-Z])", " ", name).lower() for letter, name in named}
+    named = {letter: re.findall(r"::(\w+)", arm) for letter, arm in re.findall(r"b'(.)' => (.*),", body)}
+    return {letter: re.sub(r"(?<=[a-z])(?=[A-Z])", " ", " ".join(reversed([n for n in names if n != "Carried"]))).lower() for letter, names in named.items()}
 
 
 def table(text, rows, function, head):

@@ -19,10 +19,13 @@ use Rattle.text.proofs.LineByLine.{lines-start, lines-on, lines-end, line-words
 use Rattle.text.proofs.Scans.{scan-good, scan-fault}
 use Rattle.keywords.specs.Keywords.{keywordAt, statementOf}
 use Rattle.keywords.specs.declared.Keyword.{Keyword}
-use Rattle.keywords.specs.declared.Statement.{Statement}
-use Rattle.keywords.specs.declared.Statement.the-variants.{Vertex, TextureVertex, VertexNormal, ParameterVertex, BodyType, Degree, Point, Line, Face, Curve, Curve2, Surface, Parameters, Trim, Hole, End, Group, Smoothing, Material, PassedOver, Refused, Unknown}
+use Rattle.statements.specs.declared.VertexKind.{VertexKind}
+use Rattle.statements.specs.declared.VertexKind.the-variants.{Geometric, Texture, Normal, Parametric}
+use Rattle.statements.specs.declared.Carried.{Carried}
+use Rattle.statements.specs.declared.Carried.the-variants.{Vertex, Element, Body, Parameters, Trim, Hole, End, BodyType, Degree, Group, Smoothing, Material, PassedOver}
 use Rattle.advice.specs.declared.lines_before.Tally.{Tally}
-use Rattle.advice.specs.Tally.{startTally, total, ending, afterLine, afterWords, upTo, startOf, tallyFrom, tallyOf}
+use Rattle.advice.specs.Asked.{carriedOf}
+use Rattle.advice.specs.Tally.{startTally, total, ending, afterVertex, afterLine, afterWords, upTo, startOf, tallyFrom, tallyOf}
 
 -- ---- a line adds one at most
 one-more : (b : Bool) (n : ℕ) → cond b (n + 1) n ≤ n + 1
@@ -32,33 +35,30 @@ one-more false n = omega arith
 ending-few : (t : Tally) → total (ending t) ≤ total t + 1
 ending-few t = let x = one-more (lib.Dec.eqb (t .kind) 5) (t .curves) in omega arith
 
-line-few : (k : Statement) (key : ℕ) (t : Tally) → total (afterLine k key t) ≤ total t + 1
-line-few Vertex key t = omega arith
-line-few TextureVertex key t = omega arith
-line-few VertexNormal key t = omega arith
-line-few ParameterVertex key t = omega arith
-line-few BodyType key t = omega arith
-line-few Degree key t = omega arith
-line-few Point key t = omega arith
-line-few Line key t = omega arith
-line-few Face key t = omega arith
-line-few Curve key t = omega arith
-line-few Curve2 key t = omega arith
-line-few Surface key t = omega arith
+vertex-few : (k : VertexKind) (t : Tally) → total (afterVertex k t) ≤ total t + 1
+vertex-few Geometric t = omega arith
+vertex-few Texture t = omega arith
+vertex-few Normal t = omega arith
+vertex-few Parametric t = omega arith
+
+line-few : (k : Carried) (key : ℕ) (t : Tally) → total (afterLine k key t) ≤ total t + 1
+line-few (Vertex k) key t = vertex-few k t
+line-few (Element k) key t = omega arith
+line-few (Body k) key t = omega arith
 line-few Parameters key t = omega arith
 line-few Trim key t = omega arith
 line-few Hole key t = omega arith
 line-few End key t = ending-few t
+line-few BodyType key t = omega arith
+line-few Degree key t = omega arith
 line-few Group key t = omega arith
 line-few Smoothing key t = omega arith
 line-few Material key t = omega arith
 line-few PassedOver key t = omega arith
-line-few Refused key t = omega arith
-line-few Unknown key t = omega arith
 
 words-few : (ws : List Word) (t : Tally) → total (afterWords ws t) ≤ total t + 1
 words-few [] t = omega arith
-words-few (w ∷ ws) t = line-few (statementOf (w .bytes)) (w .place) t
+words-few (w ∷ ws) t = line-few (carriedOf (statementOf (w .bytes))) (w .place) t
 
 -- ---- one line
 module _ (s : List ℕ) (at : ℕ) (t : Tally) where
@@ -68,11 +68,11 @@ module _ (s : List ℕ) (at : ℕ) (t : Tally) where
   pub line-bad-first : {p : ℕ} → BadMet s at p → t ≡ afterWords ((restAt s at) .words) t
   line-bad-first m = sym (ap (λ (ws : List Word). afterWords ws t) (m .no-words))
 
-  pub line-said : {p : ℕ} → WordMet s at p → (k : Keyword) → k ≡ keywordAt s p → (u : Tally) → u ≡ afterLine (k .statement) p t
+  pub line-said : {p : ℕ} → WordMet s at p → (k : Keyword) → k ≡ keywordAt s p → (d : Carried) → d ≡ carriedOf (k .statement) → (u : Tally) → u ≡ afterLine d p t
       → u ≡ afterWords ((restAt s at) .words) t
   unfolding keywordAt
-  line-said {p} m k kw u e =
-      e ∙ ap (λ (k : Keyword). afterLine (k .statement) p t) kw ∙ sym (ap (λ (r : Rest). afterWords (r .words) t) (m .rest))
+  line-said {p} m k kw d is u e =
+      e ∙ ap (λ (d : Carried). afterLine d p t) is ∙ ap (λ (k : Keyword). afterLine (carriedOf (k .statement)) p t) kw ∙ sym (ap (λ (r : Rest). afterWords (r .words) t) (m .rest))
 
 -- ---- where the next line starts
 starts : (s : List ℕ) (q : ℕ) → q ≤ length s → startOf (length s) (linesAt s q) ≡ q

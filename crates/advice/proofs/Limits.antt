@@ -13,7 +13,7 @@ use Rattle.digits.specs.Said.{says, must}
 use Rattle.digits.specs.Digits.{natOf, whole}
 use Rattle.digits.specs.Degree.{degreeOf, smoothingOf, nameOf}
 use Rattle.decimals.specs.Number.{inRange, signed}
-use Rattle.faults.specs.declared.rules.WordForm.the-variants as form
+use Rattle.statements.specs.declared.rules.WordForm.the-variants as form
 use Rattle.advice.specs.Asked.{limitsOf}
 
 pub number-limits : (minus : Bool) (m : ℕ) → inRange minus m ≡ must (leb m (natAbs (limitsOf form.Number .high))) 7 (says (signed minus m))

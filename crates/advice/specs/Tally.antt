@@ -8,8 +8,12 @@ use lib.Dec.{leb, ltb, eqb}
 use Rattle.text.specs.Lines.{Line as JoinedLine, linesOf}
 use Rattle.text.specs.Words.{Word, wordsOf, badOf}
 use Rattle.keywords.specs.Keywords.{statementOf}
-use Rattle.keywords.specs.declared.Statement.{Statement}
-use Rattle.keywords.specs.declared.Statement.the-variants.{Vertex, TextureVertex, VertexNormal, ParameterVertex, BodyType, Degree, Point, Line, Face, Curve, Curve2, Surface, Parameters, Trim, Hole, End, Group, Smoothing, Material, PassedOver, Refused, Unknown}
+use Rattle.statements.specs.declared.VertexKind.{VertexKind}
+use Rattle.statements.specs.declared.VertexKind.the-variants.{Geometric, Texture, Normal, Parametric}
+use Rattle.statements.specs.declared.Carried.{Carried}
+use Rattle.statements.specs.declared.Carried.the-variants.{Vertex, Element, Body, Parameters, Trim, Hole, End, BodyType, Degree, Group, Smoothing, Material, PassedOver}
+use Rattle.model.specs.Layout.{freeNumber}
+use Rattle.advice.specs.Asked.{carriedOf}
 use Rattle.advice.specs.declared.lines_before.Tally.{Tally}
 
 abbrev pub startTally : Tally
@@ -24,6 +28,12 @@ abbrev pub withVertex : Tally → ℕ → ℕ → ℕ → ℕ → Tally
 withVertex t v vt vn vp =
     record { v = t .v + v; vt = t .vt + vt; vn = t .vn + vn; vp = t .vp + vp; curves = t .curves; kind = t .kind; «opened» = t .«opened» }
 
+abbrev pub afterVertex : VertexKind → Tally → Tally
+afterVertex Geometric t = withVertex t 1 0 0 0
+afterVertex Texture t = withVertex t 0 1 0 0
+afterVertex Normal t = withVertex t 0 0 1 0
+afterVertex Parametric t = withVertex t 0 0 0 1
+
 -- "Between curv, curv2 or surf and end": the body of an element of that kind, whose keyword stands at key
 abbrev pub opening : Tally → ℕ → ℕ → Tally
 opening t kind key =
@@ -35,33 +45,24 @@ ending t =
     record { v = t .v; vt = t .vt; vn = t .vn; vp = t .vp; curves = cond (eqb (t .kind) 5) (t .curves + 1) (t .curves); kind = 0; «opened» = 0 }
 
 -- after a line of that statement, its keyword at key
-abbrev pub afterLine : Statement → ℕ → Tally → Tally
-afterLine Vertex key t = withVertex t 1 0 0 0
-afterLine TextureVertex key t = withVertex t 0 1 0 0
-afterLine VertexNormal key t = withVertex t 0 0 1 0
-afterLine ParameterVertex key t = withVertex t 0 0 0 1
-afterLine BodyType key t = t
-afterLine Degree key t = t
-afterLine Point key t = t
-afterLine Line key t = t
-afterLine Face key t = t
-afterLine Curve key t = opening t 4 key
-afterLine Curve2 key t = opening t 5 key
-afterLine Surface key t = opening t 6 key
+abbrev pub afterLine : Carried → ℕ → Tally → Tally
+afterLine (Vertex k) key t = afterVertex k t
+afterLine (Element k) key t = t
+afterLine (Body k) key t = opening t (freeNumber k) key
 afterLine Parameters key t = t
 afterLine Trim key t = t
 afterLine Hole key t = t
 afterLine End key t = ending t
+afterLine BodyType key t = t
+afterLine Degree key t = t
 afterLine Group key t = t
 afterLine Smoothing key t = t
 afterLine Material key t = t
 afterLine PassedOver key t = t
-afterLine Refused key t = t
-afterLine Unknown key t = t
 
 abbrev pub afterWords : List Word → Tally → Tally
 afterWords [] t = t
-afterWords (w ∷ ws) t = afterLine (statementOf (w .bytes)) (w .place) t
+afterWords (w ∷ ws) t = afterLine (carriedOf (statementOf (w .bytes))) (w .place) t
 
 -- ---- the lines up to the one that holds the place p, and to the first with a byte that is not allowed
 abbrev pub upTo : Option ℕ → Tally → Tally → Tally

@@ -1,15 +1,20 @@
 // A keyword's row of rules as numbers, for other languages.
-use faults::rules::Count;
-use faults::rules::Forms;
-use faults::rules::Standing;
-use faults::rules::WordForm;
-use faults::rules::form_at;
-use faults::rules::rules_of;
+use statements::Carried;
+use statements::Statement;
+use statements::rules::Count;
+use statements::rules::Parts;
+use statements::rules::Standing;
+use statements::rules::WordForm;
+use statements::rules::fewest_words;
+use statements::rules::form_at;
+use statements::rules::most_words;
+use statements::rules::range_words;
+use statements::rules::rules_of;
 ghost use mathlib.Core.Path.{_≡_};
 ghost use lib.ListN.{drop};
 ghost use Rattle.text.specs.Words.{wordOf};
 ghost use Rattle.keywords.specs.Keywords.{keywordTable, statementOf};
-ghost use Rattle.advice.specs.Asked.{standingNumber, boundsOf, formNumber, limitsOf, rowOf};
+ghost use Rattle.advice.specs.Asked.{standingNumber, multipleOf, cornerNumber, formNumber, limitsOf, carriedOf, rowOf};
 
 // Where the statement may stand; how many words follow the keyword, at least, at most, and a multiple of how many; the form that a word has to have, and the
 // least and the greatest value that it may have.
@@ -22,12 +27,6 @@ pub struct RuleRow {
     pub form: u32,
     pub low: i32,
     pub high: i32,
-}
-
-pub struct Bounds {
-    pub least: usize,
-    pub most: usize,
-    pub multiple: usize,
 }
 
 pub struct Limits {
@@ -49,35 +48,26 @@ fn standing_number(standing: Standing) -> u32
     }
 }
 
-fn bounds_from(least: usize, most: usize, multiple: usize) -> Bounds
-    ensures { λ r. ⌜ r ≡ record { least = least; most = most; multiple = multiple } ⌝ }
-{
-    Bounds {
-        least: least,
-        most: most,
-        multiple: multiple,
-    }
-}
-
-fn bounds_of(count: Count) -> Bounds
-    ensures { λ r. ⌜ r ≡ boundsOf count ⌝ }
+// Of how many the number of words is a multiple.
+fn multiple_of(count: Count) -> usize
+    ensures { λ r. ⌜ r ≡ multipleOf count ⌝ }
 {
     match count {
-        Count::Any => bounds_from(0, MOST, 1),
-        Count::AtLeast(least) => bounds_from(least, MOST, 1),
-        Count::Within { least, most } => bounds_from(least, most, 1),
-        Count::Exactly(number) => bounds_from(number, number, 1),
-        Count::Threes => bounds_from(3, MOST, 3),
+        Count::Any => 1,
+        Count::AtLeast(_) => 1,
+        Count::Within { least: _, most: _ } => 1,
+        Count::Exactly(_) => 1,
+        Count::Threes => 3,
     }
 }
 
-fn corner_number(texture: bool, normal: bool) -> u32
-    ensures { λ r. ⌜ r ≡ Rattle.advice.specs.Asked.cornerNumber texture normal ⌝ }
+fn corner_number(parts: Parts) -> u32
+    ensures { λ r. ⌜ r ≡ cornerNumber parts ⌝ }
 {
-    if normal {
+    if parts.vn {
         return 4;
     }
-    if texture {
+    if parts.vt {
         return 3;
     }
     2
@@ -89,7 +79,7 @@ fn form_number(form: WordForm) -> u32
     match form {
         WordForm::Anything => 0,
         WordForm::Number => 1,
-        WordForm::Corner { texture, normal } => corner_number(texture, normal),
+        WordForm::Corner(parts) => corner_number(parts),
         WordForm::Control => 5,
         WordForm::Curve => 6,
         WordForm::Direction => 7,
@@ -98,13 +88,6 @@ fn form_number(form: WordForm) -> u32
         WordForm::Degree => 10,
         WordForm::Smoothing => 11,
         WordForm::Name => 12,
-        WordForm::Alike {
-            texture,
-            normal,
-            bare: _,
-            flat: _,
-        } => corner_number(texture, normal),
-        WordForm::Wide => 5,
     }
 }
 
@@ -124,10 +107,7 @@ fn limits_of(form: WordForm) -> Limits
     match form {
         WordForm::Anything => limits_from(0, 0),
         WordForm::Number => limits_from(-2_000_000_000, 2_000_000_000),
-        WordForm::Corner {
-            texture: _,
-            normal: _,
-        } => limits_from(0, 0),
+        WordForm::Corner(_) => limits_from(0, 0),
         WordForm::Control => limits_from(0, 0),
         WordForm::Curve => limits_from(0, 0),
         WordForm::Direction => limits_from(0, 0),
@@ -136,58 +116,53 @@ fn limits_of(form: WordForm) -> Limits
         WordForm::Degree => limits_from(1, 20),
         WordForm::Smoothing => limits_from(0, 65_535),
         WordForm::Name => limits_from(1, 255),
-        WordForm::Alike {
-            texture: _,
-            normal: _,
-            bare: _,
-            flat: _,
-        } => limits_from(0, 0),
-        WordForm::Wide => limits_from(0, 0),
+    }
+}
+
+// The statement whose rules a keyword's line has; a line that is refused by its keyword has the rules of one that is passed over.
+pub fn carried_of(statement: Statement) -> Carried
+    ensures { λ r. ⌜ r ≡ carriedOf statement ⌝ }
+{
+    match statement {
+        Statement::Carried(carried) => carried,
+        Statement::Refused => Carried::PassedOver,
+        Statement::Unknown => Carried::PassedOver,
     }
 }
 
 // The rules of the keyword that the bytes begin with, and the form of word `index`, from 0, of `words` after it.
 pub fn rules_of_keyword(keyword: &[u8], words: usize, index: usize) -> RuleRow
-    ensures { λ r. ⌜ r ≡ rowOf (statementOf (wordOf (now (keyword .entry)))) words index ⌝ }
+    ensures { λ r. ⌜ r ≡ rowOf (carriedOf (statementOf (wordOf (now (keyword .entry))))) words index ⌝ }
 {
     let table = keywords::keyword_table();
     let found = keywords::keyword_at(keyword, 0, &table);
     let statement = found.statement;
-    let rules = rules_of(statement);
+    let carried = carried_of(statement);
+    let rules = rules_of(carried);
     let standing = rules.standing;
     let count = rules.count;
     let forms = rules.forms;
     let form = form_at(forms, words, index);
-    let bounds = bounds_of(count);
     let limits = limits_of(form);
     RuleRow {
         standing: standing_number(standing),
-        least: bounds.least,
-        most: bounds.most,
-        multiple: bounds.multiple,
+        least: fewest_words(count),
+        most: most_words(count, MOST),
+        multiple: multiple_of(count),
         form: form_number(form),
         low: limits.low,
         high: limits.high,
     }
 }
 
-fn words_of_range(forms: Forms) -> usize {
-    match forms {
-        Forms::All(_) => 0,
-        Forms::Range { words, control: _ } => words,
-        Forms::Parameters => 0,
-        Forms::Loop => 0,
-        Forms::Type => 0,
-    }
-}
-
 // How many words before its controls the line of a body has, its keyword at `at`.
-pub fn range_words(text: &[u8], at: usize, table: &[u8; 528]) -> usize
+pub fn words_of_range(text: &[u8], at: usize, table: &[u8; 528]) -> usize
     requires { ⌜ now table ≡ keywordTable ⌝ }
 {
     let found = keywords::keyword_at(text, at, table);
     let statement = found.statement;
-    let rules = rules_of(statement);
-    let forms = rules.forms;
-    words_of_range(forms)
+    match carried_of(statement) {
+        Carried::Body(free) => range_words(free),
+        _ => 0,
+    }
 }

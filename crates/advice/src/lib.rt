@@ -8,7 +8,7 @@ use crate::along::along_direction;
 use crate::along::less;
 use crate::along::no_parameters;
 use crate::along::range_from;
-use crate::asked::range_words;
+use crate::asked::words_of_range;
 use crate::lines_before::Tally;
 use crate::lines_before::said_before;
 use crate::lines_before::start_tally;
@@ -76,7 +76,7 @@ fn controls_given(text: &[u8], kind: u32, opened: usize, table: &[u8; 528]) -> u
         return 0;
     }
     let line = keyword_of(text, opened);
-    less(line.words, range_words(text, opened, table))
+    less(line.words, words_of_range(text, opened, table))
 }
 
 // What is told of a text that is too long: nothing.

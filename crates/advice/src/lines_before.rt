@@ -1,11 +1,14 @@
 // What the lines before the one that holds a place say, each of which reading took.
+use crate::asked::carried_of;
 use bodies::parm::Parm;
 use bodies::parm::take_parm;
-use keywords::Statement;
 use settings::TakenForm;
 use settings::take_degree;
 use settings::take_type;
 use state::Form;
+use statements::Carried;
+use statements::Free;
+use statements::VertexKind;
 use text::Met;
 use text::Scan;
 ghost use mathlib.Core.Path.{_≡_};
@@ -14,7 +17,8 @@ ghost use lib.ListN.{length};
 ghost use Rattle.text.specs.Rest.{restAt};
 ghost use Rattle.keywords.specs.Keywords.{keywordTable};
 ghost use Rattle.keywords.specs.Arguments.{argumentTable};
-ghost use Rattle.advice.specs.Tally.{startTally, total, withVertex, opening, ending, afterLine, afterWords, tallyOf};
+ghost use Rattle.model.specs.Layout.{freeNumber};
+ghost use Rattle.advice.specs.Tally.{startTally, total, withVertex, opening, ending, afterVertex, afterLine, afterWords, tallyOf};
 
 // How many there are so far of what a word may refer to, a curv2 from its end on; the kind of the open body's element, 0 where none is open, and the place of
 // its keyword.
@@ -95,34 +99,47 @@ fn ending(tally: Tally) -> Tally
     after
 }
 
-// The tally after a line of that statement, its keyword at `key`.
-fn after_line(statement: Statement, key: usize, tally: Tally) -> Tally
+fn after_vertex(kind: VertexKind, tally: Tally) -> Tally
     requires { ⌜ total tally ≤ 16777216 ⌝ }
-    ensures { λ r. ⌜ r ≡ afterLine statement key tally ⌝ }
+    ensures { λ r. ⌜ r ≡ afterVertex kind tally ⌝ }
 {
-    match statement {
-        Statement::Vertex => with_vertex(tally, 1, 0, 0, 0),
-        Statement::TextureVertex => with_vertex(tally, 0, 1, 0, 0),
-        Statement::VertexNormal => with_vertex(tally, 0, 0, 1, 0),
-        Statement::ParameterVertex => with_vertex(tally, 0, 0, 0, 1),
-        Statement::BodyType => tally,
-        Statement::Degree => tally,
-        Statement::Point => tally,
-        Statement::Line => tally,
-        Statement::Face => tally,
-        Statement::Curve => opening(tally, 4, key),
-        Statement::Curve2 => opening(tally, 5, key),
-        Statement::Surface => opening(tally, 6, key),
-        Statement::Parameters => tally,
-        Statement::Trim => tally,
-        Statement::Hole => tally,
-        Statement::End => ending(tally),
-        Statement::Group => tally,
-        Statement::Smoothing => tally,
-        Statement::Material => tally,
-        Statement::PassedOver => tally,
-        Statement::Refused => tally,
-        Statement::Unknown => tally,
+    match kind {
+        VertexKind::Geometric => with_vertex(tally, 1, 0, 0, 0),
+        VertexKind::Texture => with_vertex(tally, 0, 1, 0, 0),
+        VertexKind::Normal => with_vertex(tally, 0, 0, 1, 0),
+        VertexKind::Parametric => with_vertex(tally, 0, 0, 0, 1),
+    }
+}
+
+fn after_body(free: Free, key: usize, tally: Tally) -> Tally
+    ensures { λ r. ⌜ r ≡ opening tally (freeNumber free) key ⌝ }
+{
+    match free {
+        Free::Curve => opening(tally, 4, key),
+        Free::Curve2 => opening(tally, 5, key),
+        Free::Surface => opening(tally, 6, key),
+    }
+}
+
+// The tally after a line of that statement, its keyword at `key`.
+fn after_line(carried: Carried, key: usize, tally: Tally) -> Tally
+    requires { ⌜ total tally ≤ 16777216 ⌝ }
+    ensures { λ r. ⌜ r ≡ afterLine carried key tally ⌝ }
+{
+    match carried {
+        Carried::Vertex(kind) => after_vertex(kind, tally),
+        Carried::Element(_) => tally,
+        Carried::Body(free) => after_body(free, key, tally),
+        Carried::Parameters => tally,
+        Carried::Trim => tally,
+        Carried::Hole => tally,
+        Carried::End => ending(tally),
+        Carried::BodyType => tally,
+        Carried::Degree => tally,
+        Carried::Group => tally,
+        Carried::Smoothing => tally,
+        Carried::Material => tally,
+        Carried::PassedOver => tally,
     }
 }
 
@@ -140,17 +157,17 @@ fn taken_form(taken: TakenForm, form: Form) -> Form {
 fn form_after(
     text: &[u8],
     at: usize,
-    statement: Statement,
+    carried: Carried,
     form: Form,
     argument_table: &[u8; 108],
 ) -> Form
     requires { ⌜ at ≤ length (now text) ⌝ }
     requires { ⌜ now «argument_table» ≡ argumentTable ⌝ }
 {
-    if let Statement::BodyType = statement {
+    if let Carried::BodyType = carried {
         return taken_form(take_type(text, at, form, argument_table), form);
     }
-    if let Statement::Degree = statement {
+    if let Carried::Degree = carried {
         return taken_form(take_degree(text, at, form), form);
     }
     form
@@ -160,7 +177,7 @@ fn form_after(
 fn after_keyword(
     text: &[u8],
     at: usize,
-    statement: Statement,
+    carried: Carried,
     tally: Tally,
     said: Said,
     argument_table: &[u8; 108],
@@ -169,7 +186,7 @@ fn after_keyword(
     requires { ⌜ now «argument_table» ≡ argumentTable ⌝ }
     ensures { λ r. ⌜ r .tally ≡ tally ⌝ }
 {
-    let form = form_after(text, at, statement, said.form, argument_table);
+    let form = form_after(text, at, carried, said.form, argument_table);
     let mut after = said;
     after.tally = tally;
     after.form = form;
@@ -178,7 +195,7 @@ fn after_keyword(
         after.v_at = 0;
         return after;
     }
-    if let Statement::Parameters = statement {
+    if let Carried::Parameters = carried {
         match take_parm(text, at, true, argument_table) {
             Parm::Taken {
                 along_v,
@@ -217,9 +234,10 @@ fn with_line(
         Met::Start(p) => {
             let keyword = keywords::keyword_at(text, p, keyword_table);
             let statement = keyword.statement;
+            let carried = carried_of(statement);
             let end = text::word_end(text, p);
-            let tally = after_line(statement, p, said.tally);
-            after_keyword(text, end, statement, tally, said, argument_table)
+            let tally = after_line(carried, p, said.tally);
+            after_keyword(text, end, carried, tally, said, argument_table)
         }
         Met::End(_) => said,
         Met::Bad(_) => said,

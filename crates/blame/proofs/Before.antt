@@ -8,7 +8,8 @@ use native.Mathlib.Omega.{arith}
 use Rattle.text.specs.Words.{Word}
 use Rattle.model.specs.Model as model
 use Rattle.model.specs.Statements.{Statement, end}
-use Rattle.model.specs.Parse.{Parsed, fine, fault, then, must, Keyword, a-vertex, an-element, a-body, parm, trim, hole, ends, cstype, deg, g, s, usemtl, over, allowed, counted, formOf, valuesOf, Value, seenIn, finished, parse}
+use Rattle.model.specs.Parse.{Parsed, fine, fault, then, must, Keyword, a-vertex, an-element, a-body, parm, trim, hole, ends, cstype, deg, g, s, usemtl, over, allowed, counted, formOf, valuesOf, Value, seenIn, parse}
+use Rattle.model.proofs.Pieces.{finished}
 use Rattle.blame.specs.Blame.{parseBefore}
 
 never : {A : Type 0} {t : Statement} {n p : ℕ} → _≡_ {A = Parsed Statement} (fine t) (fault n p) → A

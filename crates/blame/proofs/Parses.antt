@@ -15,7 +15,6 @@ use Rattle.digits.specs.Said.{Said, says, wrong}
 use Rattle.digits.specs.Said as said
 use Rattle.digits.specs.Digits.{natOf, negative, unminus}
 use Rattle.forms.specs.Reference.{isReference, item, refer, referenceOf}
-use Rattle.keywords.specs.declared.Statement.{Statement}
 use Rattle.tables.specs.Bodies.{Basis, bezier, bspline, cardinal, taylor}
 use Rattle.model.specs.Model as model
 use Rattle.model.specs.Model.{Free, curve, curve2, surface}
@@ -24,10 +23,10 @@ use Rattle.model.specs.Parse as parse
 use Rattle.model.specs.Parse.{Parsed, fine, fault, then, must, unless, valuesOf, Value}
 use Rattle.state.specs.State.{formIn, openIs}
 use Rattle.state.specs.declared.Open.{Open}
-use Rattle.faults.specs.declared.rules.WordForm.{WordForm}
-use Rattle.faults.specs.declared.rules.Rules.{Rules}
+use Rattle.statements.specs.declared.rules.Forms.{Forms}
+use Rattle.statements.specs.Rules.{openFree, formBy}
+use Rattle.faults.specs.declared.tests.Tests.the-variants.{Each}
 use Rattle.faults.specs.declared.Refusal.{Refusal}
-use Rattle.faults.specs.Rules.{formBy}
 use Rattle.faults.specs.Faults.{heard, onHeard, saidBy, givenBy, faultIn, inForceBy, owed, orElse}
 use Rattle.blame.specs.Blame.{blameOf, GivenIn}
 use Rattle.blame.proofs.Values.{blameAt}
@@ -56,47 +55,21 @@ module _ (n : parse.Seen) (t : List ℤ) where
   cons-blame (says x) (fault m q) p = refl
   cons-blame (wrong m) v p = refl
 
-  pub words-blame : (r : Rules) (f : ℕ → parse.WordForm) (m : ℕ) → ((i : ℕ) (w : Word) → saidBy n t (formBy (r .forms) m i) w ≡ parse.saidOf n (f i) w)
-      → (i : ℕ) (ws : List Word) → faultIn n t (r .forms) m i ws ≡ blameOf (valuesOf n f i ws)
-  words-blame r f m h i [] = refl
-  words-blame r f m h i (w ∷ ws) =
-      ap (λ (y : Said Value). onHeard (heard y) (w .place) (faultIn n t (r .forms) m (suc i) ws)) (h i w)
-      ∙ ap (onHeard (heard (parse.saidOf n (f i) w)) (w .place)) (words-blame r f m h (suc i) ws)
-      ∙ cons-blame (parse.saidOf n (f i) w) (valuesOf n f (suc i) ws) (w .place)
+  pub words-blame : (f : Forms) (m i : ℕ) (ws : List Word) → faultIn n t (Each f) m i ws ≡ blameOf (valuesOf n (formBy f m) i ws)
+  words-blame f m i [] = refl
+  words-blame f m i (w ∷ ws) =
+      ap (onHeard (heard (parse.saidOf n (formBy f m i) w)) (w .place)) (words-blame f m (suc i) ws)
+      ∙ cons-blame (parse.saidOf n (formBy f m i) w) (valuesOf n (formBy f m) (suc i) ws) (w .place)
 
-  pub by-cond : (b : Bool) (x y : WordForm) (x′ y′ : parse.WordForm) (w : Word) → saidBy n t x w ≡ parse.saidOf n x′ w → saidBy n t y w ≡ parse.saidOf n y′ w → saidBy n t (cond b x y) w ≡ parse.saidOf n (cond b x′ y′) w
-  by-cond true x y x′ y′ w h k = h
-  by-cond false x y x′ y′ w h k = k
+-- ---- where a statement may stand: the number of the open body's element is its kind's
+free-kind : (k : Free) → openFree (Rattle.model.specs.Layout.freeNumber k) ≡ some k
+free-kind curve = refl
+free-kind curve2 = refl
+free-kind surface = refl
 
--- ---- where a statement may stand
-module _ (text : List ℕ) where
-  pub outside-is : (o : Option model.Open) (c : Open) → openIs text o c → eqb (c .kind) 0 ≡ parse.outside o
-  outside-is none c h = rw h refl
-  outside-is (some o) c h = rw (h .kind) (by (o .body .free))
-    where
-      by : (k : Free) → eqb (Rattle.model.specs.Layout.freeNumber k) 0 ≡ false
-      by curve = refl
-      by curve2 = refl
-      by surface = refl
-
-  pub inside-is : (o : Option model.Open) (c : Open) (f : Free → Bool) (b : ℕ → Bool) → b 0 ≡ false → ((k : Free) → b (Rattle.model.specs.Layout.freeNumber k) ≡ f k) → openIs text o c → b (c .kind) ≡ parse.inBody o f
-  inside-is none c f b z k h = ap (λ (y : Open). b (y .kind)) h ∙ z
-  inside-is (some o) c f b z k h = ap b (h .kind) ∙ k (o .body .free)
-
-pub body-kind : (k : Free) → not (eqb (Rattle.model.specs.Layout.freeNumber k) 0) ≡ true
-body-kind curve = refl
-body-kind curve2 = refl
-body-kind surface = refl
-
-pub surface-kind : (k : Free) → eqb (Rattle.model.specs.Layout.freeNumber k) 6 ≡ parse.isSurface k
-surface-kind curve = refl
-surface-kind curve2 = refl
-surface-kind surface = refl
-
-pub parm-kind : (v : Bool) (k : Free) → (not (eqb (Rattle.model.specs.Layout.freeNumber k) 0) && (eqb (Rattle.model.specs.Layout.freeNumber k) 6 || not v)) ≡ (parse.isSurface k || not v)
-parm-kind v curve = refl
-parm-kind v curve2 = refl
-parm-kind v surface = refl
+pub open-kind : (text : List ℕ) (o : Option model.Open) (c : Open) → openIs text o c → openFree (c .kind) ≡ parse.openFree o
+open-kind text none c h = rw h refl
+open-kind text (some o) c h = rw (h .kind) (free-kind (o .body .free))
 
 -- ---- 11
 pub curve-force : (f : model.Form) (o : Option Basis) → o ≡ f .basis → inForceBy false (formIn f) ≡ parse.inForce curve f (f .basis)

@@ -14,11 +14,11 @@ use Rattle.forms.specs.Corner.{Corner, cornerOf, agree, alike}
 use Rattle.forms.specs.Reference.{referenceOf}
 use Rattle.decimals.specs.Number.{numberOf}
 use Rattle.model.specs.Parse.{Parsed, fine, fault, then, placed, valuesOf, saidOf, onSaid, Value, number, corner, cornersOf, WordForm, a-number, a-corner, a-control, Seen, differing, unlike, given, narrow}
-use Rattle.faults.specs.declared.rules.WordForm.the-variants as form
-use Rattle.faults.specs.declared.rules.Forms.the-variants as forms
+use Rattle.faults.specs.declared.tests.Test.the-variants.{Wide}
+use Rattle.faults.specs.declared.tests.Tests.the-variants.{All}
 use Rattle.faults.specs.declared.Refusal.{Refusal}
 use Rattle.faults.specs.declared.Refusal.the-variants.{Refused, Nothing}
-use Rattle.faults.specs.Faults.{heard, onHeard, faultIn, alikeSaid, alikeForms, onFirst, patternFault, wideSaid, givenBy}
+use Rattle.faults.specs.Faults.{heard, onHeard, faultIn, alikeSaid, alikeTests, onFirst, patternFault, wideSaid, givenBy}
 
 -- a word that must not be there
 abbrev pub blameAt : ℕ → Option ℕ → Refusal
@@ -95,14 +95,14 @@ module _ (n : Seen) where
     corner-cons i w ws xs h e = corner-said (cornerOf (n .counts) (record { vt = a; vn = b }) (w .bytes)) _ (sym (ap (λ (y : WordForm). saidOf n y w) h) ∙ (values-cons f i w ws xs e) .said)
 
     pub alike-walk : (c : Corner) (i j : ℕ) (ws : List Word) (xs : List Value) → ((k : ℕ) → i ≤ k → f k ≡ a-corner (record { vt = a; vn = b })) → valuesOf n f i ws ≡ fine xs
-        → faultIn n t (alikeForms a b c) 0 j ws ≡ blameAt 9 (differing c ws (cornersOf xs))
+        → faultIn n t (alikeTests a b c) 0 j ws ≡ blameAt 9 (differing c ws (cornersOf xs))
     alike-walk c i j [] xs h e = refl
     alike-walk c i j (w ∷ ws) xs h e =
         let v = values-cons f i w ws xs e in
         let d = corner-cons i w ws xs (h i (omega arith)) e in
         let k = alike-walk c (suc i) (suc j) ws (v .others) (λ k l. h k (omega arith)) (v .rest) in
         let y : xs ≡ corner (d .found) ∷ v .others = v .all ∙ ap (λ (x : Value). x ∷ v .others) (d .value) in
-        ap (λ (z : Said Corner). onHeard (heard (alikeSaid (eqb (c .vt) 0) (eqb (c .vn) 0) z)) (w .place) (faultIn n t (alikeForms a b c) 0 (suc j) ws)) (d .said)
+        ap (λ (z : Said Corner). onHeard (heard (alikeSaid (eqb (c .vt) 0) (eqb (c .vn) 0) z)) (w .place) (faultIn n t (alikeTests a b c) 0 (suc j) ws)) (d .said)
         ∙ differs (eqb (c .vt) 0) (eqb (c .vn) 0) c (d .found) (w .place) _ _ refl refl k
         ∙ sym (ap (λ (z : List Value). blameAt 9 (differing c (w ∷ ws) (cornersOf z))) y)
 
@@ -113,7 +113,7 @@ module _ (n : Seen) where
         let v = values-cons f i w ws xs e in
         let d = corner-cons i w ws xs (h i (omega arith)) e in
         let y : xs ≡ corner (d .found) ∷ v .others = v .all ∙ ap (λ (x : Value). x ∷ v .others) (d .value) in
-        ap (λ (z : Said Corner). onFirst z (λ c. faultIn n t (alikeForms a b c) 0 0 ws)) (d .said)
+        ap (λ (z : Said Corner). onFirst z (λ c. faultIn n t (alikeTests a b c) 0 0 ws)) (d .said)
         ∙ alike-walk (d .found) (suc i) 0 ws (v .others) (λ k l. h k (omega arith)) (v .rest)
         ∙ sym (ap (λ (z : List Value). blameAt 9 (unlike (w ∷ ws) (cornersOf z))) y)
 
@@ -157,11 +157,11 @@ module _ (n : Seen) where
       narrows k p x o true g e = rw g e
       narrows k p x o false g e = rw g refl
 
-      pub narrow-walk : (i j : ℕ) (ws : List Word) (xs : List Value) → valuesOf n f i ws ≡ fine xs → faultIn n t (forms.All form.Wide) 0 j ws ≡ blameAt 12 (narrow vps ws (cornersOf xs))
+      pub narrow-walk : (i j : ℕ) (ws : List Word) (xs : List Value) → valuesOf n f i ws ≡ fine xs → faultIn n t (All Wide) 0 j ws ≡ blameAt 12 (narrow vps ws (cornersOf xs))
       narrow-walk i j [] xs e = refl
       narrow-walk i j (w ∷ ws) xs e =
           let v = values-cons f i w ws xs e in
           let d = control-cons i w ws xs e in
-          ap (λ (z : Said ℕ). onHeard (heard (wideSaid t z)) (w .place) (faultIn n t (forms.All form.Wide) 0 (suc j) ws)) (d .said)
+          ap (λ (z : Said ℕ). onHeard (heard (wideSaid t z)) (w .place) (faultIn n t (All Wide) 0 (suc j) ws)) (d .said)
           ∙ narrows (d .found) (w .place) _ _ _ (held (d .found) (w .bytes) (d .said)) (narrow-walk (suc i) (suc j) ws (v .others) (v .rest))
           ∙ sym (ap (λ (z : List Value). blameAt 12 (narrow vps (w ∷ ws) (cornersOf z))) (control-all i w ws xs e))

@@ -1,17 +1,19 @@
 // The refusal of a line that was given up, found by walking 01's order; once a file.
 use faults::Refusal;
 use faults::held::held_fault;
-use faults::rules::Forms;
-use faults::rules::Held;
-use faults::rules::allowed;
-use faults::rules::counted;
-use faults::rules::rules_of;
+use faults::tests::Tests;
 use faults::walk::first_fault;
 use faults::word::Seen;
 use keywords::Argument;
-use keywords::Statement;
 use state::Form;
 use state::State;
+use statements::Carried;
+use statements::Statement;
+use statements::rules::Forms;
+use statements::rules::Held;
+use statements::rules::allowed;
+use statements::rules::counted;
+use statements::rules::rules_of;
 use text::Met;
 use text::Scan;
 ghost use mathlib.Core.Path.{_≡_};
@@ -22,7 +24,7 @@ ghost use Rattle.keywords.specs.Keywords.{keywordTable};
 ghost use Rattle.keywords.specs.Arguments.{argumentTable};
 ghost use Rattle.model.specs.Parse.{isV, directionOf, saysV};
 ghost use Rattle.faults.specs.Faults.{seenBy};
-ghost use Rattle.blame.specs.Lines.{wordsFault, lineFault, unknownBy, statementFault};
+ghost use Rattle.blame.specs.Lines.{wordsFault, lineFault, statementFault};
 ghost use Rattle.blame.specs.Blame.{BlameIs};
 
 // The words of a line from the left, and then what is held against the line.
@@ -42,7 +44,15 @@ fn words_fault(
     requires { ⌜ now «argument_table» ≡ argumentTable ⌝ }
     ensures { λ r. ⌜ r ≡ wordsFault (seenBy seen) (now (vp .entry)) form key forms held words ((restAt (now (text .entry)) at) .words) ⌝ }
 {
-    match first_fault(text, at, forms, words, seen, vp, argument_table) {
+    match first_fault(
+        text,
+        at,
+        Tests::Each(forms),
+        words,
+        seen,
+        vp,
+        argument_table,
+    ) {
         Refusal::Refused { number, place } => Refusal::Refused {
             number: number,
             place: place,
@@ -90,7 +100,7 @@ fn line_fault(
     key: usize,
     at: usize,
     words: usize,
-    statement: Statement,
+    statement: Carried,
     kind: u32,
     form: Form,
     seen: Seen,
@@ -133,36 +143,6 @@ fn line_fault(
     }
 }
 
-// 3 and 4; 0 for a statement that is known and not refused.
-fn unknown(statement: Statement) -> u32
-    ensures { λ r. ⌜ r ≡ unknownBy statement ⌝ }
-{
-    match statement {
-        Statement::Vertex => 0,
-        Statement::TextureVertex => 0,
-        Statement::VertexNormal => 0,
-        Statement::ParameterVertex => 0,
-        Statement::BodyType => 0,
-        Statement::Degree => 0,
-        Statement::Point => 0,
-        Statement::Line => 0,
-        Statement::Face => 0,
-        Statement::Curve => 0,
-        Statement::Curve2 => 0,
-        Statement::Surface => 0,
-        Statement::Parameters => 0,
-        Statement::Trim => 0,
-        Statement::Hole => 0,
-        Statement::End => 0,
-        Statement::Group => 0,
-        Statement::Smoothing => 0,
-        Statement::Material => 0,
-        Statement::PassedOver => 0,
-        Statement::Refused => 4,
-        Statement::Unknown => 3,
-    }
-}
-
 // The refusal of the line whose keyword is the word at `key` and has `words` words after it.
 fn statement_fault(
     text: &[u8],
@@ -182,25 +162,30 @@ fn statement_fault(
 {
     let keyword = keywords::keyword_at(text, key, keyword_table);
     let statement = keyword.statement;
-    let number = unknown(statement);
-    if number == 0 {
-        let at = text::word_end(text, key);
-        return line_fault(
-            text,
-            key,
-            at,
-            words,
-            statement,
-            kind,
-            form,
-            seen,
-            vp,
-            argument_table,
-        );
-    }
-    Refusal::Refused {
-        number: number,
-        place: key,
+    match statement {
+        Statement::Carried(carried) => {
+            let at = text::word_end(text, key);
+            line_fault(
+                text,
+                key,
+                at,
+                words,
+                carried,
+                kind,
+                form,
+                seen,
+                vp,
+                argument_table,
+            )
+        }
+        Statement::Refused => Refusal::Refused {
+            number: 4,
+            place: key,
+        },
+        Statement::Unknown => Refusal::Refused {
+            number: 3,
+            place: key,
+        },
     }
 }
 

@@ -17,7 +17,8 @@ use Rattle.tables.specs.declared.Used.{Used}
 use Rattle.model.specs.Model.{Free, curve, curve2, surface, Body}
 use Rattle.model.specs.Model as model
 use Rattle.model.specs.Statements.{end, settled}
-use Rattle.model.specs.Parse.{fine, fault, must, complete, countsAgree, inRange, finished}
+use Rattle.model.specs.Parse.{fine, fault, must, complete, countsAgree, inRange}
+use Rattle.model.proofs.Pieces.{finished}
 use Rattle.model.specs.Room.{partCount}
 use Rattle.model.specs.Layout.{flag, freeNumber, bodyRow, rangeRow, parameterRow}
 use Rattle.state.specs.declared.Form.{Form}

@@ -20,7 +20,8 @@ use Rattle.state.specs.State.{usedIn, formIn}
 use Rattle.state.specs.Numbers.{numbersWalk}
 use Rattle.model.specs.Model.{Free, curve, curve2, surface, State}
 use Rattle.model.specs.Statements.{Statement, body}
-use Rattle.model.specs.Parse.{Parsed, fine, fault, then, must, unless, a-body, WordForm, a-number, controlForm, outside, rangeWords, fewestControls, Value, number, corner, onSaid, saidOf, valuesOf, cornersOf, numbersOf, unlike, inForce, narrowIn, bodyOf, opened, seenIn, parse}
+use Rattle.model.specs.Parse.{Parsed, fine, fault, then, must, unless, a-body, WordForm, a-number, controlForm, outside, rangeWords, fewestControls, Value, number, corner, onSaid, saidOf, valuesOf, cornersOf, numbersOf, unlike, inForce, narrowIn, bodyOf, seenIn, parse}
+use Rattle.model.proofs.Pieces.{opened}
 use Rattle.elements.specs.Corners.{control, cornerSaid, cornersFrom, cornersWalk}
 use Rattle.elements.specs.Elements.{elementSaid}
 use Rattle.elements.specs.Bodies.{controlsOf, ruleFor, formInForce, controlsSaid, bodySaid}

@@ -25,15 +25,8 @@ use Rattle.elements.specs.Elements.{elementSaid, elementNumbers}
 use Rattle.elements.specs.declared.CornerForm.{CornerForm}
 use Rattle.elements.specs.declared.CornerForm.the-variants.{Vertex, Parameter}
 use Rattle.elements.specs.declared.Rule.{Rule}
-use Rattle.elements.specs.declared.body.Free.{Free}
-use Rattle.elements.specs.declared.body.Free.the-variants.{Curve, Curve2, Surface}
 use Rattle.elements.specs.declared.Element.{Element}
 use Rattle.elements.specs.declared.Element.the-variants.{Taken, GaveUp}
-
-abbrev pub freeOf : Free → model.Free
-freeOf Curve = model.curve
-freeOf Curve2 = model.curve2
-freeOf Surface = model.surface
 
 -- "p and curv are v; .. f and surf are v, v/vt, v//vn or v/vt/vn"; a curv2's controls are vp numbers
 abbrev pub controlsOf : model.Free → CornerForm

@@ -19,16 +19,9 @@ use Rattle.model.specs.Layout.{cornerRow, shapeNumber}
 use Rattle.elements.specs.Corners.{Found, cornerSaid, cornersWalk}
 use Rattle.elements.specs.declared.CornerForm.{CornerForm}
 use Rattle.elements.specs.declared.CornerForm.the-variants.{Vertex, Parameter}
-use Rattle.elements.specs.declared.Shape.{Shape}
-use Rattle.elements.specs.declared.Shape.the-variants.{Point, Line, Face}
 use Rattle.elements.specs.declared.Rule.{Rule}
 use Rattle.elements.specs.declared.Element.{Element}
 use Rattle.elements.specs.declared.Element.the-variants.{Taken, GaveUp}
-
-abbrev pub shapeOf : Shape → model.Shape
-shapeOf Point = model.point
-shapeOf Line = model.line
-shapeOf Face = model.face
 
 -- "p 1 or more; l 2 or more; f 3 or more"; "p and curv are v; l is v or v/vt; f and surf are v, v/vt, v//vn or v/vt/vn"
 abbrev pub ruleOf : model.Shape → Rule

@@ -5,6 +5,9 @@ use crate::Rule;
 use crate::take_corners;
 use state::Form;
 use state::Names;
+use statements::Free;
+use statements::rules::fewest_controls;
+use statements::rules::range_words;
 use tables::Used;
 use vertices::Numbers;
 ghost use mathlib.Core.Path.{_≡_};
@@ -12,22 +15,16 @@ ghost use mathlib.Core.Bool.{_&&_};
 ghost use Prim.Native.Nat.{_+_, _*_, _≤_, _<_};
 ghost use lib.Dec.{leb};
 ghost use lib.ListN.{length, drop};
-ghost use Rattle.model.specs.Parse.{rangeWords};
-ghost use Rattle.elements.specs.Bodies.{freeOf, ruleFor, degreesIn, formInForce, wideAt, wides, widesFor, controlsAre, bodyIs};
-
-pub enum Free {
-    Curve,
-    Curve2,
-    Surface,
-}
+ghost use Rattle.elements.specs.Bodies.{ruleFor, degreesIn, formInForce, wideAt, wides, widesFor, controlsAre, bodyIs};
 
 fn rule_for(free: Free) -> Rule
-    ensures { λ r. ⌜ r ≡ ruleFor (freeOf free) ⌝ }
+    ensures { λ r. ⌜ r ≡ ruleFor free ⌝ }
 {
+    let fewest = fewest_controls(free);
     match free {
         Free::Curve => Rule {
             kind: 4,
-            fewest: 2,
+            fewest: fewest,
             form: CornerForm::Vertex {
                 texture: false,
                 normal: false,
@@ -35,12 +32,12 @@ fn rule_for(free: Free) -> Rule
         },
         Free::Curve2 => Rule {
             kind: 5,
-            fewest: 2,
+            fewest: fewest,
             form: CornerForm::Parameter,
         },
         Free::Surface => Rule {
             kind: 6,
-            fewest: 1,
+            fewest: fewest,
             form: CornerForm::Vertex {
                 texture: true,
                 normal: true,
@@ -49,18 +46,8 @@ fn rule_for(free: Free) -> Rule
     }
 }
 
-fn range_words(free: Free) -> usize
-    ensures { λ r. ⌜ r ≡ rangeWords (freeOf free) ⌝ }
-{
-    match free {
-        Free::Curve => 2,
-        Free::Curve2 => 0,
-        Free::Surface => 4,
-    }
-}
-
 fn degrees_in(free: Free, form: Form) -> bool
-    ensures { λ r. ⌜ r ≡ degreesIn (freeOf free) form ⌝ }
+    ensures { λ r. ⌜ r ≡ degreesIn free form ⌝ }
 {
     if form.degree_u == 0 {
         return false;
@@ -74,7 +61,7 @@ fn degrees_in(free: Free, form: Form) -> bool
 
 // Whether a type and the degrees that it needs are set.
 fn in_force(free: Free, form: Form) -> bool
-    ensures { λ r. ⌜ r ≡ formInForce (freeOf free) form ⌝ }
+    ensures { λ r. ⌜ r ≡ formInForce free form ⌝ }
 {
     if form.basis == 0 {
         return false;
@@ -118,7 +105,7 @@ fn all_wide(vp: &[i32], corners: &[u32], first: usize, count: u32) -> bool
 
 fn all_wide_for(free: Free, vp: &[i32], corners: &[u32], first: usize, count: u32) -> bool
     requires { ⌜ first + 3 * count ≤ length (now corners) ⌝ }
-    ensures { λ r. ⌜ r ≡ widesFor (freeOf free) (now (vp .entry)) count (drop first (now (corners .entry))) ⌝ }
+    ensures { λ r. ⌜ r ≡ widesFor free (now (vp .entry)) count (drop first (now (corners .entry))) ⌝ }
 {
     match free {
         Free::Curve => true,
@@ -139,7 +126,7 @@ fn take_controls(
     elements: &mut [u32],
 ) -> Element
     requires { ⌜ (at ≤ length (now text)) × (length (now text) ≤ 16777216) × (used .bodies ≤ 16777216) ⌝ }
-    ensures { λ r. ⌜ controlsAre (freeOf free) used names (now (vp .entry)) (now (text .entry)) at (now (corners .entry)) (now (corners .exit)) (now (elements .entry)) (now (elements .exit)) r ⌝ }
+    ensures { λ r. ⌜ controlsAre free used names (now (vp .entry)) (now (text .entry)) at (now (corners .entry)) (now (corners .exit)) (now (elements .entry)) (now (elements .exit)) r ⌝ }
 {
     let body = used.bodies + 1;
     match take_corners(
@@ -191,7 +178,7 @@ pub fn take_body_line(
     ranges: &mut [i32],
 ) -> Element
     requires { ⌜ (at ≤ length (now text)) × (length (now text) ≤ 16777216) × (used .bodies ≤ 16777216) ⌝ }
-    ensures { λ r. ⌜ bodyIs (freeOf free) used names form (now (vp .entry)) (now (text .entry)) at (now (corners .entry)) (now (corners .exit)) (now (elements .entry)) (now (elements .exit)) bodies (now (ranges .entry)) (now (ranges .exit)) r ⌝ }
+    ensures { λ r. ⌜ bodyIs free used names form (now (vp .entry)) (now (text .entry)) at (now (corners .entry)) (now (corners .exit)) (now (elements .entry)) (now (elements .exit)) bodies (now (ranges .entry)) (now (ranges .exit)) r ⌝ }
 {
     if !in_force(free, form) {
         return Element::GaveUp;

@@ -4,6 +4,9 @@ pub mod body;
 use forms::corner::CornerWord;
 use forms::reference::Reference;
 use state::Names;
+use statements::Shape;
+use statements::rules::corner_parts;
+use statements::rules::fewest_corners;
 use tables::Used;
 use text::Met;
 ghost use mathlib.Core.Path.{_≡_};
@@ -18,8 +21,9 @@ ghost use Rattle.digits.specs.Said.{ended};
 ghost use Rattle.forms.specs.Reference.{referenceOf};
 ghost use Rattle.forms.specs.Answers.{saidCorner};
 ghost use Rattle.model.specs.Parse.{onSaid};
+ghost use Rattle.model.specs.Layout.{shapeNumber};
 ghost use Rattle.elements.specs.Corners.{control, cornerSaid, pattern, follows, cornersIs};
-ghost use Rattle.elements.specs.Elements.{shapeOf, ruleOf, elementNumbers, elementIs};
+ghost use Rattle.elements.specs.Elements.{ruleOf, elementNumbers, elementIs};
 
 // What a line's corner words are: corners of v and the parts allowed besides it, or numbers of parameter vertices.
 pub enum CornerForm {
@@ -144,39 +148,26 @@ pub struct Rule {
     pub form: CornerForm,
 }
 
-pub enum Shape {
-    Point,
-    Line,
-    Face,
+fn shape_number(shape: Shape) -> u32
+    ensures { λ r. ⌜ r ≡ shapeNumber shape ⌝ }
+{
+    match shape {
+        Shape::Point => 1,
+        Shape::Line => 2,
+        Shape::Face => 3,
+    }
 }
 
 fn rule_of(shape: Shape) -> Rule
-    ensures { λ r. ⌜ r ≡ ruleOf (shapeOf shape) ⌝ }
+    ensures { λ r. ⌜ r ≡ ruleOf shape ⌝ }
 {
-    match shape {
-        Shape::Point => Rule {
-            kind: 1,
-            fewest: 1,
-            form: CornerForm::Vertex {
-                texture: false,
-                normal: false,
-            },
-        },
-        Shape::Line => Rule {
-            kind: 2,
-            fewest: 2,
-            form: CornerForm::Vertex {
-                texture: true,
-                normal: false,
-            },
-        },
-        Shape::Face => Rule {
-            kind: 3,
-            fewest: 3,
-            form: CornerForm::Vertex {
-                texture: true,
-                normal: true,
-            },
+    let parts = corner_parts(shape);
+    Rule {
+        kind: shape_number(shape),
+        fewest: fewest_corners(shape),
+        form: CornerForm::Vertex {
+            texture: parts.vt,
+            normal: parts.vn,
         },
     }
 }
@@ -265,7 +256,7 @@ pub fn take_element(
     elements: &mut [u32],
 ) -> Element
     requires { ⌜ (at ≤ length (now text)) × (length (now text) ≤ 16777216) ⌝ }
-    ensures { λ r. ⌜ elementIs (ruleOf (shapeOf shape)) 0 used names (now (text .entry)) at (now (corners .entry)) (now (corners .exit)) (now (elements .entry)) (now (elements .exit)) r ⌝ }
+    ensures { λ r. ⌜ elementIs (ruleOf shape) 0 used names (now (text .entry)) at (now (corners .entry)) (now (corners .exit)) (now (elements .entry)) (now (elements .exit)) r ⌝ }
 {
     take_corners(text, at, rule_of(shape), 0, used, names, corners, elements)
 }

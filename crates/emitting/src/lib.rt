@@ -45,7 +45,7 @@ pub fn emit_byte(out: &mut [u8], at: usize, b: u8) -> usize
 }
 
 pub fn emit_keyword(
-    statement: keywords::Statement,
+    statement: statements::Carried,
     table: &[u8; 528],
     out: &mut [u8],
     at: usize,

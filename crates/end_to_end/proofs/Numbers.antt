@@ -21,15 +21,16 @@ use Rattle.forms.specs.Reference.{isReference, refer, referenceOf}
 use Rattle.forms.specs.Corner.{Corner, Counts, Parts, split, formed, patterned, cornerOf}
 use Rattle.keywords.specs.Keywords.{statementOf}
 use Rattle.keywords.specs.Arguments.{argumentOf, argumentBytes}
-use Rattle.keywords.specs.declared.Statement.{Statement}
-use Rattle.keywords.specs.declared.Statement.the-variants as keyword
+use Rattle.statements.specs.declared.Statement.{Statement}
+use Rattle.statements.specs.declared.Statement.the-variants as keyword
 use Rattle.keywords.specs.declared.Argument.{Argument}
 use Rattle.keywords.specs.declared.Argument.the-variants as argument
 use Rattle.tables.specs.Bodies.{Basis}
 use Rattle.model.specs.Model.{Free, Direction, Model, Open, State, start}
 use Rattle.model.specs.Statements.{apply}
 use Rattle.model.specs.Statements as statements
-use Rattle.model.specs.Parse.{Parsed, fine, fault, then, must, unless, Keyword, a-vertex, an-element, a-body, parm, trim, hole, ends, cstype, deg, g, s, usemtl, over, WordForm, a-number, a-corner, a-control, a-curve, a-direction, a-type, a-rational, a-degree, a-smoothing, a-name, anything, Value, number, corner, whole as whole-value, basis, name, onSaid, directionOf, typeSaid, rationalSaid, directionSaid, Seen, saidOf, placed, valuesOf, formOf, seenIn, unlike, narrowIn, cornersOf, numbersOf, rangeWords, allowed, counted, inForce, bodyOf, complete, countsAgree, inRange, opened, finished, checked, parse}
+use Rattle.model.specs.Parse.{Parsed, fine, fault, then, must, unless, Keyword, a-vertex, an-element, a-body, parm, trim, hole, ends, cstype, deg, g, s, usemtl, over, WordForm, a-number, a-corner, a-control, a-curve, a-direction, a-type, a-rational, a-degree, a-smoothing, a-name, anything, Value, number, corner, whole as whole-value, basis, name, onSaid, directionOf, typeSaid, rationalSaid, directionSaid, Seen, saidOf, placed, valuesOf, formOf, seenIn, unlike, narrowIn, cornersOf, numbersOf, rangeWords, allowed, counted, inForce, bodyOf, complete, countsAgree, inRange, checked, parse}
+use Rattle.model.proofs.Pieces.{opened, finished}
 use Rattle.model.specs.Room.{Rooms, fits}
 use Rattle.model.specs.Read.{keywordOf, statement, step, Answer, read, refused, finish, onParsed, readLines, readOf}
 use Rattle.end_to_end.specs.Demand1.{Between}
@@ -210,26 +211,7 @@ parse-well k x key ws =
     (well-then values (λ xs. checked k x key ws xs) (values-well (seenIn x) (formOf k (length ws)) 0 ws) (λ xs. checked-well k x key ws xs)))
 
 keyword-well : (k : Statement) (key : ℕ) → well (keywordOf k key) ≡ true
-keyword-well keyword.Vertex key = refl
-keyword-well keyword.TextureVertex key = refl
-keyword-well keyword.VertexNormal key = refl
-keyword-well keyword.ParameterVertex key = refl
-keyword-well keyword.BodyType key = refl
-keyword-well keyword.Degree key = refl
-keyword-well keyword.Point key = refl
-keyword-well keyword.Line key = refl
-keyword-well keyword.Face key = refl
-keyword-well keyword.Curve key = refl
-keyword-well keyword.Curve2 key = refl
-keyword-well keyword.Surface key = refl
-keyword-well keyword.Parameters key = refl
-keyword-well keyword.Trim key = refl
-keyword-well keyword.Hole key = refl
-keyword-well keyword.End key = refl
-keyword-well keyword.Group key = refl
-keyword-well keyword.Smoothing key = refl
-keyword-well keyword.Material key = refl
-keyword-well keyword.PassedOver key = refl
+keyword-well (keyword.Carried k) key = refl
 keyword-well keyword.Refused key = refl
 keyword-well keyword.Unknown key = refl
 

@@ -15,10 +15,11 @@ use Rattle.forms.specs.declared.corner.CornerWord.the-variants as corner
 use Rattle.digits.proofs.Saids.{ended-says, ended-wrong}
 use Rattle.model.specs.Parse as parse
 use Rattle.state.specs.declared.Form.{Form}
-use Rattle.faults.specs.declared.rules.Held.{Held}
+use Rattle.statements.specs.declared.Free.{Free}
+use Rattle.statements.specs.declared.rules.Held.{Held}
 use Rattle.faults.specs.declared.Refusal.{Refusal}
 use Rattle.faults.specs.declared.Refusal.the-variants.{Refused, Nothing}
-use Rattle.faults.specs.Faults.{faultIn, alikeForms, onFirst, patternFault, owed, orElse, heldFault}
+use Rattle.faults.specs.Faults.{faultIn, alikeTests, onFirst, patternFault, owed, orElse, freeFault, heldFault}
 
 -- ---- one after the other
 pub or-nothing : {x y q : Refusal} → Nothing ≡ x → q ≡ y → q ≡ orElse x y
@@ -40,18 +41,21 @@ module _ (n : parse.Seen) (t : List ℤ) (a b : Bool) (s : List ℕ) (at : ℕ) 
   pattern-end {v} {vt} {vn} {z} k =
       (ended-says (cornerOf (n .counts) (record { vt = a; vn = b }) (wordOf (drop at s))) (record { v = v; vt = vt; vn = vn }) (endOf s at) z (ap saidCorner (sym k) ∙ h)) .1
 
-  pub pattern-found : {v vt vn z : ℕ} {q : Refusal} → r ≡ corner.Of v vt vn z → q ≡ faultIn n t (alikeForms a b (record { v = v; vt = vt; vn = vn })) 0 0 ((restAt s z) .words)
+  pub pattern-found : {v vt vn z : ℕ} {q : Refusal} → r ≡ corner.Of v vt vn z → q ≡ faultIn n t (alikeTests a b (record { v = v; vt = vt; vn = vn })) 0 0 ((restAt s z) .words)
       → q ≡ patternFault n t a b (wordAt s at ∷ (restAt s (endOf s at)) .words)
   pattern-found {v} {vt} {vn} {z} k e =
       let y = ended-says (cornerOf (n .counts) (record { vt = a; vn = b }) (wordOf (drop at s))) (record { v = v; vt = vt; vn = vn }) (endOf s at) z (ap saidCorner (sym k) ∙ h) in
       e
-      ∙ ap (λ (i : ℕ). faultIn n t (alikeForms a b (record { v = v; vt = vt; vn = vn })) 0 0 ((restAt s i) .words)) (y .1)
-      ∙ sym (ap (λ (x : Said Corner). onFirst x (λ c. faultIn n t (alikeForms a b c) 0 0 ((restAt s (endOf s at)) .words))) (y .0))
+      ∙ ap (λ (i : ℕ). faultIn n t (alikeTests a b (record { v = v; vt = vt; vn = vn })) 0 0 ((restAt s i) .words)) (y .1)
+      ∙ sym (ap (λ (x : Said Corner). onFirst x (λ c. faultIn n t (alikeTests a b c) 0 0 ((restAt s (endOf s at)) .words))) (y .0))
 
   pub pattern-none : (m : ℕ) {x : CornerWord} → r ≡ x → saidCorner x ≡ wrong m → Nothing ≡ patternFault n t a b (wordAt s at ∷ (restAt s (endOf s at)) .words)
   pattern-none m k w =
       let y = ended-wrong (cornerOf (n .counts) (record { vt = a; vn = b }) (wordOf (drop at s))) m (endOf s at) (sym w ∙ ap saidCorner (sym k) ∙ h) in
-      sym (ap (λ (x : Said Corner). onFirst x (λ c. faultIn n t (alikeForms a b c) 0 0 ((restAt s (endOf s at)) .words))) y)
+      sym (ap (λ (x : Said Corner). onFirst x (λ c. faultIn n t (alikeTests a b c) 0 0 ((restAt s (endOf s at)) .words))) y)
 
 pub by-held : (n : parse.Seen) (t : List ℤ) (f : Form) (key : ℕ) (ws : List Word) {h g : Held} {q : Refusal} → h ≡ g → q ≡ heldFault n t f key g ws → q ≡ heldFault n t f key h ws
 by-held n t f key ws e k = rw e k
+
+pub by-free : (n : parse.Seen) (t : List ℤ) (f : Form) (key : ℕ) (ws : List Word) {h g : Free} {q : Refusal} → h ≡ g → q ≡ freeFault n t f key g ws → q ≡ freeFault n t f key h ws
+by-free n t f key ws e k = rw e k

@@ -16,10 +16,9 @@ use Rattle.keywords.specs.Arguments.{argumentAt}
 use Rattle.model.specs.Parse as parse
 use Rattle.faults.specs.declared.word.Heard.{Heard}
 use Rattle.faults.specs.declared.word.Heard.the-variants.{Well, Wrong}
-use Rattle.faults.specs.declared.rules.Forms.{Forms}
+use Rattle.faults.specs.declared.tests.Tests.{Tests}
 use Rattle.faults.specs.declared.Refusal.the-variants.{Refused, Nothing}
-use Rattle.faults.specs.Rules.{formBy}
-use Rattle.faults.specs.Faults.{heard, saidBy, onHeard, faultIn}
+use Rattle.faults.specs.Faults.{heard, saidBy, testBy, onHeard, faultIn}
 
 -- ---- no word is left
 module _ (s : List ℕ) (i : ℕ) (r : Met) (m : gapIs s i r) where
@@ -69,8 +68,8 @@ module _ (s : List ℕ) (at count i left : ℕ) (k : Skipping s at count i left)
   pub skip-done : left ≡ 0 → (i ≤ length s) × ((restAt s i) .words ≡ drop count ((restAt s at) .words))
   skip-done e = (k .to, sym (ap (λ (l : ℕ). drop l ((restAt s i) .words)) e) ∙ k .rest)
 
--- ---- words held against their forms
-module _ (n : parse.Seen) (t : List ℤ) (f : Forms) (m : ℕ) where
+-- ---- words held against their tests
+module _ (n : parse.Seen) (t : List ℤ) (f : Tests) (m : ℕ) where
   pub record Faulting (s : List ℕ) (at i index : ℕ) : Type 0 where
     pub to : i ≤ length s
     pub small : index ≤ i
@@ -78,11 +77,11 @@ module _ (n : parse.Seen) (t : List ℤ) (f : Forms) (m : ℕ) where
 
   module _ (s : List ℕ) (at i index : ℕ) (k : Faulting s at i index) where
     word-next : {p : ℕ} → WordMet s i p
-        → onHeard (heard (saidBy n t (formBy f m index) (wordAt s p))) p (faultIn n t f m (suc index) ((restAt s (endOf s p)) .words))
+        → onHeard (heard (saidBy n t (testBy f m index) (wordAt s p))) p (faultIn n t f m (suc index) ((restAt s (endOf s p)) .words))
         ≡ faultIn n t f m 0 ((restAt s at) .words)
     word-next {p} w = sym (ap (λ (r : Rest). faultIn n t f m index (r .words)) (w .rest)) ∙ k .rest
 
-    pub fault-turn : {p e : ℕ} → WordMet s i p → e ≡ endOf s p → Well ≡ heard (saidBy n t (formBy f m index) (wordAt s p)) → (Faulting s at e (index + 1)) × (i < e)
+    pub fault-turn : {p e : ℕ} → WordMet s i p → e ≡ endOf s p → Well ≡ heard (saidBy n t (testBy f m index) (wordAt s p)) → (Faulting s at e (index + 1)) × (i < e)
     fault-turn {p} {e} w d h =
         let x = w .from in
         let y = w .more in
@@ -97,7 +96,7 @@ module _ (n : parse.Seen) (t : List ℤ) (f : Forms) (m : ℕ) where
           omega arith,
         )
 
-    pub fault-wrong : {p a : ℕ} → WordMet s i p → Wrong a ≡ heard (saidBy n t (formBy f m index) (wordAt s p)) → Refused a p ≡ faultIn n t f m 0 ((restAt s at) .words)
+    pub fault-wrong : {p a : ℕ} → WordMet s i p → Wrong a ≡ heard (saidBy n t (testBy f m index) (wordAt s p)) → Refused a p ≡ faultIn n t f m 0 ((restAt s at) .words)
     fault-wrong {p} w h = ap (λ (y : Heard). onHeard y p (faultIn n t f m (suc index) ((restAt s (endOf s p)) .words))) h ∙ word-next w
 
     pub fault-none : (restAt s i) .words ≡ [] → Nothing ≡ faultIn n t f m 0 ((restAt s at) .words)

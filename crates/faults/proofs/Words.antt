@@ -23,7 +23,8 @@ use Rattle.keywords.specs.declared.Argument.{Argument}
 use Rattle.model.specs.Parse as parse
 use Rattle.faults.specs.declared.word.Heard.{Heard}
 use Rattle.faults.specs.declared.word.Heard.the-variants.{Well, Wrong}
-use Rattle.faults.specs.declared.rules.WordForm.{WordForm}
+use Rattle.statements.specs.declared.rules.WordForm.{WordForm}
+use Rattle.faults.specs.declared.tests.Test.{Test}
 use Rattle.faults.specs.Faults.{heard, alikeSaid, givenBy, wideSaid, saidBy}
 
 heard-ended : {A : Type 0} (x : Said A) (e : ℕ) → heard (ended x e) ≡ heard x
@@ -82,8 +83,11 @@ pub heard-on : {A C : Type 0} (g : A → C) (x : Said A) → heard x ≡ heard (
 heard-on g (says a) = refl
 heard-on g (wrong n) = refl
 
-pub by-form : (n : parse.Seen) (t : List ℤ) (w : Word) {f g : WordForm} {h : Heard} → f ≡ g → h ≡ heard (saidBy n t g w) → h ≡ heard (saidBy n t f w)
-by-form n t w e k = rw e k
+pub by-form : (n : parse.Seen) (w : Word) {f g : WordForm} {h : Heard} → f ≡ g → h ≡ heard (parse.saidOf n g w) → h ≡ heard (parse.saidOf n f w)
+by-form n w e k = rw e k
+
+pub by-test : (n : parse.Seen) (t : List ℤ) (w : Word) {f g : Test} {h : Heard} → f ≡ g → h ≡ heard (saidBy n t g w) → h ≡ heard (saidBy n t f w)
+by-test n t w e k = rw e k
 
 pub by-argument : (s : List ℕ) (at : ℕ) (f : Argument → Heard) {a : Argument} {h : Heard} → a ≡ argumentAt s at → h ≡ f a → h ≡ f (argumentOf (wordOf (drop at s)))
 unfolding argumentAt

@@ -14,15 +14,17 @@ use Rattle.state.specs.declared.Form.{Form}
 use Rattle.faults.specs.declared.word.Heard.{Heard}
 use Rattle.faults.specs.declared.word.Heard.the-variants.{Well, Wrong}
 use Rattle.faults.specs.declared.word.Seen.{Seen}
-use Rattle.faults.specs.declared.rules.WordForm.{WordForm}
-use Rattle.faults.specs.declared.rules.WordForm.the-variants as form
-use Rattle.faults.specs.declared.rules.Forms.{Forms}
-use Rattle.faults.specs.declared.rules.Forms.the-variants as forms
-use Rattle.faults.specs.declared.rules.Held.{Held}
-use Rattle.faults.specs.declared.rules.Held.the-variants as held
+use Rattle.faults.specs.declared.tests.Test.{Test}
+use Rattle.faults.specs.declared.tests.Test.the-variants as test
+use Rattle.faults.specs.declared.tests.Tests.{Tests}
+use Rattle.faults.specs.declared.tests.Tests.the-variants as tests
+use Rattle.statements.specs.declared.Free.{Free}
+use Rattle.statements.specs.declared.Free.the-variants.{Curve, Curve2, Surface}
+use Rattle.statements.specs.declared.rules.Held.{Held}
+use Rattle.statements.specs.declared.rules.Held.the-variants as held
 use Rattle.faults.specs.declared.Refusal.{Refusal}
 use Rattle.faults.specs.declared.Refusal.the-variants.{Refused, Nothing}
-use Rattle.faults.specs.Rules.{formBy}
+use Rattle.statements.specs.Rules.{rangeWords, formBy}
 
 -- ---- one word
 abbrev pub heard : {A : Type 0} → Said A → Heard
@@ -48,35 +50,30 @@ abbrev pub wideSaid : List ℤ → Said ℕ → Said parse.Value
 wideSaid t (says k) = cond (givenBy t k) (says (parse.whole k)) (wrong 12)
 wideSaid t (wrong m) = wrong m
 
--- the word w as one of the form
-abbrev pub saidBy : parse.Seen → List ℤ → WordForm → Word → Said parse.Value
-saidBy n t form.Number w = parse.saidOf n parse.a-number w
-saidBy n t (form.Corner a b) w = parse.saidOf n (parse.a-corner (record { vt = a; vn = b })) w
-saidBy n t form.Control w = parse.saidOf n parse.a-control w
-saidBy n t form.Curve w = parse.saidOf n parse.a-curve w
-saidBy n t form.Direction w = parse.saidOf n parse.a-direction w
-saidBy n t form.Type w = parse.saidOf n parse.a-type w
-saidBy n t form.Rational w = parse.saidOf n parse.a-rational w
-saidBy n t form.Degree w = parse.saidOf n parse.a-degree w
-saidBy n t form.Smoothing w = parse.saidOf n parse.a-smoothing w
-saidBy n t form.Name w = parse.saidOf n parse.a-name w
-saidBy n t form.Anything w = parse.saidOf n parse.anything w
-saidBy n t (form.Alike a b bare flat) w = alikeSaid bare flat (cornerOf (n .counts) (record { vt = a; vn = b }) (w .bytes))
-saidBy n t form.Wide w = wideSaid t (referenceOf (n .vp) (w .bytes))
+-- the word w by the test
+abbrev pub saidBy : parse.Seen → List ℤ → Test → Word → Said parse.Value
+saidBy n t (test.Form f) w = parse.saidOf n f w
+saidBy n t (test.Alike a b bare flat) w = alikeSaid bare flat (cornerOf (n .counts) (record { vt = a; vn = b }) (w .bytes))
+saidBy n t test.Wide w = wideSaid t (referenceOf (n .vp) (w .bytes))
+
+-- the test of word i of n
+abbrev pub testBy : Tests → ℕ → ℕ → Test
+testBy (tests.Each f) n i = test.Form (formBy f n i)
+testBy (tests.All x) n i = x
 
 -- ---- the words of a line
 abbrev pub onHeard : Heard → ℕ → Refusal → Refusal
 onHeard Well p b = b
 onHeard (Wrong n) p b = Refused n p
 
--- the first of the words, from the i-th of m on, that is not of its form
-abbrev pub faultIn : parse.Seen → List ℤ → Forms → ℕ → ℕ → List Word → Refusal
+-- the first of the words, from the i-th of m on, that fails its test
+abbrev pub faultIn : parse.Seen → List ℤ → Tests → ℕ → ℕ → List Word → Refusal
 faultIn n t f m i [] = Nothing
-faultIn n t f m i (w ∷ ws) = onHeard (heard (saidBy n t (formBy f m i) w)) (w .place) (faultIn n t f m (suc i) ws)
+faultIn n t f m i (w ∷ ws) = onHeard (heard (saidBy n t (testBy f m i) w)) (w .place) (faultIn n t f m (suc i) ws)
 
 -- 9, of words that are corners
-abbrev pub alikeForms : Bool → Bool → Corner → Forms
-alikeForms a b c = forms.All (form.Alike a b (eqb (c .vt) 0) (eqb (c .vn) 0))
+abbrev pub alikeTests : Bool → Bool → Corner → Tests
+alikeTests a b c = tests.All (test.Alike a b (eqb (c .vt) 0) (eqb (c .vn) 0))
 
 abbrev pub onFirst : Said Corner → (Corner → Refusal) → Refusal
 onFirst (says c) f = f c
@@ -84,7 +81,7 @@ onFirst (wrong m) f = Nothing
 
 abbrev pub patternFault : parse.Seen → List ℤ → Bool → Bool → List Word → Refusal
 patternFault n t a b [] = Nothing
-patternFault n t a b (w ∷ ws) = onFirst (cornerOf (n .counts) (record { vt = a; vn = b }) (w .bytes)) (λ c. faultIn n t (alikeForms a b c) 0 0 ws)
+patternFault n t a b (w ∷ ws) = onFirst (cornerOf (n .counts) (record { vt = a; vn = b }) (w .bytes)) (λ c. faultIn n t (alikeTests a b c) 0 0 ws)
 
 -- ---- what is held against a line whose words have their forms
 -- 11, by a type's number: "Cardinal needs no deg"
@@ -104,9 +101,18 @@ orElse (Refused n p) b = Refused n p
 abbrev pub bodyFault : parse.Seen → List ℤ → Form → ℕ → Bool → List Word → Refusal
 bodyFault n t f key surface ws = orElse (patternFault n t surface surface ws) (owed (inForceBy surface f) 11 key Nothing)
 
+abbrev pub curve2Fault : parse.Seen → List ℤ → Form → ℕ → List Word → Refusal
+curve2Fault n t f key ws = owed (inForceBy false f) 11 key (faultIn n t (tests.All test.Wide) 0 0 ws)
+
+-- of a body's element, by its controls ws
+abbrev pub freeFault : parse.Seen → List ℤ → Form → ℕ → Free → List Word → Refusal
+freeFault n t f key Curve ws = bodyFault n t f key false ws
+freeFault n t f key Curve2 ws = curve2Fault n t f key ws
+freeFault n t f key Surface ws = bodyFault n t f key true ws
+
+-- what `end` finds in its body, it finds itself
 abbrev pub heldFault : parse.Seen → List ℤ → Form → ℕ → Held → List Word → Refusal
 heldFault n t f key held.Nothing ws = Nothing
-heldFault n t f key (held.Corners a b) ws = patternFault n t a b ws
-heldFault n t f key held.Curve ws = bodyFault n t f key false (drop 2 ws)
-heldFault n t f key held.Surface ws = bodyFault n t f key true (drop 4 ws)
-heldFault n t f key held.Curve2 ws = owed (inForceBy false f) 11 key (faultIn n t (forms.All form.Wide) 0 0 ws)
+heldFault n t f key (held.Corners k) ws = patternFault n t (k .vt) (k .vn) ws
+heldFault n t f key (held.Body k) ws = freeFault n t f key k (drop (rangeWords k) ws)
+heldFault n t f key held.End ws = Nothing

@@ -1,12 +1,14 @@
 use crate::Refusal;
-use crate::rules::Forms;
-use crate::rules::Held;
-use crate::rules::WordForm;
+use crate::tests::Test;
+use crate::tests::Tests;
 use crate::walk::first_fault;
 use crate::walk::skip;
 use crate::word::Seen;
 use forms::corner::CornerWord;
 use state::Form;
+use statements::Free;
+use statements::rules::Held;
+use statements::rules::range_words;
 use text::Met;
 ghost use mathlib.Core.Path.{_≡_};
 ghost use mathlib.Core.List.{_∷_};
@@ -14,7 +16,7 @@ ghost use Prim.Native.Nat.{_≤_};
 ghost use lib.ListN.{length};
 ghost use Rattle.text.specs.Rest.{restAt, wordAt, endOf};
 ghost use Rattle.keywords.specs.Arguments.{argumentTable};
-ghost use Rattle.faults.specs.Faults.{seenBy, patternFault, inForceBy, bodyFault, heldFault};
+ghost use Rattle.faults.specs.Faults.{seenBy, patternFault, inForceBy, bodyFault, curve2Fault, freeFault, heldFault};
 
 // 9, of the corners after the first, which is the word at `at`.
 fn pattern_from(
@@ -35,7 +37,7 @@ fn pattern_from(
         CornerWord::Of { v: _, vt, vn, end } => first_fault(
             text,
             end,
-            Forms::All(WordForm::Alike {
+            Tests::All(Test::Alike {
                 texture: texture,
                 normal: normal,
                 bare: vt == 0,
@@ -123,7 +125,60 @@ fn body_fault(
     }
 }
 
-// 9, 11 and 12 of a line whose words have their forms.
+// 11 and 12 of a curv2 line, its controls from `at` on.
+fn curve2_fault(
+    text: &[u8],
+    key: usize,
+    at: usize,
+    form: Form,
+    seen: Seen,
+    vp: &[i32],
+    argument_table: &[u8; 108],
+) -> Refusal
+    requires { ⌜ at ≤ length (now text) ⌝ }
+    requires { ⌜ now «argument_table» ≡ argumentTable ⌝ }
+    ensures { λ r. ⌜ r ≡ curve2Fault (seenBy seen) (now (vp .entry)) form key ((restAt (now (text .entry)) at) .words) ⌝ }
+{
+    if in_force(false, form) {
+        return first_fault(
+            text,
+            at,
+            Tests::All(Test::Wide),
+            0,
+            seen,
+            vp,
+            argument_table,
+        );
+    }
+    Refusal::Refused {
+        number: 11,
+        place: key,
+    }
+}
+
+// 9, 11 and 12 of the line of a body's element, its controls from `at` on.
+fn free_fault(
+    text: &[u8],
+    key: usize,
+    at: usize,
+    free: Free,
+    form: Form,
+    seen: Seen,
+    vp: &[i32],
+    argument_table: &[u8; 108],
+) -> Refusal
+    requires { ⌜ at ≤ length (now text) ⌝ }
+    requires { ⌜ now «argument_table» ≡ argumentTable ⌝ }
+    ensures { λ r. ⌜ r ≡ freeFault (seenBy seen) (now (vp .entry)) form key free ((restAt (now (text .entry)) at) .words) ⌝ }
+{
+    match free {
+        Free::Curve => body_fault(text, key, at, false, form, seen, vp, argument_table),
+        Free::Curve2 => curve2_fault(text, key, at, form, seen, vp, argument_table),
+        Free::Surface => body_fault(text, key, at, true, form, seen, vp, argument_table),
+    }
+}
+
+// 9, 11 and 12 of a line whose words have their forms; what `end` finds in its body, it finds itself.
 pub fn held_fault(
     text: &[u8],
     key: usize,
@@ -140,39 +195,19 @@ pub fn held_fault(
 {
     match held {
         Held::Nothing => Refusal::Nothing,
-        Held::Corners { texture, normal } => pattern_fault(
+        Held::Corners(parts) => pattern_fault(
             text,
             at,
-            texture,
-            normal,
+            parts.vt,
+            parts.vn,
             seen,
             vp,
             argument_table,
         ),
-        Held::Curve => {
-            let controls = skip(text, at, 2);
-            body_fault(text, key, controls, false, form, seen, vp, argument_table)
+        Held::Body(free) => {
+            let controls = skip(text, at, range_words(free));
+            free_fault(text, key, controls, free, form, seen, vp, argument_table)
         }
-        Held::Surface => {
-            let controls = skip(text, at, 4);
-            body_fault(text, key, controls, true, form, seen, vp, argument_table)
-        }
-        Held::Curve2 => {
-            if in_force(false, form) {
-                return first_fault(
-                    text,
-                    at,
-                    Forms::All(WordForm::Wide),
-                    0,
-                    seen,
-                    vp,
-                    argument_table,
-                );
-            }
-            Refusal::Refused {
-                number: 11,
-                place: key,
-            }
-        }
+        Held::End => Refusal::Nothing,
     }
 }

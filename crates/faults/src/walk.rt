@@ -1,6 +1,6 @@
 use crate::Refusal;
-use crate::rules::Forms;
-use crate::rules::form_at;
+use crate::tests::Tests;
+use crate::tests::test_at;
 use crate::word::Heard;
 use crate::word::Seen;
 use crate::word::word_fault;
@@ -12,11 +12,11 @@ ghost use Rattle.text.specs.Rest.{restAt};
 ghost use Rattle.keywords.specs.Arguments.{argumentTable};
 ghost use Rattle.faults.specs.Faults.{seenBy, faultIn};
 
-// The first word from `at` on that is not of its form, the forms being those of a line of `words` words.
+// The first word from `at` on that fails its test, the tests being those of a line of `words` words.
 pub fn first_fault(
     text: &[u8],
     at: usize,
-    forms: Forms,
+    tests: Tests,
     words: usize,
     seen: Seen,
     vp: &[i32],
@@ -24,15 +24,15 @@ pub fn first_fault(
 ) -> Refusal
     requires { ⌜ at ≤ length (now text) ⌝ }
     requires { ⌜ now «argument_table» ≡ argumentTable ⌝ }
-    ensures { λ r. ⌜ r ≡ faultIn (seenBy seen) (now (vp .entry)) forms words 0 ((restAt (now (text .entry)) at) .words) ⌝ }
+    ensures { λ r. ⌜ r ≡ faultIn (seenBy seen) (now (vp .entry)) tests words 0 ((restAt (now (text .entry)) at) .words) ⌝ }
 {
     let mut i = at;
     let mut index: usize = 0;
     loop {
         match text::gap(text, i) {
             Met::Start(p) => {
-                let form = form_at(forms, words, index);
-                match word_fault(text, p, form, seen, vp, argument_table) {
+                let test = test_at(tests, words, index);
+                match word_fault(text, p, test, seen, vp, argument_table) {
                     Heard::Wrong(number) => {
                         return Refusal::Refused {
                             number: number,

@@ -1,10 +1,11 @@
-use crate::rules::WordForm;
+use crate::tests::Test;
 use decimals::number::Number;
 use digits::name::Name;
 use digits::whole::Whole;
 use forms::corner::CornerWord;
 use forms::reference::Reference;
 use keywords::Argument;
+use statements::rules::WordForm;
 ghost use mathlib.Core.Path.{_≡_};
 ghost use mathlib.Core.Bool.{true};
 ghost use Prim.Native.Nat.{_≤_};
@@ -18,7 +19,7 @@ ghost use Rattle.forms.specs.Reference.{referenceOf};
 ghost use Rattle.forms.specs.Corner.{cornerOf, agree};
 ghost use Rattle.digits.specs.Degree.{degreeOf, smoothingOf, nameOf};
 ghost use Rattle.keywords.specs.Arguments.{argumentTable};
-ghost use Rattle.model.specs.Parse.{directionOf, directionSaid, typeSaid, rationalSaid};
+ghost use Rattle.model.specs.Parse.{saidOf, directionOf, directionSaid, typeSaid, rationalSaid};
 ghost use Rattle.faults.specs.Faults.{heard, countsBy, seenBy, alikeSaid, givenBy, wideSaid, saidBy};
 
 pub enum Heard {
@@ -241,21 +242,20 @@ fn wide_fault(text: &[u8], at: usize, count: u32, vp: &[i32]) -> Heard
 }
 
 // What is wrong with the word at `at` as one of the form.
-pub fn word_fault(
+fn form_fault(
     text: &[u8],
     at: usize,
     form: WordForm,
     seen: Seen,
-    vp: &[i32],
     argument_table: &[u8; 108],
 ) -> Heard
     requires { ⌜ at ≤ length (now text) ⌝ }
     requires { ⌜ now «argument_table» ≡ argumentTable ⌝ }
-    ensures { λ r. ⌜ r ≡ heard (saidBy (seenBy seen) (now (vp .entry)) form (wordAt (now (text .entry)) at)) ⌝ }
+    ensures { λ r. ⌜ r ≡ heard (saidOf (seenBy seen) form (wordAt (now (text .entry)) at)) ⌝ }
 {
     match form {
         WordForm::Number => number_fault(text, at),
-        WordForm::Corner { texture, normal } => corner_fault(text, at, seen, texture, normal),
+        WordForm::Corner(parts) => corner_fault(text, at, seen, parts.vt, parts.vn),
         WordForm::Control => reference_fault(text, at, seen.vp),
         WordForm::Curve => reference_fault(text, at, seen.curves),
         WordForm::Direction => {
@@ -274,12 +274,30 @@ pub fn word_fault(
         WordForm::Smoothing => smoothing_fault(text, at, argument_table),
         WordForm::Name => name_fault(text, at),
         WordForm::Anything => Heard::Well,
-        WordForm::Alike {
+    }
+}
+
+// What is wrong with the word at `at` by the test.
+pub fn word_fault(
+    text: &[u8],
+    at: usize,
+    test: Test,
+    seen: Seen,
+    vp: &[i32],
+    argument_table: &[u8; 108],
+) -> Heard
+    requires { ⌜ at ≤ length (now text) ⌝ }
+    requires { ⌜ now «argument_table» ≡ argumentTable ⌝ }
+    ensures { λ r. ⌜ r ≡ heard (saidBy (seenBy seen) (now (vp .entry)) test (wordAt (now (text .entry)) at)) ⌝ }
+{
+    match test {
+        Test::Form(form) => form_fault(text, at, form, seen, argument_table),
+        Test::Alike {
             texture,
             normal,
             bare,
             flat,
         } => alike_fault(text, at, seen, texture, normal, bare, flat),
-        WordForm::Wide => wide_fault(text, at, seen.vp, vp),
+        Test::Wide => wide_fault(text, at, seen.vp, vp),
     }
 }

@@ -4,6 +4,8 @@ use Prim.Native.Nat.{ℕ}
 use mathlib.Core.List.{List, [], _∷_}
 use mathlib.Core.Bool.{Bool, true, false, cond, _&&_, not}
 use lib.Dec.{leb, eqb}
+-- which parts a statement's corners may have besides v
+pub use Rattle.statements.specs.declared.rules.Parts.{Parts}
 use Rattle.digits.specs.Said.{Said, says, wrong, must}
 use Rattle.forms.specs.Reference.{isReference, refer}
 
@@ -18,11 +20,6 @@ pub record Counts : Type 0 where
   pub v : ℕ
   pub vt : ℕ
   pub vn : ℕ
-
--- which parts a statement's corners may have besides v
-pub record Parts : Type 0 where
-  pub vt : Bool
-  pub vn : Bool
 
 abbrev pub onto : ℕ → List (List ℕ) → List (List ℕ)
 onto b [] = (b ∷ []) ∷ []

@@ -23,7 +23,8 @@ use Rattle.keywords.specs.Keywords.{statementOf}
 use Rattle.model.specs.Model as model
 use Rattle.model.specs.Model.{Body, Model, Open}
 use Rattle.model.specs.Statements.{Statement, end, apply, settled, closed}
-use Rattle.model.specs.Parse.{Parsed, fine, fault, ends, finished, parse}
+use Rattle.model.specs.Parse.{Parsed, fine, fault, ends, parse}
+use Rattle.model.proofs.Pieces.{finished}
 use Rattle.model.specs.Room.{Rooms, summed, ofKind, partCount, fits}
 use Rattle.model.specs.Layout.{flag, freeNumber, bodyRow, bodyRows, bodiesOf, rangeRow, parameterRow}
 use Rattle.model.specs.Read.{keywordOf}

@@ -15,7 +15,8 @@ use Rattle.forms.specs.Fits.{numberFits}
 use Rattle.tables.specs.Records.{valueAt, vpWidth}
 use Rattle.model.specs.Model.{VertexKind, geometric, texture, normal, parametric, start}
 use Rattle.model.specs.Statements.{vertex}
-use Rattle.model.specs.Parse.{number, countedVertex, numbersOf, a-number, Seen, recordOf, given}
+use Rattle.model.specs.Parse.{number, numbersOf, a-number, Seen, recordOf, given}
+use Rattle.model.proofs.Pieces.{countedVertex}
 use Rattle.model.specs.Layout.{itself}
 use Rattle.tidying.specs.declared.Weights.the-variants as weights
 use Rattle.tidying.specs.Printed.{coordinates}

@@ -9,8 +9,13 @@ use lib.Dec.{leb, eqb}
 use Rattle.lists.proofs.Tests.{never}
 use Rattle.keywords.specs.Rows.{Row, rowOf, spellingAt, Finds}
 use Rattle.keywords.specs.Keywords.{letterOf, keywords, statementOf, keywordOf}
-use Rattle.keywords.specs.declared.Statement.{Statement}
-use Rattle.keywords.specs.declared.Statement.the-variants.{Vertex, TextureVertex, VertexNormal, ParameterVertex, BodyType, Degree, Point, Line, Face, Curve, Curve2, Surface, Parameters, Trim, Hole, End, Group, Smoothing, Material, PassedOver, Refused, Unknown}
+use Rattle.statements.specs.declared.VertexKind.the-variants.{Geometric, Texture, Normal, Parametric}
+use Rattle.statements.specs.declared.Shape.the-variants.{Point, Line, Face}
+use Rattle.statements.specs.declared.Free.the-variants.{Curve, Curve2, Surface}
+use Rattle.statements.specs.declared.Carried.the-variants.{Vertex, Element, Body, Parameters, Trim, Hole, End, BodyType, Degree, Group, Smoothing, Material, PassedOver}
+use Rattle.statements.specs.declared.Carried as carried
+use Rattle.statements.specs.declared.Statement.{Statement}
+use Rattle.statements.specs.declared.Statement.the-variants.{Carried, Refused, Unknown}
 use Rattle.keywords.proofs.Spellings.{distinct, isToken, tokens, rowsWith, finds-exactly, no-two}
 
 pub all-distinct : distinct keywords ≡ true
@@ -33,30 +38,30 @@ all-tokens = refl
 -- 01 has 19 keywords that are stored, 12 that are passed over and 13 that are refused: each stored statement has one row, and there are no others
 pub one-row : (k : Statement) → leb 65 (letterOf k) ≡ true → rowsWith letterOf (letterOf k) keywords ≡ 1
 unfolding keywords
-one-row Vertex h = refl
-one-row TextureVertex h = refl
-one-row VertexNormal h = refl
-one-row ParameterVertex h = refl
-one-row BodyType h = refl
-one-row Degree h = refl
-one-row Point h = refl
-one-row Line h = refl
-one-row Face h = refl
-one-row Curve h = refl
-one-row Curve2 h = refl
-one-row Surface h = refl
-one-row Parameters h = refl
-one-row Trim h = refl
-one-row Hole h = refl
-one-row End h = refl
-one-row Group h = refl
-one-row Smoothing h = refl
-one-row Material h = refl
-one-row PassedOver h = never h
+one-row (Carried (Vertex Geometric)) h = refl
+one-row (Carried (Vertex Texture)) h = refl
+one-row (Carried (Vertex Normal)) h = refl
+one-row (Carried (Vertex Parametric)) h = refl
+one-row (Carried BodyType) h = refl
+one-row (Carried Degree) h = refl
+one-row (Carried (Element Point)) h = refl
+one-row (Carried (Element Line)) h = refl
+one-row (Carried (Element Face)) h = refl
+one-row (Carried (Body Curve)) h = refl
+one-row (Carried (Body Curve2)) h = refl
+one-row (Carried (Body Surface)) h = refl
+one-row (Carried Parameters) h = refl
+one-row (Carried Trim) h = refl
+one-row (Carried Hole) h = refl
+one-row (Carried End) h = refl
+one-row (Carried Group) h = refl
+one-row (Carried Smoothing) h = refl
+one-row (Carried Material) h = refl
+one-row (Carried PassedOver) h = never h
 one-row Refused h = never h
 one-row Unknown h = never h
 
-pub passed-over : rowsWith letterOf (letterOf PassedOver) keywords ≡ 12
+pub passed-over : rowsWith letterOf (letterOf (Carried PassedOver)) keywords ≡ 12
 unfolding keywords
 passed-over = refl
 
@@ -69,20 +74,20 @@ unfolding keywords
 no-others = refl
 
 -- written and read back
-pub spelled : (k : Statement) → statementOf (keywordOf k) ≡ k
+pub spelled : (k : carried.Carried) → statementOf (keywordOf k) ≡ Carried k
 unfolding keywords statementOf keywordOf
-spelled Vertex = refl
-spelled TextureVertex = refl
-spelled VertexNormal = refl
-spelled ParameterVertex = refl
+spelled (Vertex Geometric) = refl
+spelled (Vertex Texture) = refl
+spelled (Vertex Normal) = refl
+spelled (Vertex Parametric) = refl
 spelled BodyType = refl
 spelled Degree = refl
-spelled Point = refl
-spelled Line = refl
-spelled Face = refl
-spelled Curve = refl
-spelled Curve2 = refl
-spelled Surface = refl
+spelled (Element Point) = refl
+spelled (Element Line) = refl
+spelled (Element Face) = refl
+spelled (Body Curve) = refl
+spelled (Body Curve2) = refl
+spelled (Body Surface) = refl
 spelled Parameters = refl
 spelled Trim = refl
 spelled Hole = refl
@@ -91,50 +96,46 @@ spelled Group = refl
 spelled Smoothing = refl
 spelled Material = refl
 spelled PassedOver = refl
-spelled Refused = refl
-spelled Unknown = refl
 
 -- what is written is a word of a line
-pub token : (k : Statement) → eqb (letterOf k) 32 ≡ false → isToken (keywordOf k) ≡ true
+pub token : (k : carried.Carried) → isToken (keywordOf k) ≡ true
 unfolding keywords keywordOf
-token Vertex h = refl
-token TextureVertex h = refl
-token VertexNormal h = refl
-token ParameterVertex h = refl
-token BodyType h = refl
-token Degree h = refl
-token Point h = refl
-token Line h = refl
-token Face h = refl
-token Curve h = refl
-token Curve2 h = refl
-token Surface h = refl
-token Parameters h = refl
-token Trim h = refl
-token Hole h = refl
-token End h = refl
-token Group h = refl
-token Smoothing h = refl
-token Material h = refl
-token PassedOver h = refl
-token Refused h = refl
-token Unknown h = never (sym h)
+token (Vertex Geometric) = refl
+token (Vertex Texture) = refl
+token (Vertex Normal) = refl
+token (Vertex Parametric) = refl
+token BodyType = refl
+token Degree = refl
+token (Element Point) = refl
+token (Element Line) = refl
+token (Element Face) = refl
+token (Body Curve) = refl
+token (Body Curve2) = refl
+token (Body Surface) = refl
+token Parameters = refl
+token Trim = refl
+token Hole = refl
+token End = refl
+token Group = refl
+token Smoothing = refl
+token Material = refl
+token PassedOver = refl
 
 -- room for ten bytes is enough
-pub short : (k : Statement) → length (keywordOf k) ≤ 10
+pub short : (k : carried.Carried) → length (keywordOf k) ≤ 10
 unfolding keywords keywordOf
-short Vertex = omega arith
-short TextureVertex = omega arith
-short VertexNormal = omega arith
-short ParameterVertex = omega arith
+short (Vertex Geometric) = omega arith
+short (Vertex Texture) = omega arith
+short (Vertex Normal) = omega arith
+short (Vertex Parametric) = omega arith
 short BodyType = omega arith
 short Degree = omega arith
-short Point = omega arith
-short Line = omega arith
-short Face = omega arith
-short Curve = omega arith
-short Curve2 = omega arith
-short Surface = omega arith
+short (Element Point) = omega arith
+short (Element Line) = omega arith
+short (Element Face) = omega arith
+short (Body Curve) = omega arith
+short (Body Curve2) = omega arith
+short (Body Surface) = omega arith
 short Parameters = omega arith
 short Trim = omega arith
 short Hole = omega arith
@@ -143,5 +144,3 @@ short Group = omega arith
 short Smoothing = omega arith
 short Material = omega arith
 short PassedOver = omega arith
-short Refused = omega arith
-short Unknown = omega arith

@@ -12,8 +12,13 @@ use Rattle.keywords.specs.Rows.{rowOf, kindAt, foundBy, letteredIn}
 use Rattle.keywords.specs.Keywords.{letterOf, ofLetter, keywords, keywordTable, statementOf, keywordAt, keywordOf}
 use Rattle.keywords.specs.declared.Found.{Found}
 use Rattle.keywords.specs.declared.Keyword.{Keyword}
-use Rattle.keywords.specs.declared.Statement.{Statement}
-use Rattle.keywords.specs.declared.Statement.the-variants.{Vertex, TextureVertex, VertexNormal, ParameterVertex, BodyType, Degree, Point, Line, Face, Curve, Curve2, Surface, Parameters, Trim, Hole, End, Group, Smoothing, Material, PassedOver, Refused, Unknown}
+use Rattle.statements.specs.declared.VertexKind.the-variants.{Geometric, Texture, Normal, Parametric}
+use Rattle.statements.specs.declared.Shape.the-variants.{Point, Line, Face}
+use Rattle.statements.specs.declared.Free.the-variants.{Curve, Curve2, Surface}
+use Rattle.statements.specs.declared.Carried.the-variants.{Vertex, Element, Body, Parameters, Trim, Hole, End, BodyType, Degree, Group, Smoothing, Material, PassedOver}
+use Rattle.statements.specs.declared.Carried as carried
+use Rattle.statements.specs.declared.Statement.{Statement}
+use Rattle.statements.specs.declared.Statement.the-variants.{Carried, Refused, Unknown}
 use Rattle.keywords.proofs.Rows.{Laid, marked, found-end}
 use Rattle.keywords.proofs.KeywordTable.{all-distinct}
 
@@ -24,26 +29,26 @@ all-marked = refl
 -- a kind is told by its letter
 told : (k : Statement) → ofLetter (letterOf k) ≡ k
 unfolding keywords ofLetter
-told Vertex = refl
-told TextureVertex = refl
-told VertexNormal = refl
-told ParameterVertex = refl
-told BodyType = refl
-told Degree = refl
-told Point = refl
-told Line = refl
-told Face = refl
-told Curve = refl
-told Curve2 = refl
-told Surface = refl
-told Parameters = refl
-told Trim = refl
-told Hole = refl
-told End = refl
-told Group = refl
-told Smoothing = refl
-told Material = refl
-told PassedOver = refl
+told (Carried (Vertex Geometric)) = refl
+told (Carried (Vertex Texture)) = refl
+told (Carried (Vertex Normal)) = refl
+told (Carried (Vertex Parametric)) = refl
+told (Carried BodyType) = refl
+told (Carried Degree) = refl
+told (Carried (Element Point)) = refl
+told (Carried (Element Line)) = refl
+told (Carried (Element Face)) = refl
+told (Carried (Body Curve)) = refl
+told (Carried (Body Curve2)) = refl
+told (Carried (Body Surface)) = refl
+told (Carried Parameters) = refl
+told (Carried Trim) = refl
+told (Carried Hole) = refl
+told (Carried End) = refl
+told (Carried Group) = refl
+told (Carried Smoothing) = refl
+told (Carried Material) = refl
+told (Carried PassedOver) = refl
 told Refused = refl
 told Unknown = refl
 
@@ -56,11 +61,11 @@ unfolding keywordAt statementOf
 keyword-is s at f k g l =
     rw (l, g, found-end letterOf Unknown keywords (rowOf keywords (wordOf (drop at s))) at (endOf s at) refl all-marked) refl
 
-rows-lettered : (k : Statement) → letteredIn 44 keywordTable (letterOf k) ≡ keywordOf k
+rows-lettered : (k : carried.Carried) → letteredIn 44 keywordTable (letterOf (Carried k)) ≡ keywordOf k
 unfolding keywords keywordTable keywordOf
 rows-lettered k = refl
 
 -- the row that is found by a kind's letter has its spelling
 pub keyword-row :
-    (t : List ℕ) (from letter : ℕ) (k : Statement) → t ≡ keywordTable → wordOf (drop from t) ≡ letteredIn 44 t letter → letter ≡ letterOf k → wordOf (drop from t) ≡ keywordOf k
+    (t : List ℕ) (from letter : ℕ) (k : carried.Carried) → t ≡ keywordTable → wordOf (drop from t) ≡ letteredIn 44 t letter → letter ≡ letterOf (Carried k) → wordOf (drop from t) ≡ keywordOf k
 keyword-row t from letter k e w l = w ∙ rw (e, l) (rows-lettered k)

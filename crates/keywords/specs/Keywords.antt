@@ -10,79 +10,87 @@ use Rattle.text.specs.Words.{wordOf}
 use Rattle.text.specs.Rest.{endOf}
 use Rattle.keywords.specs.Rows.{Row, rowOf, kindAt, kindBy, spellingOf, line, foundBy}
 use Rattle.keywords.specs.declared.Keyword.{Keyword}
-use Rattle.keywords.specs.declared.Statement.{Statement}
-use Rattle.keywords.specs.declared.Statement.the-variants.{Vertex, TextureVertex, VertexNormal, ParameterVertex, BodyType, Degree, Point, Line, Face, Curve, Curve2, Surface, Parameters, Trim, Hole, End, Group, Smoothing, Material, PassedOver, Refused, Unknown}
+use Rattle.statements.specs.declared.VertexKind.the-variants.{Geometric, Texture, Normal, Parametric}
+use Rattle.statements.specs.declared.Shape.the-variants.{Point, Line, Face}
+use Rattle.statements.specs.declared.Free.the-variants.{Curve, Curve2, Surface}
+use Rattle.statements.specs.declared.Carried.the-variants.{Vertex, Element, Body, Parameters, Trim, Hole, End, BodyType, Degree, Group, Smoothing, Material, PassedOver}
+use Rattle.statements.specs.declared.Carried as carried
+use Rattle.statements.specs.declared.Statement.{Statement}
+use Rattle.statements.specs.declared.Statement.the-variants.{Carried, Refused, Unknown}
 
 -- the letter that stands for a kind in the code's table: stored statements A to S; a blank is no row's
 abbrev pub letterOf : Statement → ℕ
-letterOf Vertex = 65
-letterOf TextureVertex = 66
-letterOf VertexNormal = 67
-letterOf ParameterVertex = 68
-letterOf BodyType = 69
-letterOf Degree = 70
-letterOf Point = 71
-letterOf Line = 72
-letterOf Face = 73
-letterOf Curve = 74
-letterOf Curve2 = 75
-letterOf Surface = 76
-letterOf Parameters = 77
-letterOf Trim = 78
-letterOf Hole = 79
-letterOf End = 80
-letterOf Group = 81
-letterOf Smoothing = 82
-letterOf Material = 83
-letterOf PassedOver = 45
+letterOf (Carried (Vertex Geometric)) = 65
+letterOf (Carried (Vertex Texture)) = 66
+letterOf (Carried (Vertex Normal)) = 67
+letterOf (Carried (Vertex Parametric)) = 68
+letterOf (Carried BodyType) = 69
+letterOf (Carried Degree) = 70
+letterOf (Carried (Element Point)) = 71
+letterOf (Carried (Element Line)) = 72
+letterOf (Carried (Element Face)) = 73
+letterOf (Carried (Body Curve)) = 74
+letterOf (Carried (Body Curve2)) = 75
+letterOf (Carried (Body Surface)) = 76
+letterOf (Carried Parameters) = 77
+letterOf (Carried Trim) = 78
+letterOf (Carried Hole) = 79
+letterOf (Carried End) = 80
+letterOf (Carried Group) = 81
+letterOf (Carried Smoothing) = 82
+letterOf (Carried Material) = 83
+letterOf (Carried PassedOver) = 45
 letterOf Refused = 33
 letterOf Unknown = 32
 
 abbrev row : String → Statement → Row Statement
 row s k = record { spelling = s; kind = k }
 
+abbrev carries : String → carried.Carried → Row Statement
+carries s k = row s (Carried k)
+
 -- every keyword of 01, with the kind of its statement
 unfoldable pub keywords : List (Row Statement)
 keywords =
-    row "v" Vertex
-    ∷ row "vt" TextureVertex
-    ∷ row "vn" VertexNormal
-    ∷ row "vp" ParameterVertex
-    ∷ row "cstype" BodyType
-    ∷ row "deg" Degree
+    carries "v" (Vertex Geometric)
+    ∷ carries "vt" (Vertex Texture)
+    ∷ carries "vn" (Vertex Normal)
+    ∷ carries "vp" (Vertex Parametric)
+    ∷ carries "cstype" BodyType
+    ∷ carries "deg" Degree
     ∷ row "bmat" Refused
     ∷ row "step" Refused
-    ∷ row "p" Point
-    ∷ row "l" Line
-    ∷ row "f" Face
-    ∷ row "curv" Curve
-    ∷ row "curv2" Curve2
-    ∷ row "surf" Surface
-    ∷ row "parm" Parameters
-    ∷ row "trim" Trim
-    ∷ row "hole" Hole
+    ∷ carries "p" (Element Point)
+    ∷ carries "l" (Element Line)
+    ∷ carries "f" (Element Face)
+    ∷ carries "curv" (Body Curve)
+    ∷ carries "curv2" (Body Curve2)
+    ∷ carries "surf" (Body Surface)
+    ∷ carries "parm" Parameters
+    ∷ carries "trim" Trim
+    ∷ carries "hole" Hole
     ∷ row "scrv" Refused
     ∷ row "sp" Refused
-    ∷ row "end" End
+    ∷ carries "end" End
     ∷ row "con" Refused
-    ∷ row "g" Group
-    ∷ row "s" Smoothing
-    ∷ row "mg" PassedOver
-    ∷ row "o" PassedOver
-    ∷ row "bevel" PassedOver
-    ∷ row "c_interp" PassedOver
-    ∷ row "d_interp" PassedOver
-    ∷ row "lod" PassedOver
-    ∷ row "usemtl" Material
-    ∷ row "mtllib" PassedOver
-    ∷ row "shadow_obj" PassedOver
-    ∷ row "trace_obj" PassedOver
-    ∷ row "ctech" PassedOver
-    ∷ row "stech" PassedOver
+    ∷ carries "g" Group
+    ∷ carries "s" Smoothing
+    ∷ carries "mg" PassedOver
+    ∷ carries "o" PassedOver
+    ∷ carries "bevel" PassedOver
+    ∷ carries "c_interp" PassedOver
+    ∷ carries "d_interp" PassedOver
+    ∷ carries "lod" PassedOver
+    ∷ carries "usemtl" Material
+    ∷ carries "mtllib" PassedOver
+    ∷ carries "shadow_obj" PassedOver
+    ∷ carries "trace_obj" PassedOver
+    ∷ carries "ctech" PassedOver
+    ∷ carries "stech" PassedOver
     ∷ row "call" Refused
     ∷ row "csh" Refused
     ∷ row "fo" Refused
-    ∷ row "usemap" PassedOver
+    ∷ carries "usemap" PassedOver
     ∷ row "bsp" Refused
     ∷ row "bzp" Refused
     ∷ row "cdc" Refused
@@ -102,9 +110,9 @@ keywordTable = flat (line letterOf) keywords
 unfoldable pub statementOf : List ℕ → Statement
 statementOf w = kindAt Unknown keywords (rowOf keywords w)
 
--- the bytes that a stored statement's keyword is written with
-unfoldable pub keywordOf : Statement → List ℕ
-keywordOf k = spellingOf letterOf keywords (letterOf k)
+-- the bytes that a statement's keyword is written with
+unfoldable pub keywordOf : carried.Carried → List ℕ
+keywordOf k = spellingOf letterOf keywords (letterOf (Carried k))
 
 -- the statement of the word at a place and where the word ends; an unknown word's end is not looked for, and its place stands for it
 unfoldable pub keywordAt : List ℕ → ℕ → Keyword

@@ -1,4 +1,9 @@
 // The spellings of keywords and of the fixed words after them, one table each, and what a word of a text finds there.
+use statements::Carried;
+use statements::Free;
+use statements::Shape;
+use statements::Statement;
+use statements::VertexKind;
 ghost use mathlib.Core.Path.{_≡_};
 ghost use mathlib.Core.Bool.{true, cond};
 ghost use Prim.Native.Nat.{_+_, _*_, _≤_, _<_};
@@ -79,32 +84,7 @@ const ARGUMENTS: [u8; 108] = *b"\
     v          H\
     off        I";
 
-// The kind of a keyword's statement.
-pub enum Statement {
-    Vertex,
-    TextureVertex,
-    VertexNormal,
-    ParameterVertex,
-    BodyType,
-    Degree,
-    Point,
-    Line,
-    Face,
-    Curve,
-    Curve2,
-    Surface,
-    Parameters,
-    Trim,
-    Hole,
-    End,
-    Group,
-    Smoothing,
-    Material,
-    PassedOver,
-    Refused,
-    Unknown,
-}
-
+// A keyword's statement, and where its word ends.
 pub struct Keyword {
     pub statement: Statement,
     pub end: usize,
@@ -203,26 +183,26 @@ fn statement_of(letter: u8) -> Statement
     ensures { λ r. ⌜ r ≡ ofLetter letter ⌝ }
 {
     match letter {
-        b'A' => Statement::Vertex,
-        b'B' => Statement::TextureVertex,
-        b'C' => Statement::VertexNormal,
-        b'D' => Statement::ParameterVertex,
-        b'E' => Statement::BodyType,
-        b'F' => Statement::Degree,
-        b'G' => Statement::Point,
-        b'H' => Statement::Line,
-        b'I' => Statement::Face,
-        b'J' => Statement::Curve,
-        b'K' => Statement::Curve2,
-        b'L' => Statement::Surface,
-        b'M' => Statement::Parameters,
-        b'N' => Statement::Trim,
-        b'O' => Statement::Hole,
-        b'P' => Statement::End,
-        b'Q' => Statement::Group,
-        b'R' => Statement::Smoothing,
-        b'S' => Statement::Material,
-        b'-' => Statement::PassedOver,
+        b'A' => Statement::Carried(Carried::Vertex(VertexKind::Geometric)),
+        b'B' => Statement::Carried(Carried::Vertex(VertexKind::Texture)),
+        b'C' => Statement::Carried(Carried::Vertex(VertexKind::Normal)),
+        b'D' => Statement::Carried(Carried::Vertex(VertexKind::Parametric)),
+        b'E' => Statement::Carried(Carried::BodyType),
+        b'F' => Statement::Carried(Carried::Degree),
+        b'G' => Statement::Carried(Carried::Element(Shape::Point)),
+        b'H' => Statement::Carried(Carried::Element(Shape::Line)),
+        b'I' => Statement::Carried(Carried::Element(Shape::Face)),
+        b'J' => Statement::Carried(Carried::Body(Free::Curve)),
+        b'K' => Statement::Carried(Carried::Body(Free::Curve2)),
+        b'L' => Statement::Carried(Carried::Body(Free::Surface)),
+        b'M' => Statement::Carried(Carried::Parameters),
+        b'N' => Statement::Carried(Carried::Trim),
+        b'O' => Statement::Carried(Carried::Hole),
+        b'P' => Statement::Carried(Carried::End),
+        b'Q' => Statement::Carried(Carried::Group),
+        b'R' => Statement::Carried(Carried::Smoothing),
+        b'S' => Statement::Carried(Carried::Material),
+        b'-' => Statement::Carried(Carried::PassedOver),
         b'!' => Statement::Refused,
         _ => Statement::Unknown,
     }
@@ -312,32 +292,54 @@ pub fn off_end(text: &[u8], at: usize, table: &[u8; 108]) -> usize
     same_word(text, at, table, WIDTH * OFF_ROW)
 }
 
-fn letter_of(statement: Statement) -> u8
-    ensures { λ r. ⌜ r ≡ letterOf statement ⌝ }
+fn vertex_letter(kind: VertexKind) -> u8
+    ensures { λ r. ⌜ r ≡ letterOf (Statement.Carried (Carried.Vertex kind)) ⌝ }
+{
+    match kind {
+        VertexKind::Geometric => b'A',
+        VertexKind::Texture => b'B',
+        VertexKind::Normal => b'C',
+        VertexKind::Parametric => b'D',
+    }
+}
+
+fn element_letter(shape: Shape) -> u8
+    ensures { λ r. ⌜ r ≡ letterOf (Statement.Carried (Carried.Element shape)) ⌝ }
+{
+    match shape {
+        Shape::Point => b'G',
+        Shape::Line => b'H',
+        Shape::Face => b'I',
+    }
+}
+
+fn body_letter(free: Free) -> u8
+    ensures { λ r. ⌜ r ≡ letterOf (Statement.Carried (Carried.Body free)) ⌝ }
+{
+    match free {
+        Free::Curve => b'J',
+        Free::Curve2 => b'K',
+        Free::Surface => b'L',
+    }
+}
+
+fn letter_of(statement: Carried) -> u8
+    ensures { λ r. ⌜ r ≡ letterOf (Statement.Carried statement) ⌝ }
 {
     match statement {
-        Statement::Vertex => b'A',
-        Statement::TextureVertex => b'B',
-        Statement::VertexNormal => b'C',
-        Statement::ParameterVertex => b'D',
-        Statement::BodyType => b'E',
-        Statement::Degree => b'F',
-        Statement::Point => b'G',
-        Statement::Line => b'H',
-        Statement::Face => b'I',
-        Statement::Curve => b'J',
-        Statement::Curve2 => b'K',
-        Statement::Surface => b'L',
-        Statement::Parameters => b'M',
-        Statement::Trim => b'N',
-        Statement::Hole => b'O',
-        Statement::End => b'P',
-        Statement::Group => b'Q',
-        Statement::Smoothing => b'R',
-        Statement::Material => b'S',
-        Statement::PassedOver => b'-',
-        Statement::Refused => b'!',
-        Statement::Unknown => b' ',
+        Carried::Vertex(kind) => vertex_letter(kind),
+        Carried::Element(shape) => element_letter(shape),
+        Carried::Body(free) => body_letter(free),
+        Carried::Parameters => b'M',
+        Carried::Trim => b'N',
+        Carried::Hole => b'O',
+        Carried::End => b'P',
+        Carried::BodyType => b'E',
+        Carried::Degree => b'F',
+        Carried::Group => b'Q',
+        Carried::Smoothing => b'R',
+        Carried::Material => b'S',
+        Carried::PassedOver => b'-',
     }
 }
 
@@ -391,7 +393,7 @@ pub fn copy_word(source: &[u8], from: usize, out: &mut [u8], at: usize) -> usize
 }
 
 // How many bytes a statement's keyword has.
-pub fn keyword_length(statement: Statement, table: &[u8; 528]) -> usize
+pub fn keyword_length(statement: Carried, table: &[u8; 528]) -> usize
     requires { ⌜ now table ≡ keywordTable ⌝ }
     ensures { λ r. ⌜ r ≡ length (keywordOf statement) ⌝ }
 {
@@ -400,7 +402,7 @@ pub fn keyword_length(statement: Statement, table: &[u8; 528]) -> usize
 }
 
 // A statement's keyword, written to `at` of `out`; the place after it.
-pub fn write_keyword(statement: Statement, table: &[u8; 528], out: &mut [u8], at: usize) -> usize
+pub fn write_keyword(statement: Carried, table: &[u8; 528], out: &mut [u8], at: usize) -> usize
     requires { ⌜ now table ≡ keywordTable ⌝ }
     requires { ⌜ at + length (keywordOf statement) ≤ length (now out) ⌝ }
     ensures { λ r. ⌜ (r ≡ at + length (keywordOf statement)) × (now (out .exit) ≡ sets (now (out .entry)) at (keywordOf statement)) ⌝ }

@@ -1,7 +1,8 @@
 // Words from standard input, each with what it is as a keyword and what it is as an argument. A stored keyword is written from the table.
 use keywords::Argument;
-use keywords::Statement;
 use libc::STDOUT_FILENO;
+use statements::Carried;
+use statements::Statement;
 use text::Met;
 ghost use Prim.Native.Nat.{_≤_, _<_};
 ghost use lib.ListN.{length};
@@ -10,7 +11,7 @@ fn put(bytes: &[u8]) {
     io::write_all(STDOUT_FILENO, bytes);
 }
 
-fn put_keyword(statement: Statement) {
+fn put_keyword(statement: Carried) {
     let table = keywords::keyword_table();
     let mut out = [0u8; 10];
     let n = keywords::write_keyword(statement, &table, &mut out, 0);
@@ -18,15 +19,21 @@ fn put_keyword(statement: Statement) {
     put(&out[..n]);
 }
 
+fn put_carried(statement: Carried) {
+    match statement {
+        Carried::PassedOver => put(b" passed over"),
+        _ => put_keyword(statement),
+    }
+}
+
 fn put_statement(text: &[u8], at: usize) {
     let table = keywords::keyword_table();
     let keyword = keywords::keyword_at(text, at, &table);
     let statement = keyword.statement;
     match statement {
-        Statement::PassedOver => put(b" passed over"),
+        Statement::Carried(carried) => put_carried(carried),
         Statement::Refused => put(b" refused"),
         Statement::Unknown => put(b" unknown"),
-        _ => put_keyword(statement),
     }
 }
 

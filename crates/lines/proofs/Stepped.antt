@@ -16,9 +16,7 @@ use Rattle.model.specs.Room.{Rooms}
 use Rattle.state.specs.declared.State.{State}
 use Rattle.state.specs.Bounds.{Bounded}
 use Rattle.state.specs.Changed.{rowsOf, tableOf, withRow}
-use Rattle.vertices.specs.Vertex.{kindOf, width, TakenVertex, NoVertex, vertexIs}
-use Rattle.vertices.specs.declared.Kind.{Kind}
-use Rattle.vertices.specs.declared.Kind.the-variants.{Geometric, Texture, Normal, Parametric}
+use Rattle.vertices.specs.Vertex.{width, TakenVertex, NoVertex, vertexIs}
 use Rattle.vertices.specs.declared.Vertex.{Vertex}
 use Rattle.vertices.specs.declared.Vertex.the-variants as vertex
 use Rattle.blame.specs.Blame.{GivenIn}
@@ -110,15 +108,15 @@ lent k s at c v vt vn vp v′ vt′ vn′ vp′ r stored h t =
     subst (λ (u : Tables). stepIs s at (a-vertex k) c (withVertices v vt vn vp t) u r) (sym (stored t)) (h (withVertices v vt vn vp t) (among-is k v vt vn vp t))
 
 -- what `take_vertex` answers, lent the table of the kind
-module _ (s : List ℕ) (at n : ℕ) (r : Vertex) (k : Kind) (v vt vn vp l : List ℤ) where
-  pub geometric-into : k ≡ Geometric → vertexIs (kindOf k) s at n v l r → vertexInto (kindOf k) s at n v vt vn vp l vt vn vp r
-  geometric-into e = subst (λ (k : Kind). vertexIs (kindOf k) s at n v l r → vertexInto (kindOf k) s at n v vt vn vp l vt vn vp r) (sym e) (λ h. (h, λ t. refl))
+module _ (s : List ℕ) (at n : ℕ) (r : Vertex) (k : VertexKind) (v vt vn vp l : List ℤ) where
+  pub geometric-into : k ≡ geometric → vertexIs k s at n v l r → vertexInto k s at n v vt vn vp l vt vn vp r
+  geometric-into e = subst (λ (k : VertexKind). vertexIs k s at n v l r → vertexInto k s at n v vt vn vp l vt vn vp r) (sym e) (λ h. (h, λ t. refl))
 
-  pub texture-into : k ≡ Texture → vertexIs (kindOf k) s at n vt l r → vertexInto (kindOf k) s at n v vt vn vp v l vn vp r
-  texture-into e = subst (λ (k : Kind). vertexIs (kindOf k) s at n vt l r → vertexInto (kindOf k) s at n v vt vn vp v l vn vp r) (sym e) (λ h. (h, λ t. refl))
+  pub texture-into : k ≡ texture → vertexIs k s at n vt l r → vertexInto k s at n v vt vn vp v l vn vp r
+  texture-into e = subst (λ (k : VertexKind). vertexIs k s at n vt l r → vertexInto k s at n v vt vn vp v l vn vp r) (sym e) (λ h. (h, λ t. refl))
 
-  pub normal-into : k ≡ Normal → vertexIs (kindOf k) s at n vn l r → vertexInto (kindOf k) s at n v vt vn vp v vt l vp r
-  normal-into e = subst (λ (k : Kind). vertexIs (kindOf k) s at n vn l r → vertexInto (kindOf k) s at n v vt vn vp v vt l vp r) (sym e) (λ h. (h, λ t. refl))
+  pub normal-into : k ≡ normal → vertexIs k s at n vn l r → vertexInto k s at n v vt vn vp v vt l vp r
+  normal-into e = subst (λ (k : VertexKind). vertexIs k s at n vn l r → vertexInto k s at n v vt vn vp v vt l vp r) (sym e) (λ h. (h, λ t. refl))
 
-  pub parametric-into : k ≡ Parametric → vertexIs (kindOf k) s at n vp l r → vertexInto (kindOf k) s at n v vt vn vp v vt vn l r
-  parametric-into e = subst (λ (k : Kind). vertexIs (kindOf k) s at n vp l r → vertexInto (kindOf k) s at n v vt vn vp v vt vn l r) (sym e) (λ h. (h, λ t. refl))
+  pub parametric-into : k ≡ parametric → vertexIs k s at n vp l r → vertexInto k s at n v vt vn vp v vt vn l r
+  parametric-into e = subst (λ (k : VertexKind). vertexIs k s at n vp l r → vertexInto k s at n v vt vn vp v vt vn l r) (sym e) (λ h. (h, λ t. refl))

@@ -1,13 +1,12 @@
 // A line whose keyword is known, taken from just after it on: what is in force after it, and its records in the lent tables. Here are the lines of v, vt, vn and
 // vp.
 use state::State;
+use statements::VertexKind;
 use tables::Used;
-use vertices::Kind;
 use vertices::Vertex;
 ghost use mathlib.Core.Path.{_≡_};
 ghost use Prim.Native.Nat.{_+_, _≤_, _<_};
 ghost use lib.ListN.{length};
-ghost use Rattle.vertices.specs.Vertex.{kindOf};
 ghost use Rattle.lines.specs.Stepping.{countIn, counted, withUsed, vertexInto, vertexStep};
 
 // What a line whose keyword is known comes to: the state after it, a refusal at its keyword, or a fault still to be found.
@@ -17,32 +16,32 @@ pub enum Step {
     GaveUp,
 }
 
-fn count_of(kind: Kind, used: Used) -> u32
-    ensures { λ r. ⌜ r ≡ countIn (kindOf kind) used ⌝ }
+fn count_of(kind: VertexKind, used: Used) -> u32
+    ensures { λ r. ⌜ r ≡ countIn kind used ⌝ }
 {
     match kind {
-        Kind::Geometric => used.v,
-        Kind::Texture => used.vt,
-        Kind::Normal => used.vn,
-        Kind::Parametric => used.vp,
+        VertexKind::Geometric => used.v,
+        VertexKind::Texture => used.vt,
+        VertexKind::Normal => used.vn,
+        VertexKind::Parametric => used.vp,
     }
 }
 
-fn counted(kind: Kind, count: u32, used: Used) -> Used
-    ensures { λ r. ⌜ r ≡ counted (kindOf kind) count used ⌝ }
+fn counted(kind: VertexKind, count: u32, used: Used) -> Used
+    ensures { λ r. ⌜ r ≡ counted kind count used ⌝ }
 {
     let mut after = used;
     match kind {
-        Kind::Geometric => {
+        VertexKind::Geometric => {
             after.v = count;
         }
-        Kind::Texture => {
+        VertexKind::Texture => {
             after.vt = count;
         }
-        Kind::Normal => {
+        VertexKind::Normal => {
             after.vn = count;
         }
-        Kind::Parametric => {
+        VertexKind::Parametric => {
             after.vp = count;
         }
     }
@@ -59,7 +58,7 @@ pub fn with_used(used: Used, state: State) -> State
 
 // The vertex of a line into the table of its kind, of which `used` records are used.
 fn vertex_into(
-    kind: Kind,
+    kind: VertexKind,
     text: &[u8],
     at: usize,
     used: u32,
@@ -69,19 +68,19 @@ fn vertex_into(
     vp: &mut [i32],
 ) -> Vertex
     requires { ⌜ at ≤ length (now text) ⌝ }
-    ensures { λ r. ⌜ vertexInto (kindOf kind) (now (text .entry)) at used (now (v .entry)) (now (vt .entry)) (now (vn .entry)) (now (vp .entry)) (now (v .exit)) (now (vt .exit)) (now (vn .exit)) (now (vp .exit)) r ⌝ }
+    ensures { λ r. ⌜ vertexInto kind (now (text .entry)) at used (now (v .entry)) (now (vt .entry)) (now (vn .entry)) (now (vp .entry)) (now (v .exit)) (now (vt .exit)) (now (vn .exit)) (now (vp .exit)) r ⌝ }
 {
     match kind {
-        Kind::Geometric => vertices::take_vertex(kind, text, at, used, v),
-        Kind::Texture => vertices::take_vertex(kind, text, at, used, vt),
-        Kind::Normal => vertices::take_vertex(kind, text, at, used, vn),
-        Kind::Parametric => vertices::take_vertex(kind, text, at, used, vp),
+        VertexKind::Geometric => vertices::take_vertex(kind, text, at, used, v),
+        VertexKind::Texture => vertices::take_vertex(kind, text, at, used, vt),
+        VertexKind::Normal => vertices::take_vertex(kind, text, at, used, vn),
+        VertexKind::Parametric => vertices::take_vertex(kind, text, at, used, vp),
     }
 }
 
 // A line of v, vt, vn or vp, from just after its keyword on. Most lines are such lines: of the state, which is large, only a count goes along with the text.
 pub fn vertex_line(
-    kind: Kind,
+    kind: VertexKind,
     text: &[u8],
     at: usize,
     state: State,
@@ -91,7 +90,7 @@ pub fn vertex_line(
     vp: &mut [i32],
 ) -> Step
     requires { ⌜ at ≤ length (now text) ⌝ }
-    ensures { λ r. ⌜ vertexStep (kindOf kind) (now (text .entry)) at state (now (v .entry)) (now (vt .entry)) (now (vn .entry)) (now (vp .entry)) (now (v .exit)) (now (vt .exit)) (now (vn .exit)) (now (vp .exit)) r ⌝ }
+    ensures { λ r. ⌜ vertexStep kind (now (text .entry)) at state (now (v .entry)) (now (vt .entry)) (now (vn .entry)) (now (vp .entry)) (now (v .exit)) (now (vt .exit)) (now (vn .exit)) (now (vp .exit)) r ⌝ }
 {
     let open = state.open;
     if open.kind != 0 {

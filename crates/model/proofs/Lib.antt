@@ -2,6 +2,7 @@ mod Examples
 pub mod Parsed
 pub mod Values
 pub mod Rows
+pub mod Pieces
 pub mod Stands
 pub mod Placed
 pub mod Laid

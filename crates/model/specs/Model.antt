@@ -8,13 +8,17 @@ use lib.IntN.{ℤ, pos}
 use Rattle.text.specs.Words.{Word}
 use Rattle.forms.specs.Corner.{Corner, Counts}
 use Rattle.tables.specs.Bodies.{Basis}
+-- v, vt, vn, vp; p, l, f; curv, curv2, surf
+pub use Rattle.statements.specs.declared.VertexKind.{VertexKind}
+pub use Rattle.statements.specs.declared.VertexKind.the-variants.{Geometric as geometric, Texture as texture, Normal as normal, Parametric as parametric}
+pub use Rattle.statements.specs.declared.Shape.{Shape}
+pub use Rattle.statements.specs.declared.Shape.the-variants.{Point as point, Line as line, Face as face}
+pub use Rattle.statements.specs.declared.Free.{Free}
+pub use Rattle.statements.specs.declared.Free.the-variants.{Curve as curve, Curve2 as curve2, Surface as surface}
 
 -- ---- records
 
--- v, vt, vn, vp: each record is the list of the numbers that its table holds
-pub data VertexKind : Type 0 where
-  geometric texture normal parametric : VertexKind
-
+-- each record is the list of the numbers that its table holds
 pub record Vertices : Type 0 where
   pub v : List (List ℤ)
   pub vt : List (List ℤ)
@@ -26,13 +30,6 @@ pub record Names : Type 0 where
   pub group : List Word
   pub smoothing : ℕ
   pub material : Option Word
-
--- p, l, f; and curv, curv2, surf
-pub data Shape : Type 0 where
-  point line face : Shape
-
-pub data Free : Type 0 where
-  curve curve2 surface : Free
 
 -- u, v
 pub data Direction : Type 0 where

@@ -8,115 +8,41 @@ use lib.Dec.{leb, ltb, eqb}
 use lib.IntN.{ℤ, pos, natAbs}
 use lib.Signed.{ltZ}
 use Rattle.text.specs.Words.{Word}
-use Rattle.forms.specs.Corner.{Corner, Parts, alike}
+use Rattle.forms.specs.Corner.{Corner, alike}
 use Rattle.tables.specs.Bodies.{Basis, bezier, bspline, cardinal, taylor, low, high, inOrder, curveCount, surfaceCount}
 use Rattle.model.specs.Model.{VertexKind, geometric, texture, normal, parametric, Vertices, Shape, point, line, face, Free, curve, curve2, surface, Direction, along-u, along-v, Part, Loop, Body, Element, Model, Form, Open, State, curves, countsOf}
 use Rattle.model.specs.Statements.{Statement, vertex, element, group, smoothing, material, type, degree, body, parameters, loop, end, passed}
+use Rattle.statements.specs.Rules as rules
+use Rattle.statements.specs.declared.rules.Rules.{Rules}
+use Rattle.statements.specs.declared.rules.Held.{Held}
+use Rattle.statements.specs.declared.rules.Held.the-variants as held
+pub use Rattle.statements.specs.Rules.{isSurface, fewest, rangeWords, fewestControls, parts, controlForm, rulesOf}
+-- the statements by the keywords that open them
+pub use Rattle.statements.specs.declared.Carried.{Carried as Keyword}
+pub use Rattle.statements.specs.declared.Carried.the-variants.{Vertex as a-vertex, Element as an-element, Body as a-body, Parameters as parm, Trim as trim, Hole as hole, End as ends, BodyType as cstype, Degree as deg, Group as g, Smoothing as s, Material as usemtl, PassedOver as over}
 pub use Rattle.model.specs.Words.{Parsed, fine, fault, then, must, unless, isV, directionOf, saysV, WordForm, a-number, a-corner, a-control, a-curve, a-direction, a-type, a-rational, a-degree, a-smoothing, a-name, anything, Value, number, corner, whole, direction, basis, name, nothing, onSaid, typeSaid, rationalSaid, directionSaid, Seen, saidOf, placed, valuesOf, numbersOf, cornersOf, wholesOf, namesOf, basisOf, directionIn}
 
--- ---- the statements that a keyword opens
-pub data Keyword : Type 0 where
-  a-vertex : VertexKind → Keyword
-  an-element : Shape → Keyword
-  a-body : Free → Keyword
-  parm trim hole ends cstype deg g s usemtl over : Keyword
+-- ---- 10, 5 and the form of each word, by the statement's row of rules
 
--- ---- 10, "Between curv, curv2 or surf and end, only parm, trim, hole, blanks and comments stand. trim, hole and parm v belong to surfaces. Outside a body all four are 10"
-abbrev pub isSurface : Free → Bool
-isSurface curve = false
-isSurface curve2 = false
-isSurface surface = true
+-- the kind of the open body's element
+abbrev pub openFree : Option Open → Option Free
+openFree none = none
+openFree (some o) = some (o .body .free)
 
 abbrev pub inBody : Option Open → (Free → Bool) → Bool
-inBody none f = false
-inBody (some o) f = f (o .body .free)
+inBody o f = rules.inBody (openFree o) f
 
 abbrev pub outside : Option Open → Bool
-outside none = true
-outside (some o) = false
-
--- ---- 5, "Words after the keyword"
-abbrev pub within : ℕ → ℕ → ℕ → Bool
-within least most n = leb least n && leb n most
-
--- "v 3 or 4; vt, vp 1 to 3; vn 3"
-abbrev pub countedVertex : VertexKind → ℕ → Bool
-countedVertex geometric n = within 3 4 n
-countedVertex texture n = within 1 3 n
-countedVertex normal n = eqb n 3
-countedVertex parametric n = within 1 3 n
-
--- "p 1 or more; l 2 or more; f 3 or more"
-abbrev pub fewest : Shape → ℕ
-fewest point = 1
-fewest line = 2
-fewest face = 3
-
--- "curv 4 or more (range, controls); curv2 2 or more; surf 5 or more": a range is two numbers, a surface's four
-abbrev pub rangeWords : Free → ℕ
-rangeWords curve = 2
-rangeWords curve2 = 0
-rangeWords surface = 4
-
-abbrev pub fewestControls : Free → ℕ
-fewestControls curve = 2
-fewestControls curve2 = 2
-fewestControls surface = 1
-
--- ---- 4 of a type, 6, 7, 8: the form of each word
-
--- "p and curv are v; l is v or v/vt; f and surf are v, v/vt, v//vn or v/vt/vn"
-abbrev pub parts : Shape → Parts
-parts point = record { vt = false; vn = false }
-parts line = record { vt = true; vn = false }
-parts face = record { vt = true; vn = true }
-
--- a curv2's control is a vp number
-abbrev pub controlForm : Free → WordForm
-controlForm curve = a-corner (record { vt = false; vn = false })
-controlForm curve2 = a-control
-controlForm surface = a-corner (record { vt = true; vn = true })
-
--- ---- a row of rules for each statement: where it may stand, by the open body and its own words; how many words follow the keyword; the form of word i,
--- from 0, of n words
-pub record Rules : Type 0 where
-  pub stands : Option Open → List Word → Bool
-  pub words : ℕ → Bool
-  pub form : ℕ → ℕ → WordForm
-
-abbrev row : (Option Open → List Word → Bool) → (ℕ → Bool) → (ℕ → ℕ → WordForm) → Rules
-row a b c = record { stands = a; words = b; form = c }
-
-abbrev free : (ℕ → Bool) → WordForm → Rules
-free b f = row (λ o ws. outside o) b (λ n i. f)
-
-abbrev loops : Rules
-loops = row (λ o ws. inBody o isSurface) (λ n. ltb 0 n && eqb (n % 3) 0) (λ n i. cond (eqb (i % 3) 2) a-curve a-number)
-
--- "parm u or v, then 2 or more; trim, hole a positive multiple of three (two numbers, a curv2 number); end 0; cstype 1 or 2; deg 1 or 2; g any; s, usemtl 1"
-abbrev pub rulesOf : Keyword → Rules
-rulesOf (a-vertex k) = free (countedVertex k) a-number
-rulesOf (an-element k) = free (λ n. leb (fewest k) n) (a-corner (parts k))
-rulesOf (a-body k) = row (λ o ws. outside o) (λ n. leb (rangeWords k + fewestControls k) n) (λ n i. cond (ltb i (rangeWords k)) a-number (controlForm k))
-rulesOf parm = row (λ o ws. inBody o (λ k. isSurface k || not (saysV ws))) (λ n. leb 3 n) (λ n i. cond (eqb i 0) a-direction a-number)
-rulesOf trim = loops
-rulesOf hole = loops
-rulesOf ends = row (λ o ws. inBody o (λ k. true)) (λ n. eqb n 0) (λ n i. anything)
-rulesOf cstype = row (λ o ws. outside o) (within 1 2) (λ n i. cond (eqb (i + 1) n) a-type a-rational)
-rulesOf deg = free (within 1 2) a-degree
-rulesOf g = free (λ n. true) a-name
-rulesOf s = free (λ n. eqb n 1) a-smoothing
-rulesOf usemtl = free (λ n. eqb n 1) a-name
-rulesOf over = free (λ n. true) anything
+outside o = rules.outside (openFree o)
 
 abbrev pub allowed : Keyword → Option Open → List Word → Bool
-allowed k = rulesOf k .stands
+allowed k o ws = rules.allowedBy (rulesOf k .standing) (openFree o) (saysV ws)
 
 abbrev pub counted : Keyword → ℕ → Bool
-counted k = rulesOf k .words
+counted k n = rules.countedBy (rulesOf k .count) n
 
 abbrev pub formOf : Keyword → ℕ → ℕ → WordForm
-formOf k = rulesOf k .form
+formOf k n i = rules.formBy (rulesOf k .forms) n i
 
 -- ---- 9, "corner pattern differs from the first": of the words ws with the corners cs, the first whose pattern is not c's
 abbrev pub differing : Corner → List Word → List Corner → Option ℕ
@@ -232,39 +158,46 @@ abbrev pub materialOf : List Word → Statement
 materialOf [] = passed
 materialOf (w ∷ ws) = material w
 
--- ---- 9, 11, 12 and 13 of a line whose words have their forms, and its statement
+-- ---- 9, 11, 12 and 13 of a line whose words have their forms, by its row; then the statement r
 
 -- at the line of a body's element; its corners follow the range
-abbrev pub opened : Free → State → ℕ → List Word → List Corner → List ℤ → Parsed Statement
-opened k x key ws cs z =
+abbrev pub opens : Free → State → ℕ → List Word → List Corner → Parsed Statement → Parsed Statement
+opens k x key ws cs r =
     unless (unlike ws cs) 9
     (must (inForce k (x .form) (x .form .basis)) 11 key
-    (unless (narrowIn k (x .model .vertices) ws cs) 12
-    (fine (body (bodyOf k (x .form) z) cs))))
+    (unless (narrowIn k (x .model .vertices) ws cs) 12 r))
 
 -- at `end`
-abbrev pub finished : Option Open → ℕ → Parsed Statement
-finished none key = fault 10 key
-finished (some o) key =
+abbrev pub closes : Option Open → ℕ → Parsed Statement → Parsed Statement
+closes none key r = fault 10 key
+closes (some o) key r =
     must (complete (o .body .free) (o .body)) 11 key
     (must (countsAgree (o .body .free) (o .body) (length (o .controls))) 12 key
-    (must (inRange (o .body .free) (o .body)) 13 key
-    (fine end)))
+    (must (inRange (o .body .free) (o .body)) 13 key r))
+
+abbrev pub heldBy : Held → State → ℕ → List Word → List Value → Parsed Statement → Parsed Statement
+heldBy held.Nothing x key ws xs r = r
+heldBy (held.Corners k) x key ws xs r = unless (unlike ws (cornersOf xs)) 9 r
+heldBy (held.Body k) x key ws xs r = opens k x key (drop (rangeWords k) ws) (cornersOf xs) r
+heldBy held.End x key ws xs r = closes (x .open-body) key r
+
+abbrev pub saysOf : Keyword → Form → List Value → Statement
+saysOf (a-vertex k) f xs = vertex k (recordOf k (numbersOf xs))
+saysOf (an-element k) f xs = element k (cornersOf xs)
+saysOf (a-body k) f xs = body (bodyOf k f (numbersOf xs)) (cornersOf xs)
+saysOf parm f xs = parameters (directionIn xs) (numbersOf xs)
+saysOf trim f xs = loop (record { hole = false; parts = partsOf (numbersOf xs) (wholesOf xs) })
+saysOf hole f xs = loop (record { hole = true; parts = partsOf (numbersOf xs) (wholesOf xs) })
+saysOf ends f xs = end
+saysOf cstype f xs = type (eqb (length xs) 2) (basisOf xs)
+saysOf deg f xs = degreesOf (wholesOf xs)
+saysOf g f xs = group (namesOf xs)
+saysOf s f xs = smoothing (getD (wholesOf xs) 0 0)
+saysOf usemtl f xs = materialOf (namesOf xs)
+saysOf over f xs = passed
 
 abbrev pub checked : Keyword → State → ℕ → List Word → List Value → Parsed Statement
-checked (a-vertex k) x key ws xs = fine (vertex k (recordOf k (numbersOf xs)))
-checked (an-element k) x key ws xs = unless (unlike ws (cornersOf xs)) 9 (fine (element k (cornersOf xs)))
-checked (a-body k) x key ws xs = opened k x key (drop (rangeWords k) ws) (cornersOf xs) (numbersOf xs)
-checked parm x key ws xs = fine (parameters (directionIn xs) (numbersOf xs))
-checked trim x key ws xs = fine (loop (record { hole = false; parts = partsOf (numbersOf xs) (wholesOf xs) }))
-checked hole x key ws xs = fine (loop (record { hole = true; parts = partsOf (numbersOf xs) (wholesOf xs) }))
-checked ends x key ws xs = finished (x .open-body) key
-checked cstype x key ws xs = fine (type (eqb (length xs) 2) (basisOf xs))
-checked deg x key ws xs = fine (degreesOf (wholesOf xs))
-checked g x key ws xs = fine (group (namesOf xs))
-checked s x key ws xs = fine (smoothing (getD (wholesOf xs) 0 0))
-checked usemtl x key ws xs = fine (materialOf (namesOf xs))
-checked over x key ws xs = fine passed
+checked k x key ws xs = heldBy (rulesOf k .held) x key ws xs (fine (saysOf k (x .form) xs))
 
 -- ---- a line whose keyword stands at `key`: the order of 01's table, 10, 5, the words, 9, 11, 12, 13
 abbrev pub seenIn : State → Seen

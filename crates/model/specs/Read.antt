@@ -8,35 +8,16 @@ use lib.Dec.{leb}
 use Rattle.text.specs.Lines.{Line as JoinedLine, linesOf}
 use Rattle.text.specs.Words.{Word, wordsOf, badOf}
 use Rattle.keywords.specs.Keywords.{statementOf}
-use Rattle.keywords.specs.declared.Statement.{Statement}
-use Rattle.keywords.specs.declared.Statement.the-variants.{Vertex, TextureVertex, VertexNormal, ParameterVertex, BodyType, Degree, Point, Line, Face, Curve, Curve2, Surface, Parameters, Trim, Hole, End, Group, Smoothing, Material, PassedOver, Refused, Unknown}
-use Rattle.model.specs.Model.{geometric, texture, normal, parametric, point, line, face, curve, curve2, surface, Model, Open, State, start}
+use Rattle.statements.specs.declared.Statement.{Statement}
+use Rattle.statements.specs.declared.Statement.the-variants.{Carried, Refused, Unknown}
+use Rattle.model.specs.Model.{Model, Open, State, start}
 use Rattle.model.specs.Statements.{apply}
-use Rattle.model.specs.Parse.{Parsed, fine, fault, then, must, unless, Keyword, a-vertex, an-element, a-body, parm, trim, hole, ends, cstype, deg, g, s, usemtl, over, parse}
+use Rattle.model.specs.Parse.{Parsed, fine, fault, then, must, unless, Keyword, parse}
 use Rattle.model.specs.Room.{Rooms, fits}
 
 -- 3 and 4, then what a keyword opens
 abbrev pub keywordOf : Statement → ℕ → Parsed Keyword
-keywordOf Vertex key = fine (a-vertex geometric)
-keywordOf TextureVertex key = fine (a-vertex texture)
-keywordOf VertexNormal key = fine (a-vertex normal)
-keywordOf ParameterVertex key = fine (a-vertex parametric)
-keywordOf BodyType key = fine cstype
-keywordOf Degree key = fine deg
-keywordOf Point key = fine (an-element point)
-keywordOf Line key = fine (an-element line)
-keywordOf Face key = fine (an-element face)
-keywordOf Curve key = fine (a-body curve)
-keywordOf Curve2 key = fine (a-body curve2)
-keywordOf Surface key = fine (a-body surface)
-keywordOf Parameters key = fine parm
-keywordOf Trim key = fine trim
-keywordOf Hole key = fine hole
-keywordOf End key = fine ends
-keywordOf Group key = fine g
-keywordOf Smoothing key = fine s
-keywordOf Material key = fine usemtl
-keywordOf PassedOver key = fine over
+keywordOf (Carried k) key = fine k
 keywordOf Refused key = fault 4 key
 keywordOf Unknown key = fault 3 key
 

@@ -8,13 +8,15 @@ use Rattle.text.specs.Words.{Word}
 use Rattle.digits.specs.Said.{Said, says, wrong}
 use Rattle.decimals.specs.Number.{numberOf}
 use Rattle.forms.specs.Reference.{referenceOf}
-use Rattle.forms.specs.Corner.{Corner, Counts, Parts, cornerOf}
+use Rattle.forms.specs.Corner.{Corner, Counts, cornerOf}
 use Rattle.digits.specs.Degree.{degreeOf, smoothingOf, nameOf}
 use Rattle.keywords.specs.declared.Argument.{Argument}
 use Rattle.keywords.specs.declared.Argument.the-variants.{Rational, BasisMatrix, Bezier, Bspline, Cardinal, Taylor, DirectionU, DirectionV, Off, Other}
 use Rattle.keywords.specs.Arguments.{argumentOf}
 use Rattle.tables.specs.Bodies.{Basis, bezier, bspline, cardinal, taylor}
 use Rattle.model.specs.Model.{Direction, along-u, along-v}
+pub use Rattle.statements.specs.declared.rules.WordForm.{WordForm}
+pub use Rattle.statements.specs.declared.rules.WordForm.the-variants.{Number as a-number, Corner as a-corner, Control as a-control, Curve as a-curve, Direction as a-direction, «Type» as a-type, Rational as a-rational, Degree as a-degree, Smoothing as a-smoothing, Name as a-name, Anything as anything}
 
 -- ---- a refusal: its number and its place
 pub data Parsed (A : Type 0) : Type 0 where
@@ -59,19 +61,6 @@ saysV [] = false
 saysV (w ∷ ws) = isV (directionOf (argumentOf (w .bytes)))
 
 -- ---- 4 of a type, 6, 7, 8: the form of each word
-pub data WordForm : Type 0 where
-  a-number : WordForm
-  a-corner : Parts → WordForm
-  a-control : WordForm
-  a-curve : WordForm
-  a-direction : WordForm
-  a-type : WordForm
-  a-rational : WordForm
-  a-degree : WordForm
-  a-smoothing : WordForm
-  a-name : WordForm
-  anything : WordForm
-
 -- what a word is found to be
 pub data Value : Type 0 where
   number : ℤ → Value

@@ -2,20 +2,19 @@
 use crate::element_lines::countable;
 use crate::element_lines::one_element;
 use elements::Element;
-use elements::body::Free;
 use lines::Step;
 use state::Open;
 use state::State;
+use statements::Free;
 ghost use mathlib.Core.Path.{_≡_};
 ghost use Prim.Native.Nat.{_≤_};
 ghost use lib.ListN.{length};
 ghost use Rattle.model.specs.Layout.{freeNumber};
-ghost use Rattle.elements.specs.Bodies.{freeOf};
 ghost use Rattle.outer_lines.specs.Counting.{oneBody};
 ghost use Rattle.lines.specs.Stepping.{bodyStep};
 
 fn kind_of(free: Free) -> u32
-    ensures { λ r. ⌜ r ≡ freeNumber (freeOf free) ⌝ }
+    ensures { λ r. ⌜ r ≡ freeNumber free ⌝ }
 {
     match free {
         Free::Curve => 4,
@@ -26,7 +25,7 @@ fn kind_of(free: Free) -> u32
 
 fn one_body(free: Free, count: u32, state: State) -> State
     requires { ⌜ (count ≤ 16777216) × (state .used .corners ≤ 50331648) × (state .used .elements ≤ 16777216) × (state .used .bodies ≤ 16777216) ⌝ }
-    ensures { λ r. ⌜ r ≡ oneBody (freeOf free) count state ⌝ }
+    ensures { λ r. ⌜ r ≡ oneBody free count state ⌝ }
 {
     let mut used = one_element(count, state.used);
     used.bodies += 1;
@@ -56,7 +55,7 @@ pub fn body_line(
     ranges: &mut [i32],
 ) -> Step
     requires { ⌜ (at ≤ length (now text)) × (length (now text) ≤ 16777216) ⌝ }
-    ensures { λ r. ⌜ bodyStep (freeOf free) (now (text .entry)) at state (now (vp .entry)) (now (corners .entry)) (now (corners .exit)) (now (elements .entry)) (now (elements .exit)) bodies (now (ranges .entry)) (now (ranges .exit)) r ⌝ }
+    ensures { λ r. ⌜ bodyStep free (now (text .entry)) at state (now (vp .entry)) (now (corners .entry)) (now (corners .exit)) (now (elements .entry)) (now (elements .exit)) bodies (now (ranges .entry)) (now (ranges .exit)) r ⌝ }
 {
     let open = state.open;
     if open.kind != 0 {

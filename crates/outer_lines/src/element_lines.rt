@@ -1,14 +1,13 @@
 // The lines of p, l and f, and what they share with those of curv, curv2 and surf.
 use elements::Element;
-use elements::Shape;
 use lines::Step;
 use lines::with_used;
 use state::State;
+use statements::Shape;
 use tables::Used;
 ghost use mathlib.Core.Path.{_≡_};
 ghost use Prim.Native.Nat.{_≤_};
 ghost use lib.ListN.{length};
-ghost use Rattle.elements.specs.Elements.{shapeOf};
 ghost use Rattle.outer_lines.specs.Counting.{countable, oneElement};
 ghost use Rattle.lines.specs.Stepping.{elementStep};
 
@@ -45,7 +44,7 @@ pub fn element_line(
     elements: &mut [u32],
 ) -> Step
     requires { ⌜ (at ≤ length (now text)) × (length (now text) ≤ 16777216) ⌝ }
-    ensures { λ r. ⌜ elementStep (shapeOf shape) (now (text .entry)) at state (now (corners .entry)) (now (corners .exit)) (now (elements .entry)) (now (elements .exit)) r ⌝ }
+    ensures { λ r. ⌜ elementStep shape (now (text .entry)) at state (now (corners .entry)) (now (corners .exit)) (now (elements .entry)) (now (elements .exit)) r ⌝ }
 {
     let open = state.open;
     if open.kind != 0 {

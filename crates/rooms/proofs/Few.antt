@@ -10,35 +10,40 @@ use lib.Dec.{leb}
 use Rattle.text.specs.Lines.{Line as JoinedLine, linesOf}
 use Rattle.text.specs.Words.{Word, wordsOf, badOf}
 use Rattle.keywords.specs.Keywords.{statementOf}
-use Rattle.keywords.specs.declared.Statement.{Statement}
-use Rattle.keywords.specs.declared.Statement.the-variants.{Vertex, TextureVertex, VertexNormal, ParameterVertex, BodyType, Degree, Point, Line, Face, Curve, Curve2, Surface, Parameters, Trim, Hole, End, Group, Smoothing, Material, PassedOver, Refused, Unknown}
+use Rattle.statements.specs.declared.VertexKind.the-variants.{Geometric, Texture, Normal, Parametric}
+use Rattle.statements.specs.declared.Free.the-variants.{Curve, Curve2, Surface}
+use Rattle.statements.specs.declared.Carried as carried
+use Rattle.statements.specs.declared.Carried.the-variants.{Vertex, Element, Body, Parameters, Trim, Hole, End, BodyType, Degree, Group, Smoothing, Material, PassedOver}
+use Rattle.statements.specs.declared.Statement.{Statement}
+use Rattle.statements.specs.declared.Statement.the-variants.{Carried, Refused, Unknown}
 use Rattle.model.specs.Room.{summed}
 use Rattle.rooms.specs.declared.Rooms.{Rooms}
-use Rattle.rooms.specs.Rooms.{noRoom, both, roomFor, roomOfWords, upTo, roomsOfLines, roomsOfText}
+use Rattle.rooms.specs.Rooms.{noRoom, both, carriedRoom, roomFor, roomOfWords, upTo, roomsOfLines, roomsOfText}
 use Rattle.rooms.specs.Claims.{total, wordCount, FewForItsWords}
 use Rattle.rooms.proofs.Sums.{total-both}
 
+few-carried : (k : carried.Carried) (n : ℕ) → total (carriedRoom k n) ≤ 22 * suc n
+few-carried (Vertex Geometric) n = omega arith
+few-carried (Vertex Texture) n = omega arith
+few-carried (Vertex Normal) n = omega arith
+few-carried (Vertex Parametric) n = omega arith
+few-carried (Element k) n = omega arith
+few-carried (Body Curve) n = omega arith
+few-carried (Body Curve2) n = omega arith
+few-carried (Body Surface) n = omega arith
+few-carried Parameters n = omega arith
+few-carried Trim n = omega arith
+few-carried Hole n = omega arith
+few-carried End n = omega arith
+few-carried BodyType n = omega arith
+few-carried Degree n = omega arith
+few-carried Group n = omega arith
+few-carried Smoothing n = omega arith
+few-carried Material n = omega arith
+few-carried PassedOver n = omega arith
+
 few-for : (k : Statement) (n : ℕ) → total (roomFor k n) ≤ 22 * suc n
-few-for Vertex n = omega arith
-few-for TextureVertex n = omega arith
-few-for VertexNormal n = omega arith
-few-for ParameterVertex n = omega arith
-few-for BodyType n = omega arith
-few-for Degree n = omega arith
-few-for Point n = omega arith
-few-for Line n = omega arith
-few-for Face n = omega arith
-few-for Curve n = omega arith
-few-for Curve2 n = omega arith
-few-for Surface n = omega arith
-few-for Parameters n = omega arith
-few-for Trim n = omega arith
-few-for Hole n = omega arith
-few-for End n = omega arith
-few-for Group n = omega arith
-few-for Smoothing n = omega arith
-few-for Material n = omega arith
-few-for PassedOver n = omega arith
+few-for (Carried k) n = few-carried k n
 few-for Refused n = omega arith
 few-for Unknown n = omega arith
 

@@ -15,7 +15,7 @@ use Rattle.text.proofs.LineByLine.{lines-start, lines-on, lines-end, line-words
 use Rattle.text.proofs.Scans.{scan-good, scan-fault}
 use Rattle.keywords.specs.Keywords.{keywordAt}
 use Rattle.keywords.specs.declared.Keyword.{Keyword}
-use Rattle.keywords.specs.declared.Statement.{Statement}
+use Rattle.statements.specs.declared.Statement.{Statement}
 use Rattle.rooms.specs.declared.Rooms.{Rooms}
 use Rattle.rooms.specs.declared.Line.{Line}
 use Rattle.rooms.specs.declared.Line.the-variants.{Counted, Stopped}

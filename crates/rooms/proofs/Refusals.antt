@@ -19,10 +19,11 @@ use Rattle.forms.specs.Corner.{Corner, Counts, Parts, split, patterned, cornerO
 use Rattle.keywords.specs.declared.Argument.{Argument}
 use Rattle.keywords.specs.declared.Argument.the-variants.{Rational, BasisMatrix, Bezier, Bspline, Cardinal, Taylor, DirectionU, DirectionV, Off, Other}
 use Rattle.keywords.specs.Arguments.{argumentOf, argumentBytes}
-use Rattle.keywords.specs.declared.Statement.{Statement}
-use Rattle.keywords.specs.declared.Statement.the-variants.{Vertex, TextureVertex, VertexNormal, ParameterVertex, BodyType, Degree, Point, Line, Face, Curve, Curve2, Surface, Parameters, Trim, Hole, End, Group, Smoothing, Material, PassedOver, Refused, Unknown}
+use Rattle.statements.specs.declared.Statement.{Statement}
+use Rattle.statements.specs.declared.Statement.the-variants.{Carried, Refused, Unknown}
 use Rattle.model.specs.Model.{Direction, Open, State, curve, curve2, surface}
-use Rattle.model.specs.Parse.{Parsed, fine, fault, then, must, unless, Keyword, a-vertex, an-element, a-body, parm, trim, hole, ends, cstype, deg, g, s, usemtl, over, allowed, counted, WordForm, a-number, a-corner, a-control, a-curve, a-direction, a-type, a-rational, a-degree, a-smoothing, a-name, anything, formOf, onSaid, typeSaid, rationalSaid, directionSaid, directionOf, Seen, saidOf, placed, valuesOf, Value, cornersOf, rangeWords, unlike, inForce, narrowIn, complete, countsAgree, inRange, finished, checked, seenIn, parse}
+use Rattle.model.specs.Parse.{Parsed, fine, fault, then, must, unless, Keyword, a-vertex, an-element, a-body, parm, trim, hole, ends, cstype, deg, g, s, usemtl, over, allowed, counted, WordForm, a-number, a-corner, a-control, a-curve, a-direction, a-type, a-rational, a-degree, a-smoothing, a-name, anything, formOf, onSaid, typeSaid, rationalSaid, directionSaid, directionOf, Seen, saidOf, placed, valuesOf, Value, cornersOf, rangeWords, unlike, inForce, narrowIn, complete, countsAgree, inRange, checked, seenIn, parse}
+use Rattle.model.proofs.Pieces.{finished}
 use Rattle.model.specs.Read.{keywordOf}
 
 -- refused with 14
@@ -190,25 +191,6 @@ parse-said k x key ws =
     (λ xs. checked-said k x key ws xs)))
 
 pub keyword-said : (k : Statement) (key : ℕ) → lacking (keywordOf k key) ≡ false
-keyword-said Vertex key = refl
-keyword-said TextureVertex key = refl
-keyword-said VertexNormal key = refl
-keyword-said ParameterVertex key = refl
-keyword-said BodyType key = refl
-keyword-said Degree key = refl
-keyword-said Point key = refl
-keyword-said Line key = refl
-keyword-said Face key = refl
-keyword-said Curve key = refl
-keyword-said Curve2 key = refl
-keyword-said Surface key = refl
-keyword-said Parameters key = refl
-keyword-said Trim key = refl
-keyword-said Hole key = refl
-keyword-said End key = refl
-keyword-said Group key = refl
-keyword-said Smoothing key = refl
-keyword-said Material key = refl
-keyword-said PassedOver key = refl
+keyword-said (Carried k) key = refl
 keyword-said Refused key = refl
 keyword-said Unknown key = refl

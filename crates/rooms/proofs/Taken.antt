@@ -9,16 +9,17 @@ use borrow.Author.Tests.{lt-ltb}
 use lib.ListN.{length, drop}
 use lib.Dec.{ltb}
 use Rattle.text.specs.Words.{Word}
-use Rattle.keywords.specs.declared.Statement as keywords
-use Rattle.keywords.specs.declared.Statement.the-variants.{Vertex, TextureVertex, VertexNormal, ParameterVertex, BodyType, Degree, Point, Line, Face, Curve, Curve2, Surface, Parameters, Trim, Hole, End, Group, Smoothing, Material, PassedOver, Refused, Unknown}
+use Rattle.statements.specs.declared.Statement as keywords
+use Rattle.statements.specs.declared.Statement.the-variants.{Carried, Refused, Unknown}
 use Rattle.model.specs.Model.{VertexKind, geometric, texture, normal, parametric, Shape, point, line, face, Free, curve, curve2, surface, Body, Open, State}
 use Rattle.model.specs.Statements.{Statement, vertex, element, body, parameters, loop, end}
-use Rattle.model.specs.Parse.{Parsed, fine, fault, then, must, unless, Keyword, a-vertex, an-element, a-body, parm, trim, hole, ends, cstype, deg, g, s, usemtl, over, allowed, counted, rangeWords, a-number, controlForm, formOf, valuesOf, Value, numbersOf, cornersOf, wholesOf, partsOf, unlike, inForce, narrowIn, complete, countsAgree, inRange, bodyOf, finished, materialOf, namesOf, checked, seenIn, parse}
+use Rattle.model.specs.Parse.{Parsed, fine, fault, then, must, unless, Keyword, a-vertex, an-element, a-body, parm, trim, hole, ends, cstype, deg, g, s, usemtl, over, allowed, counted, rangeWords, a-number, controlForm, formOf, valuesOf, Value, numbersOf, cornersOf, wholesOf, partsOf, unlike, inForce, narrowIn, complete, countsAgree, inRange, bodyOf, materialOf, namesOf, checked, seenIn, parse}
+use Rattle.model.proofs.Pieces.{finished}
 use Rattle.model.specs.Read.{keywordOf}
 use Rattle.model.proofs.Parsed.{fine-fault, fine-is, must-fine, unless-fine, then-fine}
 use Rattle.model.proofs.Values.{values-length, corners-few, parts-length}
 use Rattle.rooms.specs.declared.Rooms.{Rooms}
-use Rattle.rooms.specs.Rooms.{noRoom, elementRoom, bodyRoom, roomFor}
+use Rattle.rooms.specs.Rooms.{noRoom, elementRoom, bodyRoom, carriedRoom, roomFor}
 use Rattle.rooms.proofs.Values.{corners-after, numbers-after, thirds}
 use Rattle.rooms.proofs.Held.{ElementTakes, BodyTakes, takes}
 
@@ -103,26 +104,25 @@ module _ (x : State) (key : ℕ) (ws : List Word) where
   material-takes (n ∷ ns) t h = to noRoom h tt
 
   -- ---- all
+  carried-takes : (k : Keyword) (t : Statement) → parse k x key ws ≡ fine t → takes t (carriedRoom k (length ws))
+  carried-takes (a-vertex geometric) t h = to (carriedRoom (a-vertex geometric) (length ws)) (said (a-vertex geometric) t h .is) (omega arith)
+  carried-takes (a-vertex texture) t h = to (carriedRoom (a-vertex texture) (length ws)) (said (a-vertex texture) t h .is) (omega arith)
+  carried-takes (a-vertex normal) t h = to (carriedRoom (a-vertex normal) (length ws)) (said (a-vertex normal) t h .is) (omega arith)
+  carried-takes (a-vertex parametric) t h = to (carriedRoom (a-vertex parametric) (length ws)) (said (a-vertex parametric) t h .is) (omega arith)
+  carried-takes (an-element k) t h = plain-takes k t h
+  carried-takes (a-body k) t h = body-takes k t h
+  carried-takes parm t h = parm-takes t h
+  carried-takes trim t h = trim-takes t h
+  carried-takes hole t h = hole-takes t h
+  carried-takes ends t h = end-takes (x .open-body) t (said ends t h .is)
+  carried-takes cstype t h = to noRoom (said cstype t h .is) tt
+  carried-takes deg t h = to noRoom (said deg t h .is) tt
+  carried-takes g t h = to noRoom (said g t h .is) tt
+  carried-takes s t h = to noRoom (said s t h .is) tt
+  carried-takes usemtl t h = let d = said usemtl t h in material-takes (namesOf (d .values)) t (d .is)
+  carried-takes over t h = to noRoom (said over t h .is) tt
+
   pub line-takes : (k : keywords.Statement) (l : Keyword) (t : Statement) → keywordOf k key ≡ fine l → parse l x key ws ≡ fine t → takes t (roomFor k (length ws))
-  line-takes Vertex l t e h = to (roomFor Vertex (length ws)) (said (a-vertex geometric) t (rw (← fine-is e) at h) .is) (omega arith)
-  line-takes TextureVertex l t e h = to (roomFor TextureVertex (length ws)) (said (a-vertex texture) t (rw (← fine-is e) at h) .is) (omega arith)
-  line-takes VertexNormal l t e h = to (roomFor VertexNormal (length ws)) (said (a-vertex normal) t (rw (← fine-is e) at h) .is) (omega arith)
-  line-takes ParameterVertex l t e h = to (roomFor ParameterVertex (length ws)) (said (a-vertex parametric) t (rw (← fine-is e) at h) .is) (omega arith)
-  line-takes BodyType l t e h = to noRoom (said cstype t (rw (← fine-is e) at h) .is) tt
-  line-takes Degree l t e h = to noRoom (said deg t (rw (← fine-is e) at h) .is) tt
-  line-takes Point l t e h = plain-takes point t (rw (← fine-is e) at h)
-  line-takes Line l t e h = plain-takes line t (rw (← fine-is e) at h)
-  line-takes Face l t e h = plain-takes face t (rw (← fine-is e) at h)
-  line-takes Curve l t e h = body-takes curve t (rw (← fine-is e) at h)
-  line-takes Curve2 l t e h = subst (λ (n : ℕ). takes t (elementRoom 1 n)) (let z : length ws - 0 ≡ length ws = omega arith in z) (body-takes curve2 t (rw (← fine-is e) at h))
-  line-takes Surface l t e h = body-takes surface t (rw (← fine-is e) at h)
-  line-takes Parameters l t e h = parm-takes t (rw (← fine-is e) at h)
-  line-takes Trim l t e h = trim-takes t (rw (← fine-is e) at h)
-  line-takes Hole l t e h = hole-takes t (rw (← fine-is e) at h)
-  line-takes End l t e h = end-takes (x .open-body) t (said ends t (rw (← fine-is e) at h) .is)
-  line-takes Group l t e h = to noRoom (said g t (rw (← fine-is e) at h) .is) tt
-  line-takes Smoothing l t e h = to noRoom (said s t (rw (← fine-is e) at h) .is) tt
-  line-takes Material l t e h = let d = said usemtl t (rw (← fine-is e) at h) in material-takes (namesOf (d .values)) t (d .is)
-  line-takes PassedOver l t e h = to noRoom (said over t (rw (← fine-is e) at h) .is) tt
+  line-takes (Carried k) l t e h = carried-takes k t (rw (← fine-is e) at h)
   line-takes Refused l t e h = fine-fault e
   line-takes Unknown l t e h = fine-fault e

@@ -9,8 +9,13 @@ use lib.Dec.{leb}
 use Rattle.text.specs.Lines.{Line as JoinedLine, linesOf}
 use Rattle.text.specs.Words.{Word, wordsOf, badOf}
 use Rattle.keywords.specs.Keywords.{statementOf}
-use Rattle.keywords.specs.declared.Statement.{Statement}
-use Rattle.keywords.specs.declared.Statement.the-variants.{Vertex, TextureVertex, VertexNormal, ParameterVertex, BodyType, Degree, Point, Line, Face, Curve, Curve2, Surface, Parameters, Trim, Hole, End, Group, Smoothing, Material, PassedOver, Refused, Unknown}
+use Rattle.statements.specs.declared.VertexKind.{VertexKind}
+use Rattle.statements.specs.declared.VertexKind.the-variants.{Geometric, Texture, Normal, Parametric}
+use Rattle.statements.specs.declared.Carried as carried
+use Rattle.statements.specs.declared.Carried.the-variants.{Vertex, Element, Body, Parameters, Trim, Hole, End, BodyType, Degree, Group, Smoothing, Material, PassedOver}
+use Rattle.statements.specs.declared.Statement.{Statement}
+use Rattle.statements.specs.declared.Statement.the-variants.{Carried, Refused, Unknown}
+use Rattle.statements.specs.Rules.{rangeWords}
 use Rattle.tables.specs.Records.{vWidth, vtWidth, vnWidth, vpWidth, cornerWidth, elementWidth, bodyWidth, rangeWidth, loopWidth, spanWidth}
 use Rattle.rooms.specs.declared.Rooms.{Rooms}
 
@@ -75,27 +80,29 @@ bodyRoom parameters parts =
     }
 
 -- ---- a line: n words follow its keyword. Of a curv two, of a surf four are its range; of a parm one is its direction; a part of a loop has three
+abbrev pub kindRoom : VertexKind → Rooms
+kindRoom Geometric = vertexRoom vWidth 0 0 0
+kindRoom Texture = vertexRoom 0 vtWidth 0 0
+kindRoom Normal = vertexRoom 0 0 vnWidth 0
+kindRoom Parametric = vertexRoom 0 0 0 vpWidth
+
+abbrev pub carriedRoom : carried.Carried → ℕ → Rooms
+carriedRoom (Vertex k) n = kindRoom k
+carriedRoom (Element k) n = elementRoom 0 n
+carriedRoom (Body k) n = elementRoom 1 (n - rangeWords k)
+carriedRoom Parameters n = bodyRoom (n - 1) 0
+carriedRoom Trim n = bodyRoom 0 (n / 3)
+carriedRoom Hole n = bodyRoom 0 (n / 3)
+carriedRoom End n = noRoom
+carriedRoom BodyType n = noRoom
+carriedRoom Degree n = noRoom
+carriedRoom Group n = noRoom
+carriedRoom Smoothing n = noRoom
+carriedRoom Material n = noRoom
+carriedRoom PassedOver n = noRoom
+
 abbrev pub roomFor : Statement → ℕ → Rooms
-roomFor Vertex n = vertexRoom vWidth 0 0 0
-roomFor TextureVertex n = vertexRoom 0 vtWidth 0 0
-roomFor VertexNormal n = vertexRoom 0 0 vnWidth 0
-roomFor ParameterVertex n = vertexRoom 0 0 0 vpWidth
-roomFor BodyType n = noRoom
-roomFor Degree n = noRoom
-roomFor Point n = elementRoom 0 n
-roomFor Line n = elementRoom 0 n
-roomFor Face n = elementRoom 0 n
-roomFor Curve n = elementRoom 1 (n - 2)
-roomFor Curve2 n = elementRoom 1 n
-roomFor Surface n = elementRoom 1 (n - 4)
-roomFor Parameters n = bodyRoom (n - 1) 0
-roomFor Trim n = bodyRoom 0 (n / 3)
-roomFor Hole n = bodyRoom 0 (n / 3)
-roomFor End n = noRoom
-roomFor Group n = noRoom
-roomFor Smoothing n = noRoom
-roomFor Material n = noRoom
-roomFor PassedOver n = noRoom
+roomFor (Carried k) n = carriedRoom k n
 roomFor Refused n = noRoom
 roomFor Unknown n = noRoom
 

@@ -1,5 +1,8 @@
 // How many entries of each table a text can need: one pass over its bytes, before it is read.
-use keywords::Statement;
+use statements::Carried;
+use statements::Statement;
+use statements::VertexKind;
+use statements::rules::range_words;
 use text::Met;
 use text::Scan;
 ghost use mathlib.Core.Path.{_≡_};
@@ -7,7 +10,7 @@ ghost use Prim.Native.Nat.{_+_, _*_, _-_, _≤_, _<_};
 ghost use lib.ListN.{length};
 ghost use Rattle.text.specs.Rest.{restAt};
 ghost use Rattle.keywords.specs.Keywords.{keywordTable};
-ghost use Rattle.rooms.specs.Rooms.{noRoom, both, vertexRoom, elementRoom, bodyRoom, roomFor, roomsOfText};
+ghost use Rattle.rooms.specs.Rooms.{noRoom, both, vertexRoom, elementRoom, bodyRoom, kindRoom, carriedRoom, roomFor, roomsOfText};
 ghost use Rattle.rooms.specs.Line.{countedOf};
 ghost use Rattle.rooms.specs.Claims.{total};
 
@@ -131,32 +134,45 @@ fn less(n: usize, k: usize) -> usize
     n - k
 }
 
+fn kind_room(kind: VertexKind) -> Rooms
+    ensures { λ r. ⌜ r ≡ kindRoom kind ⌝ }
+{
+    match kind {
+        VertexKind::Geometric => vertex_room(4, 0, 0, 0),
+        VertexKind::Texture => vertex_room(0, 3, 0, 0),
+        VertexKind::Normal => vertex_room(0, 0, 3, 0),
+        VertexKind::Parametric => vertex_room(0, 0, 0, 4),
+    }
+}
+
+fn carried_room(statement: Carried, count: usize) -> Rooms
+    requires { ⌜ count ≤ 16777216 ⌝ }
+    ensures { λ r. ⌜ r ≡ carriedRoom statement count ⌝ }
+{
+    match statement {
+        Carried::Vertex(kind) => kind_room(kind),
+        Carried::Element(_) => element_room(0, count),
+        Carried::Body(free) => element_room(1, less(count, range_words(free))),
+        Carried::Parameters => body_room(less(count, 1), 0),
+        Carried::Trim => body_room(0, count / 3),
+        Carried::Hole => body_room(0, count / 3),
+        Carried::End => no_room(),
+        Carried::BodyType => no_room(),
+        Carried::Degree => no_room(),
+        Carried::Group => no_room(),
+        Carried::Smoothing => no_room(),
+        Carried::Material => no_room(),
+        Carried::PassedOver => no_room(),
+    }
+}
+
 // What a line of that statement can need, with so many words after its keyword.
 fn room_for(statement: Statement, count: usize) -> Rooms
     requires { ⌜ count ≤ 16777216 ⌝ }
     ensures { λ r. ⌜ r ≡ roomFor statement count ⌝ }
 {
     match statement {
-        Statement::Vertex => vertex_room(4, 0, 0, 0),
-        Statement::TextureVertex => vertex_room(0, 3, 0, 0),
-        Statement::VertexNormal => vertex_room(0, 0, 3, 0),
-        Statement::ParameterVertex => vertex_room(0, 0, 0, 4),
-        Statement::BodyType => no_room(),
-        Statement::Degree => no_room(),
-        Statement::Point => element_room(0, count),
-        Statement::Line => element_room(0, count),
-        Statement::Face => element_room(0, count),
-        Statement::Curve => element_room(1, less(count, 2)),
-        Statement::Curve2 => element_room(1, count),
-        Statement::Surface => element_room(1, less(count, 4)),
-        Statement::Parameters => body_room(less(count, 1), 0),
-        Statement::Trim => body_room(0, count / 3),
-        Statement::Hole => body_room(0, count / 3),
-        Statement::End => no_room(),
-        Statement::Group => no_room(),
-        Statement::Smoothing => no_room(),
-        Statement::Material => no_room(),
-        Statement::PassedOver => no_room(),
+        Statement::Carried(carried) => carried_room(carried, count),
         Statement::Refused => no_room(),
         Statement::Unknown => no_room(),
     }

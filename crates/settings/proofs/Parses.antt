@@ -21,7 +21,9 @@ use Rattle.keywords.specs.declared.Argument.the-variants.{Rational, BasisMatrix
 use Rattle.model.specs.Model as model
 use Rattle.model.specs.Statements as statements
 use Rattle.model.specs.Parse as parse
-use Rattle.model.specs.Parse.{Parsed, fine, fault, then, cstype, deg, g, s, usemtl, within, valuesOf, Value, Seen, a-name, placed, namesOf, parse, seenIn, outside}
+use Rattle.model.specs.Parse.{Parsed, fine, fault, then, cstype, deg, g, s, usemtl, valuesOf, Value, Seen, a-name, placed, namesOf, parse, seenIn, outside}
+use Rattle.statements.specs.declared.rules.Count.the-variants.{Within}
+use Rattle.statements.specs.Rules.{countedBy}
 use Rattle.state.specs.State.{formIn, namesIn}
 use Rattle.state.specs.declared.Form.{Form}
 use Rattle.state.specs.declared.Names.{Names}
@@ -33,7 +35,7 @@ and-false : (b : Bool) → (b && false) ≡ false
 and-false true = refl
 and-false false = refl
 
-two-most : (n : ℕ) → within 1 2 (suc (suc (suc n))) ≡ false
+two-most : (n : ℕ) → countedBy (Within 1 2) (suc (suc (suc n))) ≡ false
 two-most n = rw (lt-leb (suc (suc (suc n))) 2 (omega arith)) (and-false (leb 1 (suc (suc (suc n)))))
 
 one-only : (n : ℕ) → eqb (suc (suc n)) 1 ≡ false

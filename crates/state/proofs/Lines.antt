@@ -11,7 +11,8 @@ use Rattle.text.specs.Words.{Word}
 use Rattle.forms.specs.Corner.{Corner}
 use Rattle.model.specs.Model.{VertexKind, Shape, Free, curve, curve2, surface, Direction, Body, Form, Open, State}
 use Rattle.model.specs.Statements.{Statement, vertex, element, group, smoothing, material, type, degree, body, parameters, loop, end, passed}
-use Rattle.model.specs.Parse.{Parsed, fine, fault, then, must, unless, Keyword, a-vertex, an-element, a-body, parm, trim, hole, ends, cstype, deg, g, s, usemtl, over, isSurface, saysV, inBody, outside, allowed, counted, formOf, Value, numbersOf, cornersOf, wholesOf, namesOf, basisOf, directionIn, partsOf, seenIn, valuesOf, unlike, inForce, narrowIn, complete, countsAgree, inRange, bodyOf, degreesOf, materialOf, recordOf, rangeWords, opened, finished, checked, parse}
+use Rattle.model.specs.Parse.{Parsed, fine, fault, then, must, unless, Keyword, a-vertex, an-element, a-body, parm, trim, hole, ends, cstype, deg, g, s, usemtl, over, isSurface, saysV, inBody, outside, allowed, counted, formOf, Value, numbersOf, cornersOf, wholesOf, namesOf, basisOf, directionIn, partsOf, seenIn, valuesOf, unlike, inForce, narrowIn, complete, countsAgree, inRange, bodyOf, degreesOf, materialOf, recordOf, rangeWords, checked, parse}
+use Rattle.model.proofs.Pieces.{opened, finished}
 use Rattle.model.proofs.Parsed.{fine-fault, fine-is, must-fine, unless-fine, then-fine}
 use Rattle.model.proofs.Values.{values-length, numbers-few, corners-few, wholes-few, parts-length}
 use Rattle.state.proofs.Bounds.{few, stands}

@@ -1,4 +1,4 @@
--- The line at a place, by what stands first in it: its end, a byte that is not allowed, or a keyword, whose statement's family decides.
+-- The line at a place, by what stands first in it: its end, a byte that is not allowed, or a keyword, whose statement decides.
 use Prim.Native.Nat.{ℕ, _+_, _-_, _≤_, _<_}
 use mathlib.Core.Path.{_≡_, refl, sym, ap, _∙_, subst}
 use mathlib.Core.Logic.{_⊎_, inl, inr, ⊎-elim}
@@ -13,8 +13,13 @@ use Rattle.text.specs.Rest.{Rest, restAt, push, wordAt, endOf, WordMet, EndMet,
 use Rattle.tables.specs.Tables.{Tables}
 use Rattle.keywords.specs.Keywords.{statementOf, letterOf, keywordAt}
 use Rattle.keywords.specs.declared.Keyword as spelled
-use Rattle.keywords.specs.declared.Statement.{Statement}
-use Rattle.keywords.specs.declared.Statement.the-variants.{Vertex, TextureVertex, VertexNormal, ParameterVertex, BodyType, Degree, Point, Line, Face, Curve, Curve2, Surface, Parameters, Trim, Hole, End, Group, Smoothing, Material, PassedOver, Refused, Unknown}
+use Rattle.statements.specs.declared.VertexKind.the-variants.{Geometric, Texture, Normal, Parametric}
+use Rattle.statements.specs.declared.Shape.the-variants.{Point, Line, Face}
+use Rattle.statements.specs.declared.Free.the-variants.{Curve, Curve2, Surface}
+use Rattle.statements.specs.declared.Carried as carried
+use Rattle.statements.specs.declared.Carried.the-variants.{Vertex, Element, Body, Parameters, Trim, Hole, End, BodyType, Degree, Group, Smoothing, Material, PassedOver}
+use Rattle.statements.specs.declared.Statement.{Statement}
+use Rattle.statements.specs.declared.Statement.the-variants.{Carried, Refused, Unknown}
 use Rattle.model.specs.Model as model
 use Rattle.model.specs.Parse as parse
 use Rattle.model.specs.Parse.{fine, fault, unless, Keyword}
@@ -25,18 +30,17 @@ use Rattle.state.proofs.Bounds.{later}
 use Rattle.faults.specs.declared.Refusal.{Refusal}
 use Rattle.faults.specs.declared.Refusal.the-variants as refusal
 use Rattle.blame.specs.Blame.{BlameIs}
-use Rattle.taking.specs.declared.families.Family.{Family}
 use Rattle.taking.specs.declared.Line as lines
 use Rattle.taking.specs.declared.Line.the-variants.{Next, Stopped}
 use Rattle.lines.specs.declared.Step.{Step}
 use Rattle.lines.specs.declared.Step.the-variants.{Taken, Refuses, GaveUp}
 use Rattle.lines.specs.Holding.{Holds, NextLine, lineSays, WithinLimit}
 use Rattle.lines.specs.Stepping.{Began, stepIs}
-use Rattle.taking.specs.Taking.{lineIs, familyOf, familyIs, stoppedBy}
+use Rattle.taking.specs.Taking.{lineIs, statementIs, stoppedBy}
 use Rattle.lines.proofs.Given.{given-in}
 use Rattle.taking.proofs.Blamed.{stops, blamed, unknown-blamed}
 
--- ---- a statement by its family: the step of its keyword, or given up
+-- ---- a statement: the step of its keyword, or given up
 record Known (s : List ℕ) (at : ℕ) (c : State) (t u : Tables) (r : Step) (k : Statement) (key : ℕ) : Type 0 where
   pub keyword : Keyword
   pub is : keywordOf k key ≡ fine keyword
@@ -49,35 +53,39 @@ record Strange (t u : Tables) (r : Step) (k : Statement) (key : ℕ) : Type 0 wh
   pub gave-up : r ≡ GaveUp
   pub kept : u ≡ t
 
+-- its letter is no blank
+marked : (k : carried.Carried) → eqb (letterOf (Carried k)) 32 ≡ false
+marked (Vertex Geometric) = refl
+marked (Vertex Texture) = refl
+marked (Vertex Normal) = refl
+marked (Vertex Parametric) = refl
+marked (Element Point) = refl
+marked (Element Line) = refl
+marked (Element Face) = refl
+marked (Body Curve) = refl
+marked (Body Curve2) = refl
+marked (Body Surface) = refl
+marked Parameters = refl
+marked Trim = refl
+marked Hole = refl
+marked End = refl
+marked BodyType = refl
+marked Degree = refl
+marked Group = refl
+marked Smoothing = refl
+marked Material = refl
+marked PassedOver = refl
+
 module _ (s : List ℕ) (at : ℕ) (c : State) (t u : Tables) (r : Step) (key : ℕ) where
-  sorted : (k : Statement) → familyIs (familyOf k) s at c t u r → Known s at c t u r k key ⊎ Strange t u r k key
-  sorted Vertex h = inl (record { keyword = parse.a-vertex model.geometric; is = refl; ended = refl; step = h })
-  sorted TextureVertex h = inl (record { keyword = parse.a-vertex model.texture; is = refl; ended = refl; step = h })
-  sorted VertexNormal h = inl (record { keyword = parse.a-vertex model.normal; is = refl; ended = refl; step = h })
-  sorted ParameterVertex h = inl (record { keyword = parse.a-vertex model.parametric; is = refl; ended = refl; step = h })
-  sorted BodyType h = inl (record { keyword = parse.cstype; is = refl; ended = refl; step = h })
-  sorted Degree h = inl (record { keyword = parse.deg; is = refl; ended = refl; step = h })
-  sorted Point h = inl (record { keyword = parse.an-element model.point; is = refl; ended = refl; step = h })
-  sorted Line h = inl (record { keyword = parse.an-element model.line; is = refl; ended = refl; step = h })
-  sorted Face h = inl (record { keyword = parse.an-element model.face; is = refl; ended = refl; step = h })
-  sorted Curve h = inl (record { keyword = parse.a-body model.curve; is = refl; ended = refl; step = h })
-  sorted Curve2 h = inl (record { keyword = parse.a-body model.curve2; is = refl; ended = refl; step = h })
-  sorted Surface h = inl (record { keyword = parse.a-body model.surface; is = refl; ended = refl; step = h })
-  sorted Parameters h = inl (record { keyword = parse.parm; is = refl; ended = refl; step = h })
-  sorted Trim h = inl (record { keyword = parse.trim; is = refl; ended = refl; step = h })
-  sorted Hole h = inl (record { keyword = parse.hole; is = refl; ended = refl; step = h })
-  sorted End h = inl (record { keyword = parse.ends; is = refl; ended = refl; step = h })
-  sorted Group h = inl (record { keyword = parse.g; is = refl; ended = refl; step = h })
-  sorted Smoothing h = inl (record { keyword = parse.s; is = refl; ended = refl; step = h })
-  sorted Material h = inl (record { keyword = parse.usemtl; is = refl; ended = refl; step = h })
-  sorted PassedOver h = inl (record { keyword = parse.over; is = refl; ended = refl; step = h })
+  sorted : (k : Statement) → statementIs k s at c t u r → Known s at c t u r k key ⊎ Strange t u r k key
+  sorted (Carried k) h = inl (record { keyword = k; is = refl; ended = marked k; step = h })
   sorted Refused h = inr (record { number = 4; is = refl; gave-up = h .0; kept = h .1 })
   sorted Unknown h = inr (record { number = 3; is = refl; gave-up = h .0; kept = h .1 })
 
 -- ---- the tables lent on
 module _ (s : List ℕ) (at : ℕ) (c : State) (r : Step) where
-  pub family-step : (t u : Tables) {f g : Family} → f ≡ g → familyIs g s at c t u r → familyIs f s at c t u r
-  family-step t u e h = subst (λ (f : Family). familyIs f s at c t u r) (sym e) h
+  pub statement-step : (t u : Tables) {f g : Statement} → f ≡ g → statementIs g s at c t u r → statementIs f s at c t u r
+  statement-step t u e h = subst (λ (f : Statement). statementIs f s at c t u r) (sym e) h
 
 -- ---- no keyword
 module _ (s : List ℕ) (p : ℕ) (c : State) (t : Tables) where
@@ -104,8 +112,8 @@ module _ (s : List ℕ) (p key : ℕ) (kw : spelled.Keyword) (met : WordMet s p 
       go true = (let x = met .more in let y = met .to in omega arith)
       go false = met .to
 
-module _ (s : List ℕ) (p key : ℕ) (c : State) (t u : Tables) (kw : spelled.Keyword) (f : Family) (r : Step) (met : WordMet s p key)
-    (found : kw ≡ keywordAt s key) (family : f ≡ familyOf (kw .statement)) (done : familyIs f s (kw .end) c t u r) where
+module _ (s : List ℕ) (p key : ℕ) (c : State) (t u : Tables) (kw : spelled.Keyword) (r : Step) (met : WordMet s p key)
+    (found : kw ≡ keywordAt s key) (done : statementIs (kw .statement) s (kw .end) c t u r) where
   abbrev w : Word
   w = wordAt s key
 
@@ -117,7 +125,7 @@ module _ (s : List ℕ) (p key : ℕ) (c : State) (t u : Tables) (kw : spelled.K
   here =
       let k-is : kw .statement ≡ k = ap (λ (q : spelled.Keyword). q .statement) found in
       let e-is : kw .end ≡ cond (eqb (letterOf k) 32) key (endOf s key) = ap (λ (q : spelled.Keyword). q .end) found in
-      let g : familyIs (familyOf k) s (kw .end) c t u r = subst (λ (g : Family). familyIs g s (kw .end) c t u r) (family ∙ ap familyOf k-is) done in
+      let g : statementIs k s (kw .end) c t u r = subst (λ (g : Statement). statementIs g s (kw .end) c t u r) k-is done in
       ⊎-elim
       (λ (n : Known s (kw .end) c t u r k key).
       let e : kw .end ≡ endOf s key = e-is ∙ ap (λ (b : Bool). cond b key (endOf s key)) (n .ended) in

@@ -1,9 +1,7 @@
 // The line at a place: its statement found and its words taken, or its refusal.
-mod families; // statements by the tables they fill
-mod by_family; // a line's function by its family
+mod by_statement; // a line's function by its statement
 
-use crate::by_family::take_line;
-use crate::families::family_of;
+use crate::by_statement::take_line;
 use faults::Refusal;
 use lines::Step;
 use state::State;
@@ -73,9 +71,8 @@ pub fn line_at(
         Met::Start(p) => {
             let keyword = keywords::keyword_at(text, p, keyword_table);
             let statement = keyword.statement;
-            let family = family_of(statement);
             match take_line(
-                family,
+                statement,
                 text,
                 keyword.end,
                 state,

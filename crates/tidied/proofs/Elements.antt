@@ -11,7 +11,7 @@ use Rattle.forms.specs.Written.{writtenWhole, writtenCorner}
 use Rattle.keywords.specs.Keywords.{keywordOf}
 use Rattle.keywords.specs.Arguments.{argumentBytes}
 use Rattle.keywords.specs.declared.Argument.the-variants.{Rational, Bezier, Bspline, Cardinal, Taylor}
-use Rattle.keywords.specs.declared.Statement.the-variants.{Smoothing}
+use Rattle.statements.specs.declared.Carried.the-variants.{Smoothing}
 use Rattle.tables.specs.Tables.{Tables}
 use Rattle.tables.specs.Bodies.{bezier, bspline, cardinal, taylor, basisOf}
 use Rattle.tables.specs.Records.{bodyAt, partAt, cornerWidth}

@@ -8,7 +8,7 @@ use Rattle.lists.proofs.Tests.{never}
 use Rattle.text.specs.Words.{Word}
 use Rattle.text.specs.Written.{bytesOf, writtenAfter, writtenLine}
 use Rattle.keywords.specs.Keywords.{keywordOf}
-use Rattle.keywords.specs.declared.Statement.the-variants.{Group, Material}
+use Rattle.statements.specs.declared.Carried.the-variants.{Group, Material}
 use Rattle.model.specs.Model.{Vertices, Element, Model, start}
 use Rattle.model.specs.Statements.{group, material}
 use Rattle.model.specs.Layout.{runOf, listed}

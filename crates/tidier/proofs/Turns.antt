@@ -20,8 +20,8 @@ use Rattle.tables.proofs.Flat.{flat-append}
 use Rattle.text.specs.Written.{writtenLine, writtenLines}
 use Rattle.forms.specs.Written.{writtenWhole, writtenNumber, writtenCorner}
 use Rattle.keywords.specs.Keywords.{keywordOf}
-use Rattle.keywords.specs.declared.Statement.{Statement}
-use Rattle.keywords.specs.declared.Statement.the-variants.{Smoothing}
+use Rattle.statements.specs.declared.Carried.{Carried}
+use Rattle.statements.specs.declared.Carried.the-variants.{Smoothing}
 use Rattle.model.specs.Model.{parametric}
 use Rattle.tidying.specs.declared.Weights.{Weights}
 use Rattle.tidying.specs.Printed.{coordinates, degreeWords}
@@ -60,10 +60,10 @@ pub spaced-two : (v w : List ℕ) → (32 ∷ v) ++ (32 ∷ w) ≡ spaced (v ∷
 spaced-two v w = ap (λ (t : List ℕ). (32 ∷ v) ++ t) (spaced-one w)
 
 -- ---- lines that stand only where something changes
-pub changed-none : (k : Statement) (x y : List (List ℕ)) → sameBytes x y ≡ true → [] ≡ writtenLines (changed k x y)
+pub changed-none : (k : Carried) (x y : List (List ℕ)) → sameBytes x y ≡ true → [] ≡ writtenLines (changed k x y)
 changed-none k x y e = ap (λ (t : Bool). writtenLines (cond t [] ((keywordOf k ∷ y) ∷ []))) (sym e)
 
-pub changed-line : (k : Statement) (x y : List (List ℕ)) → sameBytes x y ≡ false → writtenLine (keywordOf k ∷ y) ≡ writtenLines (changed k x y)
+pub changed-line : (k : Carried) (x y : List (List ℕ)) → sameBytes x y ≡ false → writtenLine (keywordOf k ∷ y) ≡ writtenLines (changed k x y)
 changed-line k x y e = one-line (keywordOf k ∷ y) ∙ ap (λ (t : Bool). writtenLines (cond t [] ((keywordOf k ∷ y) ∷ []))) (sym e)
 
 pub smoothed-none : (m n : ℕ) → m ≡ n → [] ≡ writtenLines (smoothed m n)
@@ -124,7 +124,7 @@ counted-row c l i w m h e =
     let f : m ≡ min (natAbs (getD (drop i l) 0 (pos 0))) (w - 1) = e ∙ ap (λ (z : ℤ). min (natAbs z) (w - 1)) (sym g) in
     ap (λ (t : List ℤ). take m t) (sym (drop-drop 1 i l)) ∙ sym (counted-in c (drop i l) w m h f)
 
-pub rows-turn : (k : Statement) (c : Bool) (a : Weights) (w : ℕ) (l : List ℤ) (i n : ℕ) → 0 < n
+pub rows-turn : (k : Carried) (c : Bool) (a : Weights) (w : ℕ) (l : List ℤ) (i n : ℕ) → 0 < n
     → writtenLines (vertexRows k c a w n (drop i l))
     ≡ writtenLine (keywordOf k ∷ map writtenNumber (rowNumbers c a (take w (drop i l)))) ++ writtenLines (vertexRows k c a w (n - 1) (drop (i + w) l))
 rows-turn k c a w l i zero h = absurd (omega arith)
@@ -132,7 +132,7 @@ rows-turn k c a w l i (suc n) h =
     ap₂ (λ (m : ℕ) (t : List ℤ). writtenLine (keywordOf k ∷ map writtenNumber (rowNumbers c a (take w (drop i l)))) ++ writtenLines (vertexRows k c a w m t))
     (let e : n ≡ suc n - 1 = omega arith in e) (drop-drop w i l)
 
-pub rows-none : (k : Statement) (c : Bool) (a : Weights) (w : ℕ) (l : List ℤ) (n : ℕ) → n ≤ 0 → writtenLines (vertexRows k c a w n l) ≡ []
+pub rows-none : (k : Carried) (c : Bool) (a : Weights) (w : ℕ) (l : List ℤ) (n : ℕ) → n ≤ 0 → writtenLines (vertexRows k c a w n l) ≡ []
 rows-none k c a w l zero h = refl
 rows-none k c a w l (suc n) h = absurd (omega arith)
 

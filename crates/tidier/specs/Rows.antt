@@ -11,8 +11,11 @@ use Rattle.keywords.specs.Keywords.{keywordOf}
 use Rattle.keywords.specs.Arguments.{argumentBytes}
 use Rattle.keywords.specs.declared.Argument.{Argument}
 use Rattle.keywords.specs.declared.Argument.the-variants.{Rational, Bezier, Bspline, Cardinal, Taylor, DirectionU, DirectionV}
-use Rattle.keywords.specs.declared.Statement.{Statement}
-use Rattle.keywords.specs.declared.Statement.the-variants.{BodyType, Degree, Point, Line, Face, Curve, Curve2, Surface, Parameters, End}
+use Rattle.statements.specs.declared.Carried.{Carried}
+use Rattle.statements.specs.declared.Carried.the-variants.{BodyType, Degree, Parameters, End}
+use Rattle.statements.specs.declared.Carried.the-variants as carried
+use Rattle.statements.specs.declared.Shape.the-variants.{Point, Line, Face}
+use Rattle.statements.specs.declared.Free.the-variants.{Curve, Curve2, Surface}
 use Rattle.tables.specs.Records.{cornerWidth, loopWidth, spanWidth, bodyIn, pointKind, lineKind, faceKind, curveKind, curve2Kind, surfaceKind}
 use Rattle.tables.specs.declared.Element.{Element}
 use Rattle.tables.specs.declared.Body.{Body}
@@ -26,14 +29,14 @@ abbrev pub rowNumbers : Bool → Weights → List ℤ → List ℤ
 rowNumbers true c z = coordinates c parametric z
 rowNumbers false c z = coordinates c geometric z
 
-abbrev pub vertexRows : Statement → Bool → Weights → ℕ → ℕ → List ℤ → List (List (List ℕ))
+abbrev pub vertexRows : Carried → Bool → Weights → ℕ → ℕ → List ℤ → List (List (List ℕ))
 vertexRows k counted c w zero l = []
 vertexRows k counted c w (suc n) l = (keywordOf k ∷ map writtenNumber (rowNumbers counted c (take w l))) ∷ vertexRows k counted c w n (drop w l)
 
 -- ---- an element's own line: its keyword, "two numbers" of range on a curve, four on a surface, its corners
-abbrev pub kindKeyword : ℕ → Statement
+abbrev pub kindKeyword : ℕ → Carried
 kindKeyword n =
-    cond (eqb n pointKind) Point (cond (eqb n lineKind) Line (cond (eqb n faceKind) Face (cond (eqb n curveKind) Curve (cond (eqb n curve2Kind) Curve2 Surface))))
+    cond (eqb n pointKind) (carried.Element Point) (cond (eqb n lineKind) (carried.Element Line) (cond (eqb n faceKind) (carried.Element Face) (cond (eqb n curveKind) (carried.Body Curve) (cond (eqb n curve2Kind) (carried.Body Curve2) (carried.Body Surface)))))
 
 abbrev pub rangeCount : ℕ → ℕ
 rangeCount n = cond (eqb n curveKind) 2 (cond (eqb n surfaceKind) 4 0)

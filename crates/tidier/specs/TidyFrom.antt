@@ -7,8 +7,9 @@ use lib.IntN.{ℤ}
 use Rattle.text.specs.Written.{writtenLines}
 use Rattle.forms.specs.Written.{writtenWhole}
 use Rattle.keywords.specs.Keywords.{keywordOf}
-use Rattle.keywords.specs.declared.Statement.{Statement}
-use Rattle.keywords.specs.declared.Statement.the-variants.{Vertex, TextureVertex, VertexNormal, ParameterVertex, Group, Smoothing, Material}
+use Rattle.statements.specs.declared.Carried.{Carried}
+use Rattle.statements.specs.declared.Carried.the-variants.{Vertex, Group, Smoothing, Material}
+use Rattle.statements.specs.declared.VertexKind.the-variants.{Geometric, Texture, Normal, Parametric}
 use Rattle.tables.specs.Tables.{Tables}
 use Rattle.tables.specs.Records.{vWidth, vtWidth, vnWidth, vpWidth}
 use Rattle.tables.specs.Asking.{elementOf}
@@ -21,7 +22,7 @@ use Rattle.emitting.specs.Naming.{sameBytes}
 use Rattle.tidier.specs.Rows.{vertexRows, ownLines}
 
 -- "g, s, usemtl lines where the names (as words) or number differ from the element before"
-abbrev pub changed : Statement → List (List ℕ) → List (List ℕ) → List (List (List ℕ))
+abbrev pub changed : Carried → List (List ℕ) → List (List ℕ) → List (List (List ℕ))
 changed k before now = cond (sameBytes before now) [] ((keywordOf k ∷ now) ∷ [])
 
 abbrev pub smoothed : ℕ → ℕ → List (List (List ℕ))
@@ -49,10 +50,10 @@ elementsFrom s used elements corners bodies ranges parameters loops spans (suc n
 -- "All v, vt, vn (every coordinate), vp (those given)"
 abbrev pub verticesFrom : Weights → Used → List ℤ → List ℤ → List ℤ → List ℤ → List (List (List ℕ))
 verticesFrom c used v vt vn vp =
-    vertexRows Vertex false c vWidth (used .v) v
-    ++ (vertexRows TextureVertex false Always vtWidth (used .vt) vt
-    ++ (vertexRows VertexNormal false Always vnWidth (used .vn) vn
-    ++ vertexRows ParameterVertex true c vpWidth (used .vp) vp))
+    vertexRows (Vertex Geometric) false c vWidth (used .v) v
+    ++ (vertexRows (Vertex Texture) false Always vtWidth (used .vt) vt
+    ++ (vertexRows (Vertex Normal) false Always vnWidth (used .vn) vn
+    ++ vertexRows (Vertex Parametric) true c vpWidth (used .vp) vp))
 
 unfoldable pub tidyFrom : Weights → List ℕ → Used → Tables → List ℕ
 tidyFrom c s used t =

@@ -5,7 +5,7 @@ ghost use lib.ListN.{take, drop};
 ghost use Rattle.text.specs.Written.{writtenLine, writtenLines};
 ghost use Rattle.keywords.specs.Keywords.{keywordTable, keywordOf};
 ghost use Rattle.keywords.specs.Arguments.{argumentTable};
-ghost use Rattle.keywords.specs.declared.Statement.the-variants.{BodyType, Degree};
+ghost use Rattle.statements.specs.declared.Carried.the-variants.{BodyType, Degree};
 ghost use Rattle.tidying.specs.Printed.{degreeWords};
 ghost use Rattle.emitting.specs.Emitting.{Emitted};
 ghost use Rattle.tidier.specs.Rows.{basisArgument, typeWords, formLines, parameterLine, parameterLines, bodyLoops, endLine, ownLines};
@@ -37,7 +37,7 @@ fn type_line(
     requires { ⌜ now arguments ≡ argumentTable ⌝ }
     ensures { λ r. ⌜ Emitted at (writtenLine (keywordOf BodyType ∷ typeWords body)) (now (out .entry)) (now (out .exit)) r ⌝ }
 {
-    let words = emitting::emit_keyword(keywords::Statement::BodyType, table, out, at);
+    let words = emitting::emit_keyword(statements::Carried::BodyType, table, out, at);
     if body.rational == 1 {
         let basis = emitting::emit_spaced_argument(
             keywords::Argument::Rational,
@@ -57,7 +57,7 @@ fn degree_line(body: Body, table: &[u8; 528], out: &mut [u8], at: usize) -> usiz
     requires { ⌜ now table ≡ keywordTable ⌝ }
     ensures { λ r. ⌜ Emitted at (writtenLine (keywordOf Degree ∷ degreeWords (body .«degree_u») (body .«degree_v»))) (now (out .entry)) (now (out .exit)) r ⌝ }
 {
-    let words = emitting::emit_keyword(keywords::Statement::Degree, table, out, at);
+    let words = emitting::emit_keyword(statements::Carried::Degree, table, out, at);
     let second = emitting::emit_spaced_whole(out, words, body.degree_u);
     if body.degree_v == 0 {
         return emitting::emit_byte(out, second, b'\n');
@@ -80,7 +80,7 @@ fn parameter_line(
     requires { ⌜ now arguments ≡ argumentTable ⌝ }
     ensures { λ r. ⌜ Emitted at (writtenLine (parameterLine direction (take count (drop first (now (parameters .entry)))))) (now (out .entry)) (now (out .exit)) r ⌝ }
 {
-    let words = emitting::emit_keyword(keywords::Statement::Parameters, table, out, at);
+    let words = emitting::emit_keyword(statements::Carried::Parameters, table, out, at);
     let numbers = emitting::emit_spaced_argument(direction, arguments, out, words);
     let end = vertices::emit_numbers(parameters, first, count, out, numbers);
     emitting::emit_byte(out, end, b'\n')
@@ -161,7 +161,7 @@ fn closing_lines(
     let trims = parameter_lines(kind, body, table, arguments, parameters, out, at);
     let first = 2 * (body.first_loop as usize);
     let end = loops::loop_lines(table, parts, spans, first, body.loops, out, trims);
-    let last = emitting::emit_keyword(keywords::Statement::End, table, out, end);
+    let last = emitting::emit_keyword(statements::Carried::End, table, out, end);
     emitting::emit_byte(out, last, b'\n')
 }
 

@@ -11,16 +11,16 @@ ghost use Rattle.emitting.specs.Emitting.{spaced};
 ghost use Rattle.tidier.specs.Rows.{kindKeyword, rangeCount, bodyIndex, cornersFrom, elementWords};
 use crate::vertices;
 
-fn kind_keyword(kind: u32) -> keywords::Statement
+fn kind_keyword(kind: u32) -> statements::Carried
     ensures { λ r. ⌜ r ≡ kindKeyword kind ⌝ }
 {
     match kind {
-        1 => keywords::Statement::Point,
-        2 => keywords::Statement::Line,
-        3 => keywords::Statement::Face,
-        4 => keywords::Statement::Curve,
-        5 => keywords::Statement::Curve2,
-        _ => keywords::Statement::Surface,
+        1 => statements::Carried::Element(statements::Shape::Point),
+        2 => statements::Carried::Element(statements::Shape::Line),
+        3 => statements::Carried::Element(statements::Shape::Face),
+        4 => statements::Carried::Body(statements::Free::Curve),
+        5 => statements::Carried::Body(statements::Free::Curve2),
+        _ => statements::Carried::Body(statements::Free::Surface),
     }
 }
 

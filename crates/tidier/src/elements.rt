@@ -13,7 +13,7 @@ use emitting::names;
 
 // The names from `place` on, where they are not those from `before` on.
 fn name_line(
-    statement: keywords::Statement,
+    statement: statements::Carried,
     table: &[u8; 528],
     text: &[u8],
     before: u32,
@@ -55,7 +55,7 @@ fn smoothing_line(
     if before == smoothing {
         return at;
     }
-    let words = emitting::emit_keyword(keywords::Statement::Smoothing, table, out, at);
+    let words = emitting::emit_keyword(statements::Carried::Smoothing, table, out, at);
     let end = emitting::emit_spaced_whole(out, words, smoothing);
     emitting::emit_byte(out, end, b'\n')
 }
@@ -73,7 +73,7 @@ fn names_lines(
     ensures { λ r. ⌜ Emitted at (writtenLines (namesLines (now (text .entry)) before element)) (now (out .entry)) (now (out .exit)) r ⌝ }
 {
     let smoothing = name_line(
-        keywords::Statement::Group,
+        statements::Carried::Group,
         table,
         text,
         before.group_place,
@@ -85,7 +85,7 @@ fn names_lines(
     );
     let material = smoothing_line(table, before.smoothing, element.smoothing, out, smoothing);
     name_line(
-        keywords::Statement::Material,
+        statements::Carried::Material,
         table,
         text,
         before.material_place,

@@ -46,13 +46,13 @@ fn emit_going_on(
     end
 }
 
-fn loop_keyword(begins: u32) -> keywords::Statement
+fn loop_keyword(begins: u32) -> statements::Carried
     ensures { λ r. ⌜ r ≡ loopKeyword (eqb begins 2) ⌝ }
 {
     if begins == 2 {
-        return keywords::Statement::Hole;
+        return statements::Carried::Hole;
     }
-    keywords::Statement::Trim
+    statements::Carried::Trim
 }
 
 // The line of the loop that begins at `first`, where `count` parts follow; nothing where none begins.

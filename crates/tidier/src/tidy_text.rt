@@ -27,7 +27,7 @@ fn all_vertices(
     ensures { λ r. ⌜ Emitted at (writtenLines (verticesFrom weights used (now (v .entry)) (now (vt .entry)) (now (vn .entry)) (now (vp .entry)))) (now (out .entry)) (now (out .exit)) r ⌝ }
 {
     let second = vertices::vertex_lines(
-        keywords::Statement::Vertex,
+        statements::Carried::Vertex(statements::VertexKind::Geometric),
         false,
         weights,
         table,
@@ -38,7 +38,7 @@ fn all_vertices(
         at,
     );
     let third = vertices::vertex_lines(
-        keywords::Statement::TextureVertex,
+        statements::Carried::Vertex(statements::VertexKind::Texture),
         false,
         Weights::Always,
         table,
@@ -49,7 +49,7 @@ fn all_vertices(
         second,
     );
     let fourth = vertices::vertex_lines(
-        keywords::Statement::VertexNormal,
+        statements::Carried::Vertex(statements::VertexKind::Normal),
         false,
         Weights::Always,
         table,
@@ -60,7 +60,7 @@ fn all_vertices(
         third,
     );
     vertices::vertex_lines(
-        keywords::Statement::ParameterVertex,
+        statements::Carried::Vertex(statements::VertexKind::Parametric),
         true,
         weights,
         table,

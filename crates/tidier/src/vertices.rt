@@ -33,7 +33,7 @@ pub fn emit_numbers(values: &[i32], first: usize, count: usize, out: &mut [u8], 
 
 // A keyword and up to `count` numbers.
 fn number_line(
-    statement: keywords::Statement,
+    statement: statements::Carried,
     table: &[u8; 528],
     values: &[i32],
     first: usize,
@@ -63,7 +63,7 @@ fn given_count(values: &[i32], width: usize, first: usize) -> usize
 
 // One record's line; `counted` where it begins with how many numbers were given.
 fn row_line(
-    statement: keywords::Statement,
+    statement: statements::Carried,
     counted: bool,
     weights: Weights,
     table: &[u8; 528],
@@ -87,7 +87,7 @@ fn row_line(
 
 // The lines of `used` records of `width` numbers.
 pub fn vertex_lines(
-    statement: keywords::Statement,
+    statement: statements::Carried,
     counted: bool,
     weights: Weights,
     table: &[u8; 528],

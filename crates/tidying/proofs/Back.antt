@@ -16,7 +16,8 @@ use Rattle.forms.specs.Corner.{Corner, alike}
 use Rattle.keywords.specs.Arguments.{argumentBytes}
 use Rattle.model.specs.Model.{Vertices, Free, curve, curve2, surface, Part, Body, Open, State, curves}
 use Rattle.model.specs.Statements.{Statement, vertex, element, group, smoothing, material, type, degree, body, parameters, loop, end, passed}
-use Rattle.model.specs.Parse.{fine, hole, Value, number, corner, whole, direction, basis, name, nothing, formOf, allowed, numbersOf, cornersOf, wholesOf, namesOf, partsOf, differing, unlike, narrow, narrowIn, checked, finished, opened, seenIn, parse, inBody, isSurface, saysV, rangeWords, complete}
+use Rattle.model.specs.Parse.{fine, hole, Value, number, corner, whole, direction, basis, name, nothing, formOf, allowed, numbersOf, cornersOf, wholesOf, namesOf, partsOf, differing, unlike, narrow, narrowIn, checked, seenIn, parse, inBody, isSurface, saysV, rangeWords, complete}
+use Rattle.model.proofs.Pieces.{finished, opened}
 use Rattle.tidying.specs.declared.Weights.{Weights}
 use Rattle.tidying.specs.Printed.{coordinates, rangeOf, wordsAfter, directionArgument}
 use Rattle.tidying.proofs.Values.{keyOf, loopKey, valuesIn, partValues, typeValues, degreeValues, written, words-written}

@@ -15,7 +15,8 @@ use Rattle.lists.proofs.Laws.{all-append}
 use Rattle.forms.specs.Fits.{numberFits}
 use Rattle.model.specs.Model.{VertexKind, geometric, texture, normal, parametric, Vertices}
 use Rattle.model.specs.Statements.{vertex}
-use Rattle.model.specs.Parse.{number, countedVertex, defaults, completed, recordOf}
+use Rattle.model.specs.Parse.{number, defaults, completed, recordOf}
+use Rattle.model.proofs.Pieces.{countedVertex}
 use Rattle.tidying.specs.declared.Weights.{Weights}
 use Rattle.tidying.specs.declared.Weights.the-variants.{WhenNeeded, Always}
 use Rattle.tidying.specs.Printed.{isOne, coordinates}

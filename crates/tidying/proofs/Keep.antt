@@ -12,7 +12,9 @@ use Rattle.lists.proofs.Tests.{and-right, never}
 use Rattle.text.specs.Words.{Word}
 use Rattle.model.specs.Model.{VertexKind, geometric, texture, normal, parametric, Vertices, Names, plain, Element, Model, Open, State, isCurve2, curves}
 use Rattle.model.specs.Statements.{Statement, vertex, element, group, smoothing, material, type, degree, body, parameters, loop, end, passed, apply, closed, ended, onOpen, withBody, withParameters, withLoop}
-use Rattle.model.specs.Parse.{whole, outside, inBody, isSurface, isV, within}
+use Rattle.model.specs.Parse.{whole, outside, inBody, isSurface, isV}
+use Rattle.statements.specs.declared.rules.Count.the-variants.{Within}
+use Rattle.statements.specs.Rules.{countedBy}
 use Rattle.tidying.specs.declared.Weights.the-variants as weights
 use Rattle.tidying.proofs.Standing.{Fine, Ends, Here}
 use Rattle.tidying.proofs.Ready.{Ready}
@@ -71,7 +73,7 @@ shut : (x : Vertices) (n m : ℕ) (a b : Names) (o : Option Open) → outside o 
 shut x n m a b none h g = tt
 shut x n m a b (some o) h g = never h
 
-at-most : (m : ℕ) → (i : ℕ) × (whole m ≡ whole i) × (within 1 20 i ≡ true) → leb m 20 ≡ true
+at-most : (m : ℕ) → (i : ℕ) × (whole m ≡ whole i) × (countedBy (Within 1 20) i ≡ true) → leb m 20 ≡ true
 at-most m q = ap (λ (i : ℕ). leb i 20) (let e = q .1 in let z : m ≡ q .0 = cc in z) ∙ and-right (leb 1 (q .0)) (leb (q .0) 20) (q .2)
 
 pub degrees-form : (x : Vertices) (n m k : ℕ) → Fine x n (degree m k) → (leb m 20 ≡ true) × (leb k 20 ≡ true)

@@ -16,7 +16,8 @@ use Rattle.keywords.specs.Keywords.{statementOf}
 use Rattle.tables.specs.Asking.{partOf}
 use Rattle.model.specs.Model.{Free, Element, Model, Open, State, start}
 use Rattle.model.specs.Statements.{Statement, vertex, element, group, smoothing, material, type, degree, body, parameters, loop, end, passed, apply, onOpen, withBody, withParameters, withLoop, ended}
-use Rattle.model.specs.Parse.{fine, unless, Keyword, a-vertex, an-element, a-body, parm, trim, hole, ends, cstype, deg, g, s, usemtl, over, a-name, Value, name, Seen, saidOf, placed, valuesOf, counted, checked, namesOf, cornersOf, unlike, opened, inForce, narrowIn, rangeWords, finished, complete, countsAgree, inRange, seenIn, parse, formOf, materialOf}
+use Rattle.model.specs.Parse.{fine, unless, Keyword, a-vertex, an-element, a-body, parm, trim, hole, ends, cstype, deg, g, s, usemtl, over, a-name, Value, name, Seen, saidOf, placed, valuesOf, counted, checked, namesOf, cornersOf, unlike, inForce, narrowIn, rangeWords, complete, countsAgree, inRange, seenIn, parse, formOf, materialOf}
+use Rattle.model.proofs.Pieces.{opened, finished}
 use Rattle.model.specs.Room.{Rooms, fits}
 use Rattle.model.specs.Read.{keywordOf, statement, step, read, readLines, readOf}
 use Rattle.model.proofs.Placed.{WordsStand, NamesStand, ElementsStand}

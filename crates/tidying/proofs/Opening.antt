@@ -12,7 +12,9 @@ use Rattle.forms.specs.Corner.{Corner}
 use Rattle.tables.specs.Bodies.{Basis, bezier, bspline, cardinal, taylor}
 use Rattle.model.specs.Model.{Vertices, Names, Free, curve, curve2, surface, along-u, Body, Form}
 use Rattle.model.specs.Statements.{degree, body}
-use Rattle.model.specs.Parse.{within, bodyOf, degreeIn, basisIn, inForce, degreesNeeded}
+use Rattle.model.specs.Parse.{bodyOf, degreeIn, basisIn, inForce, degreesNeeded}
+use Rattle.statements.specs.declared.rules.Count.the-variants.{Within}
+use Rattle.statements.specs.Rules.{countedBy}
 use Rattle.tidying.specs.Tidied.{unsettled, unfilled}
 use Rattle.tidying.specs.Printed.{rangeOf}
 use Rattle.tidying.proofs.Standing.{Fine, Opens}
@@ -26,10 +28,10 @@ degree-in (some bspline) n = refl
 degree-in (some cardinal) n = refl
 degree-in (some taylor) n = refl
 
-one-degree : (m : ℕ) → within 1 20 m ≡ true → Always (degree m 0)
+one-degree : (m : ℕ) → countedBy (Within 1 20) m ≡ true → Always (degree m 0)
 one-degree m h x n = record { many = λ c. refl; fits = λ c. ((m, refl, h), tt); whole = tt }
 
-two-degrees : (m k : ℕ) → within 1 20 m ≡ true → within 1 20 k ≡ true → Always (degree m k)
+two-degrees : (m k : ℕ) → countedBy (Within 1 20) m ≡ true → countedBy (Within 1 20) k ≡ true → Always (degree m k)
 two-degrees m zero h i x n = never i
 two-degrees m (suc k) h i x n = record { many = λ c. refl; fits = λ c. ((m, refl, h), ((suc k, refl, i), tt)); whole = tt }
 
@@ -48,14 +50,14 @@ module _ (r : Bool) (m n : ℕ) (lm : leb m 20 ≡ true) (ln : leb n 20 ≡ true
   needs-u curve2 o h = h
   needs-u surface o h = and-left (leb 1 m) (leb 1 n) h
 
-  force-u : (k : Free) (o : Option Basis) → inForce k (formed o) o ≡ true → within 1 20 (degreeIn o m) ≡ true
+  force-u : (k : Free) (o : Option Basis) → inForce k (formed o) o ≡ true → countedBy (Within 1 20) (degreeIn o m) ≡ true
   force-u k none h = never h
   force-u k (some bezier) h = and-both (needs-u k (some bezier) h) lm
   force-u k (some bspline) h = and-both (needs-u k (some bspline) h) lm
   force-u k (some cardinal) h = refl
   force-u k (some taylor) h = and-both (needs-u k (some taylor) h) lm
 
-  force-v : (o : Option Basis) → inForce surface (formed o) o ≡ true → within 1 20 (degreeIn o n) ≡ true
+  force-v : (o : Option Basis) → inForce surface (formed o) o ≡ true → countedBy (Within 1 20) (degreeIn o n) ≡ true
   force-v none h = never h
   force-v (some bezier) h = and-both (and-right (leb 1 m) (leb 1 n) h) ln
   force-v (some bspline) h = and-both (and-right (leb 1 m) (leb 1 n) h) ln

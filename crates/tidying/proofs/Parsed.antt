@@ -16,7 +16,10 @@ use Rattle.digits.specs.Said.{says}
 use Rattle.keywords.specs.Arguments.{argumentOf}
 use Rattle.model.specs.Model.{Vertices, Direction, Open, State, curves}
 use Rattle.model.specs.Statements.{Statement, smoothing, material, type, degree, end, passed}
-use Rattle.model.specs.Parse.{fine, Keyword, a-vertex, an-element, a-body, parm, trim, hole, ends, cstype, deg, g, s, usemtl, over, Value, direction, whole, basis, name, nothing, within, counted, formOf, allowed, valuesOf, saidOf, placed, directionOf, directionSaid, checked, finished, seenIn, parse, isV, saysV, complete, countsAgree, inRange}
+use Rattle.model.specs.Parse.{fine, Keyword, a-vertex, an-element, a-body, parm, trim, hole, ends, cstype, deg, g, s, usemtl, over, Value, direction, whole, basis, name, nothing, counted, formOf, allowed, valuesOf, saidOf, placed, directionOf, directionSaid, checked, seenIn, parse, isV, saysV, complete, countsAgree, inRange}
+use Rattle.statements.specs.declared.rules.Count.the-variants.{Within}
+use Rattle.statements.specs.Rules.{countedBy}
+use Rattle.model.proofs.Pieces.{finished}
 use Rattle.tidying.proofs.Words.{Fitting, values-fit, then-fine, placed-fine}
 use Rattle.tidying.proofs.Standing.{seenOf, Ends}
 use Rattle.tidying.proofs.Ready.{Ready, must-fine, put, told, vertex-fit, element-fit, body-fit, parm-fit, loop-fits, group-fit}
@@ -51,7 +54,7 @@ module _ (x : State) (p : ℕ) (ws : List Word) (t : Statement) where
       (record { fine = told x p ws (degree (f .0 .0) 0) (y ∷ []) (λ w. sym e) c f tt; here = a })
   degree-fits (y ∷ z ∷ []) a c f h = go (f .1 .0 .0) (f .1 .0 .1) (f .1 .0 .2)
     where
-      go : (n : ℕ) → z ≡ whole n → within 1 20 n ≡ true → Ready x t
+      go : (n : ℕ) → z ≡ whole n → countedBy (Within 1 20) n ≡ true → Ready x t
       go zero q l = never l
       go (suc n) q l =
           let e : (y ∷ z ∷ []) ≡ whole (f .0 .0) ∷ whole (suc n) ∷ [] = ap₂ (λ (v w : Value). v ∷ w ∷ []) (f .0 .1) q in

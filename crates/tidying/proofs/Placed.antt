@@ -14,7 +14,8 @@ use Rattle.lists.proofs.Tests.{and-left}
 use Rattle.text.specs.Words.{Word}
 use Rattle.forms.specs.Corner.{Corner}
 use Rattle.model.specs.Model.{VertexKind, geometric, texture, normal, parametric, Vertices, Free, curve, curve2, surface, Part, Loop, Kind, plain, free, Element, Model, start}
-use Rattle.model.specs.Parse.{number, countedVertex, counted, recordOf}
+use Rattle.model.specs.Parse.{number, counted, recordOf}
+use Rattle.model.proofs.Pieces.{countedVertex}
 use Rattle.model.specs.Room.{Rooms}
 use Rattle.model.specs.Read.{read, readOf}
 use Rattle.model.proofs.Placed.{Wide, Parted, PartedKind, PartedAll, Placed}

@@ -15,7 +15,8 @@ use Rattle.text.specs.Words.{Word}
 use Rattle.forms.specs.Corner.{Corner, alike}
 use Rattle.model.specs.Model.{VertexKind, Vertices, Shape, Free, curve, curve2, surface, Direction, Part, Loop, Form, State, curves}
 use Rattle.model.specs.Statements.{Statement, vertex, element, group, body, parameters, loop}
-use Rattle.model.specs.Parse.{Parsed, fine, must, unless, a-vertex, an-element, a-body, parm, trim, hole, g, a-number, Value, number, corner, whole, direction, basis, name, counted, formOf, allowed, numbersOf, cornersOf, namesOf, differing, unlike, narrow, narrowIn, recordOf, bodyOf, inForce, checked, opened, outside, inBody, isSurface, isV, saysV, rangeWords, fewestControls}
+use Rattle.model.specs.Parse.{Parsed, fine, must, unless, a-vertex, an-element, a-body, parm, trim, hole, g, a-number, Value, number, corner, whole, direction, basis, name, counted, formOf, allowed, numbersOf, cornersOf, namesOf, differing, unlike, narrow, narrowIn, recordOf, bodyOf, inForce, checked, outside, inBody, isSurface, isV, saysV, rangeWords, fewestControls}
+use Rattle.model.proofs.Pieces.{opened}
 use Rattle.tidying.specs.declared.Weights.{Weights}
 use Rattle.tidying.specs.Printed.{rangeOf}
 use Rattle.tidying.proofs.Values.{keyOf, loopKey, valuesIn}

@@ -12,8 +12,8 @@ use Rattle.keywords.specs.Keywords.{keywordOf}
 use Rattle.keywords.specs.Arguments.{argumentBytes}
 use Rattle.keywords.specs.declared.Argument.{Argument}
 use Rattle.keywords.specs.declared.Argument.the-variants.{Rational, Bezier, Bspline, Cardinal, Taylor, DirectionU, DirectionV}
-use Rattle.keywords.specs.declared.Statement.{Statement as Keyword}
-use Rattle.keywords.specs.declared.Statement.the-variants.{Vertex, TextureVertex, VertexNormal, ParameterVertex, BodyType, Degree, Point, Line, Face, Curve, Curve2, Surface, Parameters, Trim, Hole, End, Group, Smoothing, Material, PassedOver}
+use Rattle.statements.specs.declared.Carried.{Carried as Keyword}
+use Rattle.statements.specs.declared.Carried.the-variants.{Vertex, Element, Body as BodyOf, Parameters, Trim, Hole, End, BodyType, Degree, Group, Smoothing, Material, PassedOver}
 use Rattle.tables.specs.Bodies.{Basis, bezier, bspline, cardinal, taylor}
 use Rattle.model.specs.Model.{VertexKind, geometric, texture, normal, parametric, Shape, point, line, face, Free, curve, curve2, surface, Direction, along-u, along-v, Part, Body, Model}
 use Rattle.model.specs.Statements.{Statement, vertex, element, group, smoothing, material, type, degree, body, parameters, loop, end, passed}
@@ -23,20 +23,13 @@ use Rattle.tidying.specs.Tidied.{tidied}
 
 -- ---- the keyword
 abbrev pub vertexKeyword : VertexKind → Keyword
-vertexKeyword geometric = Vertex
-vertexKeyword texture = TextureVertex
-vertexKeyword normal = VertexNormal
-vertexKeyword parametric = ParameterVertex
+vertexKeyword k = Vertex k
 
 abbrev pub shapeKeyword : Shape → Keyword
-shapeKeyword point = Point
-shapeKeyword line = Line
-shapeKeyword face = Face
+shapeKeyword k = Element k
 
 abbrev pub freeKeyword : Free → Keyword
-freeKeyword curve = Curve
-freeKeyword curve2 = Curve2
-freeKeyword surface = Surface
+freeKeyword k = BodyOf k
 
 abbrev pub loopKeyword : Bool → Keyword
 loopKeyword false = Trim

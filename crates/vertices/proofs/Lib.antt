@@ -1,3 +1,4 @@
+pub mod Layouts
 pub mod Walking
 pub mod Closed
 pub mod Rows

@@ -14,7 +14,8 @@ use Rattle.text.specs.Words.{Word}
 use Rattle.text.specs.Rest.{Rest}
 use Rattle.model.specs.Model.{VertexKind, geometric, texture, normal, parametric, State}
 use Rattle.model.specs.Statements.{Statement, vertex}
-use Rattle.model.specs.Parse.{Parsed, fine, fault, then, must, a-vertex, a-number, outside, countedVertex, Value, number, formOf, valuesOf, numbersOf, defaults, recordOf, seenIn, parse}
+use Rattle.model.specs.Parse.{Parsed, fine, fault, then, must, a-vertex, a-number, outside, Value, number, formOf, valuesOf, numbersOf, defaults, recordOf, seenIn, parse}
+use Rattle.model.proofs.Pieces.{countedVertex}
 use Rattle.model.proofs.Parsed.{fine-is, must-fine, then-fine}
 use Rattle.vertices.specs.Vertex.{least, most, width, recorded, vertexSaid}
 use Rattle.vertices.proofs.Closed.{closed-some, values-back, row-some, some-row}

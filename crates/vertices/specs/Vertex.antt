@@ -9,34 +9,21 @@ use lib.Dec.{eqb}
 use lib.IntN.{ℤ, pos}
 use lib.Seq.{sets}
 use Rattle.text.specs.Rest.{Rest, restAt}
+use Rattle.statements.specs.Rules.{vertexCount, fewestBy, mostBy}
 use Rattle.tables.specs.Records.{vWidth, vtWidth, vnWidth, vpWidth}
 use Rattle.model.specs.Model.{VertexKind, geometric, texture, normal, parametric}
 use Rattle.model.specs.Parse.{recordOf}
 use Rattle.vertices.specs.Into.{rowSaid}
-use Rattle.vertices.specs.declared.Kind.{Kind}
-use Rattle.vertices.specs.declared.Kind.the-variants.{Geometric, Texture, Normal, Parametric}
 use Rattle.vertices.specs.declared.Layout.{Layout}
 use Rattle.vertices.specs.declared.Vertex.{Vertex}
 use Rattle.vertices.specs.declared.Vertex.the-variants.{Taken, GaveUp}
 
-abbrev pub kindOf : Kind → VertexKind
-kindOf Geometric = geometric
-kindOf Texture = texture
-kindOf Normal = normal
-kindOf Parametric = parametric
-
--- "v 3 or 4; vt, vp 1 to 3; vn 3"
+-- the fewest and the most numbers of a line, by its row; a record of four holds no more
 abbrev pub least : VertexKind → ℕ
-least geometric = 3
-least texture = 1
-least normal = 3
-least parametric = 1
+least k = fewestBy (vertexCount k)
 
 abbrev pub most : VertexKind → ℕ
-most geometric = 4
-most texture = 3
-most normal = 3
-most parametric = 3
+most k = mostBy (vertexCount k) 4
 
 -- the numbers of a record: "v holds x y z w"; "vt three"; "vn three"; "vp the count given and u v w"
 abbrev pub width : VertexKind → ℕ

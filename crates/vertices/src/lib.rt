@@ -1,5 +1,9 @@
 // The numbers of a line into a table, and the four kinds of vertices.
 use decimals::number::Number;
+use statements::VertexKind;
+use statements::rules::fewest_words;
+use statements::rules::most_words;
+use statements::rules::vertex_count;
 use text::Met;
 ghost use mathlib.Core.Path.{_≡_};
 ghost use mathlib.Core.Bool.{cond};
@@ -8,7 +12,7 @@ ghost use lib.Dec.{leb};
 ghost use lib.ListN.{length};
 ghost use lib.Seq.{sets};
 ghost use Rattle.vertices.specs.Into.{numbersIs, rowIs};
-ghost use Rattle.vertices.specs.Vertex.{kindOf, layoutOf, blank, vertexIs};
+ghost use Rattle.vertices.specs.Vertex.{layoutOf, blank, vertexIs};
 
 // What a line's numbers come to: the line ended; as many as were asked for were found; or it has a word that is no number, a byte that is not allowed, or
 // more numbers than the table has room for.
@@ -101,14 +105,6 @@ pub fn row_into(
     }
 }
 
-// v, vt, vn, vp.
-pub enum Kind {
-    Geometric,
-    Texture,
-    Normal,
-    Parametric,
-}
-
 // How many numbers a line of a kind has, and where they stand in the record.
 pub struct Layout {
     pub least: usize,
@@ -117,31 +113,34 @@ pub struct Layout {
     pub lead: usize,
 }
 
-fn layout_of(kind: Kind) -> Layout
-    ensures { λ r. ⌜ r ≡ layoutOf (kindOf kind) ⌝ }
+fn layout_of(kind: VertexKind) -> Layout
+    ensures { λ r. ⌜ r ≡ layoutOf kind ⌝ }
 {
+    let count = vertex_count(kind);
+    let least = fewest_words(count);
+    let most = most_words(count, 4);
     match kind {
-        Kind::Geometric => Layout {
-            least: 3,
-            most: 4,
+        VertexKind::Geometric => Layout {
+            least: least,
+            most: most,
             width: 4,
             lead: 0,
         },
-        Kind::Texture => Layout {
-            least: 1,
-            most: 3,
+        VertexKind::Texture => Layout {
+            least: least,
+            most: most,
             width: 3,
             lead: 0,
         },
-        Kind::Normal => Layout {
-            least: 3,
-            most: 3,
+        VertexKind::Normal => Layout {
+            least: least,
+            most: most,
             width: 3,
             lead: 0,
         },
-        Kind::Parametric => Layout {
-            least: 1,
-            most: 3,
+        VertexKind::Parametric => Layout {
+            least: least,
+            most: most,
             width: 4,
             lead: 1,
         },
@@ -165,9 +164,9 @@ pub enum Vertex {
 }
 
 // A line of v, vt, vn or vp from just after its keyword on, into its table, of which `used` records are used.
-pub fn take_vertex(kind: Kind, text: &[u8], at: usize, used: u32, table: &mut [i32]) -> Vertex
+pub fn take_vertex(kind: VertexKind, text: &[u8], at: usize, used: u32, table: &mut [i32]) -> Vertex
     requires { ⌜ at ≤ length (now text) ⌝ }
-    ensures { λ r. ⌜ vertexIs (kindOf kind) (now (text .entry)) at used (now (table .entry)) (now (table .exit)) r ⌝ }
+    ensures { λ r. ⌜ vertexIs kind (now (text .entry)) at used (now (table .entry)) (now (table .exit)) r ⌝ }
 {
     let layout = layout_of(kind);
     let first = layout.width * (used as usize);

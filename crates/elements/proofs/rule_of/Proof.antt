@@ -1,26 +1,32 @@
--- By the three shapes.
-use mathlib.Core.Path.{refl}
+-- The rule, by the row's count and parts.
+use Prim.Native.Nat.{ℕ}
+use mathlib.Core.Path.{_≡_, refl}
+use Rattle.statements.specs.declared.rules.Parts.{Parts}
+use Rattle.model.specs.Model.{Shape}
+use Rattle.model.specs.Parse.{parts, fewest}
+use Rattle.model.specs.Layout.{shapeNumber}
+use Rattle.elements.specs.declared.CornerForm.the-variants.{Vertex}
+use Rattle.elements.specs.Elements.{ruleOf}
 use borrow.Author.Needs.{needs}
 use Rattle.elements.proofs.rule_of.Statement.{statement}
 use Rattle.elements.proofs.rule_of.Tie as tie
 
-enum-told : tie.Need-enum-told
-enum-told c = search needs
+rule-is : (k : Shape) {p : Parts} {a b : ℕ} → p ≡ parts k → a ≡ shapeNumber k → b ≡ fewest k → record { kind = a; fewest = b; form = Vertex (p .vt) (p .vn) } ≡ ruleOf k
+rule-is k e f g = rw (e, f, g) refl
 
-enum-told-2 : tie.Need-enum-told-2
-enum-told-2 c = search needs
+corner-parts-requires : tie.Need-corner-parts-requires
+corner-parts-requires c κs = search needs
 
-enum-told-3 : tie.Need-enum-told-3
-enum-told-3 c = search needs
+shape-number-requires : tie.Need-shape-number-requires
+shape-number-requires c κs = search needs
+
+fewest-corners-requires : tie.Need-fewest-corners-requires
+fewest-corners-requires c κs = search needs
 
 returns : tie.Need-returns
-returns c = rw (c .enum-told .given .1) refl
-
-returns-2 : tie.Need-returns-2
-returns-2 c = rw (c .enum-told2 .given .1) refl
-
-returns-3 : tie.Need-returns-3
-returns-3 c = rw (c .enum-told3 .given .1) refl
+returns c = rule-is (c .before .before .before .args .shape) (c .before .before .corner-parts .ensures) (c .before .shape-number .ensures) (c .fewest-corners .ensures)
 
 pub rule-of-spec : {M : Type 1} → statement M
-rule-of-spec = tie.close (tie.spec enum-told enum-told-2 enum-told-3 returns returns-2 returns-3)
+rule-of-spec =
+    tie.close
+    (tie.spec corner-parts-requires shape-number-requires fewest-corners-requires returns)

@@ -1,6 +1,5 @@
 -- Each way out by the law of its answer, lent to the four tables.
 use denote.Ref.{now}
-use Rattle.vertices.specs.Vertex.{kindOf}
 use Rattle.lines.specs.Stepping.{amongVertices}
 use Rattle.lines.specs.declared.Step.the-variants.{Taken, GaveUp}
 use Rattle.lines.proofs.Stepped.{vertex-open, vertex-full, vertex-gave, vertex-took, none-stored, lent}
@@ -17,9 +16,9 @@ use Rattle.lines.proofs.with_used.Reads as with-used-reads
 returns : tie.Need-returns
 returns c =
     let a = c .before .before .before .before .args in
-    let l = amongVertices (kindOf (a .kind)) (now (a .v)) (now (a .vt)) (now (a .vn)) (now (a .vp)) in
-    lent (kindOf (a .kind)) (now (a .text)) (a .at) (a .state) (now (a .v)) (now (a .vt)) (now (a .vn)) (now (a .vp)) (now (a .v)) (now (a .vt)) (now (a .vn)) (now (a .vp)) GaveUp (none-stored (kindOf (a .kind)) (now (a .v)) (now (a .vt)) (now (a .vn)) (now (a .vp)))
-    (vertex-open (kindOf (a .kind)) (now (a .text)) (a .at) (a .state) l (c .if1 .taken))
+    let l = amongVertices (a .kind) (now (a .v)) (now (a .vt)) (now (a .vn)) (now (a .vp)) in
+    lent (a .kind) (now (a .text)) (a .at) (a .state) (now (a .v)) (now (a .vt)) (now (a .vn)) (now (a .vp)) (now (a .v)) (now (a .vt)) (now (a .vn)) (now (a .vp)) GaveUp (none-stored (a .kind) (now (a .v)) (now (a .vt)) (now (a .vn)) (now (a .vp)))
+    (vertex-open (a .kind) (now (a .text)) (a .at) (a .state) l (c .if1 .taken))
 
 count-of-requires : tie.Need-count-of-requires
 count-of-requires c κs = search needs
@@ -27,9 +26,9 @@ count-of-requires c κs = search needs
 returns-2 : tie.Need-returns-2
 returns-2 c =
     let a = c .before .before .before .before .before .before .before .args in
-    let l = amongVertices (kindOf (a .kind)) (now (a .v)) (now (a .vt)) (now (a .vn)) (now (a .vp)) in
-    lent (kindOf (a .kind)) (now (a .text)) (a .at) (a .state) (now (a .v)) (now (a .vt)) (now (a .vn)) (now (a .vp)) (now (a .v)) (now (a .vt)) (now (a .vn)) (now (a .vp)) GaveUp (none-stored (kindOf (a .kind)) (now (a .v)) (now (a .vt)) (now (a .vn)) (now (a .vp)))
-    (vertex-full (kindOf (a .kind)) (now (a .text)) (a .at) (a .state) l (c .before .count-of .result) (c .before .count-of .ensures) (c .if2 .taken))
+    let l = amongVertices (a .kind) (now (a .v)) (now (a .vt)) (now (a .vn)) (now (a .vp)) in
+    lent (a .kind) (now (a .text)) (a .at) (a .state) (now (a .v)) (now (a .vt)) (now (a .vn)) (now (a .vp)) (now (a .v)) (now (a .vt)) (now (a .vn)) (now (a .vp)) GaveUp (none-stored (a .kind) (now (a .v)) (now (a .vt)) (now (a .vn)) (now (a .vp)))
+    (vertex-full (a .kind) (now (a .text)) (a .at) (a .state) l (c .before .count-of .result) (c .before .count-of .ensures) (c .if2 .taken))
 
 vertex-into-requires : tie.Need-vertex-into-requires
 vertex-into-requires c κs = search needs
@@ -66,10 +65,10 @@ returns-3 c =
     let f = c .before .before .before .before .before .before .vertex-into in
     let counts = c .before .before .before .before .before .before .before .before .before .before .before .before in
     let a = counts .before .before .before .before .before .before .args in
-    let l = amongVertices (kindOf (a .kind)) (now (a .v)) (now (a .vt)) (now (a .vn)) (now (a .vp)) in
-    let m = amongVertices (kindOf (a .kind)) (f .last .1 .1 .1 .1 .0) (f .last .1 .1 .1 .1 .1 .0) (f .last .1 .1 .1 .1 .1 .1 .0) (f .last .1 .1 .1 .1 .1 .1 .1 .0) in
-    lent (kindOf (a .kind)) (now (a .text)) (a .at) (a .state) (now (a .v)) (now (a .vt)) (now (a .vn)) (now (a .vp)) (f .last .1 .1 .1 .1 .0) (f .last .1 .1 .1 .1 .1 .0) (f .last .1 .1 .1 .1 .1 .1 .0) (f .last .1 .1 .1 .1 .1 .1 .1 .0) GaveUp (f .ensures .1)
-    (vertex-gave (kindOf (a .kind)) (now (a .text)) (a .at) (a .state) l (counts .count-of .result) (counts .count-of .ensures) m (f .result) (f .ensures .0) (c .enum-told .given .1))
+    let l = amongVertices (a .kind) (now (a .v)) (now (a .vt)) (now (a .vn)) (now (a .vp)) in
+    let m = amongVertices (a .kind) (f .last .1 .1 .1 .1 .0) (f .last .1 .1 .1 .1 .1 .0) (f .last .1 .1 .1 .1 .1 .1 .0) (f .last .1 .1 .1 .1 .1 .1 .1 .0) in
+    lent (a .kind) (now (a .text)) (a .at) (a .state) (now (a .v)) (now (a .vt)) (now (a .vn)) (now (a .vp)) (f .last .1 .1 .1 .1 .0) (f .last .1 .1 .1 .1 .1 .0) (f .last .1 .1 .1 .1 .1 .1 .0) (f .last .1 .1 .1 .1 .1 .1 .1 .0) GaveUp (f .ensures .1)
+    (vertex-gave (a .kind) (now (a .text)) (a .at) (a .state) l (counts .count-of .result) (counts .count-of .ensures) m (f .result) (f .ensures .0) (c .enum-told .given .1))
 
 same-length-5 : tie.Need-same-length-5
 same-length-5 c = search needs
@@ -88,10 +87,10 @@ returns-4 c =
     let f = c .before .before .before .before .before .before .before .before .before .vertex-into in
     let counts = c .before .before .before .before .before .before .before .before .before .before .before .before .before .before .before in
     let a = counts .before .before .before .before .before .before .args in
-    let l = amongVertices (kindOf (a .kind)) (now (a .v)) (now (a .vt)) (now (a .vn)) (now (a .vp)) in
-    let m = amongVertices (kindOf (a .kind)) (f .last .1 .1 .1 .1 .0) (f .last .1 .1 .1 .1 .1 .0) (f .last .1 .1 .1 .1 .1 .1 .0) (f .last .1 .1 .1 .1 .1 .1 .1 .0) in
-    lent (kindOf (a .kind)) (now (a .text)) (a .at) (a .state) (now (a .v)) (now (a .vt)) (now (a .vn)) (now (a .vp)) (f .last .1 .1 .1 .1 .0) (f .last .1 .1 .1 .1 .1 .0) (f .last .1 .1 .1 .1 .1 .1 .0) (f .last .1 .1 .1 .1 .1 .1 .1 .0) (Taken (c .with-used .result) (c .before .before .before .next .given .0 .0)) (f .ensures .1)
-    (vertex-took (kindOf (a .kind)) (now (a .text)) (a .at) (a .state) l (counts .count-of .result) (counts .count-of .ensures) m (f .result) (f .ensures .0) _ _ _
+    let l = amongVertices (a .kind) (now (a .v)) (now (a .vt)) (now (a .vn)) (now (a .vp)) in
+    let m = amongVertices (a .kind) (f .last .1 .1 .1 .1 .0) (f .last .1 .1 .1 .1 .1 .0) (f .last .1 .1 .1 .1 .1 .1 .0) (f .last .1 .1 .1 .1 .1 .1 .1 .0) in
+    lent (a .kind) (now (a .text)) (a .at) (a .state) (now (a .v)) (now (a .vt)) (now (a .vn)) (now (a .vp)) (f .last .1 .1 .1 .1 .0) (f .last .1 .1 .1 .1 .1 .0) (f .last .1 .1 .1 .1 .1 .1 .0) (f .last .1 .1 .1 .1 .1 .1 .1 .0) (Taken (c .with-used .result) (c .before .before .before .next .given .0 .0)) (f .ensures .1)
+    (vertex-took (a .kind) (now (a .text)) (a .at) (a .state) l (counts .count-of .result) (counts .count-of .ensures) m (f .result) (f .ensures .0) _ _ _
     (c .before .before .before .next .given .1) (counts .before .before .if1 .left) (c .before .counted .ensures) (c .with-used .ensures))
 
 pub vertex-line-spec : {M : Type 1} → statement M

@@ -2,7 +2,6 @@
 use native.Mathlib.Omega.{arith}
 use borrow.Author.Tests.{not-true, not-false}
 use denote.Ref.{now}
-use Rattle.vertices.specs.Vertex.{kindOf}
 use Rattle.decimals.proofs.Signs.{reads}
 use Rattle.vertices.proofs.Rows as R
 use Rattle.vertices.proofs.Taking as T
@@ -18,7 +17,7 @@ mul-first c =
     let kind = c .before in
     let start = kind .before .before in
     let a = start .args in
-    let fits = T.product (kindOf (a .kind)) (now (a .text)) (a .at) (a .used) (now (a .table)) (kind .layout-of .ensures) (omega (arith, start .fits .used)) in
+    let fits = T.product (a .kind) (now (a .text)) (a .at) (a .used) (now (a .table)) (kind .layout-of .ensures) (omega (arith, start .fits .used)) in
     omega arith
 
 put-blank-requires : tie.Need-put-blank-requires
@@ -33,7 +32,7 @@ returns c =
     let kind = put .before .before .before in
     let start = kind .before .before in
     let a = start .args in
-    T.no-room (kindOf (a .kind)) (now (a .text)) (a .at) (a .used) (now (a .table)) (kind .layout-of .ensures) (put .put-blank .ensures) (not-true _ (c .if1 .taken))
+    T.no-room (a .kind) (now (a .text)) (a .at) (a .used) (now (a .table)) (kind .layout-of .ensures) (put .put-blank .ensures) (not-true _ (c .if1 .taken))
 
 add-row-into : tie.Need-add-row-into
 add-row-into c =
@@ -42,7 +41,7 @@ add-row-into c =
     let kind = put .before .before .before in
     let start = kind .before .before in
     let a = start .args in
-    let fits = T.inside (kindOf (a .kind)) (now (a .text)) (a .at) (a .used) (now (a .table)) (kind .layout-of .ensures) (put .put-blank .ensures) (not-false _ (room .if1 .left)) in
+    let fits = T.inside (a .kind) (now (a .text)) (a .at) (a .used) (now (a .table)) (kind .layout-of .ensures) (put .put-blank .ensures) (not-false _ (room .if1 .left)) in
     omega (arith, start .good)
 
 row-into-requires : tie.Need-row-into-requires
@@ -64,7 +63,7 @@ returns-2 c =
     let start = kind .before .before in
     let a = start .args in
     let whole = R.is-whole _ _ (now (a .text)) (a .at) _ _ _ (found .row-into .ensures) (row .count .given .1) in
-    T.taken-plain (kindOf (a .kind)) (now (a .text)) (a .at) (a .used) (now (a .table)) (kind .layout-of .ensures) (put .put-blank .ensures) (not-false _ (room .if1 .left)) whole (c .if2 .taken)
+    T.taken-plain (a .kind) (now (a .text)) (a .at) (a .used) (now (a .table)) (kind .layout-of .ensures) (put .put-blank .ensures) (not-false _ (room .if1 .left)) whole (c .if2 .taken)
 
 cast-table : tie.Need-cast-table
 cast-table c =
@@ -76,7 +75,7 @@ cast-table c =
     let start = kind .before .before in
     let a = start .args in
     let whole = R.is-whole _ _ (now (a .text)) (a .at) _ _ _ (found .row-into .ensures) (row .count .given .1) in
-    let small = T.count-small (kindOf (a .kind)) (now (a .text)) (a .at) (a .used) (now (a .table)) (kind .layout-of .ensures) (put .put-blank .ensures) (not-false _ (room .if1 .left)) whole in
+    let small = T.count-small (a .kind) (now (a .text)) (a .at) (a .used) (now (a .table)) (kind .layout-of .ensures) (put .put-blank .ensures) (not-false _ (room .if1 .left)) whole in
     omega arith
 
 mul-t21 : tie.Need-mul-t21
@@ -84,7 +83,7 @@ mul-t21 c =
     let kind = c .before .before .before .before .before .before .before .before .before .before .before .before .before .before in
     let start = kind .before .before in
     let a = start .args in
-    let fits = T.product (kindOf (a .kind)) (now (a .text)) (a .at) (a .used) (now (a .table)) (kind .layout-of .ensures) (omega (arith, start .fits .used)) in
+    let fits = T.product (a .kind) (now (a .text)) (a .at) (a .used) (now (a .table)) (kind .layout-of .ensures) (omega (arith, start .fits .used)) in
     omega arith
 
 slice-set-from-table : tie.Need-slice-set-from-table
@@ -97,7 +96,7 @@ slice-set-from-table c =
     let start = kind .before .before in
     let a = start .args in
     let whole = R.is-whole _ _ (now (a .text)) (a .at) _ _ _ (found .row-into .ensures) (row .count .given .1) in
-    T.in-table (kindOf (a .kind)) (now (a .text)) (a .at) (a .used) (now (a .table)) (kind .layout-of .ensures) (put .put-blank .ensures) (not-false _ (room .if1 .left)) whole (c .if2 .left)
+    T.in-table (a .kind) (now (a .text)) (a .at) (a .used) (now (a .table)) (kind .layout-of .ensures) (put .put-blank .ensures) (not-false _ (room .if1 .left)) whole (c .if2 .left)
 
 enum-told : tie.Need-enum-told
 enum-told c = search needs
@@ -112,7 +111,7 @@ same-length-3 c =
     let start = kind .before .before in
     let a = start .args in
     let whole = R.is-whole _ _ (now (a .text)) (a .at) _ _ _ (found .row-into .ensures) (row .count .given .1) in
-    T.still-long (kindOf (a .kind)) (now (a .text)) (a .at) (a .used) (now (a .table)) (kind .layout-of .ensures) (put .put-blank .ensures) (not-false _ (room .if1 .left)) whole _ _
+    T.still-long (a .kind) (now (a .text)) (a .at) (a .used) (now (a .table)) (kind .layout-of .ensures) (put .put-blank .ensures) (not-false _ (room .if1 .left)) whole _ _
 
 returns-3 : tie.Need-returns-3
 returns-3 c =
@@ -124,8 +123,8 @@ returns-3 c =
     let start = kind .before .before in
     let a = start .args in
     let whole = R.is-whole _ _ (now (a .text)) (a .at) _ _ _ (found .row-into .ensures) (row .count .given .1) in
-    let small = T.count-small (kindOf (a .kind)) (now (a .text)) (a .at) (a .used) (now (a .table)) (kind .layout-of .ensures) (put .put-blank .ensures) (not-false _ (room .if1 .left)) whole in
-    T.taken-led (kindOf (a .kind)) (now (a .text)) (a .at) (a .used) (now (a .table)) (kind .layout-of .ensures) (put .put-blank .ensures) (not-false _ (room .if1 .left)) whole (c .if2 .left) _ (reads (row .count .given .0 .0) (omega arith))
+    let small = T.count-small (a .kind) (now (a .text)) (a .at) (a .used) (now (a .table)) (kind .layout-of .ensures) (put .put-blank .ensures) (not-false _ (room .if1 .left)) whole in
+    T.taken-led (a .kind) (now (a .text)) (a .at) (a .used) (now (a .table)) (kind .layout-of .ensures) (put .put-blank .ensures) (not-false _ (room .if1 .left)) whole (c .if2 .left) _ (reads (row .count .given .0 .0) (omega arith))
 
 same-length-4 : tie.Need-same-length-4
 same-length-4 c = search needs
@@ -138,7 +137,7 @@ returns-4 c =
     let kind = put .before .before .before in
     let start = kind .before .before in
     let a = start .args in
-    T.no-vertex (kindOf (a .kind)) (now (a .text)) (a .at) (a .used) (now (a .table)) (kind .layout-of .ensures) (put .put-blank .ensures) (not-false _ (room .if1 .left)) (R.is-not _ _ (now (a .text)) (a .at) _ _ _ (found .row-into .ensures) (c .enum-told .given .1))
+    T.no-vertex (a .kind) (now (a .text)) (a .at) (a .used) (now (a .table)) (kind .layout-of .ensures) (put .put-blank .ensures) (not-false _ (room .if1 .left)) (R.is-not _ _ (now (a .text)) (a .at) _ _ _ (found .row-into .ensures) (c .enum-told .given .1))
 
 pub take-vertex-spec : {M : Type 1} → statement M
 take-vertex-spec =

@@ -39,15 +39,6 @@ enum-told-9 c = search needs
 enum-told-10 : tie.Need-enum-told-10
 enum-told-10 c = search needs
 
-enum-known-form-2 : tie.Need-enum-known-form-2
-enum-known-form-2 c = search needs
-
-corner-number-requires-2 : tie.Need-corner-number-requires-2
-corner-number-requires-2 c κs = search needs
-
-enum-told-11 : tie.Need-enum-told-11
-enum-told-11 c = search needs
-
 returns : tie.Need-returns
 returns c = search needs
 
@@ -81,12 +72,6 @@ returns-10 c = search needs
 returns-11 : tie.Need-returns-11
 returns-11 c = search needs
 
-returns-12 : tie.Need-returns-12
-returns-12 c = rw (c .before .before .form2 .given .1) (c .corner-number2 .ensures)
-
-returns-13 : tie.Need-returns-13
-returns-13 c = search needs
-
 pub form-number-spec : {M : Type 1} → statement M
 form-number-spec =
     tie.close
@@ -103,9 +88,6 @@ form-number-spec =
     enum-told-8
     enum-told-9
     enum-told-10
-    enum-known-form-2
-    corner-number-requires-2
-    enum-told-11
     returns
     returns-2
     returns-3
@@ -116,6 +98,4 @@ form-number-spec =
     returns-8
     returns-9
     returns-10
-    returns-11
-    returns-12
-    returns-13)
+    returns-11)

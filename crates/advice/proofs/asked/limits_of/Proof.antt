@@ -69,18 +69,6 @@ enum-told-11 c = search needs
 limits-from-requires-11 : tie.Need-limits-from-requires-11
 limits-from-requires-11 c κs = search needs
 
-enum-told-12 : tie.Need-enum-told-12
-enum-told-12 c = search needs
-
-limits-from-requires-12 : tie.Need-limits-from-requires-12
-limits-from-requires-12 c κs = search needs
-
-enum-told-13 : tie.Need-enum-told-13
-enum-told-13 c = search needs
-
-limits-from-requires-13 : tie.Need-limits-from-requires-13
-limits-from-requires-13 c κs = search needs
-
 returns : tie.Need-returns
 returns c = rw (c .before .enum-told .given .1) (c .limits-from .ensures)
 
@@ -114,12 +102,6 @@ returns-10 c = rw (c .before .enum-told10 .given .1) (c .limits-from10 .ensures)
 returns-11 : tie.Need-returns-11
 returns-11 c = rw (c .before .enum-told11 .given .1) (c .limits-from11 .ensures)
 
-returns-12 : tie.Need-returns-12
-returns-12 c = rw (c .before .enum-told12 .given .1) (c .limits-from12 .ensures)
-
-returns-13 : tie.Need-returns-13
-returns-13 c = rw (c .before .enum-told13 .given .1) (c .limits-from13 .ensures)
-
 pub limits-of-spec : {M : Type 1} → statement M
 limits-of-spec =
     tie.close
@@ -146,10 +128,6 @@ limits-of-spec =
     limits-from-requires-10
     enum-told-11
     limits-from-requires-11
-    enum-told-12
-    limits-from-requires-12
-    enum-told-13
-    limits-from-requires-13
     returns
     returns-2
     returns-3
@@ -160,6 +138,4 @@ limits-of-spec =
     returns-8
     returns-9
     returns-10
-    returns-11
-    returns-12
-    returns-13)
+    returns-11)

@@ -17,11 +17,14 @@ enum-known-p c = search needs
 keyword-at-requires : tie.Need-keyword-at-requires
 keyword-at-requires c κs = search needs
 
+carried-of-requires : tie.Need-carried-of-requires
+carried-of-requires c κs = search needs
+
 word-end-requires : tie.Need-word-end-requires
 word-end-requires c κs =
-    let found = c .before .before .before .before in
-    let start = c .before .before .before .before .before .before in
-    let met = word-found (now (start .args .text)) (start .args .at) _ (found .gap .ensures) (c .before .before .p .given .1) in
+    let found = c .before .before .before .before .before in
+    let start = c .before .before .before .before .before .before .before in
+    let met = word-found (now (start .args .text)) (start .args .at) _ (found .gap .ensures) (c .before .before .before .p .given .1) in
     let more = met .more in
     let to = met .to in
     omega arith
@@ -40,11 +43,11 @@ enum-told-2 c = search needs
 
 returns : tie.Need-returns
 returns c =
-    let found = c .before .before .before .before .before .before .before in
-    let start = c .before .before .before .before .before .before .before .before .before in
-    let met = word-found (now (start .args .text)) (start .args .at) _ (found .gap .ensures) (c .before .before .before .before .before .p .given .1) in
+    let found = c .before .before .before .before .before .before .before .before in
+    let start = c .before .before .before .before .before .before .before .before .before .before in
+    let met = word-found (now (start .args .text)) (start .args .at) _ (found .gap .ensures) (c .before .before .before .before .before .before .p .given .1) in
     c .after-keyword .ensures
-    ∙ line-said (now (start .args .text)) (start .args .at) (start .args .said .tally) met (c .before .before .before .keyword-at .result) (c .before .before .before .keyword-at .ensures) (c .before .after-line .result) (c .before .after-line .ensures)
+    ∙ line-said (now (start .args .text)) (start .args .at) (start .args .said .tally) met (c .before .before .before .before .keyword-at .result) (c .before .before .before .before .keyword-at .ensures) (c .before .before .before .carried-of .result) (c .before .before .before .carried-of .ensures) (c .before .after-line .result) (c .before .after-line .ensures)
 
 returns-2 : tie.Need-returns-2
 returns-2 c =
@@ -63,6 +66,7 @@ with-line-spec =
     gap-requires
     enum-known-p
     keyword-at-requires
+    carried-of-requires
     word-end-requires
     after-line-requires
     after-keyword-requires

@@ -1,13 +1,12 @@
 -- By the tests on the way and the three kinds.
 use mathlib.Core.Path.{refl, sym, _∙_}
-use Rattle.elements.specs.Bodies.{freeOf}
 use Rattle.elements.proofs.Bodies.{no-degree, one-degree, two-degrees}
 use borrow.Author.Needs.{needs}
 use Rattle.elements.proofs.body.degrees_in.Statement.{statement}
 use Rattle.elements.proofs.body.degrees_in.Tie as tie
 
 returns : tie.Need-returns
-returns c = sym (no-degree (freeOf (c .before .before .args .free)) (c .before .before .args .form) (c .if1 .taken))
+returns c = sym (no-degree (c .before .before .args .free) (c .before .before .args .form) (c .if1 .taken))
 
 enum-told : tie.Need-enum-told
 enum-told c = search needs

@@ -3,7 +3,6 @@ use mathlib.Core.Path.{sym, _∙_}
 use borrow.Author.Tests.{not-true, not-false}
 use native.Mathlib.Omega.{arith}
 use denote.Ref.{now}
-use Rattle.elements.specs.Bodies.{freeOf}
 use Rattle.elements.proofs.BodyLines as L
 use borrow.Author.Needs.{needs}
 use Rattle.elements.proofs.body.take_body_line.Statement.{statement}
@@ -17,7 +16,7 @@ returns c =
     let forced = c .before in
     let start = forced .before .before .before .before in
     let a = start .args in
-    let k = freeOf (a .free) in
+    let k = a .free in
     let s = now (a .text) in
     let l = now (a .corners) in
     let e = now (a .elements) in
@@ -33,7 +32,7 @@ returns-2 c =
     let forced = room .before .before in
     let start = forced .before .before .before .before in
     let a = start .args in
-    let k = freeOf (a .free) in
+    let k = a .free in
     let s = now (a .text) in
     let l = now (a .corners) in
     let e = now (a .elements) in
@@ -63,7 +62,7 @@ take-controls-requires c κs =
     let forced = room .before .before in
     let start = forced .before .before .before .before in
     let a = start .args in
-    let k = freeOf (a .free) in
+    let k = a .free in
     let s = now (a .text) in
     let l = now (a .corners) in
     let e = now (a .elements) in
@@ -98,7 +97,7 @@ returns-3 c =
     let forced = room .before .before in
     let start = forced .before .before .before .before in
     let a = start .args in
-    let k = freeOf (a .free) in
+    let k = a .free in
     let s = now (a .text) in
     let l = now (a .corners) in
     let e = now (a .elements) in
@@ -121,7 +120,7 @@ returns-4 c =
     let forced = room .before .before in
     let start = forced .before .before .before .before in
     let a = start .args in
-    let k = freeOf (a .free) in
+    let k = a .free in
     let s = now (a .text) in
     let l = now (a .corners) in
     let e = now (a .elements) in
@@ -141,7 +140,7 @@ returns-5 c =
     let forced = room .before .before in
     let start = forced .before .before .before .before in
     let a = start .args in
-    let k = freeOf (a .free) in
+    let k = a .free in
     let s = now (a .text) in
     let l = now (a .corners) in
     let e = now (a .elements) in

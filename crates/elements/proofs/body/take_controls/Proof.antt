@@ -3,7 +3,6 @@ use Prim.Native.Nat.{_+_, _*_, _≤_}
 use mathlib.Core.Path.{sym, _∙_}
 use native.Mathlib.Omega.{arith}
 use denote.Ref.{now}
-use Rattle.elements.specs.Bodies.{freeOf}
 use Rattle.elements.proofs.Controls as C
 use borrow.Author.Needs.{needs}
 use Rattle.elements.proofs.body.take_controls.Statement.{statement}
@@ -33,7 +32,7 @@ all-wide-for-requires c κs =
     let called = known .before .before .before .before .before .before in
     let start = called .before .before .before .before .before .before .before .before in
     let a = start .args in
-    let k = freeOf (a .free) in
+    let k = a .free in
     let s = now (a .text) in
     let l = now (a .corners) in
     let e = now (a .elements) in
@@ -54,7 +53,7 @@ returns c =
     let called = known .before .before .before .before .before .before in
     let start = called .before .before .before .before .before .before .before .before in
     let a = start .args in
-    let k = freeOf (a .free) in
+    let k = a .free in
     let s = now (a .text) in
     let l = now (a .corners) in
     let e = now (a .elements) in
@@ -75,7 +74,7 @@ returns-2 c =
     let called = known .before .before .before .before .before .before in
     let start = called .before .before .before .before .before .before .before .before in
     let a = start .args in
-    let k = freeOf (a .free) in
+    let k = a .free in
     let s = now (a .text) in
     let l = now (a .corners) in
     let e = now (a .elements) in
@@ -95,7 +94,7 @@ returns-3 c =
     let called = known .before .before .before .before .before .before in
     let start = called .before .before .before .before .before .before .before .before in
     let a = start .args in
-    let k = freeOf (a .free) in
+    let k = a .free in
     let s = now (a .text) in
     let l = now (a .corners) in
     let e = now (a .elements) in

@@ -8,16 +8,16 @@ use denote.Ref.{now}
 use Rattle.text.proofs.Found as F
 use Rattle.faults.proofs.Walks as W
 use Rattle.text.specs.Rest.{wordAt}
-use Rattle.faults.proofs.Words.{by-form}
+use Rattle.faults.proofs.Words.{by-test}
 use Rattle.faults.specs.Faults.{seenBy}
 use Rattle.faults.proofs.walk.first_fault.Statement.{statement}
 use Rattle.faults.proofs.walk.first_fault.Tie as tie
 
 abbrev Inv-loop : tie.InvT-loop
-Inv-loop text at forms words seen vp argument-table i₀ index₀ i index = W.Faulting (seenBy seen) vp forms words text at i index
+Inv-loop text at tests words seen vp argument-table i₀ index₀ i index = W.Faulting (seenBy seen) vp tests words text at i index
 
 abbrev μ-loop : tie.MeasureT-loop
-μ-loop text at forms words seen vp argument-table i₀ index₀ i index = length text - i
+μ-loop text at tests words seen vp argument-table i₀ index₀ i index = length text - i
 
 loop-holds : tie.Need-loop-holds Inv-loop μ-loop
 loop-holds c = record { to = c .before .pre .0; small = omega arith; rest = refl }
@@ -28,8 +28,8 @@ gap-requires c κs = search needs
 enum-known-p : tie.Need-enum-known-p Inv-loop μ-loop
 enum-known-p c = search needs
 
-form-at-requires : tie.Need-form-at-requires Inv-loop μ-loop
-form-at-requires c κs = search needs
+test-at-requires : tie.Need-test-at-requires Inv-loop μ-loop
+test-at-requires c κs = search needs
 
 word-fault-requires : tie.Need-word-fault-requires Inv-loop μ-loop
 word-fault-requires c κs =
@@ -52,8 +52,8 @@ returns c =
     let start = turn .before .before in
     let a = start .args in
     let met = F.word-found (now (a .text)) (turn .loop .i) _ (found .gap .ensures) (c .before .before .before .before .before .before .p .given .1) in
-    let said = by-form (seenBy (a .seen)) (now (a .vp)) (wordAt (now (a .text)) (c .before .before .before .before .before .before .p .given .0 .0)) (sym (c .before .before .before .before .form-at .ensures)) (c .before .before .before .word-fault .ensures) in
-    W.fault-wrong (seenBy (a .seen)) (now (a .vp)) (a .forms) (a .words) (now (a .text)) (a .at) (turn .loop .i) (turn .loop .index) (turn .loop .inv) met (sym (c .before .number .given .1) ∙ said)
+    let said = by-test (seenBy (a .seen)) (now (a .vp)) (wordAt (now (a .text)) (c .before .before .before .before .before .before .p .given .0 .0)) (sym (c .before .before .before .before .test-at .ensures)) (c .before .before .before .word-fault .ensures) in
+    W.fault-wrong (seenBy (a .seen)) (now (a .vp)) (a .tests) (a .words) (now (a .text)) (a .at) (turn .loop .i) (turn .loop .index) (turn .loop .inv) met (sym (c .before .number .given .1) ∙ said)
 
 enum-told : tie.Need-enum-told Inv-loop μ-loop
 enum-told c = search needs
@@ -76,8 +76,8 @@ add-index c =
     let start = turn .before .before in
     let a = start .args in
     let met = F.word-found (now (a .text)) (turn .loop .i) _ (found .gap .ensures) (c .before .before .before .before .before .before .p .given .1) in
-    let said = by-form (seenBy (a .seen)) (now (a .vp)) (wordAt (now (a .text)) (c .before .before .before .before .before .before .p .given .0 .0)) (sym (c .before .before .before .before .form-at .ensures)) (c .before .before .before .word-fault .ensures) in
-    let next = W.fault-turn (seenBy (a .seen)) (now (a .vp)) (a .forms) (a .words) (now (a .text)) (a .at) (turn .loop .i) (turn .loop .index) (turn .loop .inv) met (c .word-end .ensures .0) (sym (c .before .enum-told .given .1) ∙ said) in
+    let said = by-test (seenBy (a .seen)) (now (a .vp)) (wordAt (now (a .text)) (c .before .before .before .before .before .before .p .given .0 .0)) (sym (c .before .before .before .before .test-at .ensures)) (c .before .before .before .word-fault .ensures) in
+    let next = W.fault-turn (seenBy (a .seen)) (now (a .vp)) (a .tests) (a .words) (now (a .text)) (a .at) (turn .loop .i) (turn .loop .index) (turn .loop .inv) met (c .word-end .ensures .0) (sym (c .before .enum-told .given .1) ∙ said) in
     let small = next .0 .small in
     let to = next .0 .to in
     search needs
@@ -89,8 +89,8 @@ loop-less c =
     let start = turn .before .before in
     let a = start .args in
     let met = F.word-found (now (a .text)) (turn .loop .i) _ (found .gap .ensures) (c .before .before .before .before .before .before .p .given .1) in
-    let said = by-form (seenBy (a .seen)) (now (a .vp)) (wordAt (now (a .text)) (c .before .before .before .before .before .before .p .given .0 .0)) (sym (c .before .before .before .before .form-at .ensures)) (c .before .before .before .word-fault .ensures) in
-    let next = W.fault-turn (seenBy (a .seen)) (now (a .vp)) (a .forms) (a .words) (now (a .text)) (a .at) (turn .loop .i) (turn .loop .index) (turn .loop .inv) met (c .word-end .ensures .0) (sym (c .before .enum-told .given .1) ∙ said) in
+    let said = by-test (seenBy (a .seen)) (now (a .vp)) (wordAt (now (a .text)) (c .before .before .before .before .before .before .p .given .0 .0)) (sym (c .before .before .before .before .test-at .ensures)) (c .before .before .before .word-fault .ensures) in
+    let next = W.fault-turn (seenBy (a .seen)) (now (a .vp)) (a .tests) (a .words) (now (a .text)) (a .at) (turn .loop .i) (turn .loop .index) (turn .loop .inv) met (c .word-end .ensures .0) (sym (c .before .enum-told .given .1) ∙ said) in
     let ahead = next .1 in
     let to = next .0 .to in
     omega arith
@@ -102,21 +102,21 @@ loop-again c =
     let start = turn .before .before in
     let a = start .args in
     let met = F.word-found (now (a .text)) (turn .loop .i) _ (found .gap .ensures) (c .before .before .before .before .before .before .p .given .1) in
-    let said = by-form (seenBy (a .seen)) (now (a .vp)) (wordAt (now (a .text)) (c .before .before .before .before .before .before .p .given .0 .0)) (sym (c .before .before .before .before .form-at .ensures)) (c .before .before .before .word-fault .ensures) in
-    let next = W.fault-turn (seenBy (a .seen)) (now (a .vp)) (a .forms) (a .words) (now (a .text)) (a .at) (turn .loop .i) (turn .loop .index) (turn .loop .inv) met (c .word-end .ensures .0) (sym (c .before .enum-told .given .1) ∙ said) in
+    let said = by-test (seenBy (a .seen)) (now (a .vp)) (wordAt (now (a .text)) (c .before .before .before .before .before .before .p .given .0 .0)) (sym (c .before .before .before .before .test-at .ensures)) (c .before .before .before .word-fault .ensures) in
+    let next = W.fault-turn (seenBy (a .seen)) (now (a .vp)) (a .tests) (a .words) (now (a .text)) (a .at) (turn .loop .i) (turn .loop .index) (turn .loop .inv) met (c .word-end .ensures .0) (sym (c .before .enum-told .given .1) ∙ said) in
     next .0
 
 enum-told-2 : tie.Need-enum-told-2 Inv-loop μ-loop
 enum-told-2 c = search needs
 
 returns-2 : tie.Need-returns-2 Inv-loop μ-loop
-returns-2 c = let turn = c .before .before .before in let a = turn .before .before .args in W.fault-none (seenBy (a .seen)) (now (a .vp)) (a .forms) (a .words) (now (a .text)) (a .at) (turn .loop .i) (turn .loop .index) (turn .loop .inv) (W.end-words (now (a .text)) (turn .loop .i) _ (c .before .before .gap .ensures) (c .enum-told2 .given .1))
+returns-2 c = let turn = c .before .before .before in let a = turn .before .before .args in W.fault-none (seenBy (a .seen)) (now (a .vp)) (a .tests) (a .words) (now (a .text)) (a .at) (turn .loop .i) (turn .loop .index) (turn .loop .inv) (W.end-words (now (a .text)) (turn .loop .i) _ (c .before .before .gap .ensures) (c .enum-told2 .given .1))
 
 enum-told-3 : tie.Need-enum-told-3 Inv-loop μ-loop
 enum-told-3 c = search needs
 
 returns-3 : tie.Need-returns-3 Inv-loop μ-loop
-returns-3 c = let turn = c .before .before .before in let a = turn .before .before .args in W.fault-none (seenBy (a .seen)) (now (a .vp)) (a .forms) (a .words) (now (a .text)) (a .at) (turn .loop .i) (turn .loop .index) (turn .loop .inv) (W.bad-words (now (a .text)) (turn .loop .i) _ (c .before .before .gap .ensures) (c .enum-told3 .given .1))
+returns-3 c = let turn = c .before .before .before in let a = turn .before .before .args in W.fault-none (seenBy (a .seen)) (now (a .vp)) (a .tests) (a .words) (now (a .text)) (a .at) (turn .loop .i) (turn .loop .index) (turn .loop .inv) (W.bad-words (now (a .text)) (turn .loop .i) _ (c .before .before .gap .ensures) (c .enum-told3 .given .1))
 
 pub first-fault-spec : {M : Type 1} → statement M
 first-fault-spec =
@@ -127,7 +127,7 @@ first-fault-spec =
     loop-holds
     gap-requires
     enum-known-p
-    form-at-requires
+    test-at-requires
     word-fault-requires
     enum-known-number
     returns

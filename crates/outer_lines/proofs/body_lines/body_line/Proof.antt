@@ -2,7 +2,6 @@
 use mathlib.Core.Path.{sym, _∙_}
 use borrow.Author.Tests.{not-true, not-false}
 use denote.Ref.{now}
-use Rattle.elements.specs.Bodies.{freeOf}
 use Rattle.outer_lines.proofs.Counts.{countable-parts}
 use Rattle.outer_lines.proofs.SteppedBodies.{body-inside, body-full, body-gave, body-long, body-took}
 use borrow.Author.Needs.{needs}
@@ -17,7 +16,7 @@ use Rattle.outer_lines.proofs.element_lines.countable.Reads as countabl
 returns : tie.Need-returns
 returns c =
     let a = c .before .before .before .before .before .before .args in
-    body-inside (freeOf (a .free)) (now (a .text)) (a .at) (a .state) (now (a .vp)) (now (a .corners)) _ (now (a .elements)) _ (a .bodies) (now (a .ranges)) _ (c .if1 .taken)
+    body-inside (a .free) (now (a .text)) (a .at) (a .state) (now (a .vp)) (now (a .corners)) _ (now (a .elements)) _ (a .bodies) (now (a .ranges)) _ (c .if1 .taken)
 
 countable-requires : tie.Need-countable-requires
 countable-requires c κs = search needs
@@ -25,7 +24,7 @@ countable-requires c κs = search needs
 returns-2 : tie.Need-returns-2
 returns-2 c =
     let a = c .before .before .before .before .before .before .before .before .before .args in
-    body-full (freeOf (a .free)) (now (a .text)) (a .at) (a .state) (now (a .vp)) (now (a .corners)) _ (now (a .elements)) _ (a .bodies) (now (a .ranges)) _ (sym (c .before .countable .ensures) ∙ not-true _ (c .if2 .taken))
+    body-full (a .free) (now (a .text)) (a .at) (a .state) (now (a .vp)) (now (a .corners)) _ (now (a .elements)) _ (a .bodies) (now (a .ranges)) _ (sym (c .before .countable .ensures) ∙ not-true _ (c .if2 .taken))
 
 take-body-line-requires : tie.Need-take-body-line-requires
 take-body-line-requires c κs =
@@ -56,7 +55,7 @@ returns-3 c =
     let tested = called .before .before .before .before .before .before .before in
     let start = tested .before .before .before .before .before .before in
     let a = start .args in
-    body-long (freeOf (a .free)) (now (a .text)) (a .at) (a .state) (now (a .vp)) (now (a .corners)) _ (now (a .elements)) _ (a .bodies) (now (a .ranges)) _ (tested .if1 .left) _ _ _
+    body-long (a .free) (now (a .text)) (a .at) (a .state) (now (a .vp)) (now (a .corners)) _ (now (a .elements)) _ (a .bodies) (now (a .ranges)) _ (tested .if1 .left) _ _ _
     (called .take-body-line .ensures) (told .count .given .1) (c .if3 .taken)
 
 one-body-requires : tie.Need-one-body-requires
@@ -80,7 +79,7 @@ returns-4 c =
     let called = c .before .before .before .before .before .before .before in
     let tested = called .before .before .before .before .before .before .before in
     let a = tested .before .before .before .before .before .before .args in
-    body-gave (freeOf (a .free)) (now (a .text)) (a .at) (a .state) (now (a .vp)) (now (a .corners)) _ (now (a .elements)) _ (a .bodies) (now (a .ranges)) _ (tested .if1 .left) _ (called .take-body-line .ensures) (c .enum-told .given .1)
+    body-gave (a .free) (now (a .text)) (a .at) (a .state) (now (a .vp)) (now (a .corners)) _ (now (a .elements)) _ (a .bodies) (now (a .ranges)) _ (tested .if1 .left) _ (called .take-body-line .ensures) (c .enum-told .given .1)
 
 same-length-7 : tie.Need-same-length-7
 same-length-7 c = search needs
@@ -97,7 +96,7 @@ returns-5 c =
     let called = told .before .before .before .before .before .before .before in
     let tested = called .before .before .before .before .before .before .before in
     let a = tested .before .before .before .before .before .before .args in
-    body-took (freeOf (a .free)) (now (a .text)) (a .at) (a .state) (now (a .vp)) (now (a .corners)) _ (now (a .elements)) _ (a .bodies) (now (a .ranges)) _ (tested .if1 .left) _ _ _
+    body-took (a .free) (now (a .text)) (a .at) (a .state) (now (a .vp)) (now (a .corners)) _ (now (a .elements)) _ (a .bodies) (now (a .ranges)) _ (tested .if1 .left) _ _ _
     (called .take-body-line .ensures) (told .count .given .1) _ (c .one-body .ensures)
 
 pub body-line-spec : {M : Type 1} → statement M

@@ -4,7 +4,6 @@ use native.Mathlib.Omega.{arith}
 use borrow.Author.Tests.{not-true, not-false}
 use denote.Ref.{now}
 use Rattle.tables.specs.declared.Used.{Used}
-use Rattle.elements.specs.Elements.{shapeOf}
 use Rattle.lines.specs.Stepping.{withUsed}
 use Rattle.outer_lines.proofs.Counts.{countable-parts}
 use Rattle.outer_lines.proofs.SteppedElements.{element-inside, element-full, element-gave, element-long, element-took}
@@ -21,7 +20,7 @@ use Rattle.lines.proofs.with_used.Reads as with-used-reads
 returns : tie.Need-returns
 returns c =
     let a = c .before .before .before .before .before .before .args in
-    element-inside (shapeOf (a .shape)) (now (a .text)) (a .at) (a .state) (now (a .corners)) _ (now (a .elements)) _ (c .if1 .taken)
+    element-inside (a .shape) (now (a .text)) (a .at) (a .state) (now (a .corners)) _ (now (a .elements)) _ (c .if1 .taken)
 
 countable-requires : tie.Need-countable-requires
 countable-requires c κs = search needs
@@ -29,7 +28,7 @@ countable-requires c κs = search needs
 returns-2 : tie.Need-returns-2
 returns-2 c =
     let a = c .before .before .before .before .before .before .before .before .before .args in
-    element-full (shapeOf (a .shape)) (now (a .text)) (a .at) (a .state) (now (a .corners)) _ (now (a .elements)) _ (sym (c .before .countable .ensures) ∙ not-true _ (c .if2 .taken))
+    element-full (a .shape) (now (a .text)) (a .at) (a .state) (now (a .corners)) _ (now (a .elements)) _ (sym (c .before .countable .ensures) ∙ not-true _ (c .if2 .taken))
 
 take-element-requires : tie.Need-take-element-requires
 take-element-requires c κs = search needs
@@ -53,7 +52,7 @@ returns-3 c =
     let tested = called .before .before .before .before .before .before in
     let start = tested .before .before .before .before .before .before in
     let a = start .args in
-    element-long (shapeOf (a .shape)) (now (a .text)) (a .at) (a .state) (now (a .corners)) _ (now (a .elements)) _ (tested .if1 .left) _ _ _
+    element-long (a .shape) (now (a .text)) (a .at) (a .state) (now (a .corners)) _ (now (a .elements)) _ (tested .if1 .left) _ _ _
     (called .take-element .ensures) (told .count .given .1) (c .if3 .taken)
 
 one-element-requires : tie.Need-one-element-requires
@@ -76,7 +75,7 @@ returns-4 c =
     let called = c .before .before .before .before .before .before in
     let tested = called .before .before .before .before .before .before in
     let a = tested .before .before .before .before .before .before .args in
-    element-gave (shapeOf (a .shape)) (now (a .text)) (a .at) (a .state) (now (a .corners)) _ (now (a .elements)) _ (tested .if1 .left) _ (called .take-element .ensures) (c .enum-told .given .1)
+    element-gave (a .shape) (now (a .text)) (a .at) (a .state) (now (a .corners)) _ (now (a .elements)) _ (tested .if1 .left) _ (called .take-element .ensures) (c .enum-told .given .1)
 
 same-length-5 : tie.Need-same-length-5
 same-length-5 c = search needs
@@ -90,7 +89,7 @@ returns-5 c =
     let called = told .before .before .before .before .before .before in
     let tested = called .before .before .before .before .before .before in
     let a = tested .before .before .before .before .before .before .args in
-    element-took (shapeOf (a .shape)) (now (a .text)) (a .at) (a .state) (now (a .corners)) _ (now (a .elements)) _ (tested .if1 .left) _ _ _
+    element-took (a .shape) (now (a .text)) (a .at) (a .state) (now (a .corners)) _ (now (a .elements)) _ (tested .if1 .left) _ _ _
     (called .take-element .ensures) (told .count .given .1) _ (c .with-used .ensures ∙ ap (λ (u : Used). withUsed u (a .state)) (c .before .one-element .ensures))
 
 pub element-line-spec : {M : Type 1} → statement M

@@ -5,7 +5,7 @@ use Prim.Native.Nat.{ℕ}
 use Rattle.text.specs.Written.{writtenLine}
 use Rattle.forms.specs.Written.{writtenWhole}
 use Rattle.keywords.specs.Keywords.{keywordOf}
-use Rattle.keywords.specs.declared.Statement.the-variants.{Degree}
+use Rattle.statements.specs.declared.Carried.the-variants.{Degree}
 use Rattle.emitting.proofs.Emissions.{emitted-then, emitted-is, emitted-spaced, emitted-whole}
 use Rattle.tidier.proofs.Turns.{emitted-line, spaced-one, spaced-two, degree-one, degree-two}
 use borrow.Author.Needs.{needs}

@@ -1,7 +1,7 @@
 -- The two lines, one after the other.
 use mathlib.Core.List.{_∷_}
 use Rattle.keywords.specs.Keywords.{keywordOf}
-use Rattle.keywords.specs.declared.Statement.the-variants.{BodyType, Degree}
+use Rattle.statements.specs.declared.Carried.the-variants.{BodyType, Degree}
 use Rattle.tidying.specs.Printed.{degreeWords}
 use Rattle.tidier.specs.Rows.{typeWords}
 use Rattle.emitting.proofs.Emissions.{emitted-then, emitted-is}

@@ -6,7 +6,7 @@ use lib.ListN.{take, drop}
 use Rattle.forms.specs.Written.{writtenNumber}
 use Rattle.keywords.specs.Keywords.{keywordOf}
 use Rattle.keywords.specs.Arguments.{argumentBytes}
-use Rattle.keywords.specs.declared.Statement.the-variants.{Parameters}
+use Rattle.statements.specs.declared.Carried.the-variants.{Parameters}
 use Rattle.emitting.proofs.Emissions.{emitted-then, emitted-spaced, emitted-whole}
 use Rattle.tidier.proofs.Turns.{emitted-line}
 use borrow.Author.Needs.{needs}

@@ -10,7 +10,7 @@ use Rattle.keywords.specs.Keywords.{keywordOf}
 use Rattle.keywords.specs.Arguments.{argumentBytes}
 use Rattle.keywords.specs.declared.Argument.{Argument}
 use Rattle.keywords.specs.declared.Argument.the-variants.{Rational}
-use Rattle.keywords.specs.declared.Statement.the-variants.{BodyType}
+use Rattle.statements.specs.declared.Carried.the-variants.{BodyType}
 use Rattle.tidier.specs.Rows.{basisArgument}
 use Rattle.emitting.proofs.Emissions.{emitted-then, emitted-is, emitted-spaced, emitted-whole}
 use Rattle.tidier.proofs.Turns.{emitted-line, spaced-one, spaced-two}

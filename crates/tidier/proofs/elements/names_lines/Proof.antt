@@ -1,6 +1,6 @@
 -- The three lines, one after the other.
 use denote.Ref.{now}
-use Rattle.keywords.specs.declared.Statement.the-variants.{Group, Material}
+use Rattle.statements.specs.declared.Carried.the-variants.{Group, Material}
 use Rattle.tidying.specs.Agree.{wordsAt}
 use Rattle.tidier.specs.TidyFrom.{changed, smoothed}
 use Rattle.emitting.proofs.Emissions.{emitted-then, emitted-is}

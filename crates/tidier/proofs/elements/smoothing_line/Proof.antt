@@ -3,7 +3,7 @@ use mathlib.Core.List.{[], _∷_}
 use denote.Ref.{now}
 use Rattle.forms.specs.Written.{writtenWhole}
 use Rattle.keywords.specs.Keywords.{keywordOf}
-use Rattle.keywords.specs.declared.Statement.the-variants.{Smoothing}
+use Rattle.statements.specs.declared.Carried.the-variants.{Smoothing}
 use Rattle.emitting.proofs.Emissions.{emitted-none, emitted-is, emitted-spaced, emitted-whole}
 use Rattle.tidier.proofs.Turns.{emitted-line, spaced-one, smoothed-none, smoothed-line}
 use borrow.Author.Needs.{needs}

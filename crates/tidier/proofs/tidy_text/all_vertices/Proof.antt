@@ -5,7 +5,8 @@ use mathlib.Core.Bool.{true, false}
 use Prim.Native.Nat.{ℕ}
 use denote.Ref.{now}
 use Rattle.text.specs.Written.{writtenLines}
-use Rattle.keywords.specs.declared.Statement.the-variants.{Vertex, TextureVertex, VertexNormal, ParameterVertex}
+use Rattle.statements.specs.declared.Carried.the-variants.{Vertex}
+use Rattle.statements.specs.declared.VertexKind.the-variants.{Geometric, Texture, Normal, Parametric}
 use Rattle.tidying.specs.declared.Weights.the-variants.{Always}
 use Rattle.tidier.specs.Rows.{vertexRows}
 use Rattle.emitting.proofs.Emissions.{emitted-then, emitted-is}
@@ -32,10 +33,10 @@ same-length c = search needs
 returns : tie.Need-returns
 returns c =
     let a = c .before .before .before .before .before .before .before .before .before .before .before .before .before .before .before .before .before .args in
-    let v = vertexRows Vertex false (a .weights) 4 (a .used .v) (now (a .v)) in
-    let vt = vertexRows TextureVertex false Always 3 (a .used .vt) (now (a .vt)) in
-    let vn = vertexRows VertexNormal false Always 3 (a .used .vn) (now (a .vn)) in
-    let vp = vertexRows ParameterVertex true (a .weights) 4 (a .used .vp) (now (a .vp)) in
+    let v = vertexRows (Vertex Geometric) false (a .weights) 4 (a .used .v) (now (a .v)) in
+    let vt = vertexRows (Vertex Texture) false Always 3 (a .used .vt) (now (a .vt)) in
+    let vn = vertexRows (Vertex Normal) false Always 3 (a .used .vn) (now (a .vn)) in
+    let vp = vertexRows (Vertex Parametric) true (a .weights) 4 (a .used .vp) (now (a .vp)) in
     emitted-is (ap (λ (t : List ℕ). writtenLines v ++ t) (three-lines vt vn vp) ∙ lines-append v (vt ++ (vn ++ vp)))
     (emitted-then (c .before .before .before .before .before .before .before .before .before .before .before .before .before .before .vertex-lines .ensures)
     (emitted-then (c .before .before .before .before .before .before .before .before .before .before .vertex-lines2 .ensures) (emitted-then (c .before .before .before .before .before .before .vertex-lines3 .ensures) (c .before .before .vertex-lines4 .ensures))))
