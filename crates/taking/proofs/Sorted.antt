@@ -30,13 +30,14 @@ use Rattle.state.proofs.Bounds.{later}
 use Rattle.faults.specs.declared.Refusal.{Refusal}
 use Rattle.faults.specs.declared.Refusal.the-variants as refusal
 use Rattle.blame.specs.Blame.{BlameIs}
+use Rattle.taking.specs.declared.families.Family.{Family}
 use Rattle.taking.specs.declared.Line as lines
 use Rattle.taking.specs.declared.Line.the-variants.{Next, Stopped}
 use Rattle.lines.specs.declared.Step.{Step}
 use Rattle.lines.specs.declared.Step.the-variants.{Taken, Refuses, GaveUp}
 use Rattle.lines.specs.Holding.{Holds, NextLine, lineSays, WithinLimit}
 use Rattle.lines.specs.Stepping.{Began, stepIs}
-use Rattle.taking.specs.Taking.{lineIs, statementIs, stoppedBy}
+use Rattle.taking.specs.Taking.{lineIs, familyOf, familyIs, statementIs, stoppedBy}
 use Rattle.lines.proofs.Given.{given-in}
 use Rattle.taking.proofs.Blamed.{stops, blamed, unknown-blamed}
 
@@ -84,8 +85,29 @@ module _ (s : List ℕ) (at : ℕ) (c : State) (t u : Tables) (r : Step) (key : 
 
 -- ---- the tables lent on
 module _ (s : List ℕ) (at : ℕ) (c : State) (r : Step) where
-  pub statement-step : (t u : Tables) {f g : Statement} → f ≡ g → statementIs g s at c t u r → statementIs f s at c t u r
-  statement-step t u e h = subst (λ (f : Statement). statementIs f s at c t u r) (sym e) h
+  pub family-step : (t u : Tables) {f g : Family} → f ≡ g → familyIs g s at c t u r → familyIs f s at c t u r
+  family-step t u e h = subst (λ (f : Family). familyIs f s at c t u r) (sym e) h
+
+  -- what the function of its family promises is what is asked of the statement
+  pub by-family : (t u : Tables) (k : Statement) (f : Family) → f ≡ familyOf k → familyIs f s at c t u r → statementIs k s at c t u r
+  by-family t u k f e h = go k (subst (λ (f : Family). familyIs f s at c t u r) e h)
+    where
+      go : (k : Statement) → familyIs (familyOf k) s at c t u r → statementIs k s at c t u r
+      go (Carried (Vertex k)) h = h
+      go (Carried (Element k)) h = h
+      go (Carried (Body k)) h = h
+      go (Carried Parameters) h = h
+      go (Carried Trim) h = h
+      go (Carried Hole) h = h
+      go (Carried End) h = h
+      go (Carried BodyType) h = h
+      go (Carried Degree) h = h
+      go (Carried Group) h = h
+      go (Carried Smoothing) h = h
+      go (Carried Material) h = h
+      go (Carried PassedOver) h = h
+      go Refused h = h
+      go Unknown h = h
 
 -- ---- no keyword
 module _ (s : List ℕ) (p : ℕ) (c : State) (t : Tables) where

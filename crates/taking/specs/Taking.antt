@@ -7,18 +7,57 @@ use Rattle.text.specs.Rest.{restAt}
 use Rattle.tables.specs.Tables.{Tables}
 use Rattle.statements.specs.declared.Statement.{Statement}
 use Rattle.statements.specs.declared.Statement.the-variants.{Carried, Refused, Unknown}
-use Rattle.model.specs.Parse.{fault}
+use Rattle.statements.specs.declared.Carried as carried
+use Rattle.statements.specs.declared.Carried.the-variants as carrying
+use Rattle.model.specs.Parse.{fault, a-vertex, an-element, a-body, parm, ends}
 use Rattle.model.specs.Model as model
 use Rattle.model.specs.Room.{Rooms}
 use Rattle.state.specs.declared.State.{State}
+use Rattle.bodies.specs.Loops.{loopWord}
 use Rattle.faults.specs.declared.Refusal.{Refusal}
 use Rattle.faults.specs.declared.Refusal.the-variants as refusal
+use Rattle.outer_lines.specs.declared.setting_lines.Setting.the-variants.{BodyType, Degree, Group, Smoothing, Material, PassedOver}
+use Rattle.outer_lines.specs.InForce.{settingOf}
+use Rattle.taking.specs.declared.families.Family.{Family}
+use Rattle.taking.specs.declared.families.Family.the-variants.{Vertex, Element, Body, Parameters, Loop, End, Set, Other}
 use Rattle.taking.specs.declared.Line as lines
 use Rattle.taking.specs.declared.Line.the-variants.{Next, Stopped}
 use Rattle.lines.specs.declared.Step.{Step}
 use Rattle.lines.specs.declared.Step.the-variants.{GaveUp}
 use Rattle.lines.specs.Holding.{Holds, lineSays, WithinLimit, NextLine}
 use Rattle.lines.specs.Stepping.{stepIs}
+
+-- ---- statements by the function that takes their line
+abbrev pub familyIn : carried.Carried → Family
+familyIn (carrying.Vertex k) = Vertex k
+familyIn (carrying.Element k) = Element k
+familyIn (carrying.Body k) = Body k
+familyIn carrying.Parameters = Parameters
+familyIn carrying.Trim = Loop false
+familyIn carrying.Hole = Loop true
+familyIn carrying.End = End
+familyIn carrying.BodyType = Set BodyType
+familyIn carrying.Degree = Set Degree
+familyIn carrying.Group = Set Group
+familyIn carrying.Smoothing = Set Smoothing
+familyIn carrying.Material = Set Material
+familyIn carrying.PassedOver = Set PassedOver
+
+abbrev pub familyOf : Statement → Family
+familyOf (Carried k) = familyIn k
+familyOf Refused = Other
+familyOf Unknown = Other
+
+-- the tables held t and then hold u
+abbrev pub familyIs : Family → List ℕ → ℕ → State → Tables → Tables → Step → Type 0
+familyIs (Vertex k) s at c t u r = stepIs s at (a-vertex k) c t u r
+familyIs (Element k) s at c t u r = stepIs s at (an-element k) c t u r
+familyIs (Body k) s at c t u r = stepIs s at (a-body k) c t u r
+familyIs Parameters s at c t u r = stepIs s at parm c t u r
+familyIs (Loop hole) s at c t u r = stepIs s at (loopWord hole) c t u r
+familyIs End s at c t u r = stepIs s at ends c t u r
+familyIs (Set k) s at c t u r = stepIs s at (settingOf k) c t u r
+familyIs Other s at c t u r = (r ≡ GaveUp) × (u ≡ t)
 
 -- the tables held t and then hold u; a statement that is known to be refused, or is not known, is left to be refused
 abbrev pub statementIs : Statement → List ℕ → ℕ → State → Tables → Tables → Step → Type 0

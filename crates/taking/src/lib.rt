@@ -1,5 +1,7 @@
 // The line at a place: its statement found and its words taken, or its refusal.
-mod by_statement; // a line's function by its statement
+mod families; // statements by the function that takes their line
+mod by_family; // a line's function by its family
+mod by_statement; // a line by its statement
 
 use crate::by_statement::take_line;
 use faults::Refusal;
