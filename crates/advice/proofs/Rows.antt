@@ -3,6 +3,7 @@ use Prim.Native.Nat.{ℕ}
 use mathlib.Core.Path.{_≡_, refl, ap}
 use mathlib.Core.List.{List}
 use lib.IntN.{ℤ}
+use lib.ListN.{drop}
 use Rattle.text.specs.Words.{wordOf}
 use Rattle.keywords.specs.Keywords.{keywordAt, statementOf}
 use Rattle.keywords.specs.declared.Keyword.{Keyword}
@@ -14,9 +15,9 @@ use Rattle.advice.specs.declared.asked.RuleRow.{RuleRow}
 use Rattle.advice.specs.declared.asked.Limits.{Limits}
 use Rattle.advice.specs.Asked.{standingNumber, multipleOf, formNumber, limitsOf, rowOf}
 
-pub statement-at : (s : List ℕ) (k : Keyword) → k ≡ keywordAt s 0 → k .statement ≡ statementOf (wordOf s)
+pub statement-at : (s : List ℕ) (at : ℕ) (k : Keyword) → k ≡ keywordAt s at → k .statement ≡ statementOf (wordOf (drop at s))
 unfolding keywordAt
-statement-at s k e = ap (λ (k : Keyword). k .statement) e
+statement-at s at k e = ap (λ (k : Keyword). k .statement) e
 
 pub row-eq : (k : Carried) (n i : ℕ) (r : Rules) (f : WordForm) (l : Limits) (x least most multiple y : ℕ) (low high : ℤ)
     → r ≡ rulesOf k → f ≡ formBy (r .forms) n i → l ≡ limitsOf f

@@ -13,6 +13,8 @@ use Rattle.statements.specs.declared.rules.WordForm.the-variants as form
 use Rattle.statements.specs.declared.rules.Standing.{Standing}
 use Rattle.statements.specs.declared.rules.Standing.the-variants as standing
 use Rattle.statements.specs.declared.rules.Count.{Count}
+use Rattle.statements.specs.declared.rules.Forms.{Forms}
+use Rattle.statements.specs.declared.rules.Forms.the-variants as forms
 use Rattle.statements.specs.declared.rules.Count.the-variants as count
 use Rattle.advice.specs.declared.asked.RuleRow.{RuleRow}
 use Rattle.advice.specs.declared.asked.Limits.{Limits}
@@ -65,6 +67,14 @@ limitsOf form.Rational = limitsBy (pos 0) (pos 0)
 limitsOf form.Degree = limitsBy (pos 1) (pos 20)
 limitsOf form.Smoothing = limitsBy (pos 0) (pos 65535)
 limitsOf form.Name = limitsBy (pos 1) (pos 255)
+
+-- "curv 4 or more (range, controls)": the words of the range
+abbrev pub rangeIn : Forms → ℕ
+rangeIn (forms.All f) = 0
+rangeIn (forms.Range r f) = r
+rangeIn forms.Parameters = 0
+rangeIn forms.Loop = 0
+rangeIn forms.Type = 0
 
 -- the statement whose rules a keyword's line has; a line that is refused by its keyword has the rules of one that is passed over
 abbrev pub carriedOf : Statement → Carried

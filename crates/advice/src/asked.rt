@@ -2,19 +2,20 @@
 use statements::Carried;
 use statements::Statement;
 use statements::rules::Count;
+use statements::rules::Forms;
 use statements::rules::Parts;
 use statements::rules::Standing;
 use statements::rules::WordForm;
 use statements::rules::fewest_words;
 use statements::rules::form_at;
 use statements::rules::most_words;
-use statements::rules::range_words;
 use statements::rules::rules_of;
 ghost use mathlib.Core.Path.{_≡_};
 ghost use lib.ListN.{drop};
 ghost use Rattle.text.specs.Words.{wordOf};
 ghost use Rattle.keywords.specs.Keywords.{keywordTable, statementOf};
-ghost use Rattle.advice.specs.Asked.{standingNumber, multipleOf, cornerNumber, formNumber, limitsOf, carriedOf, rowOf};
+ghost use Rattle.advice.specs.Asked.{standingNumber, multipleOf, cornerNumber, formNumber, limitsOf, rangeIn, carriedOf, rowOf};
+ghost use Rattle.statements.specs.Rules.{rulesOf};
 
 // Where the statement may stand; how many words follow the keyword, at least, at most, and a multiple of how many; the form that a word has to have, and the
 // least and the greatest value that it may have.
@@ -155,14 +156,27 @@ pub fn rules_of_keyword(keyword: &[u8], words: usize, index: usize) -> RuleRow
     }
 }
 
-// How many words before its controls the line of a body has, its keyword at `at`.
+// How many words of a line are a range, before its controls.
+fn range_in(forms: Forms) -> usize
+    ensures { λ r. ⌜ r ≡ rangeIn forms ⌝ }
+{
+    match forms {
+        Forms::All(_) => 0,
+        Forms::Range { words, control: _ } => words,
+        Forms::Parameters => 0,
+        Forms::Loop => 0,
+        Forms::Type => 0,
+    }
+}
+
+// The same of the line whose keyword stands at `at`.
 pub fn words_of_range(text: &[u8], at: usize, table: &[u8; 528]) -> usize
     requires { ⌜ now table ≡ keywordTable ⌝ }
+    ensures { λ r. ⌜ r ≡ rangeIn (rulesOf (carriedOf (statementOf (wordOf (drop at (now (text .entry)))))) .forms) ⌝ }
 {
     let found = keywords::keyword_at(text, at, table);
     let statement = found.statement;
-    match carried_of(statement) {
-        Carried::Body(free) => range_words(free),
-        _ => 0,
-    }
+    let rules = rules_of(carried_of(statement));
+    let forms = rules.forms;
+    range_in(forms)
 }

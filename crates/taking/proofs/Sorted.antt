@@ -37,7 +37,7 @@ use Rattle.lines.specs.declared.Step.{Step}
 use Rattle.lines.specs.declared.Step.the-variants.{Taken, Refuses, GaveUp}
 use Rattle.lines.specs.Holding.{Holds, NextLine, lineSays, WithinLimit}
 use Rattle.lines.specs.Stepping.{Began, stepIs}
-use Rattle.taking.specs.Taking.{lineIs, familyOf, familyIs, statementIs, stoppedBy}
+use Rattle.taking.specs.Taking.{lineIs, familyIn, familyOf, familyIs, stoppedBy}
 use Rattle.lines.proofs.Given.{given-in}
 use Rattle.taking.proofs.Blamed.{stops, blamed, unknown-blamed}
 
@@ -78,8 +78,23 @@ marked Material = refl
 marked PassedOver = refl
 
 module _ (s : List ℕ) (at : ℕ) (c : State) (t u : Tables) (r : Step) (key : ℕ) where
-  sorted : (k : Statement) → statementIs k s at c t u r → Known s at c t u r k key ⊎ Strange t u r k key
-  sorted (Carried k) h = inl (record { keyword = k; is = refl; ended = marked k; step = h })
+  carried-step : (k : carried.Carried) → familyIs (familyIn k) s at c t u r → stepIs s at k c t u r
+  carried-step (Vertex k) h = h
+  carried-step (Element k) h = h
+  carried-step (Body k) h = h
+  carried-step Parameters h = h
+  carried-step Trim h = h
+  carried-step Hole h = h
+  carried-step End h = h
+  carried-step BodyType h = h
+  carried-step Degree h = h
+  carried-step Group h = h
+  carried-step Smoothing h = h
+  carried-step Material h = h
+  carried-step PassedOver h = h
+
+  sorted : (k : Statement) → familyIs (familyOf k) s at c t u r → Known s at c t u r k key ⊎ Strange t u r k key
+  sorted (Carried k) h = inl (record { keyword = k; is = refl; ended = marked k; step = carried-step k h })
   sorted Refused h = inr (record { number = 4; is = refl; gave-up = h .0; kept = h .1 })
   sorted Unknown h = inr (record { number = 3; is = refl; gave-up = h .0; kept = h .1 })
 
@@ -87,27 +102,6 @@ module _ (s : List ℕ) (at : ℕ) (c : State) (t u : Tables) (r : Step) (key : 
 module _ (s : List ℕ) (at : ℕ) (c : State) (r : Step) where
   pub family-step : (t u : Tables) {f g : Family} → f ≡ g → familyIs g s at c t u r → familyIs f s at c t u r
   family-step t u e h = subst (λ (f : Family). familyIs f s at c t u r) (sym e) h
-
-  -- what the function of its family promises is what is asked of the statement
-  pub by-family : (t u : Tables) (k : Statement) (f : Family) → f ≡ familyOf k → familyIs f s at c t u r → statementIs k s at c t u r
-  by-family t u k f e h = go k (subst (λ (f : Family). familyIs f s at c t u r) e h)
-    where
-      go : (k : Statement) → familyIs (familyOf k) s at c t u r → statementIs k s at c t u r
-      go (Carried (Vertex k)) h = h
-      go (Carried (Element k)) h = h
-      go (Carried (Body k)) h = h
-      go (Carried Parameters) h = h
-      go (Carried Trim) h = h
-      go (Carried Hole) h = h
-      go (Carried End) h = h
-      go (Carried BodyType) h = h
-      go (Carried Degree) h = h
-      go (Carried Group) h = h
-      go (Carried Smoothing) h = h
-      go (Carried Material) h = h
-      go (Carried PassedOver) h = h
-      go Refused h = h
-      go Unknown h = h
 
 -- ---- no keyword
 module _ (s : List ℕ) (p : ℕ) (c : State) (t : Tables) where
@@ -134,8 +128,8 @@ module _ (s : List ℕ) (p key : ℕ) (kw : spelled.Keyword) (met : WordMet s p 
       go true = (let x = met .more in let y = met .to in omega arith)
       go false = met .to
 
-module _ (s : List ℕ) (p key : ℕ) (c : State) (t u : Tables) (kw : spelled.Keyword) (r : Step) (met : WordMet s p key)
-    (found : kw ≡ keywordAt s key) (done : statementIs (kw .statement) s (kw .end) c t u r) where
+module _ (s : List ℕ) (p key : ℕ) (c : State) (t u : Tables) (kw : spelled.Keyword) (f : Family) (r : Step) (met : WordMet s p key)
+    (found : kw ≡ keywordAt s key) (family : f ≡ familyOf (kw .statement)) (done : familyIs f s (kw .end) c t u r) where
   abbrev w : Word
   w = wordAt s key
 
@@ -147,7 +141,7 @@ module _ (s : List ℕ) (p key : ℕ) (c : State) (t u : Tables) (kw : spelled.K
   here =
       let k-is : kw .statement ≡ k = ap (λ (q : spelled.Keyword). q .statement) found in
       let e-is : kw .end ≡ cond (eqb (letterOf k) 32) key (endOf s key) = ap (λ (q : spelled.Keyword). q .end) found in
-      let g : statementIs k s (kw .end) c t u r = subst (λ (g : Statement). statementIs g s (kw .end) c t u r) k-is done in
+      let g : familyIs (familyOf k) s (kw .end) c t u r = subst (λ (g : Family). familyIs g s (kw .end) c t u r) (family ∙ ap familyOf k-is) done in
       ⊎-elim
       (λ (n : Known s (kw .end) c t u r k key).
       let e : kw .end ≡ endOf s key = e-is ∙ ap (λ (b : Bool). cond b key (endOf s key)) (n .ended) in

@@ -48,7 +48,7 @@ familyOf (Carried k) = familyIn k
 familyOf Refused = Other
 familyOf Unknown = Other
 
--- the tables held t and then hold u
+-- the tables held t and then hold u; a statement that is known to be refused, or is not known, is left to be refused
 abbrev pub familyIs : Family → List ℕ → ℕ → State → Tables → Tables → Step → Type 0
 familyIs (Vertex k) s at c t u r = stepIs s at (a-vertex k) c t u r
 familyIs (Element k) s at c t u r = stepIs s at (an-element k) c t u r
@@ -58,12 +58,6 @@ familyIs (Loop hole) s at c t u r = stepIs s at (loopWord hole) c t u r
 familyIs End s at c t u r = stepIs s at ends c t u r
 familyIs (Set k) s at c t u r = stepIs s at (settingOf k) c t u r
 familyIs Other s at c t u r = (r ≡ GaveUp) × (u ≡ t)
-
--- the tables held t and then hold u; a statement that is known to be refused, or is not known, is left to be refused
-abbrev pub statementIs : Statement → List ℕ → ℕ → State → Tables → Tables → Step → Type 0
-statementIs (Carried k) s at c t u r = stepIs s at k c t u r
-statementIs Refused s at c t u r = (r ≡ GaveUp) × (u ≡ t)
-statementIs Unknown s at c t u r = (r ≡ GaveUp) × (u ≡ t)
 
 -- ---- a line
 -- what the code finds in the line at `at`, after n bytes were read, in the state c with the tables t, which it leaves as u

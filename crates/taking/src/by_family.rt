@@ -16,8 +16,8 @@ ghost use Rattle.keywords.specs.Arguments.{argumentTable};
 ghost use Rattle.tables.specs.Tables.{Tables, tables};
 ghost use Rattle.taking.specs.Taking.{familyIs};
 
-// A line of a statement of that family, from just after its keyword on.
-pub fn take_family(
+// A line from just after its keyword on.
+pub fn take_line(
     family: Family,
     text: &[u8],
     at: usize,

@@ -1,9 +1,9 @@
 // The line at a place: its statement found and its words taken, or its refusal.
 mod families; // statements by the function that takes their line
 mod by_family; // a line's function by its family
-mod by_statement; // a line by its statement
 
-use crate::by_statement::take_line;
+use crate::by_family::take_line;
+use crate::families::family_of;
 use faults::Refusal;
 use lines::Step;
 use state::State;
@@ -73,8 +73,9 @@ pub fn line_at(
         Met::Start(p) => {
             let keyword = keywords::keyword_at(text, p, keyword_table);
             let statement = keyword.statement;
+            let family = family_of(statement);
             match take_line(
-                statement,
+                family,
                 text,
                 keyword.end,
                 state,

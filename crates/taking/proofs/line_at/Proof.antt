@@ -12,8 +12,9 @@ use Rattle.taking.proofs.line_at.Reads as reads
 use Rattle.taking.proofs.line_at.Lts as lts
 use Rattle.blame.proofs.blame.Reads as blame-reads
 use Rattle.keywords.proofs.keyword_at.Reads as keyword-at-reads
+use Rattle.taking.proofs.families.family_of.Reads as family-of-reads
 use Rattle.taking.proofs.stopped.Reads as stopped-reads
-use Rattle.taking.proofs.by_statement.take_line.Reads as take-line-reads
+use Rattle.taking.proofs.by_family.take_line.Reads as take-line-reads
 use Rattle.text.proofs.gap.Reads as gap-reads
 
 gap-requires : tie.Need-gap-requires
@@ -31,12 +32,15 @@ enum-known-p-2 c = search needs
 keyword-at-requires : tie.Need-keyword-at-requires
 keyword-at-requires c κs = search needs
 
+family-of-requires : tie.Need-family-of-requires
+family-of-requires c κs = search needs
+
 take-line-requires : tie.Need-take-line-requires
 take-line-requires c κs =
-    let g = c .before .before .before .before .before .before .before .before .before .before .before .before .before .before .before in
+    let g = c .before .before .before .before .before .before .before .before .before .before .before .before .before .before .before .before in
     let start = g .before .before .before .before .before .before in
     let a = start .args in
-    ((keyword-to (now (a .text)) (a .at) _ (c .before .before .before .before .before .before .before .before .before .before .before .keyword-at .result) (word-found (now (a .text)) (a .at) (g .gap .result) (g .gap .ensures) (c .before .before .before .before .before .before .before .before .before .before .before .before .before .p2 .given .1)) (c .before .before .before .before .before .before .before .before .before .before .before .keyword-at .ensures), start .pre .0 .1), start .pre .1 .1)
+    ((keyword-to (now (a .text)) (a .at) _ (c .before .before .before .before .before .before .before .before .before .before .before .before .keyword-at .result) (word-found (now (a .text)) (a .at) (g .gap .result) (g .gap .ensures) (c .before .before .before .before .before .before .before .before .before .before .before .before .before .before .p2 .given .1)) (c .before .before .before .before .before .before .before .before .before .before .before .before .keyword-at .ensures), start .pre .0 .1), start .pre .1 .1)
 
 enum-known-state : tie.Need-enum-known-state
 enum-known-state c = search needs
@@ -49,7 +53,7 @@ enum-told c = search needs
 
 blame-requires : tie.Need-blame-requires
 blame-requires c κs =
-    let start = c .before .before .before .before .before .before .before .before .before .before .before .before .before .before .before .before .before .before .before .before .before .before .before .before .before .before .before .before .before .before .before .before .before .before .before .before .before .before .before .before in
+    let start = c .before .before .before .before .before .before .before .before .before .before .before .before .before .before .before .before .before .before .before .before .before .before .before .before .before .before .before .before .before .before .before .before .before .before .before .before .before .before .before .before .before in
     let below = start .pre .0 .0 in
     (omega (arith, below), (start .pre .1 .0, start .pre .1 .1))
 
@@ -104,14 +108,15 @@ same-length-11 c = c .before .before .before .before .before .before .before .be
 returns-3 : tie.Need-returns-3
 returns-3 c =
     let took = c .before .before .before .before .before .before .before .before .before .before .before .before .before .before .before .before .before .before in
-    let key = took .before .before .before .before .before .before .before .before .before .before .before .before in
+    let sorted = took .before .before .before .before .before .before .before .before .before .before .before .before in
+    let key = sorted .before in
     let g = key .before .before .before .before in
     let start = g .before .before .before .before .before .before in
     let a = start .args in
     let s = now (a .text) in
     let met = word-found s (a .at) (g .gap .result) (g .gap .ensures) (key .before .before .p2 .given .1) in
-    line-taken s (a .at) _ (a .state) (tables (now (a .v)) (now (a .vt)) (now (a .vn)) (now (a .vp)) (now (a .corners)) (now (a .elements)) (now (a .bodies)) (now (a .ranges)) (now (a .parameters)) (now (a .loops)) (now (a .spans))) (tables (took .take-line .last .1 .1 .1 .1 .0) (took .take-line .last .1 .1 .1 .1 .1 .0) (took .take-line .last .1 .1 .1 .1 .1 .1 .0) (took .take-line .last .1 .1 .1 .1 .1 .1 .1 .0) (took .take-line .last .1 .1 .1 .1 .1 .1 .1 .1 .0) (took .take-line .last .1 .1 .1 .1 .1 .1 .1 .1 .1 .0) (took .take-line .last .1 .1 .1 .1 .1 .1 .1 .1 .1 .1 .0) (took .take-line .last .1 .1 .1 .1 .1 .1 .1 .1 .1 .1 .1 .0) (took .take-line .last .1 .1 .1 .1 .1 .1 .1 .1 .1 .1 .1 .1 .0) (took .take-line .last .1 .1 .1 .1 .1 .1 .1 .1 .1 .1 .1 .1 .1 .0) (took .take-line .last .1 .1 .1 .1 .1 .1 .1 .1 .1 .1 .1 .1 .1 .1 .0)) (key .keyword-at .result) (took .take-line .result)
-    met (key .keyword-at .ensures) (took .take-line .ensures) _ _ (c .before .state .given .1)
+    line-taken s (a .at) _ (a .state) (tables (now (a .v)) (now (a .vt)) (now (a .vn)) (now (a .vp)) (now (a .corners)) (now (a .elements)) (now (a .bodies)) (now (a .ranges)) (now (a .parameters)) (now (a .loops)) (now (a .spans))) (tables (took .take-line .last .1 .1 .1 .1 .0) (took .take-line .last .1 .1 .1 .1 .1 .0) (took .take-line .last .1 .1 .1 .1 .1 .1 .0) (took .take-line .last .1 .1 .1 .1 .1 .1 .1 .0) (took .take-line .last .1 .1 .1 .1 .1 .1 .1 .1 .0) (took .take-line .last .1 .1 .1 .1 .1 .1 .1 .1 .1 .0) (took .take-line .last .1 .1 .1 .1 .1 .1 .1 .1 .1 .1 .0) (took .take-line .last .1 .1 .1 .1 .1 .1 .1 .1 .1 .1 .1 .0) (took .take-line .last .1 .1 .1 .1 .1 .1 .1 .1 .1 .1 .1 .1 .0) (took .take-line .last .1 .1 .1 .1 .1 .1 .1 .1 .1 .1 .1 .1 .1 .0) (took .take-line .last .1 .1 .1 .1 .1 .1 .1 .1 .1 .1 .1 .1 .1 .1 .0)) (key .keyword-at .result) (sorted .family-of .result) (took .take-line .result)
+    met (key .keyword-at .ensures) (sorted .family-of .ensures) (took .take-line .ensures) _ _ (c .before .state .given .1)
 
 same-length-12 : tie.Need-same-length-12
 same-length-12 c = c .before .before .before .before .before .before .before .before .before .before .before .before .before .before .before .before .before .before .take-line .kept .1 .1 .1 .1 .0
@@ -149,14 +154,15 @@ same-length-22 c = c .before .before .before .before .before .before .before .be
 returns-4 : tie.Need-returns-4
 returns-4 c =
     let took = c .before .before .before .before .before .before .before .before .before .before .before .before .before .before .before .before .before .before in
-    let key = took .before .before .before .before .before .before .before .before .before .before .before .before in
+    let sorted = took .before .before .before .before .before .before .before .before .before .before .before .before in
+    let key = sorted .before in
     let g = key .before .before .before .before in
     let start = g .before .before .before .before .before .before in
     let a = start .args in
     let s = now (a .text) in
     let met = word-found s (a .at) (g .gap .result) (g .gap .ensures) (key .before .before .p2 .given .1) in
-    line-refuses s (a .at) _ (a .state) (tables (now (a .v)) (now (a .vt)) (now (a .vn)) (now (a .vp)) (now (a .corners)) (now (a .elements)) (now (a .bodies)) (now (a .ranges)) (now (a .parameters)) (now (a .loops)) (now (a .spans))) (tables (took .take-line .last .1 .1 .1 .1 .0) (took .take-line .last .1 .1 .1 .1 .1 .0) (took .take-line .last .1 .1 .1 .1 .1 .1 .0) (took .take-line .last .1 .1 .1 .1 .1 .1 .1 .0) (took .take-line .last .1 .1 .1 .1 .1 .1 .1 .1 .0) (took .take-line .last .1 .1 .1 .1 .1 .1 .1 .1 .1 .0) (took .take-line .last .1 .1 .1 .1 .1 .1 .1 .1 .1 .1 .0) (took .take-line .last .1 .1 .1 .1 .1 .1 .1 .1 .1 .1 .1 .0) (took .take-line .last .1 .1 .1 .1 .1 .1 .1 .1 .1 .1 .1 .1 .0) (took .take-line .last .1 .1 .1 .1 .1 .1 .1 .1 .1 .1 .1 .1 .1 .0) (took .take-line .last .1 .1 .1 .1 .1 .1 .1 .1 .1 .1 .1 .1 .1 .1 .0)) (key .keyword-at .result) (took .take-line .result)
-    met (key .keyword-at .ensures) (took .take-line .ensures) _ (c .before .number .given .1)
+    line-refuses s (a .at) _ (a .state) (tables (now (a .v)) (now (a .vt)) (now (a .vn)) (now (a .vp)) (now (a .corners)) (now (a .elements)) (now (a .bodies)) (now (a .ranges)) (now (a .parameters)) (now (a .loops)) (now (a .spans))) (tables (took .take-line .last .1 .1 .1 .1 .0) (took .take-line .last .1 .1 .1 .1 .1 .0) (took .take-line .last .1 .1 .1 .1 .1 .1 .0) (took .take-line .last .1 .1 .1 .1 .1 .1 .1 .0) (took .take-line .last .1 .1 .1 .1 .1 .1 .1 .1 .0) (took .take-line .last .1 .1 .1 .1 .1 .1 .1 .1 .1 .0) (took .take-line .last .1 .1 .1 .1 .1 .1 .1 .1 .1 .1 .0) (took .take-line .last .1 .1 .1 .1 .1 .1 .1 .1 .1 .1 .1 .0) (took .take-line .last .1 .1 .1 .1 .1 .1 .1 .1 .1 .1 .1 .1 .0) (took .take-line .last .1 .1 .1 .1 .1 .1 .1 .1 .1 .1 .1 .1 .1 .0) (took .take-line .last .1 .1 .1 .1 .1 .1 .1 .1 .1 .1 .1 .1 .1 .1 .0)) (key .keyword-at .result) (sorted .family-of .result) (took .take-line .result)
+    met (key .keyword-at .ensures) (sorted .family-of .ensures) (took .take-line .ensures) _ (c .before .number .given .1)
 
 same-length-23 : tie.Need-same-length-23
 same-length-23 c = c .before .before .before .before .before .before .before .before .before .before .before .before .before .before .before .before .before .before .before .before .take-line .kept .1 .1 .1 .1 .0
@@ -194,14 +200,15 @@ same-length-33 c = c .before .before .before .before .before .before .before .be
 returns-5 : tie.Need-returns-5
 returns-5 c =
     let took = c .before .before .before .before .before .before .before .before .before .before .before .before .before .before .before .before .before .before .before .before in
-    let key = took .before .before .before .before .before .before .before .before .before .before .before .before in
+    let sorted = took .before .before .before .before .before .before .before .before .before .before .before .before in
+    let key = sorted .before in
     let g = key .before .before .before .before in
     let start = g .before .before .before .before .before .before in
     let a = start .args in
     let s = now (a .text) in
     let met = word-found s (a .at) (g .gap .result) (g .gap .ensures) (key .before .before .p2 .given .1) in
-    line-gave-up s (a .at) _ (a .state) (tables (now (a .v)) (now (a .vt)) (now (a .vn)) (now (a .vp)) (now (a .corners)) (now (a .elements)) (now (a .bodies)) (now (a .ranges)) (now (a .parameters)) (now (a .loops)) (now (a .spans))) (tables (took .take-line .last .1 .1 .1 .1 .0) (took .take-line .last .1 .1 .1 .1 .1 .0) (took .take-line .last .1 .1 .1 .1 .1 .1 .0) (took .take-line .last .1 .1 .1 .1 .1 .1 .1 .0) (took .take-line .last .1 .1 .1 .1 .1 .1 .1 .1 .0) (took .take-line .last .1 .1 .1 .1 .1 .1 .1 .1 .1 .0) (took .take-line .last .1 .1 .1 .1 .1 .1 .1 .1 .1 .1 .0) (took .take-line .last .1 .1 .1 .1 .1 .1 .1 .1 .1 .1 .1 .0) (took .take-line .last .1 .1 .1 .1 .1 .1 .1 .1 .1 .1 .1 .1 .0) (took .take-line .last .1 .1 .1 .1 .1 .1 .1 .1 .1 .1 .1 .1 .1 .0) (took .take-line .last .1 .1 .1 .1 .1 .1 .1 .1 .1 .1 .1 .1 .1 .1 .0)) (key .keyword-at .result) (took .take-line .result)
-    met (key .keyword-at .ensures) (took .take-line .ensures) (c .before .before .before .enum-told .given .1) (c .before .blame .result) (c .before .blame .ensures) (c .stopped .result) (c .stopped .ensures)
+    line-gave-up s (a .at) _ (a .state) (tables (now (a .v)) (now (a .vt)) (now (a .vn)) (now (a .vp)) (now (a .corners)) (now (a .elements)) (now (a .bodies)) (now (a .ranges)) (now (a .parameters)) (now (a .loops)) (now (a .spans))) (tables (took .take-line .last .1 .1 .1 .1 .0) (took .take-line .last .1 .1 .1 .1 .1 .0) (took .take-line .last .1 .1 .1 .1 .1 .1 .0) (took .take-line .last .1 .1 .1 .1 .1 .1 .1 .0) (took .take-line .last .1 .1 .1 .1 .1 .1 .1 .1 .0) (took .take-line .last .1 .1 .1 .1 .1 .1 .1 .1 .1 .0) (took .take-line .last .1 .1 .1 .1 .1 .1 .1 .1 .1 .1 .0) (took .take-line .last .1 .1 .1 .1 .1 .1 .1 .1 .1 .1 .1 .0) (took .take-line .last .1 .1 .1 .1 .1 .1 .1 .1 .1 .1 .1 .1 .0) (took .take-line .last .1 .1 .1 .1 .1 .1 .1 .1 .1 .1 .1 .1 .1 .0) (took .take-line .last .1 .1 .1 .1 .1 .1 .1 .1 .1 .1 .1 .1 .1 .1 .0)) (key .keyword-at .result) (sorted .family-of .result) (took .take-line .result)
+    met (key .keyword-at .ensures) (sorted .family-of .ensures) (took .take-line .ensures) (c .before .before .before .enum-told .given .1) (c .before .blame .result) (c .before .blame .ensures) (c .stopped .result) (c .stopped .ensures)
 
 pub line-at-spec : {M : Type 1} → statement M
 line-at-spec =
@@ -212,6 +219,7 @@ line-at-spec =
     enum-known-p
     enum-known-p-2
     keyword-at-requires
+    family-of-requires
     take-line-requires
     enum-known-state
     enum-known-number

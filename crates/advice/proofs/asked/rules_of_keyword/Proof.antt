@@ -47,7 +47,7 @@ form-number-requires c κs = search needs
 returns : tie.Need-returns
 returns c =
     let start = c .before .before .before .before .before .before .before .before .before .before .before .before .before .before in
-    let k = statement-at (now (start .args .keyword)) (c .before .before .before .before .before .before .before .before .before .before .keyword-at .result) (c .before .before .before .before .before .before .before .before .before .before .keyword-at .ensures) in
+    let k = statement-at (now (start .args .keyword)) 0 (c .before .before .before .before .before .before .before .before .before .before .keyword-at .result) (c .before .before .before .before .before .before .before .before .before .before .keyword-at .ensures) in
     row-eq (carriedOf (statementOf (wordOf (now (start .args .keyword))))) (start .args .words) (start .args .index) (c .before .before .before .before .before .before .before .before .rules-of .result) (c .before .before .before .before .before .before .before .form-at .result) (c .before .before .before .before .before .before .limits-of .result) (c .before .before .before .before .before .standing-number .result) (c .before .before .before .before .fewest-words .result) (c .before .before .before .most-words .result) (c .before .before .multiple-of .result) (c .before .form-number .result) _ _
     (c .before .before .before .before .before .before .before .before .rules-of .ensures ∙ ap rulesOf (c .before .before .before .before .before .before .before .before .before .carried-of .ensures ∙ ap carriedOf k)) (c .before .before .before .before .before .before .before .form-at .ensures) (c .before .before .before .before .before .before .limits-of .ensures) (c .before .before .before .before .before .standing-number .ensures) (c .before .before .before .before .fewest-words .ensures) (c .before .before .before .most-words .ensures) (c .before .before .multiple-of .ensures) (c .before .form-number .ensures) (fitted (c .struct-told .given .0 .1)) (fitted (c .struct-told .given .1 .0 .1))
 

@@ -7,10 +7,10 @@ use Rattle.lines.specs.Stepping.{withVertices}
 use Rattle.lines.specs.declared.Step.the-variants.{GaveUp}
 use Rattle.taking.proofs.Sorted.{family-step}
 use borrow.Author.Needs.{needs}
-use Rattle.taking.proofs.by_family.take_family.Statement.{statement}
-use Rattle.taking.proofs.by_family.take_family.Tie as tie
-use Rattle.taking.proofs.by_family.take_family.Reads as reads
-use Rattle.taking.proofs.by_family.take_family.Lts as lts
+use Rattle.taking.proofs.by_family.take_line.Statement.{statement}
+use Rattle.taking.proofs.by_family.take_line.Tie as tie
+use Rattle.taking.proofs.by_family.take_line.Reads as reads
+use Rattle.taking.proofs.by_family.take_line.Lts as lts
 use Rattle.outer_lines.proofs.body_lines.body_line.Reads as body-line-reads
 use Rattle.outer_lines.proofs.element_lines.element_line.Reads as element-line-reads
 use Rattle.inner_lines.proofs.end_line.Reads as end-line-reads
@@ -164,8 +164,8 @@ returns-8 c =
     let t = tables (now (a .v)) (now (a .vt)) (now (a .vn)) (now (a .vp)) (now (a .corners)) (now (a .elements)) (now (a .bodies)) (now (a .ranges)) (now (a .parameters)) (now (a .loops)) (now (a .spans)) in
     family-step (now (a .text)) (a .at) (a .state) GaveUp t t (c .enum-told3 .given .1) (refl, refl)
 
-pub take-family-spec : {M : Type 1} → statement M
-take-family-spec =
+pub take-line-spec : {M : Type 1} → statement M
+take-line-spec =
     tie.close
     (tie.spec
     enum-known-family
