@@ -24,23 +24,23 @@ FUNCTIONS = {
 THEOREMS = {
     "end_to_end/proofs/Kept.antt": "kept",
     "end_to_end/proofs/Polylines.antt": "filled-polylines own-polylines",
-    "rooms/proofs/NeverLacks.antt": "never-lacks-room",
-    "rooms/proofs/Few.antt": "few-for-its-words",
-    "rooms/proofs/Words.antt": "few-words",
+    "read_rooms/proofs/NeverLacks.antt": "never-lacks-room",
+    "read_rooms/proofs/Few.antt": "few-for-its-words",
+    "read_rooms/proofs/Words.antt": "few-words",
     "polyline/proofs/Demanded.antt": "polylines-on-curves",
     "polyline/proofs/Every.antt": "every-chord",
     "polyline/proofs/Middle.antt": "middle-floored",
     "polyline/proofs/Granted.antt": "samplers-fifteen",
-    "cubics/proofs/Stepped.antt": "points-in-steps two-paths",
-    "cubics/proofs/Sums.antt": "row-sums segment-ends",
-    "outline/proofs/Inside.antt": "curves-inside runs-inside polylines-inside surfaces-inside",
-    "outline/proofs/Files.antt": "files-inside",
-    "swept/proofs/Kept.antt": "every-sweep",
-    "swept/proofs/Every.antt": "every-refusal",
-    "swept/proofs/Accepted.antt": "accepted-obeys accepted-sweeps",
-    "swept/proofs/Files.antt": "swept-files",
-    "swept/proofs/Lines.antt": "same-lines",
-    "swept/proofs/SweptText.antt": "swept-texts",
+    "point_cubics/proofs/Stepped.antt": "points-in-steps two-paths",
+    "point_cubics/proofs/Sums.antt": "row-sums segment-ends",
+    "point_bounds/proofs/Inside.antt": "curves-inside runs-inside polylines-inside surfaces-inside",
+    "point_bounds/proofs/Files.antt": "files-inside",
+    "swept_files/proofs/Kept.antt": "every-sweep",
+    "swept_files/proofs/Every.antt": "every-refusal",
+    "swept_files/proofs/Accepted.antt": "accepted-obeys accepted-sweeps",
+    "swept_files/proofs/Files.antt": "swept-files",
+    "swept_files/proofs/Lines.antt": "same-lines",
+    "swept_files/proofs/SweptText.antt": "swept-texts",
 }
 TOKEN = re.compile(r"«[^»]+»|[^\s(){}\[\],;λ⌜⌝]+")
 
@@ -154,7 +154,7 @@ def entry_points():
     for names, path in re.findall(r"((?:`[^`]+`(?:, | and )?)+) \(([\w/]+\.rt)\)", listed):
         for name in re.findall(r"`([^`]+)`", names):
             yield CRATES / path, name.split("::")[-1]
-    linked = CRATES / "boundary" / "src" / "lib.rt"
+    linked = CRATES / "kuhlabires" / "src" / "lib.rt"
     for name in re.findall(r'pub extern "C" fn (\w+)', linked.read_text(encoding="utf-8")):
         yield linked, name
 

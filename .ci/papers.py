@@ -261,9 +261,9 @@ WRONG = (
     ("must-fail reader/refuses_some", "no edit reader/refuses_some"),
     ("02-nul, 02-never", "no case 02-never"),
     ("points/millionths.obj, `run 1 9 9 9, -`", "no call points/millionths.obj"),
-    ("| whole | `betwixt` | a rule |", "no public function `betwixt`"),
-    ("| all_lines | `lines_of` | all; no `requires` |", "`lines_of` has a `requires`"),
-    ("No entry point has a `requires`: `lines_of` (all_lines/src/lib.rt)", "has a requires"),
+    ("| rounding | `betwixt` | a rule |", "no public function `betwixt`"),
+    ("| read_lines | `lines_of` | all; no `requires` |", "`lines_of` has a `requires`"),
+    ("No entry point has a `requires`: `lines_of` (read_lines/src/lib.rt)", "has a requires"),
     ("| x | lists: Lists (1) | 1 |", "reached, not 1"),
     ("| x | lists: Lists (17 of 18) | 17 |", "reached, not 17"),
     ("see DECISIONS 999", "no decision 999"),
@@ -275,7 +275,7 @@ def self_test():
         if not any(wanted in fault for fault in faults_of(line)):
             sys.exit(f"the check does not find what is wrong in: {line}")
     twice = []
-    check_twice("| whole | `between` | a rule |\n| whole | `between` | a rule |", twice.append)
+    check_twice("| rounding | `between` | a rule |\n| rounding | `between` | a rule |", twice.append)
     if not twice:
         sys.exit("the check does not find what stands twice")
 

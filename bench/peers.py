@@ -20,7 +20,7 @@ from pathlib import Path
 from texts import BROKEN, texts
 
 ROOT = Path(__file__).resolve().parent.parent
-ARCHIVE = Path(os.environ.get("KUHLABIRES_ARCHIVE", ROOT / "target" / "staticlib" / "libboundary.a"))
+ARCHIVE = Path(os.environ.get("KUHLABIRES_ARCHIVE", ROOT / "target" / "staticlib" / "libkuhlabires.a"))
 MEGABYTE = 1_000_000
 SIZES = [1, 2, 4, 8, 16]
 READERS = ["kuhlabires", "tinyobjloader", "assimp"]
@@ -51,7 +51,7 @@ def build(folder):
         subprocess.run([str(w) for w in words], check=True, **more)
 
     if "KUHLABIRES_ARCHIVE" not in os.environ:
-        run("rt", "staticlib", "boundary", cwd=ROOT, stdout=subprocess.DEVNULL)
+        run("rt", "staticlib", "kuhlabires", cwd=ROOT, stdout=subprocess.DEVNULL)
     run("cargo", "build", "--release", "--offline", "--quiet", cwd=host)
     run("rustc", "--edition", "2021", "-C", "opt-level=3", bench / "read_kuhlabires.rs", "--extern",
         f"kuhlabires={host}/target/release/libkuhlabires.rlib", "-o", folder / "read_kuhlabires")

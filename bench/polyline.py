@@ -1,6 +1,6 @@
 """Polylines of the examples at several tolerances, beside the run that is as straight.
 
-    rt staticlib boundary && python3 bench/polyline.py [ROUNDS]
+    rt staticlib kuhlabires && python3 bench/polyline.py [ROUNDS]
 
 Prints the table of docs/SPEED.md: points handed out, intervals looked at, samples
 (calls of sampler::sampling::curve_at, counted by callgrind), and nanoseconds for a
@@ -19,7 +19,7 @@ from pathlib import Path
 from peers import answer, head, machine_line, row
 
 ROOT = Path(__file__).resolve().parent.parent
-ARCHIVE = Path(os.environ.get("KUHLABIRES_ARCHIVE", ROOT / "target" / "staticlib" / "libboundary.a"))
+ARCHIVE = Path(os.environ.get("KUHLABIRES_ARCHIVE", ROOT / "target" / "staticlib" / "libkuhlabires.a"))
 CURVES = [("foam-wing", 1), ("chair-rail", 1), ("seat", 2)]
 TOLERANCES = [10_000, 1_000, 500, 100, 10, 1, 0]
 SAMPLE = "sampler::sampling::curve_at"

@@ -27,7 +27,7 @@ cp module.bc "$made/module.bc"
 exec "$tools/bin/clang" "\$@"
 END
 chmod +x "$made/kit/$machine/toolchain/bin/clang"
-RATTLE_HOME=$made/kit rt staticlib boundary > "$made/staticlib.log" || { cat "$made/staticlib.log"; exit 1; }
+RATTLE_HOME=$made/kit rt staticlib kuhlabires > "$made/staticlib.log" || { cat "$made/staticlib.log"; exit 1; }
 
 target=--target=x86_64-unknown-linux-gnu
 "$tools/bin/clang" $target -Xclang -disable-llvm-passes -S -emit-llvm -x ir "$made/module.bc" -o "$made/module.ll"

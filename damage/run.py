@@ -1,6 +1,6 @@
 """The proved library under damaged files, held against second/.
 
-    rt staticlib boundary && python3 damage/run.py SEED COUNT [LONG]
+    rt staticlib kuhlabires && python3 damage/run.py SEED COUNT [LONG]
 
 The stored calls on points; then every stored case and example, and COUNT seeded
 texts, damaged in the ways of kinds.py, are read, in the rooms that the library finds for
@@ -33,7 +33,7 @@ from questions import ask, one, stored_calls
 from stream import Stream
 
 ROOT = Path(__file__).resolve().parent.parent
-ARCHIVE = ROOT / "target" / "staticlib" / "libboundary.a"
+ARCHIVE = ROOT / "target" / "staticlib" / "libkuhlabires.a"
 LEFT = ROOT / "target" / "damage"
 BATCH = 400
 PATIENCE = 600                              # seconds for a batch, some 2 of them needed

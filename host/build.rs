@@ -1,4 +1,4 @@
-//! Links the proved library: the archive that KUHLABIRES_ARCHIVE names, or the one that `rt staticlib boundary` leaves in the repository.
+//! Links the proved library: the archive that KUHLABIRES_ARCHIVE names, or the one that `rt staticlib kuhlabires` leaves in the repository.
 use std::env;
 use std::path::PathBuf;
 
@@ -7,12 +7,12 @@ fn main() {
     let archive = match env::var_os("KUHLABIRES_ARCHIVE") {
         Some(path) => PathBuf::from(path),
         None => PathBuf::from(env::var_os("CARGO_MANIFEST_DIR").expect("cargo sets CARGO_MANIFEST_DIR"))
-            .join("../target/staticlib/libboundary.a"),
+            .join("../target/staticlib/libkuhlabires.a"),
     };
     println!("cargo:rerun-if-changed={}", archive.display());
     let archive = archive
         .canonicalize()
-        .unwrap_or_else(|error| panic!("{}: {error}; make it with `rt staticlib boundary`", archive.display()));
+        .unwrap_or_else(|error| panic!("{}: {error}; make it with `rt staticlib kuhlabires`", archive.display()));
     let name = archive
         .file_stem()
         .and_then(|stem| stem.to_str())

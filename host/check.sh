@@ -13,7 +13,7 @@ need sqlite3 sqlite3
 # A shell's patterns give files in the order of their bytes.
 export LC_ALL=C
 
-rt staticlib boundary
+rt staticlib kuhlabires
 (cd host && cargo build --release --offline --quiet && cargo test --release --offline --quiet)
 
 # The flags of the installed library: by pkg-config, or as the file has them where that is not at hand.

@@ -1,4 +1,4 @@
-//! What is told of a refusal besides its number and place, asked of the library: `crates/advice` of the archive.
+//! What is told of a refusal besides its number and place, asked of the library: `crates/read_advice` of the archive.
 use crate::raw;
 
 /// How many there are so far of what a word may refer to, and the open body.

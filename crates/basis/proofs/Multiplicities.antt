@@ -13,7 +13,7 @@ use lib.IntN.{ℤ, pos}
 use lib.Signed.{ltZ, leZ}
 use Rattle.lists.proofs.Tests.{test, and-left, and-right, and-first, and-second}
 use Rattle.tables.specs.Bodies.{steady, multiplicity, seldom, eachSeldom}
-use Rattle.basis.specs.declared.stepping.Asked.{Asked}
+use Rattle.basis.specs.declared.stepping.Requirement.{Requirement}
 use Rattle.basis.specs.declared.stepping.Order.{Order}
 use Rattle.basis.specs.Stepping.{fresh, tooOften, followed, mayFollow, stepOf, walked}
 use Rattle.basis.proofs.Order.{le-refl, le-trans, le-same, lt-le, le-no-lt, lt-no-le, no-lt-le, lt-le-lt, not-either}
@@ -91,7 +91,7 @@ record Inside (n k i : ℕ) (lo hi : ℤ) (o : Order) (x : List ℤ) : Type 0 wh
   within : n ≤ k
   began : o .since ≤ i
 
-abbrev pub knots : ℕ → ℕ → Asked
+abbrev pub knots : ℕ → ℕ → Requirement
 knots n k = record { basis = 2; degree = n; «low_at» = n; «high_at» = k }
 
 module _ (n k : ℕ) (lo hi : ℤ) where

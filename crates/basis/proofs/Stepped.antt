@@ -6,10 +6,10 @@ use borrow.Author.Tests.{le-leb, lt-leb, lt-ltb, le-ltb, ne-eqb, eq-eqb}
 use lib.Dec.{leb, ltb, eqb}
 use lib.IntN.{ℤ}
 use lib.Signed.{ltZ, leZ}
-use Rattle.basis.specs.declared.stepping.Asked.{Asked}
+use Rattle.basis.specs.declared.stepping.Requirement.{Requirement}
 use Rattle.basis.specs.Stepping.{tooOften, followed}
 
-module _ (a : Asked) (i since : ℕ) (low previous : ℤ) where
+module _ (a : Requirement) (i since : ℕ) (low previous : ℤ) where
   pub no-knots : (a .basis ≡ 2 → ⊥) → false ≡ tooOften a i since low previous
   unfolding tooOften
   no-knots h = rw (ne-eqb (a .basis) 2 h) refl

@@ -12,7 +12,7 @@ use lib.IntN.{ℤ, pos}
 use lib.Signed.{ltZ}
 use Rattle.lists.proofs.Tests.{test}
 use Rattle.tables.specs.Bodies.{rising}
-use Rattle.basis.specs.declared.stepping.Asked.{Asked}
+use Rattle.basis.specs.declared.stepping.Requirement.{Requirement}
 use Rattle.basis.specs.declared.stepping.Order.{Order}
 use Rattle.basis.specs.Stepping.{fresh, tooOften, followed, mayFollow, stepOf, walkFrom}
 
@@ -21,11 +21,11 @@ abbrev pub reached : ℕ → ℕ → ℤ → List ℤ → ℤ
 reached k i z [] = z
 reached k i z (b ∷ x) = reached k (suc i) (cond (leb i k) b z) x
 
-pub low-reached : (a : Asked) (i : ℕ) (o : Order) (x : List ℤ) → walkFrom a i o x .low ≡ reached (a .«low_at») i (o .low) x
+pub low-reached : (a : Requirement) (i : ℕ) (o : Order) (x : List ℤ) → walkFrom a i o x .low ≡ reached (a .«low_at») i (o .low) x
 low-reached a i o [] = refl
 low-reached a i o (b ∷ x) = low-reached a (suc i) (stepOf a i o b) x
 
-pub high-reached : (a : Asked) (i : ℕ) (o : Order) (x : List ℤ) → walkFrom a i o x .high ≡ reached (a .«high_at») i (o .high) x
+pub high-reached : (a : Requirement) (i : ℕ) (o : Order) (x : List ℤ) → walkFrom a i o x .high ≡ reached (a .«high_at») i (o .high) x
 high-reached a i o [] = refl
 high-reached a i o (b ∷ x) = high-reached a (suc i) (stepOf a i o b) x
 
@@ -53,7 +53,7 @@ reached-at k i z (b ∷ x) h l =
     (test (leb (suc i) k))
 
 -- ---- whether all are in order: each may follow those before it
-abbrev pub trail : Asked → ℕ → Order → List ℤ → Bool
+abbrev pub trail : Requirement → ℕ → Order → List ℤ → Bool
 trail a i o [] = true
 trail a i o (b ∷ x) = mayFollow a i o b && trail a (suc i) (stepOf a i o b) x
 
@@ -61,16 +61,16 @@ and-over : (a b c : Bool) → (a && b && c) ≡ (a && (b && c))
 and-over true b c = refl
 and-over false b c = refl
 
-pub fine-trail : (a : Asked) (i : ℕ) (o : Order) (x : List ℤ) → walkFrom a i o x .fine ≡ (o .fine && trail a i o x)
+pub fine-trail : (a : Requirement) (i : ℕ) (o : Order) (x : List ℤ) → walkFrom a i o x .fine ≡ (o .fine && trail a i o x)
 fine-trail a i o [] = sym (and-true (o .fine))
 fine-trail a i o (b ∷ x) = fine-trail a (suc i) (stepOf a i o b) x ∙ and-over (o .fine) (mayFollow a i o b) (trail a (suc i) (stepOf a i o b) x)
 
-pub first-free : (a : Asked) (b : ℤ) → mayFollow a 0 fresh b ≡ true
+pub first-free : (a : Requirement) (b : ℤ) → mayFollow a 0 fresh b ≡ true
 unfolding followed
 first-free a b = refl
 
 -- ---- the other three types
-module _ (a : Asked) (other : eqb (a .basis) 2 ≡ false) where
+module _ (a : Requirement) (other : eqb (a .basis) 2 ≡ false) where
   may-rise : (i : ℕ) (o : Order) (b : ℤ) → eqb i 0 ≡ false → mayFollow a i o b ≡ ltZ (o .previous) b
   unfolding followed tooOften
   may-rise i o b h = rw (h, other) (go (ltZ (o .previous) b))

@@ -15,18 +15,18 @@ use lib.IntN.{ℤ, pos}
 use lib.Signed.{ltZ, leZ}
 use Rattle.lists.proofs.Tests.{test}
 use Rattle.tables.specs.Bodies.{basisOf, enough, rising, ordered, low, high, continuous, inOrder}
-use Rattle.basis.specs.declared.stepping.Asked.{Asked}
+use Rattle.basis.specs.declared.stepping.Requirement.{Requirement}
 use Rattle.basis.specs.declared.stepping.Order.{Order}
-use Rattle.basis.specs.Stepping.{askedOf, fresh, stepOf, walkFrom, walked, holdsIn}
+use Rattle.basis.specs.Stepping.{requirementOf, fresh, stepOf, walkFrom, walked, holdsIn}
 use Rattle.basis.proofs.Basis.{not-bspline, low-other, high-other, knots-enough}
 use Rattle.basis.proofs.Trail.{reached, low-reached, high-reached, reached-at, fine-trail, first-free, trail-rises}
 use Rattle.basis.proofs.Multiplicities.{knots, knots-fine}
 
 abbrev pub Judged : ℕ → ℕ → List ℤ → Type 0
 Judged type n x =
-    (walked (askedOf type n (length x)) x .fine ≡ (ordered (basisOf type) x && continuous (basisOf type) n x))
-    × (walked (askedOf type n (length x)) x .low ≡ low (basisOf type) n x)
-    × (walked (askedOf type n (length x)) x .high ≡ high (basisOf type) n x)
+    (walked (requirementOf type n (length x)) x .fine ≡ (ordered (basisOf type) x && continuous (basisOf type) n x))
+    × (walked (requirementOf type n (length x)) x .low ≡ low (basisOf type) n x)
+    × (walked (requirementOf type n (length x)) x .high ≡ high (basisOf type) n x)
 
 by-knots : (n : ℕ) (x : List ℤ) → 2 * n + 2 ≤ length x → Judged 2 n x
 by-knots n [] h = absurd (omega arith)
@@ -45,7 +45,7 @@ by-others : (type : ℕ) → (type ≡ 2 → ⊥) → (n : ℕ) (x : List ℤ) �
 by-others type o n [] h = absurd (omega arith)
 by-others type o n (b ∷ x) h =
     let e = ne-eqb type 2 o in
-    let a = askedOf type n (length (b ∷ x)) in (
+    let a = requirementOf type n (length (b ∷ x)) in (
       fine-trail a 0 fresh (b ∷ x) ∙ ap₂ (λ (p q : Bool). p && q) (first-free a b) (trail-rises a e 0 (stepOf a 0 fresh b) x) ∙ sym (rises-other type o n (b ∷ x)),
       (low-reached a 0 fresh (b ∷ x) ∙ ap (λ (t : Bool). reached (cond t n 0) 0 (pos 0) (b ∷ x)) e ∙ reached-at 0 0 (pos 0) (b ∷ x) (omega arith) (omega arith) ∙ sym (low-other type o n (b ∷ x))),
       (high-reached a 0 fresh (b ∷ x) ∙ ap (λ (t : Bool). reached (cond t (length (b ∷ x) - n - 1) (length (b ∷ x) - 1)) 0 (pos 0) (b ∷ x)) e ∙ reached-at (length (b ∷ x) - 1) 0 (pos 0) (b ∷ x) (omega arith) (omega arith) ∙ ap (λ (d : ℕ). getD (b ∷ x) d (pos 0)) (sub-zero (length (b ∷ x) - 1)) ∙ sym (high-other type o n (b ∷ x))),
@@ -63,14 +63,14 @@ walk-is type n x h g =
 -- 13's verdict
 pub walk-holds :
     (type n : ℕ) (x : List ℤ) (start end : ℤ) → 1 ≤ length x → enough (basisOf type) n (length x) ≡ true →
-    holdsIn (walked (askedOf type n (length x)) x) start end ≡ inOrder (basisOf type) n x start end
+    holdsIn (walked (requirementOf type n (length x)) x) start end ≡ inOrder (basisOf type) n x start end
 unfolding holdsIn inOrder
 walk-holds type n x start end h g =
     let w = walk-is type n x h g in
     ap₂ (λ (p q : Bool). p && q) (w .0) (ap₂ (λ (l r : ℤ). leZ l start && ltZ start end && leZ end r) (w .1) (w .2))
 
 -- ---- the walk over a table, from index i on
-module _ (a : Asked) (x : List ℤ) (i : ℕ) (o : Order) (w : walkFrom a i o (drop i x) ≡ walked a x) where
+module _ (a : Requirement) (x : List ℤ) (i : ℕ) (o : Order) (w : walkFrom a i o (drop i x) ≡ walked a x) where
   pub walk-on : i < length x → {p : Order} → p ≡ stepOf a i o (getD x i (pos 0)) → walkFrom a (i + 1) p (drop (i + 1) x) ≡ walked a x
   walk-on h {p} e = rw (add-one, e) (sym (ap (walkFrom a i o) (drop-cons x i (pos 0) h)) ∙ w)
 

@@ -5,12 +5,12 @@ use mathlib.Core.Bool.{Bool, true, cond, not, _&&_, _||_}
 use lib.Dec.{leb, ltb, eqb}
 use lib.IntN.{ℤ, pos}
 use lib.Signed.{ltZ, leZ}
-use Rattle.basis.specs.declared.stepping.Asked.{Asked}
+use Rattle.basis.specs.declared.stepping.Requirement.{Requirement}
 use Rattle.basis.specs.declared.stepping.Order.{Order}
 
 -- x_n and x_k of a bspline, of another type the first and the last of p parameters
-abbrev pub askedOf : ℕ → ℕ → ℕ → Asked
-askedOf type n p =
+abbrev pub requirementOf : ℕ → ℕ → ℕ → Requirement
+requirementOf type n p =
     record {
       basis = type;
       degree = n;
@@ -22,17 +22,17 @@ abbrev pub fresh : Order
 fresh = record { previous = pos 0; since = 0; fine = true; low = pos 0; high = pos 0 }
 
 -- 02, Q-5, where a greater value follows at index i: the last value lies strictly between the ends and has stood more than n times
-unfoldable pub tooOften : Asked → ℕ → ℕ → ℤ → ℤ → Bool
+unfoldable pub tooOften : Requirement → ℕ → ℕ → ℤ → ℤ → Bool
 tooOften a i since low previous = eqb (a .basis) 2 && ltb (since + a .degree) i && leb i (a .«high_at») && ltZ low previous
 
-unfoldable pub followed : Asked → ℕ → ℕ → ℤ → ℤ → ℤ → Bool
+unfoldable pub followed : Requirement → ℕ → ℕ → ℤ → ℤ → ℤ → Bool
 followed a i since low previous b = eqb i 0 || cond (ltZ previous b) (not (tooOften a i since low previous)) (eqb (a .basis) 2 && leZ previous b)
 
-abbrev pub mayFollow : Asked → ℕ → Order → ℤ → Bool
+abbrev pub mayFollow : Requirement → ℕ → Order → ℤ → Bool
 mayFollow a i o b = followed a i (o .since) (o .low) (o .previous) b
 
 -- b at index i: the ends of the widest range are the last value until they are reached
-abbrev pub stepOf : Asked → ℕ → Order → ℤ → Order
+abbrev pub stepOf : Requirement → ℕ → Order → ℤ → Order
 stepOf a i o b =
     record {
       previous = b;
@@ -42,11 +42,11 @@ stepOf a i o b =
       high = cond (leb i (a .«high_at»)) b (o .high);
     }
 
-abbrev pub walkFrom : Asked → ℕ → Order → List ℤ → Order
+abbrev pub walkFrom : Requirement → ℕ → Order → List ℤ → Order
 walkFrom a i o [] = o
 walkFrom a i o (b ∷ x) = walkFrom a (suc i) (stepOf a i o b) x
 
-abbrev pub walked : Asked → List ℤ → Order
+abbrev pub walked : Requirement → List ℤ → Order
 walked a x = walkFrom a 0 fresh x
 
 -- all in order, and the range from start to end within the widest

@@ -1,8 +1,8 @@
 // What a type asks along one direction of a body: how many controls, in what order its parameters stand, and which range they allow.
 pub mod stepping;
 
-use crate::stepping::asked_of;
 use crate::stepping::holds;
+use crate::stepping::requirement_of;
 use crate::stepping::walk;
 ghost use mathlib.Core.Path.{_≡_};
 ghost use mathlib.Core.Bool.{true};
@@ -109,7 +109,7 @@ pub fn in_order(basis: u32, n: u32, x: &[i32], start: i32, end: i32) -> bool
     requires { ⌜ (2 ≤ length (now x)) × (enough (basisOf basis) n (length (now x)) ≡ true) ⌝ }
     ensures { λ r. ⌜ r ≡ inOrder (basisOf basis) n (now (x .entry)) start end ⌝ }
 {
-    holds(walk(asked_of(basis, n, x.len()), x), start, end)
+    holds(walk(requirement_of(basis, n, x.len()), x), start, end)
 }
 
 // A curv2's range is the widest.

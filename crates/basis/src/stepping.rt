@@ -4,10 +4,10 @@ ghost use Prim.Native.Nat.{_-_};
 ghost use mathlib.Core.Bool.{cond, _&&_};
 ghost use lib.Dec.{leb};
 ghost use lib.Signed.{ltZ};
-ghost use Rattle.basis.specs.Stepping.{askedOf, fresh, tooOften, followed, stepOf, walked, holdsIn};
+ghost use Rattle.basis.specs.Stepping.{requirementOf, fresh, tooOften, followed, stepOf, walked, holdsIn};
 
 // What they are held against: the type, the degree, and the indexes at which the widest range starts and ends.
-pub struct Asked {
+pub struct Requirement {
     pub basis: u32,
     pub degree: u32,
     pub low_at: usize,
@@ -33,18 +33,18 @@ fn less(a: usize, b: usize) -> usize
 }
 
 // Of p parameters and degree n.
-pub fn asked_of(basis: u32, n: u32, p: usize) -> Asked
-    ensures { λ r. ⌜ r ≡ askedOf basis n p ⌝ }
+pub fn requirement_of(basis: u32, n: u32, p: usize) -> Requirement
+    ensures { λ r. ⌜ r ≡ requirementOf basis n p ⌝ }
 {
     if basis == 2 {
-        return Asked {
+        return Requirement {
             basis: basis,
             degree: n,
             low_at: n as usize,
             high_at: less(p, n as usize + 1),
         };
     }
-    Asked {
+    Requirement {
         basis: basis,
         degree: n,
         low_at: 0,
@@ -66,7 +66,7 @@ pub fn no_order() -> Order
 }
 
 // 02, Q-5, where a greater value follows at index i: whether the last value lies strictly between the ends and has stood more than n times.
-fn too_often(asked: Asked, i: usize, since: usize, low: i32, previous: i32) -> bool
+fn too_often(asked: Requirement, i: usize, since: usize, low: i32, previous: i32) -> bool
     ensures { λ r. ⌜ r ≡ tooOften asked i since low previous ⌝ }
 {
     if asked.basis != 2 {
@@ -87,7 +87,7 @@ fn too_often(asked: Asked, i: usize, since: usize, low: i32, previous: i32) -> b
 }
 
 // Whether b may stand at index i: knots never decrease, other parameters increase.
-fn may_follow(asked: Asked, i: usize, since: usize, low: i32, previous: i32, b: i32) -> bool
+fn may_follow(asked: Requirement, i: usize, since: usize, low: i32, previous: i32, b: i32) -> bool
     ensures { λ r. ⌜ r ≡ followed asked i since low previous b ⌝ }
 {
     if i == 0 {
@@ -132,7 +132,7 @@ fn end_so_far(at: usize, i: usize, before: i32, b: i32) -> i32
 }
 
 // The parameter b at index i.
-pub fn step(asked: Asked, i: usize, o: Order, b: i32) -> Order
+pub fn step(asked: Requirement, i: usize, o: Order, b: i32) -> Order
     ensures { λ r. ⌜ r ≡ stepOf asked i o b ⌝ }
 {
     Order {
@@ -145,7 +145,7 @@ pub fn step(asked: Asked, i: usize, o: Order, b: i32) -> Order
 }
 
 // The parameters of a table.
-pub fn walk(asked: Asked, x: &[i32]) -> Order
+pub fn walk(asked: Requirement, x: &[i32]) -> Order
     ensures { λ r. ⌜ r ≡ walked asked (now (x .entry)) ⌝ }
 {
     let mut i = 0;

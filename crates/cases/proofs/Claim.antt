@@ -5,15 +5,15 @@ use Rattle.lists.specs.Lists.{all}
 use Rattle.text.specs.Lines.{linesOf}
 use Rattle.digits.specs.Digits.{whole}
 use Rattle.decimals.specs.Number.{decimal, numerator, denominator, nearest, numberOf}
-use Rattle.forms.specs.Reference.{isReference, refer, referenceOf}
-use Rattle.forms.specs.Corner.{cornerOf}
+use Rattle.references.specs.Reference.{isReference, refer, referenceOf}
+use Rattle.references.specs.Corner.{cornerOf}
 use Rattle.keywords.specs.Keywords.{keywords, statementOf}
 use Rattle.model.specs.Room.{fits}
 use Rattle.model.specs.Parse.{parse}
 use Rattle.model.specs.Read.{statement, readOf}
-use Rattle.whole.specs.Round.{rounded, between}
-use Rattle.curves.specs.Directions.{lastWhere, segment, span, chosen}
-use Rattle.curves.specs.Sampled.{pyramid, lowAt, highAt, partAt, gapAt, firstControl, curveSampled}
+use Rattle.rounding.specs.Round.{rounded, between}
+use Rattle.point_exact.specs.Directions.{lastWhere, segment, span, chosen}
+use Rattle.point_exact.specs.Sampled.{pyramid, lowAt, highAt, partAt, gapAt, firstControl, curveSampled}
 use Rattle.cases.specs.Table.{holds, table}
 
 pub claim : all holds table ≡ true

@@ -4,12 +4,12 @@ use mathlib.Core.Path.{_≡_, refl}
 use mathlib.Core.Bool.{Bool, true, false}
 use lib.IntN.{ℤ}
 use Rattle.decimals.specs.Number as decimals
-use Rattle.whole.specs.Round as round
+use Rattle.rounding.specs.Round as round
 
 pub one-rule : (n d : ℕ) → decimals.nearest n d ≡ round.nearest (1000000 * n) d
 unfolding decimals.nearest
 one-rule n d = refl
 
-pub one-sign : (minus : Bool) (m : ℕ) → decimals.signed minus m ≡ round.signed minus m
+pub one-sign : (minus : Bool) (m : ℕ) → decimals.withSign minus m ≡ round.signed minus m
 one-sign true m = refl
 one-sign false m = refl

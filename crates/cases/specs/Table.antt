@@ -10,24 +10,24 @@ use lib.IntN.{ℤ, pos, negsuc, _-ℤ_}
 use Rattle.keywords.specs.Rows.{bytes}
 use Rattle.digits.specs.Said.{Said, says, wrong}
 use Rattle.decimals.specs.Number.{numberOf}
-use Rattle.forms.specs.Reference.{referenceOf}
+use Rattle.references.specs.Reference.{referenceOf}
 use Rattle.model.specs.Room.{Rooms}
 use Rattle.model.specs.Read.{Answer, read, refused, readOf}
-use Rattle.curves.specs.Directions.{Basis, bezier, bspline, Direction, at}
-use Rattle.curves.specs.Sampled.{curveSampled}
-use Rattle.forms.specs.Examples.{sameInt, sameSaid}
+use Rattle.point_exact.specs.Directions.{PointBasis, bezier, bspline, Direction, at}
+use Rattle.point_exact.specs.Sampled.{curveSampled}
+use Rattle.references.specs.Examples.{sameInt, sameSaid}
 
-pub data Row : Type 0 where
+pub data Case : Type 0 where
   -- the word is a number of so many millionths, or is refused
-  number : String → Said ℤ → Row
+  number : String → Said ℤ → Case
   -- of so many vertices the word means that one, or is refused
-  reference : ℕ → String → Said ℕ → Row
+  reference : ℕ → String → Said ℕ → Case
   -- the file is refused with that number at that place
-  refuses : String → ℕ → ℕ → Row
+  refuses : String → ℕ → ℕ → Case
   -- the file is read
-  reads : String → Row
+  reads : String → Case
   -- the curve with these parameters and controls has that point at t
-  curve : Basis → ℕ → List ℤ → List ℤ → ℤ → ℤ → Row
+  curve : PointBasis → ℕ → List ℤ → List ℤ → ℤ → ℤ → Case
 
 abbrev pub isRead : Answer → Bool
 isRead (read m) = true
@@ -41,7 +41,7 @@ isRefused (refused i q) n p = eqb i n && eqb q p
 abbrev pub roomy : Rooms
 roomy = record { v = 100; vt = 100; vn = 100; vp = 100; corners = 100; elements = 100; bodies = 100; ranges = 100; parameters = 100; loops = 100; spans = 100 }
 
-abbrev pub holds : Row → Bool
+abbrev pub holds : Case → Bool
 holds (number w a) = sameSaid sameInt (numberOf (bytes w)) a
 holds (reference n w a) = sameSaid eqb (referenceOf n (bytes w)) a
 holds (refuses t n p) = isRefused (readOf roomy (bytes t)) n p
@@ -54,7 +54,7 @@ minus n = pos 0 -ℤ pos n
 abbrev pub units : ℕ → ℤ
 units n = pos (n * 1000000)
 
-unfoldable pub table : List Row
+unfoldable pub table : List Case
 table =
     number "0.0000005" (says (pos 1))
     ∷ number "-0.0000005" (says (minus 1))

@@ -14,7 +14,7 @@ use Rattle.lists.proofs.Tests.{and-left, and-right, and-second, test}
 use Rattle.text.specs.Words.{wordOf}
 use Rattle.digits.specs.Said.{Said, says, wrong, must, ended}
 use Rattle.digits.specs.Digits.{isDigit, digits, natOf, negative}
-use Rattle.decimals.specs.Number.{mantissa, exponent, before, after, decimal, numerator, denominator, raised, lowered, nearest, unsigned, inRange, valueOf, numberOf}
+use Rattle.decimals.specs.Number.{mantissa, exponent, before, after, decimal, numerator, denominator, raised, lowered, nearest, unsigned, limited, valueOf, numberOf}
 use Rattle.decimals.specs.Straight.{tenMillionths, magnitudeOf, pointed, settleOf, hasExponent, shifted, scaledOf, sizeOf}
 use Rattle.digits.specs.Straight.{first, over, run, past, cap}
 use Rattle.digits.proofs.Rows.{run-digits, natOf-append, ten-pos}
@@ -157,19 +157,19 @@ module _ (w : List ℕ) where
       rw (and-second (leb (length w) 64) (must-have u t ∙ f)) refl)
       (test (decimal u))
 
-  exact : decimal (unsigned w) ≡ true → (minus : Bool) → settleOf minus (tenMillionths (unsigned w)) ≡ inRange minus (nearest (numerator (unsigned w)) (denominator (unsigned w)))
+  exact : decimal (unsigned w) ≡ true → (minus : Bool) → settleOf minus (tenMillionths (unsigned w)) ≡ limited minus (nearest (numerator (unsigned w)) (denominator (unsigned w)))
   unfolding decimal tenMillionths numerator denominator
   exact t minus =
       let u : List ℕ = unsigned w in
       let d = and-right (digits (before u)) (digits (after u)) (and-left (digits (before u) && digits (after u)) (leb 1 (length (before u) + length (after u))) t) in
       settles minus (natOf 0 (before u)) (after u) d
-      ∙ ap (λ (n : ℕ). inRange minus (nearest n (10 ^ length (after u)))) (sym (natOf-append 0 (before u) (after u)))
+      ∙ ap (λ (n : ℕ). limited minus (nearest n (10 ^ length (after u)))) (sym (natOf-append 0 (before u) (after u)))
 
-  scaled-exact : (minus : Bool) → inRange minus (valueOf (unsigned w)) ≡ settleOf minus (cap (shifted (unsigned w)))
+  scaled-exact : (minus : Bool) → limited minus (valueOf (unsigned w)) ≡ settleOf minus (cap (shifted (unsigned w)))
   unfolding shifted denominator
   scaled-exact minus =
       let u : List ℕ = unsigned w in
-      ap (inRange minus) (rounding (raised (exponent u) (numerator (mantissa u))) (lowered (exponent u) (denominator (mantissa u))) (lowered-pos (exponent u) (denominator (mantissa u)) (ten-pos (length (after (mantissa u))))))
+      ap (limited minus) (rounding (raised (exponent u) (numerator (mantissa u))) (lowered (exponent u) (denominator (mantissa u))) (lowered-pos (exponent u) (denominator (mantissa u)) (ten-pos (length (after (mantissa u))))))
       ∙ sym (cap-settles minus (shifted u))
 
   pub number-of : (m : ℕ) → sizeOf (unsigned w) ≡ says m → length w ≤ 64 → numberOf w ≡ settleOf (negative w) m

@@ -13,9 +13,9 @@ use Rattle.text.specs.Words.{wordOf}
 use Rattle.text.specs.Rest.{endOf}
 use Rattle.digits.specs.Said.{Said, says, ended}
 use Rattle.digits.specs.Digits.{isDigit, natOf}
-use Rattle.decimals.specs.Number.{isE, signed}
+use Rattle.decimals.specs.Number.{isE, withSign}
 use Rattle.decimals.specs.Straight.{pointed, magnitudeOf, settleOf, DecimalsAhead}
-use Rattle.digits.specs.Straight.{first, over, run, WholeRead, FewRead}
+use Rattle.digits.specs.Straight.{first, over, run, WholeRead, UptoRead}
 use Rattle.decimals.specs.Answers.{exactIs}
 use Rattle.decimals.specs.declared.number.Exact.{Exact}
 use Rattle.decimals.specs.declared.number.Exact.the-variants.{Of, Scaled, Other}
@@ -45,11 +45,11 @@ zero-more m i h =
     a ∙ ap (λ (y : ℕ). m * y) e
 
 -- ---- decimals_ahead
-module _ (s : List ℕ) (at whole end value : ℕ) (f : FewRead 6 s at whole end value) (stops : isDigit (first (drop end s)) ≡ false) where
+module _ (s : List ℕ) (at whole end value : ℕ) (f : UptoRead 6 s at whole end value) (stops : isDigit (first (drop end s)) ≡ false) where
   short : length (run (drop at s)) ≤ 6
   short = few-all 6 s at whole end value f stops
 
-  seven : FewRead 7 s at whole end value
+  seven : UptoRead 7 s at whole end value
   seven =
       let x = short in
       let q : take 6 (run (drop at s)) ≡ take 7 (run (drop at s)) = take-all 6 (run (drop at s)) x ∙ sym (take-all 7 (run (drop at s)) (omega arith)) in
@@ -102,10 +102,10 @@ module _ (s : List ℕ) (at whole end value : ℕ) (f : FewRead 6 s at whole end
         ∙ fraction-of s at count whole end value end seven none n (word-over (drop end s) (low-no-word (first (drop end s)) l)) (10 * 10 ^ (6 - (end - at))) tenfold
 
 -- ---- measure_ahead
-pub four : (s : List ℕ) (at end value : ℕ) → FewRead 4 s at 0 end value → isDigit (first (drop end s)) ≡ false → WholeRead s at end value
+pub four : (s : List ℕ) (at end value : ℕ) → UptoRead 4 s at 0 end value → isDigit (first (drop end s)) ≡ false → WholeRead s at end value
 four s at end value f o = let m = few-all 4 s at 0 end value f o in all-whole 4 s at end value f m (omega arith)
 
-pub bare-of : (s : List ℕ) (at end value b : ℕ) → FewRead 4 s at 0 end value → b ≡ first (drop end s) → b ≤ 32 → (end ≡ at → ⊥)
+pub bare-of : (s : List ℕ) (at end value b : ℕ) → UptoRead 4 s at 0 end value → b ≡ first (drop end s) → b ≤ 32 → (end ≡ at → ⊥)
     → says (10 * (value * 1000000), end) ≡ ended (magnitudeOf (wordOf (drop at s))) (endOf s at)
 bare-of s at end value b f e l n =
     let m : 10 * (value * 1000000) ≡ value * 10000000 = omega arith in
@@ -114,7 +114,7 @@ bare-of s at end value b f e l n =
     (word-over (drop end s) (low-no-word (first (drop end s)) (omega arith)))
 
 -- ---- quick_number_at
-pub settle-exact : (minus : Bool) (m end : ℕ) (z : ℤ) → m ≤ 2000000000 → z ≡ signed minus m → says (z, end) ≡ ended (settleOf minus (10 * m)) end
+pub settle-exact : (minus : Bool) (m end : ℕ) (z : ℤ) → m ≤ 2000000000 → z ≡ withSign minus m → says (z, end) ≡ ended (settleOf minus (10 * m)) end
 settle-exact minus m end z h q =
     let e : m ≡ (10 * m + 5) / 10 = omega arith in
-    said (settleOf minus (10 * m)) z end end (settle-in minus (10 * m) z (omega arith) (q ∙ ap (signed minus) e)) refl
+    said (settleOf minus (10 * m)) z end end (settle-in minus (10 * m) z (omega arith) (q ∙ ap (withSign minus) e)) refl

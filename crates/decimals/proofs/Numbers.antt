@@ -18,14 +18,14 @@ use Rattle.digits.specs.Said.{Said, says, wrong, ended}
 use Rattle.digits.specs.Digits.{natOf, negative}
 use Rattle.decimals.specs.Number.{isSign, unsigned, numberOf}
 use Rattle.decimals.specs.Straight.{pointed, magnitudeOf, sizeOf, settleOf}
-use Rattle.digits.specs.Straight.{first, over, run, past, cap, WholeRead, FewRead}
+use Rattle.digits.specs.Straight.{first, over, run, past, cap, WholeRead, UptoRead}
 use Rattle.digits.proofs.Rows.{run-rest, scaled-small}
 use Rattle.digits.proofs.Fronts.{past-at, next-at, byte-in, word-all, word-run, past-word, byte-word}
 use Rattle.decimals.proofs.Decimals.{point-at, bare-at, other-at, none-at, pointed-not, pointed-none, pointed-of, number-long, number-bad, number-of}
 use Rattle.digits.proofs.Saids.{said, unsaid, ended-says, ended-wrong}
 
 -- ---- fraction
-module _ (s : List ℕ) (at count whole last value end : ℕ) (f : FewRead 7 s at whole last value) (g : end ≡ last + length (run (drop last s))) where
+module _ (s : List ℕ) (at count whole last value end : ℕ) (f : UptoRead 7 s at whole last value) (g : end ≡ last + length (run (drop last s))) where
   -- all the digits, the first seven and the rest
   stop : end ≡ at + length (run (drop at s))
   stop =

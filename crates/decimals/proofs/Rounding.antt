@@ -13,7 +13,7 @@ use native.Mathlib.Omega.{arith}
 use native.Mathlib.Nat.{mul-le-mul-right, mul-le-mul-left, mul-assoc, mul-comm, add-mul, one-mul, mul-one, div-add-mod', mod-lt, div-eq-of-lt-le, div-eq-of-eq-mul-left, mul-div-mul-left, mul-div-cancel}
 use Rattle.lists.proofs.Tests.{test}
 use Rattle.digits.specs.Digits.{digits, natOf}
-use Rattle.decimals.specs.Number.{nearest, inRange}
+use Rattle.decimals.specs.Number.{nearest, limited}
 use Rattle.decimals.specs.Straight.{settleOf}
 use Rattle.digits.specs.Straight.{cap}
 use Rattle.digits.specs.Said.{wrong}
@@ -82,10 +82,10 @@ pub grows : (x k : ℕ) → x ≤ x * 10 ^ k
 grows x k = let h : x * 1 ≤ x * 10 ^ k = mul-le-mul-left x (ten-pos k) in omega arith
 
 pub settles : (minus : Bool) (a : ℕ) (f : List ℕ) → digits f ≡ true
-    → settleOf minus (natOf (cap a) (take 7 f) * 10 ^ (7 - length f)) ≡ inRange minus (nearest (natOf a f) (10 ^ length f))
+    → settleOf minus (natOf (cap a) (take 7 f) * 10 ^ (7 - length f)) ≡ limited minus (nearest (natOf a f) (10 ^ length f))
 settles minus a f h =
-    let q : inRange minus (nearest (natOf a f) (10 ^ length f)) ≡ settleOf minus (natOf a (take 7 f) * 10 ^ (7 - length f)) =
-    ap (inRange minus) (rounding (natOf a f) (10 ^ length f) (ten-pos (length f)))
+    let q : limited minus (nearest (natOf a f) (10 ^ length f)) ≡ settleOf minus (natOf a (take 7 f) * 10 ^ (7 - length f)) =
+    ap (limited minus) (rounding (natOf a f) (10 ^ length f) (ten-pos (length f)))
     ∙ ap (settleOf minus) (ten-millionths a f h) in
     ⊎-elim
     (λ (t : leb a 20000000005 ≡ true).

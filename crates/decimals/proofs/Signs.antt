@@ -9,7 +9,7 @@ use borrow.Author.Tests.{lt-ltb, lt-leb, le-leb}
 use mathlib.Core.Bool.{Bool}
 use native.Mathlib.Omega.{arith}
 use Rattle.digits.specs.Said.{says, wrong}
-use Rattle.decimals.specs.Number.{signed}
+use Rattle.decimals.specs.Number.{withSign}
 use Rattle.decimals.specs.Straight.{settleOf}
 
 pub reads : (m : ℕ) → m ≤ 2000000000 → toZ w32 m ≡ pos m
@@ -33,7 +33,7 @@ settle-out minus t h =
     let l : 2000000000 < (t + 5) / 10 = omega arith in
     rw (lt-leb ((t + 5) / 10) 2000000000 l) refl
 
-pub settle-in : (minus : Bool) (t : ℕ) (z : ℤ) → t ≤ 20000000004 → z ≡ signed minus ((t + 5) / 10) → settleOf minus t ≡ says z
+pub settle-in : (minus : Bool) (t : ℕ) (z : ℤ) → t ≤ 20000000004 → z ≡ withSign minus ((t + 5) / 10) → settleOf minus t ≡ says z
 settle-in minus t z h q =
     let l : (t + 5) / 10 ≤ 2000000000 = omega arith in
     rw (le-leb ((t + 5) / 10) 2000000000 l) (ap says (sym q))

@@ -69,13 +69,13 @@ lowered (e ∷ x) d = cond (negative x) (d * 10 ^ natOf 0 (unsigned x)) d
 unfoldable pub nearest : ℕ → ℕ → ℕ
 nearest n d = (2 * (1000000 * n) + d) / (2 * d)
 
-abbrev pub signed : Bool → ℕ → ℤ
-signed true m = negℤ (pos m)
-signed false m = pos m
+abbrev pub withSign : Bool → ℕ → ℤ
+withSign true m = negℤ (pos m)
+withSign false m = pos m
 
 -- "Beyond plus or minus 2,000,000,000 millionths after rounding: 7"
-abbrev pub inRange : Bool → ℕ → Said ℤ
-inRange minus m = must (leb m 2000000000) 7 (says (signed minus m))
+abbrev pub limited : Bool → ℕ → Said ℤ
+limited minus m = must (leb m 2000000000) 7 (says (withSign minus m))
 
 -- the exact value of a number without its sign, rounded
 abbrev pub valueOf : List ℕ → ℕ
@@ -84,4 +84,4 @@ valueOf u = nearest (raised (exponent u) (numerator (mantissa u))) (lowered (exp
 unfoldable pub numberOf : List ℕ → Said ℤ
 numberOf w =
     must (leb (length w) 64 && (decimal (mantissa (unsigned w)) && isExponent (exponent (unsigned w)))) 6
-    (inRange (negative w) (valueOf (unsigned w)))
+    (limited (negative w) (valueOf (unsigned w)))

@@ -9,7 +9,7 @@ use lib.IntN.{ℤ}
 use Rattle.digits.specs.Said.{Said, says, wrong, must}
 use Rattle.digits.specs.Digits.{digits, natOf, whole, negative}
 use Rattle.digits.specs.Straight.{first, run, cap}
-use Rattle.decimals.specs.Number.{isE, unsigned, mantissa, exponent, before, after, decimal, numerator, denominator, raised, lowered, inRange}
+use Rattle.decimals.specs.Number.{isE, unsigned, mantissa, exponent, before, after, decimal, numerator, denominator, raised, lowered, limited}
 
 -- ten-millionths, rounded down where a seventh decimal is not the last, and too large where the whole part is
 unfoldable pub tenMillionths : List ℕ → ℕ
@@ -23,7 +23,7 @@ unfoldable pub pointed : ℕ → ℕ → List ℕ → Said ℕ
 pointed n a u = must (digits u && leb 1 (n + length u)) 6 (says (natOf a (take 7 u) * 10 ^ (7 - length u)))
 
 abbrev pub settleOf : Bool → ℕ → Said ℤ
-settleOf minus t = inRange minus ((t + 5) / 10)
+settleOf minus t = limited minus ((t + 5) / 10)
 
 -- ---- with an exponent
 -- what stands after e or E: whether it is negative, and its number

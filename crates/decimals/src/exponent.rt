@@ -4,7 +4,7 @@ use crate::number::sign_length;
 use digits::byte_at;
 use digits::digits_end;
 use digits::first_digits;
-use digits::whole::Row;
+use digits::whole::DigitRow;
 use digits::whole::row_at;
 ghost use mathlib.Core.Path.{_≡_};
 ghost use mathlib.Core.List.{_++_};
@@ -33,8 +33,8 @@ pub fn exponent_at(text: &[u8], at: usize) -> Exponent
 {
     let b = byte_at(text, at);
     match row_at(text, at + sign_length(b), 3) {
-        Row::Malformed => Exponent::Bad,
-        Row::Of { value, end } => Exponent::Of {
+        DigitRow::Malformed => Exponent::Bad,
+        DigitRow::Of { value, end } => Exponent::Of {
             minus: b == 45,
             power: value,
             end: end,

@@ -5,7 +5,7 @@ use digits::Run;
 use digits::byte_at;
 use digits::byte_in;
 use digits::digits_end;
-use digits::few;
+use digits::digits_upto;
 use digits::whole_run;
 use digits::word_ends;
 ghost use mathlib.Core.Path.{_≡_};
@@ -15,10 +15,10 @@ ghost use mathlib.Core.Bool.{cond};
 ghost use Rattle.text.specs.Words.{wordOf};
 ghost use Rattle.text.specs.Rest.{endOf};
 ghost use Rattle.digits.specs.Said.{ended};
-ghost use Rattle.decimals.specs.Number.{numberOf, signed, isSign};
+ghost use Rattle.decimals.specs.Number.{numberOf, withSign, isSign};
 ghost use Rattle.decimals.specs.Answers.{saidNumber, saidMagnitude, exactIs};
 ghost use Rattle.decimals.specs.Straight.{magnitudeOf, pointed, sizeOf, settleOf, DecimalsAhead, MantissaAhead};
-ghost use Rattle.digits.specs.Straight.{first, WholeRead, FewRead};
+ghost use Rattle.digits.specs.Straight.{first, WholeRead, UptoRead};
 
 pub enum Number {
     Value { value: i32, end: usize },
@@ -34,13 +34,13 @@ pub enum Magnitude {
 // At most seven digits from `at`, after those of `whole`.
 fn seven(text: &[u8], at: usize, whole: u64) -> Run
     requires { ⌜ (at ≤ length (now text)) × (whole ≤ 20000000005) ⌝ }
-    ensures { λ r. ⌜ FewRead 7 (now (text .entry)) at whole (r .end) (r .value) ⌝ }
+    ensures { λ r. ⌜ UptoRead 7 (now (text .entry)) at whole (r .end) (r .value) ⌝ }
 {
     let left = text.len() - at;
     if left < 7 {
-        return few(text, at, left, whole);
+        return digits_upto(text, at, left, whole);
     }
-    few(text, at, 7, whole)
+    digits_upto(text, at, 7, whole)
 }
 
 // The digits from `at`, as far as they go: most often few, and far from the text's end.
@@ -49,7 +49,7 @@ fn whole_part(text: &[u8], at: usize) -> Run
     ensures { λ r. ⌜ WholeRead (now (text .entry)) at (r .end) (r .value) ⌝ }
 {
     if 11 <= text.len() - at {
-        let w = few(text, at, 11, 0);
+        let w = digits_upto(text, at, 11, 0);
         if w.end - at < 11 {
             return w;
         }
@@ -117,7 +117,7 @@ fn measure(text: &[u8], at: usize) -> Magnitude
 
 fn signed_of(minus: bool, m: u64) -> i32
     requires { ⌜ m ≤ 2000000000 ⌝ }
-    ensures { λ r. ⌜ r ≡ signed minus m ⌝ }
+    ensures { λ r. ⌜ r ≡ withSign minus m ⌝ }
 {
     let n = m as i32;
     if minus {
@@ -212,7 +212,7 @@ fn in_millionths(value: u64, n: usize) -> u64
 
 // The decimals f from `at` on, after `count` digits whose number is `whole`, where e or E stands behind them.
 fn mantissa_ahead(text: &[u8], at: usize, count: usize, f: Run, whole: u64) -> Exact
-    requires { ⌜ FewRead 6 (now text) at whole (f .end) (f .value) ⌝ }
+    requires { ⌜ UptoRead 6 (now text) at whole (f .end) (f .value) ⌝ }
     requires { ⌜ (f .end < length (now text)) × (count ≤ at) × (whole ≤ 20000000005) ⌝ }
     ensures { λ r. ⌜ exactIs (at + 6) (ended (pointed count whole (wordOf (drop at (now (text .entry))))) (endOf (now (text .entry)) at)) (DecimalsAhead (now (text .entry)) at count whole) r ⌝ }
 {
@@ -234,7 +234,7 @@ fn decimals_ahead(text: &[u8], at: usize, count: usize, whole: u64) -> Exact
     requires { ⌜ (at + 6 < length (now text)) × (count ≤ at) × (whole ≤ 20000000005) ⌝ }
     ensures { λ r. ⌜ exactIs (at + 6) (ended (pointed count whole (wordOf (drop at (now (text .entry))))) (endOf (now (text .entry)) at)) (DecimalsAhead (now (text .entry)) at count whole) r ⌝ }
 {
-    let f = few(text, at, 6, whole);
+    let f = digits_upto(text, at, 6, whole);
     let end = f.end;
     let b = byte_in(text, end);
     if 32 < b {
@@ -254,7 +254,7 @@ fn measure_ahead(text: &[u8], at: usize) -> Exact
     requires { ⌜ at + 11 < length (now text) ⌝ }
     ensures { λ r. ⌜ exactIs (at + 11) (ended (magnitudeOf (wordOf (drop at (now (text .entry))))) (endOf (now (text .entry)) at)) (MantissaAhead (now (text .entry)) at) r ⌝ }
 {
-    let w = few(text, at, 4, 0);
+    let w = digits_upto(text, at, 4, 0);
     let end = w.end;
     let b = byte_in(text, end);
     if b == 46 {

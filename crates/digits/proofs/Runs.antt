@@ -14,7 +14,7 @@ use mathlib.Core.Logic.{⊎-elim}
 use borrow.Author.Tests.{leb-true, leb-false}
 use Rattle.lists.proofs.Tests.{test, never}
 use Rattle.digits.specs.Digits.{isDigit, digits, natOf}
-use Rattle.digits.specs.Straight.{first, digitOf, cap, run, WholeRead, FewRead}
+use Rattle.digits.specs.Straight.{first, digitOf, cap, run, WholeRead, UptoRead}
 use Rattle.digits.proofs.Rows.{low-digit, high-digit, mid-digit, cap-natOf, natOf-ge, few-small, run-short}
 use Rattle.digits.proofs.Lengths.{ten-digits}
 
@@ -108,7 +108,7 @@ pub record Few (most : ℕ) (s : List ℕ) (at w i a room : ℕ) : Type 0 where
   pub value-is : natOf a (take room (run (drop i s))) ≡ natOf w (take most (run (drop at s)))
 
 module _ (most : ℕ) (s : List ℕ) (at w i a room : ℕ) (g : Few most s at w i a room) where
-  stops : take room (run (drop i s)) ≡ [] → FewRead most s at w i a
+  stops : take room (run (drop i s)) ≡ [] → UptoRead most s at w i a
   stops r =
       record {
         to = let x = g .within in omega arith;
@@ -116,10 +116,10 @@ module _ (most : ℕ) (s : List ℕ) (at w i a room : ℕ) (g : Few most s at w 
         value-is = rw r at (g .value-is);
       }
 
-  pub few-full : room ≡ 0 → FewRead most s at w i a
+  pub few-full : room ≡ 0 → UptoRead most s at w i a
   few-full z = stops (rw z refl)
 
-  pub few-stop : run (drop i s) ≡ [] → FewRead most s at w i a
+  pub few-stop : run (drop i s) ≡ [] → UptoRead most s at w i a
   few-stop r = stops (rw r (take-nil {A = ℕ} room))
 
   module _ (k d : ℕ) (z : room ≡ suc k) (h : i < length s) (e : d ≡ digitOf (getD s i 0)) (l : d ≤ 9) where
@@ -186,11 +186,11 @@ digit-in (suc n) (b ∷ bs) h =
     (λ (t : isDigit b ≡ false). let q = rw t at h in absurd (omega arith))
     (test (isDigit b))
 
-pub few-near : (most : ℕ) (s : List ℕ) (at a end value : ℕ) → FewRead most s at a end value → end ≤ at + most
+pub few-near : (most : ℕ) (s : List ℕ) (at a end value : ℕ) → UptoRead most s at a end value → end ≤ at + most
 few-near most s at a end value f = let x = f .end-is in let y = length-take most (run (drop at s)) in omega arith
 
 -- where no digit follows them they are all there are
-pub few-all : (most : ℕ) (s : List ℕ) (at a end value : ℕ) → FewRead most s at a end value → isDigit (first (drop end s)) ≡ false → length (run (drop at s)) ≤ most
+pub few-all : (most : ℕ) (s : List ℕ) (at a end value : ℕ) → UptoRead most s at a end value → isDigit (first (drop end s)) ≡ false → length (run (drop at s)) ≤ most
 few-all most s at a end value f o =
     ⊎-elim
     (λ (t : leb (length (run (drop at s))) most ≡ true). leb-true (length (run (drop at s))) most t)
@@ -205,7 +205,7 @@ few-all most s at a end value f o =
     (test (leb (length (run (drop at s))) most))
 
 -- all of them, far below the cap
-pub all-whole : (most : ℕ) (s : List ℕ) (at end value : ℕ) → FewRead most s at 0 end value → length (run (drop at s)) ≤ most → length (run (drop at s)) ≤ 10 → WholeRead s at end value
+pub all-whole : (most : ℕ) (s : List ℕ) (at end value : ℕ) → UptoRead most s at 0 end value → length (run (drop at s)) ≤ most → length (run (drop at s)) ≤ 10 → WholeRead s at end value
 all-whole most s at end value f m z =
     let e : take most (run (drop at s)) ≡ run (drop at s) = take-all most (run (drop at s)) m in
     record {
@@ -215,7 +215,7 @@ all-whole most s at end value f m z =
     }
 
 -- few digits, and not as many as were allowed
-pub few-whole : (s : List ℕ) (at end value : ℕ) → FewRead 11 s at 0 end value → end - at < 11 → WholeRead s at end value
+pub few-whole : (s : List ℕ) (at end value : ℕ) → UptoRead 11 s at 0 end value → end - at < 11 → WholeRead s at end value
 few-whole s at end value f h =
     let x = f .end-is in
     let y = length-take 11 (run (drop at s)) in
@@ -223,7 +223,7 @@ few-whole s at end value f h =
     all-whole 11 s at end value f (omega arith) z
 
 -- fewer bytes are left than seven: their digits are all there are
-pub few-seven : (s : List ℕ) (at w left end value : ℕ) → left ≡ length s - at → left < 7 → FewRead left s at w end value → FewRead 7 s at w end value
+pub few-seven : (s : List ℕ) (at w left end value : ℕ) → left ≡ length s - at → left < 7 → UptoRead left s at w end value → UptoRead 7 s at w end value
 few-seven s at w left end value e h f =
     let l : List ℕ = run (drop at s) in
     let n : length l ≤ left = (let x = run-short (drop at s) in let y = length-drop at s in omega arith) in

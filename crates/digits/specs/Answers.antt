@@ -4,8 +4,8 @@ use mathlib.Core.List.{List}
 use Rattle.digits.specs.Said.{Said, says, wrong}
 use Rattle.digits.specs.declared.whole.Whole.{Whole}
 use Rattle.digits.specs.declared.whole.Whole.the-variants as whole
-use Rattle.digits.specs.declared.whole.Row.{Row}
-use Rattle.digits.specs.declared.whole.Row.the-variants as row
+use Rattle.digits.specs.declared.whole.DigitRow.{DigitRow}
+use Rattle.digits.specs.declared.whole.DigitRow.the-variants as row
 use Rattle.digits.specs.declared.name.Name.{Name}
 use Rattle.digits.specs.declared.name.Name.the-variants as name
 
@@ -16,7 +16,7 @@ saidWhole whole.Malformed = wrong 6
 saidWhole whole.OutOfRange = wrong 7
 
 -- of digits alone
-abbrev pub saidRow : Row → Said (ℕ × ℕ)
+abbrev pub saidRow : DigitRow → Said (ℕ × ℕ)
 saidRow (row.Of n e) = says (n, e)
 saidRow row.Malformed = wrong 6
 

@@ -41,7 +41,7 @@ pub record WholeRead (s : List ℕ) (at end value : ℕ) : Type 0 where
   pub value-is : value ≡ cap (natOf 0 (run (drop at s)))
 
 -- the first `most` of the digits of s from `at` on, after the digits of a
-pub record FewRead (most : ℕ) (s : List ℕ) (at a end value : ℕ) : Type 0 where
+pub record UptoRead (most : ℕ) (s : List ℕ) (at a end value : ℕ) : Type 0 where
   pub to : end ≤ length s
   pub end-is : end ≡ at + length (take most (run (drop at s)))
   pub value-is : value ≡ natOf a (take most (run (drop at s)))

@@ -7,7 +7,7 @@ ghost use Prim.Native.Nat.{ℕ, _+_, _*_, _^_, _≤_, _<_};
 ghost use lib.ListN.{length, take, drop};
 ghost use Rattle.text.specs.Words.{wordOf};
 ghost use Rattle.digits.specs.Digits.{natOf};
-ghost use Rattle.digits.specs.Straight.{first, over, digitOf, cap, run, WholeRead, FewRead};
+ghost use Rattle.digits.specs.Straight.{first, over, digitOf, cap, run, WholeRead, UptoRead};
 
 pub struct Run {
     pub end: usize,
@@ -91,10 +91,10 @@ pub fn whole_run(text: &[u8], at: usize) -> Run
 }
 
 // The first digits from `at`, as many as `most`, after those of `whole`.
-pub fn few(text: &[u8], at: usize, most: usize, whole: u64) -> Run
+pub fn digits_upto(text: &[u8], at: usize, most: usize, whole: u64) -> Run
     requires { ⌜ at + most ≤ length (now text) ⌝ }
     requires { ⌜ (whole + 1) * 10 ^ most ≤ 2 ^ 60 ⌝ }
-    ensures { λ r. ⌜ FewRead most (now (text .entry)) at whole (r .end) (r .value) ⌝ }
+    ensures { λ r. ⌜ UptoRead most (now (text .entry)) at whole (r .end) (r .value) ⌝ }
 {
     let mut i = at;
     let mut a = whole;

@@ -17,31 +17,31 @@ pub enum Whole {
     OutOfRange,
 }
 
-pub enum Row {
+pub enum DigitRow {
     Of { value: u64, end: usize },
     Malformed,
 }
 
 // The number of a word of 1 to `most` digits.
-pub fn row_at(text: &[u8], at: usize, most: usize) -> Row
+pub fn row_at(text: &[u8], at: usize, most: usize) -> DigitRow
     requires { ⌜ (at ≤ length (now text)) × (most ≤ 10) ⌝ }
     ensures { λ r. ⌜ saidRow r ≡ ended (rowOf most (wordOf (drop at (now (text .entry))))) (endOf (now (text .entry)) at) ⌝ }
 {
     let w = whole_run(text, at);
     let end = w.end;
     if end == at {
-        return Row::Malformed;
+        return DigitRow::Malformed;
     }
     if most < end - at {
-        return Row::Malformed;
+        return DigitRow::Malformed;
     }
     if word_ends(text, end) {
-        return Row::Of {
+        return DigitRow::Of {
             value: w.value,
             end: end,
         };
     }
-    Row::Malformed
+    DigitRow::Malformed
 }
 
 // The degree that the word at `at` is.
@@ -50,8 +50,8 @@ pub fn degree_at(text: &[u8], at: usize) -> Whole
     ensures { λ r. ⌜ saidWhole r ≡ ended (degreeOf (wordOf (drop at (now (text .entry))))) (endOf (now (text .entry)) at) ⌝ }
 {
     match row_at(text, at, 3) {
-        Row::Malformed => Whole::Malformed,
-        Row::Of { value, end } => {
+        DigitRow::Malformed => Whole::Malformed,
+        DigitRow::Of { value, end } => {
             if value == 0 {
                 return Whole::OutOfRange;
             }
@@ -77,8 +77,8 @@ pub fn smoothing_at(text: &[u8], at: usize, argument_table: &[u8; 108]) -> Whole
         return Whole::Value { value: 0, end: off };
     }
     match row_at(text, at, 5) {
-        Row::Malformed => Whole::Malformed,
-        Row::Of { value, end } => {
+        DigitRow::Malformed => Whole::Malformed,
+        DigitRow::Of { value, end } => {
             if 65_535 < value {
                 return Whole::OutOfRange;
             }

@@ -1,4 +1,4 @@
--- Where both leans end at one whole number, that number is the nearest: each step's double is a whole number of 2 ^ -1074, near to the exact one.
+-- Where both slacks end at one whole number, that number is the nearest: each step's double is a whole number of 2 ^ -1074, near to the exact one.
 use mathlib.Core.Path.{_≡_, refl, sym, ap, ap₂, _∙_, subst}
 use mathlib.Core.Bool.{true, false}
 use mathlib.Core.List.{[], _∷_}
@@ -12,11 +12,11 @@ use lib.Ieee.{Float, binary64, round, ofInt, add, sub, mul, fits}
 use lib.Ieee.Fits.{add-fits, round-fits}
 use lib.Ieee.Exact.{HasValue}
 use lib.Ieee.Back.{round-whole, whole-unique}
-use Rattle.whole.specs.Round.{Small, between}
-use Rattle.whole.proofs.IntLaws.{abs-neg, abs-+}
-use Rattle.whole.proofs.Ring.{ring, _⊕_, _⊝_, _⊗_, _≐_}
-use Rattle.whole.proofs.Rounding.{distance, between-unique}
-use Rattle.doubles.specs.Doubles.{anchor, encode, weightOf, leaned, above, below, certain}
+use Rattle.rounding.specs.Round.{InRange, between}
+use Rattle.rounding.proofs.IntLaws.{abs-neg, abs-+}
+use Rattle.rounding.proofs.Ring.{ring, _⊕_, _⊝_, _⊗_, _≐_}
+use Rattle.rounding.proofs.Rounding.{distance, between-unique}
+use Rattle.doubles.specs.Doubles.{anchor, encode, weightOf, blend, above, below, certain}
 use Rattle.doubles.proofs.Whole.{encode-value}
 use Rattle.doubles.proofs.Near.{Whole, round-whole-number}
 use Rattle.doubles.proofs.Signs.{At, at-value, at-same, Rounded, add-rounded, sub-rounded, mul-rounded, Nearby, nearby, Close, close-by, at-whole, upright, div-round, eq-at}
@@ -30,7 +30,7 @@ abbrev step : ℕ
 step = 2 ^ 1022
 
 -- ---- a kept number
-module _ (z : ℤ) (small : Small z) where
+module _ (z : ℤ) (small : InRange z) where
   beside : Moved anchor 2000000000 z
   beside = moved anchor 2000000000 z small (lit≤ tt)
 
@@ -38,10 +38,10 @@ module _ (z : ℤ) (small : Small z) where
   encode-at = subst (λ (n : ℕ). At (encode z) (pos n) 1) (ap natAbs (beside .same)) (at-value (encode z) false (natAbs (pos anchor +ℤ z)) 1 (encode-value z small))
 
 -- ---- the difference is exact
-gap-size : (a b : ℤ) → Small a → Small b → natAbs (b -ℤ a) ≤ 4000000000
+gap-size : (a b : ℤ) → InRange a → InRange b → natAbs (b -ℤ a) ≤ 4000000000
 gap-size a b h k = omega (arith, abs-+ b (negℤ a), abs-neg a)
 
-module _ (a b : ℤ) (sa : Small a) (sb : Small b) where
+module _ (a b : ℤ) (sa : InRange a) (sb : InRange b) where
   gap-is : pos (beside b sb .number) -ℤ pos (beside a sa .number) ≡ b -ℤ a
   gap-is = ap₂ _-ℤ_ (sym (beside b sb .same)) (sym (beside a sa .same)) ∙ ring (pos anchor ∷ a ∷ b ∷ []) (λ n a b. n ⊕ b ⊝ (n ⊕ a) ≐ b ⊝ a) tt
 
@@ -81,7 +81,7 @@ reach = 4000000000 * (2 ^ 52 + 1)
 in-reach : (n k l : ℕ) → k < l → n ≤ k * step → n < l * step
 in-reach n k l h g = lt-of-le-of-lt g (mul-lt-mul-of-pos-right h (pow-pos 1022))
 
-module _ (a b : ℤ) (p D : ℕ) (sa : Small a) (sb : Small b) (h : p ≤ D) (some : 0 < D) (weight : Nearby binary64 (weightOf p D) (pos p) D 1022) where
+module _ (a b : ℤ) (p D : ℕ) (sa : InRange a) (sb : InRange b) (h : p ≤ D) (some : 0 < D) (weight : Nearby binary64 (weightOf p D) (pos p) D 1022) where
   product-most : natAbs ((b -ℤ a) *ℤ weight .number) ≤ reach * step
   product-most =
       product-size (b -ℤ a) (weight .number) 4000000000 (unit + step) (gap-size a b sa sb) (weight-size (weight .number) D p unit step some h (weight .near))
@@ -104,7 +104,7 @@ record Landing (x : Float) (n : ℕ) (m l : ℤ) : Type 0 where
 more : (n m j k e : ℕ) → n ≤ m + k * e → m ≤ j * e → n ≤ (j + k) * e
 more n m j k e h l = omega arith
 
-module _ (a b : ℤ) (sa : Small a) (w : Float) (z : ℤ) (small : natAbs z ≤ reach * step) (m : Close binary64 (product (encode a) (encode b) w) z 1054)
+module _ (a b : ℤ) (sa : InRange a) (w : Float) (z : ℤ) (small : natAbs z ≤ reach * step) (m : Close binary64 (product (encode a) (encode b) w) z 1054)
     (x : Float) (l : ℤ) (at : At x l unit) (little : natAbs l ≤ 2 ^ 36 * step) where
   product-number : natAbs (m .number) ≤ (reach + 2 ^ 32) * step
   product-number = more (natAbs (m .number)) (natAbs z) reach (2 ^ 32) step (size-near (m .number) z (2 ^ 32 * step) (m .near)) small
@@ -148,21 +148,21 @@ module _ (a b : ℤ) (sa : Small a) (w : Float) (z : ℤ) (small : natAbs z ≤ 
       enough : (n k u : ℕ) → 0 < u → n * u ≤ (anchor + 2000000000) * u → k ≤ n * u + 4000000001 * u → k < 2 ^ 53 * u
       enough n k u U h l = omega arith
 
-  leaned-rounded : Rounded binary64 (leaned (encode a) (encode b) w x) (pos (start * unit) +ℤ sum-near .number) unit
-  unfolding leaned
+  leaned-rounded : Rounded binary64 (blend (encode a) (encode b) w x) (pos (start * unit) +ℤ sum-near .number) unit
+  unfolding blend
   leaned-rounded =
       add-rounded binary64 (encode a) (add binary64 (product (encode a) (encode b) w) x) (pos (start * unit)) (sum-near .number) unit (pow-pos 1074)
       (at-same (encode a) (pos start) (pos (start * unit)) 1 unit (zero-lt-suc 0) (ap pos (sym (mul-one (start * unit)))) (encode-at a sa)) (sum-near .value)
 
-  ends : leaned (encode a) (encode b) w x ≡ round binary64 false (total .number) unit
+  ends : blend (encode a) (encode b) w x ≡ round binary64 false (total .number) unit
   ends =
-      upright binary64 (leaned (encode a) (encode b) w x) (total .number) unit (lt-of-lt-of-le (mul-pos (pow-pos 52) (pow-pos 1074)) total-least)
-      (subst (λ y. Rounded binary64 (leaned (encode a) (encode b) w x) y unit) (total .same) leaned-rounded)
+      upright binary64 (blend (encode a) (encode b) w x) (total .number) unit (lt-of-lt-of-le (mul-pos (pow-pos 52) (pow-pos 1074)) total-least)
+      (subst (λ y. Rounded binary64 (blend (encode a) (encode b) w x) y unit) (total .same) leaned-rounded)
 
   landed : Whole binary64 false (total .number) unit
   landed = round-whole-number binary64 false (total .number) unit (pow-pos 1074) total-least total-most
 
-  landing : Landing (leaned (encode a) (encode b) w x) (beside a sa .number) (m .number) l
+  landing : Landing (blend (encode a) (encode b) w x) (beside a sa .number) (m .number) l
   landing = record {
     number = landed .number;
     value = subst (λ (y : Float). HasValue y false (landed .number) 1) (sym ends) (landed .value);
@@ -185,7 +185,7 @@ module _ (a b : ℤ) (sa : Small a) (w : Float) (z : ℤ) (small : natAbs z ≤ 
           ap natAbs (ring (pos q ∷ pos n ∷ pos u ∷ y ∷ []) (λ q n u y. (q ⊝ n) ⊗ u ⊝ y ≐ q ⊗ u ⊝ (n ⊗ u ⊕ y)) tt ∙ ap (λ t. pos (q * u) -ℤ t) e) in
           subst (λ (j : ℕ). 2 * j ≤ u) (sym i) h
 
--- ---- both leans at one number
+-- ---- both slacks at one number
 rearranged : (N q n a b : ℤ) (p r D : ℕ) → N +ℤ a ≡ n → D ≡ r + p → pos D *ℤ (q -ℤ n) -ℤ pos p *ℤ (b -ℤ a) ≡ pos D *ℤ (q -ℤ N) -ℤ (pos r *ℤ a +ℤ pos p *ℤ b)
 rearranged N q n a b p r D h e =
     ap₂ (λ (k : ℕ) m. pos k *ℤ (q -ℤ m) -ℤ pos p *ℤ (b -ℤ a)) e (sym h)
@@ -196,24 +196,24 @@ encode-number : (q : ℕ) → encode (pos q -ℤ pos anchor) ≡ round binary64 
 unfolding encode ofInt
 encode-number q = ap (ofInt binary64) (ring (pos q ∷ pos anchor ∷ []) (λ q n. n ⊕ (q ⊝ n) ≐ q) tt)
 
-leaned-fits : (a b w e : Float) → T (fits binary64 (leaned a b w e))
-unfolding leaned
+leaned-fits : (a b w e : Float) → T (fits binary64 (blend a b w e))
+unfolding blend
 leaned-fits a b w e = add-fits binary64 a (add binary64 (mul binary64 (sub binary64 b a) w) e)
 
-module _ (a b : ℤ) (p D : ℕ) (sa : Small a) (sb : Small b) (h : p ≤ D) (some : 0 < D) (most : D ≤ 4000000000) where
+module _ (a b : ℤ) (p D : ℕ) (sa : InRange a) (sb : InRange b) (h : p ≤ D) (some : 0 < D) (most : D ≤ 4000000000) where
   abbrev weight : Nearby binary64 (weightOf p D) (pos p) D 1022
   weight = weight-near p D h some most
 
   abbrev moving : Close binary64 (product (encode a) (encode b) (weightOf p D)) ((b -ℤ a) *ℤ weight .number) 1054
   moving = product-near a b p D sa sb h some weight
 
-  lands : (x : Float) (l : ℤ) → At x l unit → natAbs l ≤ 2 ^ 36 * step → Landing (leaned (encode a) (encode b) (weightOf p D) x) (beside a sa .number) (moving .number) l
+  lands : (x : Float) (l : ℤ) → At x l unit → natAbs l ≤ 2 ^ 36 * step → Landing (blend (encode a) (encode b) (weightOf p D) x) (beside a sa .number) (moving .number) l
   lands = landing a b sa (weightOf p D) ((b -ℤ a) *ℤ weight .number) (product-most a b p D sa sb h some weight) moving
 
-  higher : Landing (leaned (encode a) (encode b) (weightOf p D) above) (beside a sa .number) (moving .number) (pos (2 ^ 36 * step))
+  higher : Landing (blend (encode a) (encode b) (weightOf p D) above) (beside a sa .number) (moving .number) (pos (2 ^ 36 * step))
   higher = lands above (pos (2 ^ 36 * step)) refl (le-refl (2 ^ 36 * step))
 
-  lower : Landing (leaned (encode a) (encode b) (weightOf p D) below) (beside a sa .number) (moving .number) (negℤ (pos (2 ^ 36 * step)))
+  lower : Landing (blend (encode a) (encode b) (weightOf p D) below) (beside a sa .number) (moving .number) (negℤ (pos (2 ^ 36 * step)))
   lower = lands below (negℤ (pos (2 ^ 36 * step))) refl (le-of-eq (abs-neg (pos (2 ^ 36 * step))))
 
   nearest-is : pos (lower .number) ≡ pos (higher .number) → between a b p D ≡ pos (higher .number) -ℤ pos anchor
@@ -224,12 +224,12 @@ module _ (a b : ℤ) (p D : ℕ) (sa : Small a) (sb : Small b) (h : p ≤ D) (so
       some (pow-pos 1022) (le-trans (gap-size a b sa sb) (lit≤ tt)) (weight .near) (moving .near) (higher .leant)
       (subst (λ z. Leaned unit step (z -ℤ pos (beside a sa .number)) (moving .number) (lower .sum) (negℤ (pos (2 ^ 36 * step)))) e (lower .leant))))
 
-pub certain-between : (a b : ℤ) (p D : ℕ) → Small a → Small b → p ≤ D → 0 < D → D ≤ 4000000000
+pub certain-between : (a b : ℤ) (p D : ℕ) → InRange a → InRange b → p ≤ D → 0 < D → D ≤ 4000000000
     → certain (encode a) (encode b) (weightOf p D) ≡ true
-    → leaned (encode a) (encode b) (weightOf p D) above ≡ encode (between a b p D)
+    → blend (encode a) (encode b) (weightOf p D) above ≡ encode (between a b p D)
 certain-between a b p D sa sb h some most sure =
-    let u = leaned (encode a) (encode b) (weightOf p D) above in
-    let v = leaned (encode a) (encode b) (weightOf p D) below in
+    let u = blend (encode a) (encode b) (weightOf p D) above in
+    let v = blend (encode a) (encode b) (weightOf p D) below in
     let r = higher a b p D sa sb h some most in
     let s = lower a b p D sa sb h some most in
     let e : pos (r .number) ≡ pos (s .number) = eq-at u v (pos (r .number)) (pos (s .number)) 1 (at-value u false (r .number) 1 (r .value)) (at-value v false (s .number) 1 (s .value)) sure in

@@ -1,12 +1,12 @@
--- What the doubles' errors add up to, in whole numbers: between the two leans' results there is room for one nearest whole number only.
+-- What the doubles' errors add up to, in whole numbers: between the two slacks' results there is room for one nearest whole number only.
 use mathlib.Core.Path.{_≡_, refl, sym, ap, _∙_, subst}
 use mathlib.Core.List.{[], _∷_}
 use Prim.Native.Nat.{ℕ, suc, _+_, _-_, _*_, _^_, _≤_, _<_}
 use native.Mathlib.Nat.{mul-pos, mul-le-mul, mul-le-mul-left, mul-le-mul-right, le-of-mul-le-mul-right, lt-of-mul-lt-mul-right}
 use native.Mathlib.Omega.{arith}
 use lib.IntN.{ℤ, pos, negsuc, negℤ, natAbs, _+ℤ_, _-ℤ_, _*ℤ_, negℤ-negℤ}
-use Rattle.whole.proofs.IntLaws.{abs-neg, abs-*, abs-+}
-use Rattle.whole.proofs.Ring.{ring, _⊕_, _⊝_, _⊗_, ⊖, _≐_}
+use Rattle.rounding.proofs.IntLaws.{abs-neg, abs-*, abs-+}
+use Rattle.rounding.proofs.Ring.{ring, _⊕_, _⊝_, _⊗_, ⊖, _≐_}
 use Rattle.doubles.proofs.Signs.{minus}
 
 -- ---- x lies within k / 2 of c and of -c
@@ -35,7 +35,7 @@ pub record Leaned (U e : ℕ) (g m n h : ℤ) : Type 0 where
   pub last : 2 * natAbs (g *ℤ pos U -ℤ n) ≤ U
   pub lean : 2 * natAbs (n -ℤ (m +ℤ h)) ≤ 2 ^ 33 * e
 
--- leans of 2 ^ 36 steps to either side leave more room than all errors take
+-- slacks of 2 ^ 36 steps to either side leave more room than all errors take
 module _ (D U e p : ℕ) (d g w m n₁ n₂ : ℤ) (some : 0 < D) (step : 0 < e) (gap : natAbs d ≤ 2 ^ 32)
     (weight : 2 * natAbs (w *ℤ pos D -ℤ pos p *ℤ pos U) ≤ D * e) (product : 2 * natAbs (m -ℤ d *ℤ w) ≤ 2 ^ 32 * e) where
   total : (n h : ℤ) → Leaned U e g m n h → 2 * natAbs ((pos D *ℤ g -ℤ pos p *ℤ d) *ℤ pos U -ℤ pos D *ℤ h) ≤ D * U + 2 ^ 34 * (D * e)

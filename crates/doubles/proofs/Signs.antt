@@ -13,12 +13,12 @@ use lib.Ieee.Fits.{down-pos, and-l, and-r}
 use lib.Ieee.Exact.{HasValue}
 use lib.Ieee.Back.{round-whole}
 use lib.Ieee.Scale.{round-same}
-use Rattle.whole.specs.Round.{signed}
-use Rattle.whole.proofs.IntLaws.{abs-neg, abs-*, neg-*ℤ}
-use Rattle.whole.proofs.Bits.{abs-signed}
-use Rattle.whole.proofs.FracLaws.{cancel}
-use Rattle.whole.proofs.Ring.{ring, _⊕_, _⊝_, _⊗_, ⊖, _≐_}
-use Rattle.whole.proofs.Rounding.{distance}
+use Rattle.rounding.specs.Round.{signed}
+use Rattle.rounding.proofs.IntLaws.{abs-neg, abs-*, neg-*ℤ}
+use Rattle.rounding.proofs.Bits.{abs-signed}
+use Rattle.rounding.proofs.FracLaws.{cancel}
+use Rattle.rounding.proofs.Ring.{ring, _⊕_, _⊝_, _⊗_, ⊖, _≐_}
+use Rattle.rounding.proofs.Rounding.{distance}
 use Rattle.doubles.proofs.Near.{Halfway, Rounds, round-near}
 
 -- ---- signs

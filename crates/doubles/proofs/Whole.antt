@@ -14,11 +14,11 @@ use lib.Ieee.Fits.{down-pos, ofInt-fits}
 use lib.Ieee.Exact.{HasValue}
 use lib.Ieee.Back.{round-whole, positive-back, negative-back}
 use lib.Ieee.Scale.{round-same}
-use Rattle.whole.specs.Round.{Small}
-use Rattle.whole.proofs.IntLaws.{abs-+, abs-neg}
-use Rattle.whole.proofs.Order.{Up, up-abs}
-use Rattle.whole.proofs.Ring.{ring, _⊕_, _⊝_, _≐_}
-use Rattle.doubles.specs.Doubles.{anchor, encode, decode, Kept}
+use Rattle.rounding.specs.Round.{InRange}
+use Rattle.rounding.proofs.IntLaws.{abs-+, abs-neg}
+use Rattle.rounding.proofs.Order.{Up, up-abs}
+use Rattle.rounding.proofs.Ring.{ring, _⊕_, _⊝_, _≐_}
+use Rattle.doubles.specs.Doubles.{anchor, encode, decode, Encoding}
 
 -- ---- a sum sees only the values of its two fractions
 both-ways : (x y : Bool) → (T x → T y) → (T y → T x) → x ≡ y
@@ -145,25 +145,25 @@ anchored-is : anchored ≡ ofInt binary64 (pos anchor)
 unfolding ofBits ofInt
 anchored-is = refl
 
-small-in : (z : ℤ) → Small z → natAbs z ≤ 2 ^ 53
+small-in : (z : ℤ) → InRange z → natAbs z ≤ 2 ^ 53
 small-in z h = omega arith
 
 -- the way up from a small number to another
-pub way-up : (a b : ℤ) → Up a b → Small a → Small b → sub binary64 (ofInt binary64 b) (ofInt binary64 a) ≡ ofInt binary64 (pos (natAbs (b -ℤ a)))
+pub way-up : (a b : ℤ) → Up a b → InRange a → InRange b → sub binary64 (ofInt binary64 b) (ofInt binary64 a) ≡ ofInt binary64 (pos (natAbs (b -ℤ a)))
 way-up a b u h k = sub-whole binary64 b a (small-in b k) (small-in a h) ∙ ap (ofInt binary64) (up-abs u)
 
 anchor-in : anchor ≤ 2 ^ 53
 anchor-in = lit≤ tt
 
-encode-in : (z : ℤ) → Small z → natAbs (pos anchor +ℤ z) ≤ 2 ^ 53
+encode-in : (z : ℤ) → InRange z → natAbs (pos anchor +ℤ z) ≤ 2 ^ 53
 encode-in z h = omega (arith, abs-+ (pos anchor) z)
 
 -- what is kept lies above zero
-pub encode-place : (z : ℤ) → Small z → pos anchor +ℤ z ≡ pos (natAbs (pos anchor +ℤ z))
+pub encode-place : (z : ℤ) → InRange z → pos anchor +ℤ z ≡ pos (natAbs (pos anchor +ℤ z))
 encode-place (pos n) h = refl
 encode-place (negsuc n) h = rw (le-ltb anchor (suc n) (omega arith)) refl
 
-pub encode-value : (z : ℤ) → Small z → HasValue (encode z) false (natAbs (pos anchor +ℤ z)) 1
+pub encode-value : (z : ℤ) → InRange z → HasValue (encode z) false (natAbs (pos anchor +ℤ z)) 1
 unfolding encode
 encode-value z h = subst (λ (s : Bool). HasValue (ofInt binary64 (pos anchor +ℤ z)) (not s) (natAbs (pos anchor +ℤ z)) 1) (ap nonNeg (encode-place z h)) (ofInt-value binary64 (pos anchor +ℤ z) (encode-in z h))
 
@@ -171,21 +171,21 @@ pub encode-fits : (z : ℤ) → T (fits binary64 (encode z))
 unfolding encode
 encode-fits z = ofInt-fits binary64 (pos anchor +ℤ z)
 
-pub encode-sum : (z : ℤ) → Small z → add binary64 (ofInt binary64 z) anchored ≡ encode z
+pub encode-sum : (z : ℤ) → InRange z → add binary64 (ofInt binary64 z) anchored ≡ encode z
 unfolding encode
 encode-sum z h = ap (add binary64 (ofInt binary64 z)) anchored-is ∙ add-whole binary64 z (pos anchor) (small-in z h) anchor-in ∙ ap (ofInt binary64) (+ℤ-comm z (pos anchor))
 
 -- the way between two numbers is exact
-pub encode-apart : (a b : ℤ) → Small a → Small b → sub binary64 (encode b) (encode a) ≡ ofInt binary64 (b -ℤ a)
+pub encode-apart : (a b : ℤ) → InRange a → InRange b → sub binary64 (encode b) (encode a) ≡ ofInt binary64 (b -ℤ a)
 unfolding encode
 encode-apart a b h k =
     sub-whole binary64 (pos anchor +ℤ b) (pos anchor +ℤ a) (encode-in b k) (encode-in a h) ∙ ap (ofInt binary64) (ring (pos anchor ∷ a ∷ b ∷ []) (λ m a b. m ⊕ b ⊝ (m ⊕ a) ≐ b ⊝ a) tt)
 
-pub apart-value : (a b : ℤ) → Small a → Small b → HasValue (sub binary64 (encode b) (encode a)) (not (nonNeg (b -ℤ a))) (natAbs (b -ℤ a)) 1
+pub apart-value : (a b : ℤ) → InRange a → InRange b → HasValue (sub binary64 (encode b) (encode a)) (not (nonNeg (b -ℤ a))) (natAbs (b -ℤ a)) 1
 apart-value a b h k = subst (λ (x : Float). HasValue x (not (nonNeg (b -ℤ a))) (natAbs (b -ℤ a)) 1) (sym (encode-apart a b h k))
     (ofInt-value binary64 (b -ℤ a) (omega (arith, abs-+ b (negℤ a), abs-neg a)))
 
-pub encode-less : (z : ℤ) → Small z → sub binary64 (encode z) anchored ≡ ofInt binary64 z
+pub encode-less : (z : ℤ) → InRange z → sub binary64 (encode z) anchored ≡ ofInt binary64 z
 unfolding encode
 encode-less z h =
     ap (sub binary64 (encode z)) anchored-is
@@ -193,25 +193,25 @@ encode-less z h =
     ∙ ap (ofInt binary64) (ring (pos anchor ∷ z ∷ []) (λ m z. m ⊕ z ⊝ m ≐ z) tt)
 
 -- ---- and back
-back : (z : ℤ) → Small z → T (inSigned binary64 31 (ofInt binary64 z)) × (toSigned 31 (ofInt binary64 z) ≡ z)
+back : (z : ℤ) → InRange z → T (inSigned binary64 31 (ofInt binary64 z)) × (toSigned 31 (ofInt binary64 z) ≡ z)
 back (pos n) h = positive-back binary64 31 n (in-float binary64 (pos n) (small-in (pos n) h)) (omega arith)
 back (negsuc n) h = negative-back binary64 31 n (in-float binary64 (negsuc n) (small-in (negsuc n) h)) (omega arith)
 
-pub encode-back : (a : Float) (k : Kept a) → T (inSigned binary64 31 (sub binary64 a anchored)) × (toSigned 31 (sub binary64 a anchored) ≡ k .number)
+pub encode-back : (a : Float) (k : Encoding a) → T (inSigned binary64 31 (sub binary64 a anchored)) × (toSigned 31 (sub binary64 a anchored) ≡ k .number)
 encode-back a k =
     subst (λ (x : Float). T (inSigned binary64 31 x) × (toSigned 31 x ≡ k .number)) (sym (ap (λ (x : Float). sub binary64 x anchored) (k .same) ∙ encode-less (k .number) (k .small)))
     (back (k .number) (k .small))
 
 -- ---- what a double keeps
-pub decode-is : {a : Float} (k : Kept a) → decode a ≡ k .number
+pub decode-is : {a : Float} (k : Encoding a) → decode a ≡ k .number
 unfolding decode
 decode-is {a} k = ap (λ (x : Float). toSigned 31 (sub binary64 a x)) (sym anchored-is) ∙ encode-back a k .1
 
-pub decode-encode : (z : ℤ) → Small z → decode (encode z) ≡ z
+pub decode-encode : (z : ℤ) → InRange z → decode (encode z) ≡ z
 decode-encode z h = decode-is (record { number = z; small = h; same = refl })
 
-pub encode-decode : {a : Float} → Kept a → a ≡ encode (decode a)
+pub encode-decode : {a : Float} → Encoding a → a ≡ encode (decode a)
 encode-decode k = k .same ∙ ap encode (sym (decode-is k))
 
-pub decode-small : {a : Float} → Kept a → Small (decode a)
+pub decode-small : {a : Float} → Encoding a → InRange (decode a)
 decode-small k = rw (decode-is k) (k .small)

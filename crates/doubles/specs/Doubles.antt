@@ -4,7 +4,7 @@ use mathlib.Core.Bool.{Bool, true, false}
 use Prim.Native.Nat.{ℕ}
 use lib.IntN.{ℤ, pos, negsuc, _+ℤ_}
 use lib.Ieee.{Float, fin, binary64, add, sub, mul, div, eq, ofInt, toSigned}
-use Rattle.whole.specs.Round.{Small}
+use Rattle.rounding.specs.Round.{InRange}
 
 -- 2^52 + 2^51: doubles from 2^52 to 2^53 lie 1 apart, so a sum that ends there is rounded to a whole number
 abbrev pub anchor : ℕ
@@ -19,9 +19,9 @@ unfoldable pub decode : Float → ℤ
 decode a = toSigned 31 (sub binary64 a (ofInt binary64 (pos anchor)))
 
 -- a double keeps a whole number in range
-pub record Kept (a : Float) : Type 0 where
+pub record Encoding (a : Float) : Type 0 where
   pub number : ℤ
-  pub small : Small number
+  pub small : InRange number
   pub same : a ≡ encode number
 
 -- p / d, rounded to a double
@@ -29,8 +29,8 @@ unfoldable pub weightOf : ℕ → ℕ → Float
 weightOf p d = div binary64 (ofInt binary64 (pos p)) (ofInt binary64 (pos d))
 
 -- from a towards b by the weight w, and e further
-unfoldable pub leaned : (a b w e : Float) → Float
-leaned a b w e = add binary64 a (add binary64 (mul binary64 (sub binary64 b a) w) e)
+unfoldable pub blend : (a b w e : Float) → Float
+blend a b w e = add binary64 a (add binary64 (mul binary64 (sub binary64 b a) w) e)
 
 -- 2^-16 to either side: far more than the doubles' errors add up to, and little beside 1 / 2
 abbrev pub above : Float
@@ -41,4 +41,4 @@ below = fin true 1 (negsuc 15)
 
 -- both lean to the same whole number
 abbrev pub certain : (a b w : Float) → Bool
-certain a b w = eq (leaned a b w above) (leaned a b w below)
+certain a b w = eq (blend a b w above) (blend a b w below)

@@ -7,10 +7,10 @@ use mathlib.Core.List.{List, [], _∷_}
 use native.Mathlib.Omega.{arith}
 use lib.ListN.{length, getD}
 use lib.IntN.{ℤ, pos, natAbs, negℤ, _+ℤ_, _*ℤ_, _-ℤ_, +ℤ-assoc, +ℤ-invl}
-use Rattle.whole.specs.Fractions.{Frac, whole, _+ᶠ_, _-ᶠ_, _*ᶠ_, power, over, sumTo, Close}
-use Rattle.whole.proofs.IntLaws.{sub-eq}
-use Rattle.whole.proofs.FracLaws.{no-size}
-use Rattle.whole.proofs.Order.{yes-le}
+use Rattle.rounding.specs.Fractions.{Frac, whole, _+ᶠ_, _-ᶠ_, _*ᶠ_, power, over, sumTo, Close}
+use Rattle.rounding.proofs.IntLaws.{sub-eq}
+use Rattle.rounding.proofs.FracLaws.{no-size}
+use Rattle.rounding.proofs.Order.{yes-le}
 use Rattle.keywords.specs.Rows.{bytes}
 use Rattle.keywords.specs.Keywords.{statementOf, keywords}
 use Rattle.text.specs.Lines.{linesOf}
@@ -25,23 +25,23 @@ use Rattle.model.specs.Room.{fits}
 use Rattle.model.specs.Parse.{parse}
 use Rattle.model.specs.Read.{read, readOf, statement}
 use Rattle.model.specs.Layout.{tablesOf, usedOf, nothing}
-use Rattle.all_lines.specs.declared.Reading.the-variants as reading
+use Rattle.read_lines.specs.declared.ReadResult.the-variants as reading
 use Rattle.reader.specs.Reading.{roomsOf}
-use Rattle.tidying.specs.declared.Weights.{Weights}
-use Rattle.tidying.specs.Tidied.{tidied}
-use Rattle.tidying.specs.Printed.{tidyText}
-use Rattle.tidy_file.specs.declared.Tidied.the-variants.{Written, TooLong}
-use Rattle.curves.specs.Directions.{chosen, segment, lastWhere}
-use Rattle.curves.specs.Exact.{choose, along, bernstein, segmentWeight, bezierWeight, weightAt, curveExact}
+use Rattle.tidy_form.specs.declared.Weights.{Weights}
+use Rattle.tidy_form.specs.Tidied.{tidied}
+use Rattle.tidy_form.specs.Printed.{tidyText}
+use Rattle.tidier.specs.declared.TidyResult.the-variants.{Written, TooLong}
+use Rattle.point_exact.specs.Directions.{chosen, segment, lastWhere}
+use Rattle.point_exact.specs.Exact.{choose, along, bernstein, segmentWeight, bezierWeight, weightAt, curveExact}
 use Rattle.basis.specs.Widest.{widest}
-use Rattle.rules.specs.Rules.{obeys, elementObeys}
-use Rattle.rules.specs.Numbers.{small, smallRun}
-use Rattle.runs.specs.Runs.{parameterAt}
-use Rattle.rules.specs.Vertices.{vertexObeys}
-use Rattle.rules.specs.Corners.{leastCorners, withNormal, withTexture, attributeObeys, pointObeys, cornerObeys, eachCorner, cornersObey}
-use Rattle.rules.specs.Directions.{degreeObeys, typeObeys, parametersObey}
-use Rattle.rules.specs.Bodies.{flatObeys, curveObeys, recordObeys, bodyObeys}
-use Rattle.sampler.specs.declared.Sampled.the-variants as sampled
+use Rattle.record_rules.specs.Rules.{obeys, elementObeys}
+use Rattle.record_rules.specs.Numbers.{inRange, runInRange}
+use Rattle.point_runs.specs.Runs.{parameterAt}
+use Rattle.record_rules.specs.Vertices.{vertexObeys}
+use Rattle.record_rules.specs.Corners.{leastCorners, withNormal, withTexture, attributeObeys, pointObeys, cornerObeys, eachCorner, cornersObey}
+use Rattle.record_rules.specs.Directions.{degreeObeys, typeObeys, parametersObey}
+use Rattle.record_rules.specs.Bodies.{flatObeys, curveObeys, recordObeys, bodyObeys}
+use Rattle.sampler.specs.declared.PointResult.the-variants as sampled
 use Rattle.sampler.specs.Points.{directionU, controlOf}
 use Rattle.sampler.specs.Answers.{elementOf, bodyOf, PointOutcome, pointOutcome}
 use Rattle.sampler.specs.Demand3.{sampling, Curve}
@@ -151,7 +151,7 @@ line =
     }
 
 line-obeys : obeys used line 0 0 ≡ true
-unfolding obeys elementObeys cornersObey eachCorner cornerObeys pointObeys attributeObeys withTexture withNormal leastCorners vertexObeys small smallRun bodyObeys recordObeys curveObeys flatObeys widest held bodyHeld typeObeys degreeObeys parametersObey inOrder curveCount
+unfolding obeys elementObeys cornersObey eachCorner cornerObeys pointObeys attributeObeys withTexture withNormal leastCorners vertexObeys inRange runInRange bodyObeys recordObeys curveObeys flatObeys widest held bodyHeld typeObeys degreeObeys parametersObey inOrder curveCount
 line-obeys = refl
 
 curved : Curve used line 1

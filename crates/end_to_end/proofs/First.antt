@@ -9,12 +9,12 @@ use Rattle.tables.specs.declared.Used.{Used}
 use Rattle.model.specs.Room.{Rooms}
 use Rattle.model.specs.Read.{Answer, read, refused, readOf}
 use Rattle.model.specs.Layout.{tablesOf, usedOf}
-use Rattle.all_lines.specs.declared.Reading.the-variants as reading
-use Rattle.reader.specs.Reading.{roomsOf, readOutcome, Result, readInto}
+use Rattle.read_lines.specs.declared.ReadResult.the-variants as reading
+use Rattle.reader.specs.Reading.{roomsOf, readOutcome, ReadAnswer, readInto}
 use Rattle.reader.specs.Reading as reader
-use Rattle.tidying.specs.declared.Weights.{Weights}
-use Rattle.tidying.specs.Printed.{tidyText}
-use Rattle.tidy_file.specs.Tidying.{tidyOutcome, TidyResult, hasRoom, written, answered, tidyInto}
+use Rattle.tidy_form.specs.declared.Weights.{Weights}
+use Rattle.tidy_form.specs.Printed.{tidyText}
+use Rattle.tidier.specs.Tidying.{tidyOutcome, TidyAnswer, hasRoom, written, answered, tidyInto}
 use Rattle.sampler.specs.Demand3.{sampling}
 use Rattle.end_to_end.specs.Demand1.{Outcomes, Demand1}
 use Rattle.end_to_end.proofs.Numbers.{refusal-number}
@@ -53,25 +53,25 @@ first =
           let e = read-is s S (refused n p) (turned-down s S n p h) in
           record {
             number = refusal-number (roomsOf S) s n p (turned-down s S n p h);
-            tables = ap (λ (r : Result). r .tables) e ∙ nothing-zeros S;
-            counts = ap (λ (r : Result). r .outcome .used) e;
+            tables = ap (λ (r : ReadAnswer). r .tables) e ∙ nothing-zeros S;
+            counts = ap (λ (r : ReadAnswer). r .outcome .used) e;
           };
-      refuses = λ c s S a n p h. ap (λ (r : TidyResult). r .answer) (tidy-is c s S a (refused n p) (turned-down s S n p h));
+      refuses = λ c s S a n p h. ap (λ (r : TidyAnswer). r .answer) (tidy-is c s S a (refused n p) (turned-down s S n p h));
       refused-tidying = λ c s S a n p h.
           let d = refused-file c s S a n p h in
           let e = tidy-is c s S a (refused n p) (d .is-refused) in
           record {
-            read = ap (λ (r : Result). r .answer) (read-is s S (refused n p) (d .is-refused));
+            read = ap (λ (r : ReadAnswer). r .answer) (read-is s S (refused n p) (d .is-refused));
             tables = d .tables ∙ nothing-zeros S;
-            counts = ap (λ (r : TidyResult). r .outcome .used) e;
+            counts = ap (λ (r : TidyAnswer). r .outcome .used) e;
             out = d .kept;
           };
       long-tidying = λ c s S a k u h.
           let l = long-file c s S a k u h in
           let e = read-is s S (read (l .model)) (l .is-read) in
           record {
-            read = ap (λ (r : Result). r .answer) e ∙ ap (λ (w : Used). reading.Read w) (l .counts);
-            tables = l .tables ∙ sym (ap (λ (r : Result). r .tables) e);
+            read = ap (λ (r : ReadAnswer). r .answer) e ∙ ap (λ (w : Used). reading.Read w) (l .counts);
+            tables = l .tables ∙ sym (ap (λ (r : ReadAnswer). r .tables) e);
             out = l .kept;
           };
       refused-curve = λ u t number p n e. curve-sound u t number p .number n e;

@@ -16,14 +16,14 @@ use Rattle.model.specs.Model.{Model}
 use Rattle.model.specs.Room.{Rooms}
 use Rattle.model.specs.Read.{Answer, read, refused, readOf}
 use Rattle.model.specs.Layout.{tablesOf, usedOf, nothing}
-use Rattle.all_lines.specs.declared.Reading.the-variants as reading
-use Rattle.reader.specs.Reading.{roomsOf, Result, readInto}
+use Rattle.read_lines.specs.declared.ReadResult.the-variants as reading
+use Rattle.reader.specs.Reading.{roomsOf, ReadAnswer, readInto}
 use Rattle.reader.specs.Reading as reader
-use Rattle.tidying.specs.declared.Weights.{Weights}
-use Rattle.tidying.specs.Printed.{tidyText}
-use Rattle.tidy_file.specs.declared.Tidied.{Tidied}
-use Rattle.tidy_file.specs.declared.Tidied.the-variants.{Written, TooLong, Refused}
-use Rattle.tidy_file.specs.Tidying.{TidyResult, tidyResult, hasRoom, neededFor, written, answered, tidyInto}
+use Rattle.tidy_form.specs.declared.Weights.{Weights}
+use Rattle.tidy_form.specs.Printed.{tidyText}
+use Rattle.tidier.specs.declared.TidyResult.{TidyResult}
+use Rattle.tidier.specs.declared.TidyResult.the-variants.{Written, TooLong, Refused}
+use Rattle.tidier.specs.Tidying.{TidyAnswer, tidyAnswer, hasRoom, neededFor, written, answered, tidyInto}
 
 -- two answers of other cases are never equal
 apart-read : {A : Type 0} (u : Used) (n p : ℕ) → reading.Refused n p ≡ reading.Read u → A
@@ -61,15 +61,15 @@ module _ (s : List ℕ) (S : Tables) where
   accepted u h = go (readOf R s) refl
     where
       go : (x : Answer) → readOf R s ≡ x → Accepted s S u
-      go (read m) e = let f : reading.Read (usedOf m) ≡ reading.Read u = sym (ap (λ (r : Result). r .answer) (read-is (read m) e)) ∙ h in record { model = m; is-read = e; used = cc }
-      go (refused n p) e = apart-read u n p (sym (ap (λ (r : Result). r .answer) (read-is (refused n p) e)) ∙ h)
+      go (read m) e = let f : reading.Read (usedOf m) ≡ reading.Read u = sym (ap (λ (r : ReadAnswer). r .answer) (read-is (read m) e)) ∙ h in record { model = m; is-read = e; used = cc }
+      go (refused n p) e = apart-read u n p (sym (ap (λ (r : ReadAnswer). r .answer) (read-is (refused n p) e)) ∙ h)
 
   pub turned-down : (n p : ℕ) → readInto s S .answer ≡ reading.Refused n p → readOf R s ≡ refused n p
   turned-down n p h = go (readOf R s) refl
     where
       go : (x : Answer) → readOf R s ≡ x → readOf R s ≡ refused n p
-      go (read m) e = apart-read (usedOf m) n p (sym h ∙ ap (λ (r : Result). r .answer) (read-is (read m) e))
-      go (refused k q) e = let f : reading.Refused k q ≡ reading.Refused n p = sym (ap (λ (r : Result). r .answer) (read-is (refused k q) e)) ∙ h in cc
+      go (read m) e = apart-read (usedOf m) n p (sym h ∙ ap (λ (r : ReadAnswer). r .answer) (read-is (read m) e))
+      go (refused k q) e = let f : reading.Refused k q ≡ reading.Refused n p = sym (ap (λ (r : ReadAnswer). r .answer) (read-is (refused k q) e)) ∙ h in cc
 
 -- ---- writing: w is the tidy text
 pub record Wrote (w : List ℕ) (used : Used) (a : List ℕ) (n : ℕ) (u : Used) (out : List ℕ) : Type 0 where
@@ -80,18 +80,18 @@ pub record Wrote (w : List ℕ) (used : Used) (a : List ℕ) (n : ℕ) (u : Used
   pub behind : drop n out ≡ drop n a
 
 module _ (w : List ℕ) (used : Used) (t : Tables) (a : List ℕ) where
-  written-with : (b : Bool) → hasRoom w a ≡ b → written w used t a ≡ cond b (tidyResult (Written (length w) used) t (w ++ drop (length w) a)) (tidyResult (TooLong (neededFor w) used) t a)
-  written-with b e = ap (λ (c : Bool). cond c (tidyResult (Written (length w) used) t (w ++ drop (length w) a)) (tidyResult (TooLong (neededFor w) used) t a)) e
+  written-with : (b : Bool) → hasRoom w a ≡ b → written w used t a ≡ cond b (tidyAnswer (Written (length w) used) t (w ++ drop (length w) a)) (tidyAnswer (TooLong (neededFor w) used) t a)
+  written-with b e = ap (λ (c : Bool). cond c (tidyAnswer (Written (length w) used) t (w ++ drop (length w) a)) (tidyAnswer (TooLong (neededFor w) used) t a)) e
 
-  its-answer : (r : TidyResult) → written w used t a ≡ r → (d : Tidied) → written w used t a .answer ≡ d → r .answer ≡ d
-  its-answer r e d h = sym (ap (λ (x : TidyResult). x .answer) e) ∙ h
+  its-answer : (r : TidyAnswer) → written w used t a ≡ r → (d : TidyResult) → written w used t a .answer ≡ d → r .answer ≡ d
+  its-answer r e d h = sym (ap (λ (x : TidyAnswer). x .answer) e) ∙ h
 
   pub keeps-tables : written w used t a .tables ≡ t
   keeps-tables = go (hasRoom w a) refl
     where
       go : (b : Bool) → hasRoom w a ≡ b → written w used t a .tables ≡ t
-      go true e = ap (λ (x : TidyResult). x .tables) (written-with true e)
-      go false e = ap (λ (x : TidyResult). x .tables) (written-with false e)
+      go true e = ap (λ (x : TidyAnswer). x .tables) (written-with true e)
+      go false e = ap (λ (x : TidyAnswer). x .tables) (written-with false e)
 
   pub wrote : (n : ℕ) (u : Used) → written w used t a .answer ≡ Written n u → Wrote w used a n u (written w used t a .out)
   wrote n u h = go (hasRoom w a) refl
@@ -101,7 +101,7 @@ module _ (w : List ℕ) (used : Used) (t : Tables) (a : List ℕ) where
       go true e =
           let f : Written (length w) used ≡ Written n u = its-answer _ (written-with true e) (Written n u) h in
           let long : length w ≡ n = cc in
-          let out : written w used t a .out ≡ w ++ drop (length w) a = ap (λ (x : TidyResult). x .out) (written-with true e) in
+          let out : written w used t a .out ≡ w ++ drop (length w) a = ap (λ (x : TidyAnswer). x .out) (written-with true e) in
           let fits : length w ≤ length a = leb-true (length w) (length a) (and-left (leb (length w) (length a)) (leb (length w) 16777216) e) in
           record {
             counts = cc;
@@ -118,7 +118,7 @@ module _ (w : List ℕ) (used : Used) (t : Tables) (a : List ℕ) where
       go true e = apart-written (length w) used k u (sym (its-answer _ (written-with true e) (TooLong k u) h))
       go false e =
           let f : TooLong (neededFor w) used ≡ TooLong k u = its-answer _ (written-with false e) (TooLong k u) h in
-          (cc, ap (λ (x : TidyResult). x .out) (written-with false e))
+          (cc, ap (λ (x : TidyAnswer). x .out) (written-with false e))
 
   pub never-refused : {A : Type 0} (n p : ℕ) → written w used t a .answer ≡ Refused n p → A
   never-refused {A} n p h = go (hasRoom w a) refl
@@ -151,14 +151,14 @@ module _ (c : Weights) (s : List ℕ) (S : Tables) (a : List ℕ) where
   unfolding tidyInto
   tidy-is x e = ap (λ (y : Answer). answered c (roomsOf S) y a) e
 
-  abbrev of : Model → TidyResult
+  abbrev of : Model → TidyAnswer
   of m = written (tidyText c m) (usedOf m) (tablesOf (roomsOf S) m) a
 
-  told : (x : Answer) → readOf (roomsOf S) s ≡ x → (d : Tidied) → tidyInto c s S a .answer ≡ d → answered c (roomsOf S) x a .answer ≡ d
-  told x e d h = sym (ap (λ (r : TidyResult). r .answer) (tidy-is x e)) ∙ h
+  told : (x : Answer) → readOf (roomsOf S) s ≡ x → (d : TidyResult) → tidyInto c s S a .answer ≡ d → answered c (roomsOf S) x a .answer ≡ d
+  told x e d h = sym (ap (λ (r : TidyAnswer). r .answer) (tidy-is x e)) ∙ h
 
   its-tables : (m : Model) → readOf (roomsOf S) s ≡ read m → tidyInto c s S a .tables ≡ tablesOf (roomsOf S) m
-  its-tables m e = ap (λ (r : TidyResult). r .tables) (tidy-is (read m) e) ∙ keeps-tables (tidyText c m) (usedOf m) (tablesOf (roomsOf S) m) a
+  its-tables m e = ap (λ (r : TidyAnswer). r .tables) (tidy-is (read m) e) ∙ keeps-tables (tidyText c m) (usedOf m) (tablesOf (roomsOf S) m) a
 
   pub tidied-file : (n : ℕ) (u : Used) → tidyInto c s S a .answer ≡ Written n u → Tidy c s S a n u
   tidied-file n u h = go (readOf (roomsOf S) s) refl
@@ -166,7 +166,7 @@ module _ (c : Weights) (s : List ℕ) (S : Tables) (a : List ℕ) where
       go : (x : Answer) → readOf (roomsOf S) s ≡ x → Tidy c s S a n u
       go (refused k p) e = apart-refused n u k p (told (refused k p) e (Written n u) h)
       go (read m) e =
-          let out : tidyInto c s S a .out ≡ of m .out = ap (λ (r : TidyResult). r .out) (tidy-is (read m) e) in
+          let out : tidyInto c s S a .out ≡ of m .out = ap (λ (r : TidyAnswer). r .out) (tidy-is (read m) e) in
           record {
             model = m;
             is-read = e;
@@ -186,7 +186,7 @@ module _ (c : Weights) (s : List ℕ) (S : Tables) (a : List ℕ) where
             is-read = e;
             tables = its-tables m e;
             counts = l .0;
-            kept = ap (λ (r : TidyResult). r .out) (tidy-is (read m) e) ∙ l .1;
+            kept = ap (λ (r : TidyAnswer). r .out) (tidy-is (read m) e) ∙ l .1;
           }
 
   pub refused-file : (n p : ℕ) → tidyInto c s S a .answer ≡ Refused n p → Down c s S a n p
@@ -198,6 +198,6 @@ module _ (c : Weights) (s : List ℕ) (S : Tables) (a : List ℕ) where
           let f : Refused k q ≡ Refused n p = told (refused k q) e (Refused n p) h in
           record {
             is-refused = cc;
-            tables = ap (λ (r : TidyResult). r .tables) (tidy-is (refused k q) e);
-            kept = ap (λ (r : TidyResult). r .out) (tidy-is (refused k q) e);
+            tables = ap (λ (r : TidyAnswer). r .tables) (tidy-is (refused k q) e);
+            kept = ap (λ (r : TidyAnswer). r .out) (tidy-is (refused k q) e);
           }

@@ -6,8 +6,8 @@ use lib.IntN.{ℤ}
 use Rattle.tables.specs.Tables.{Tables}
 use Rattle.tables.specs.declared.Used.{Used}
 use Rattle.reader.specs.Reading.{readInto}
-use Rattle.tidying.specs.declared.Weights.{Weights}
-use Rattle.tidy_file.specs.Tidying.{tidyInto}
+use Rattle.tidy_form.specs.declared.Weights.{Weights}
+use Rattle.tidier.specs.Tidying.{tidyInto}
 use Rattle.sampler.specs.Answers.{pointOnCurve, pointOnSurface, runInto}
 use Rattle.sampler.specs.Demand3.{sampling}
 use Rattle.end_to_end.specs.EntryPoints.{Reader, Tidier, Sampler}

@@ -16,9 +16,9 @@ use Rattle.digits.specs.Said.{Said, says, wrong}
 use Rattle.digits.specs.Said as said
 use Rattle.digits.specs.Degree.{degreeOf, smoothingOf, nameOf}
 use Rattle.digits.specs.Digits.{natOf, whole, negative}
-use Rattle.decimals.specs.Number.{unsigned, mantissa, exponent, isExponent, decimal, signed, valueOf, numberOf}
-use Rattle.forms.specs.Reference.{isReference, refer, referenceOf}
-use Rattle.forms.specs.Corner.{Corner, Counts, Parts, split, formed, patterned, cornerOf}
+use Rattle.decimals.specs.Number.{unsigned, mantissa, exponent, isExponent, decimal, withSign, valueOf, numberOf}
+use Rattle.references.specs.Reference.{isReference, refer, referenceOf}
+use Rattle.references.specs.Corner.{Corner, Counts, Parts, split, formed, patterned, cornerOf}
 use Rattle.keywords.specs.Keywords.{statementOf}
 use Rattle.keywords.specs.Arguments.{argumentOf, argumentBytes}
 use Rattle.statements.specs.declared.Statement.{Statement}
@@ -26,10 +26,10 @@ use Rattle.statements.specs.declared.Statement.the-variants as keyword
 use Rattle.keywords.specs.declared.Argument.{Argument}
 use Rattle.keywords.specs.declared.Argument.the-variants as argument
 use Rattle.tables.specs.Bodies.{Basis}
-use Rattle.model.specs.Model.{Free, Direction, Model, Open, State, start}
+use Rattle.model.specs.Model.{Free, ParmDirection, Model, Open, State, start}
 use Rattle.model.specs.Statements.{apply}
 use Rattle.model.specs.Statements as statements
-use Rattle.model.specs.Parse.{Parsed, fine, fault, then, must, unless, Keyword, a-vertex, an-element, a-body, parm, trim, hole, ends, cstype, deg, g, s, usemtl, over, WordForm, a-number, a-corner, a-control, a-curve, a-direction, a-type, a-rational, a-degree, a-smoothing, a-name, anything, Value, number, corner, whole as whole-value, basis, name, onSaid, directionOf, typeSaid, rationalSaid, directionSaid, Seen, saidOf, placed, valuesOf, formOf, seenIn, unlike, narrowIn, cornersOf, numbersOf, rangeWords, allowed, counted, inForce, bodyOf, complete, countsAgree, inRange, checked, parse}
+use Rattle.model.specs.Parse.{Parsed, fine, fault, then, must, unless, Keyword, a-vertex, an-element, a-body, parm, trim, hole, ends, cstype, deg, g, s, usemtl, over, WordForm, a-number, a-corner, a-control, a-curve, a-direction, a-type, a-rational, a-degree, a-smoothing, a-name, anything, Value, number, corner, whole as whole-value, basis, name, onSaid, directionOf, typeSaid, rationalSaid, directionSaid, Seen, saidOf, placed, valuesOf, formOf, seenIn, unlike, narrowIn, cornersOf, numbersOf, rangeWords, allowed, counted, inForce, openedBody, complete, countsAgree, rangeWithin, checked, parse}
 use Rattle.model.proofs.Pieces.{opened, finished}
 use Rattle.model.specs.Room.{Rooms, fits}
 use Rattle.model.specs.Read.{keywordOf, statement, step, Answer, read, refused, finish, onParsed, readLines, readOf}
@@ -60,7 +60,7 @@ unfolding numberOf
 number-well w =
     let u = unsigned w in
     let m = valueOf u in
-    two-tests (leb (length w) 64 && (decimal (mantissa u) && isExponent (exponent u))) (leb m 2000000000) 7 (signed (negative w) m) refl
+    two-tests (leb (length w) 64 && (decimal (mantissa u) && isExponent (exponent u))) (leb m 2000000000) 7 (withSign (negative w) m) refl
 
 reference-well : (n : ℕ) (w : List ℕ) → saidWell (referenceOf n w) ≡ true
 unfolding referenceOf
@@ -125,7 +125,7 @@ rational-well argument.DirectionV = refl
 rational-well argument.Off = refl
 rational-well argument.Other = refl
 
-direction-well : (d : Option Direction) → saidWell (directionSaid d) ≡ true
+direction-well : (d : Option ParmDirection) → saidWell (directionSaid d) ≡ true
 direction-well none = refl
 direction-well (some d) = refl
 
@@ -171,7 +171,7 @@ values-well n f i (w ∷ ws) =
 
 opened-well : (k : Free) (x : State) (key : ℕ) (ws : List Word) (cs : List Corner) (z : List ℤ) → well (opened k x key ws cs z) ≡ true
 opened-well k x key ws cs z =
-    let last = fine (statements.body (bodyOf k (x .form) z) cs) in
+    let last = fine (statements.body (openedBody k (x .form) z) cs) in
     let narrower = unless (narrowIn k (x .model .vertices) ws cs) 12 last in
     let in-force = inForce k (x .form) (x .form .basis) in
     well-unless (unlike ws cs) 9 (must in-force 11 key narrower) refl
@@ -181,10 +181,10 @@ finished-well : (o : Option Open) (key : ℕ) → well (finished o key) ≡ true
 finished-well none key = refl
 finished-well (some o) key =
     let f = o .body .free in
-    let thirteen = must (inRange f (o .body)) 13 key (fine statements.end) in
+    let thirteen = must (rangeWithin f (o .body)) 13 key (fine statements.end) in
     let twelve = must (countsAgree f (o .body) (length (o .controls))) 12 key thirteen in
     well-must (complete f (o .body)) 11 key twelve refl
-    (well-must (countsAgree f (o .body) (length (o .controls))) 12 key thirteen refl (well-must (inRange f (o .body)) 13 key (fine statements.end) refl refl))
+    (well-must (countsAgree f (o .body) (length (o .controls))) 12 key thirteen refl (well-must (rangeWithin f (o .body)) 13 key (fine statements.end) refl refl))
 
 checked-well : (k : Keyword) (x : State) (key : ℕ) (ws : List Word) (xs : List Value) → well (checked k x key ws xs) ≡ true
 checked-well (a-vertex k) x key ws xs = refl

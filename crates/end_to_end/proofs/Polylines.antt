@@ -8,9 +8,9 @@ use Rattle.reader.specs.Reading.{roomsOf, readInto}
 use Rattle.polyline.specs.Answers.{parametersOf, polylineInto}
 use Rattle.polyline.proofs.Granted.{samplers-fifteen}
 use Rattle.polyline.proofs.Demanded.{polylines-on-curves}
-use Rattle.joining.specs.Files.{axesIn}
-use Rattle.joining.specs.Polylines.{PointsOfPolyline}
-use Rattle.joining.proofs.Polylines.{accepted-polylines}
+use Rattle.sampled_files.specs.Files.{axesIn}
+use Rattle.sampled_files.specs.Polylines.{PointsOfPolyline}
+use Rattle.sampled_files.proofs.Polylines.{accepted-polylines}
 use Rattle.end_to_end.specs.Polylines.{FilledPolylines, OwnPolylines}
 use Rattle.end_to_end.proofs.Third.{shown, never-15, a-curve}
 

@@ -15,11 +15,11 @@ use Rattle.tables.specs.Records.{elementWidth, curve2Kind}
 use Rattle.tables.specs.declared.Used.{Used}
 use Rattle.tables.specs.declared.Body.{Body}
 use Rattle.tables.specs.declared.Element.{Element}
-use Rattle.rules.specs.Rules.{obeys, curvesBefore}
+use Rattle.record_rules.specs.Rules.{obeys, curvesBefore}
 use Rattle.sampler.specs.Points.{axesOf, curveAt, surfaceAt, runNumbers}
-use Rattle.sampler.specs.declared.Sampled.the-variants as sampled
-use Rattle.sampler.specs.declared.Ran.the-variants as ran
-use Rattle.sampler.specs.Answers.{pointOutcome, runOutcome, SampledResult, RanResult, wanted, carried, elementOf, bodyOf, inside, refusalOf, refusedPoint, spacePoint, planePoint, curvePoint, pointOnCurve, surfacePoint, pointOnSurface, refusedRun, filledRun, runInto}
+use Rattle.sampler.specs.declared.PointResult.the-variants as sampled
+use Rattle.sampler.specs.declared.RunResult.the-variants as ran
+use Rattle.sampler.specs.Answers.{pointOutcome, runOutcome, PointAnswer, RunAnswer, wanted, carried, elementOf, bodyOf, inside, refusalOf, refusedPoint, spacePoint, planePoint, curvePoint, pointOnCurve, surfacePoint, pointOnSurface, refusedRun, filledRun, runInto}
 use Rattle.end_to_end.specs.Demand1.{Between, RefusedRun}
 
 -- what holds of both answers of a test holds of the answer
@@ -71,7 +71,7 @@ module _ (u : Used) (t : Tables) (number : ℕ) where
   abbrev b : Body
   b = bodyOf t number
 
-  curve-cases : (P : SampledResult → Type 0) → ((x y : ℤ) → P (planePoint x y)) → ((x y z : ℤ) → P (spacePoint x y z)) → P (refusedPoint 19)
+  curve-cases : (P : PointAnswer → Type 0) → ((x y : ℤ) → P (planePoint x y)) → ((x y z : ℤ) → P (spacePoint x y z)) → P (refusedPoint 19)
       → ((refusalOf false u t number ≡ 0 → ⊥) → P (refusedPoint (refusalOf false u t number))) → (p : ℤ) → P (pointOnCurve u t number p)
   unfolding pointOnCurve curvePoint
   curve-cases P plane space outside refused p =
@@ -82,7 +82,7 @@ module _ (u : Used) (t : Tables) (number : ℕ) where
       (either P in-range there (refusedPoint 19) (either P (eqb (e .kind) curve2Kind) (planePoint (x 0) (x 1)) (spacePoint (x 0) (x 1) (x 2)) (plane (x 0) (x 1)) (space (x 0) (x 1) (x 2))) outside)
       refused
 
-  surface-cases : (P : SampledResult → Type 0) → ((x y z : ℤ) → P (spacePoint x y z)) → P (refusedPoint 19)
+  surface-cases : (P : PointAnswer → Type 0) → ((x y z : ℤ) → P (spacePoint x y z)) → P (refusedPoint 19)
       → ((refusalOf true u t number ≡ 0 → ⊥) → P (refusedPoint (refusalOf true u t number))) → (p q : ℤ) → P (pointOnSurface u t number p q)
   unfolding pointOnSurface surfacePoint
   surface-cases P space outside refused p q =
@@ -92,7 +92,7 @@ module _ (u : Used) (t : Tables) (number : ℕ) where
       (either P in-range (spacePoint (x 0) (x 1) (x 2)) (refusedPoint 19) (space (x 0) (x 1) (x 2)) outside)
       refused
 
-  run-cases : (P : RanResult → Type 0) (at : ℕ) (points : List ℤ) → ((count : ℕ) (numbers : List ℤ) → P (filledRun count at numbers points)) → P (refusedRun 16 points) → P (refusedRun 19 points)
+  run-cases : (P : RunAnswer → Type 0) (at : ℕ) (points : List ℤ) → ((count : ℕ) (numbers : List ℤ) → P (filledRun count at numbers points)) → P (refusedRun 16 points) → P (refusedRun 19 points)
       → ((refusalOf false u t number ≡ 0 → ⊥) → P (refusedRun (refusalOf false u t number) points)) → (steps : ℕ) → P (runInto u t number steps at points)
   unfolding runInto
   run-cases P at points filled no-room no-steps refused steps =
@@ -105,7 +105,7 @@ module _ (u : Used) (t : Tables) (number : ℕ) where
       refused
 
 -- ---- points
-pub record PointSound (r : SampledResult) : Type 0 where
+pub record PointSound (r : PointAnswer) : Type 0 where
   pub outcome : r .outcome ≡ pointOutcome (r .answer)
   pub number : (n : ℕ) → r .answer ≡ sampled.Refused n → Between 15 19 n
 
@@ -131,7 +131,7 @@ plane-sound x y =
     }
 
 -- ---- runs
-pub record RunSound (lent : List ℤ) (r : RanResult) : Type 0 where
+pub record RunSound (lent : List ℤ) (r : RunAnswer) : Type 0 where
   pub outcome : r .outcome ≡ runOutcome (r .answer)
   pub refused : (n : ℕ) → r .answer ≡ ran.Refused n → RefusedRun lent n r
 

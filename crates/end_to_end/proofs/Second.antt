@@ -14,24 +14,24 @@ use Rattle.model.specs.Model.{Model}
 use Rattle.model.specs.Room.{Rooms}
 use Rattle.model.specs.Read.{read, refused, readOf}
 use Rattle.model.specs.Layout.{tablesOf, usedOf}
-use Rattle.all_lines.specs.declared.Reading.the-variants as reading
-use Rattle.reader.specs.Reading.{roomsOf, Result, readInto}
-use Rattle.tidying.specs.declared.Weights.{Weights}
-use Rattle.tidying.specs.Printed.{tidyText}
-use Rattle.tidying.specs.Agree.{TablesAgree}
-use Rattle.tidying.proofs.TidyTables.{tidy-tables, same-tidy-tables}
-use Rattle.tidy_file.specs.declared.Tidied.the-variants.{Written, TooLong}
-use Rattle.tidy_file.specs.Tidying.{TidyResult, hasRoom, neededFor, tidyInto}
+use Rattle.read_lines.specs.declared.ReadResult.the-variants as reading
+use Rattle.reader.specs.Reading.{roomsOf, ReadAnswer, readInto}
+use Rattle.tidy_form.specs.declared.Weights.{Weights}
+use Rattle.tidy_form.specs.Printed.{tidyText}
+use Rattle.tidy_form.specs.Agree.{TablesAgree}
+use Rattle.tidy_form.proofs.TidyTables.{tidy-tables, same-tidy-tables}
+use Rattle.tidier.specs.declared.TidyResult.the-variants.{Written, TooLong}
+use Rattle.tidier.specs.Tidying.{TidyAnswer, hasRoom, neededFor, tidyInto}
 use Rattle.end_to_end.specs.Demand2.{ReadBack, WrittenTidying, Demand2}
 use Rattle.end_to_end.proofs.Inside.{read-is, tidy-is, Tidy, tidied-file}
 
 -- the file m, read
 module _ (s : List ℕ) (S : Tables) (m : Model) (h : readOf (roomsOf S) s ≡ read m) where
   pub its-answer : readInto s S .answer ≡ reading.Read (usedOf m)
-  its-answer = ap (λ (r : Result). r .answer) (read-is s S (read m) h)
+  its-answer = ap (λ (r : ReadAnswer). r .answer) (read-is s S (read m) h)
 
   pub its-tables : readInto s S .tables ≡ tablesOf (roomsOf S) m
-  its-tables = ap (λ (r : Result). r .tables) (read-is s S (read m) h)
+  its-tables = ap (λ (r : ReadAnswer). r .tables) (read-is s S (read m) h)
 
 -- agreeing tables, under other names
 moved : (s t : List ℕ) (S S' T T' : Tables) (u u' w w' : Used) → S ≡ S' → T ≡ T' → u ≡ u' → w ≡ w' → TablesAgree s S u t T w → TablesAgree s S' u' t T' w'
@@ -64,8 +64,8 @@ module _ (c : Weights) (s : List ℕ) (S : Tables) (a : List ℕ) (n : ℕ) (u :
 module _ (c : Weights) (s : List ℕ) (S : Tables) (a : List ℕ) (m : Model) (h : readOf (roomsOf S) s ≡ read m) where
   with-room : (b : Bool) → hasRoom (tidyText c m) a ≡ b
       → tidyInto c s S a .answer ≡ cond b (Written (length (tidyText c m)) (usedOf m)) (TooLong (neededFor (tidyText c m)) (usedOf m))
-  with-room true e = ap (λ (r : TidyResult). r .answer) (tidy-is c s S a (read m) h) ∙ rw e refl
-  with-room false e = ap (λ (r : TidyResult). r .answer) (tidy-is c s S a (read m) h) ∙ rw e refl
+  with-room true e = ap (λ (r : TidyAnswer). r .answer) (tidy-is c s S a (read m) h) ∙ rw e refl
+  with-room false e = ap (λ (r : TidyAnswer). r .answer) (tidy-is c s S a (read m) h) ∙ rw e refl
 
   pub fits : length (tidyText c m) ≤ length a → length (tidyText c m) ≤ 16777216 → tidyInto c s S a .answer ≡ Written (length (tidyText c m)) (usedOf m)
   fits f g = with-room true (and-both (le-leb (length (tidyText c m)) (length a) f) (le-leb (length (tidyText c m)) 16777216 g))
@@ -85,7 +85,7 @@ pub second : Demand2 readInto tidyInto
 second =
     record {
       accepts = λ s S m h. record { answer = its-answer s S m h; tables = its-tables s S m h };
-      refuses = λ s S n p h. ap (λ (r : Result). r .answer) (read-is s S (refused n p) h);
+      refuses = λ s S n p h. ap (λ (r : ReadAnswer). r .answer) (read-is s S (refused n p) h);
       writes = fits;
       sixteen = passes;
       form = its-form;

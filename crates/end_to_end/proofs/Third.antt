@@ -14,21 +14,21 @@ use Rattle.model.specs.Model.{Model}
 use Rattle.model.specs.Room.{Rooms}
 use Rattle.model.specs.Read.{read, readOf}
 use Rattle.model.specs.Layout.{tablesOf, usedOf}
-use Rattle.all_lines.specs.declared.Reading.the-variants as reading
+use Rattle.read_lines.specs.declared.ReadResult.the-variants as reading
 use Rattle.reader.specs.Reading.{roomsOf, readInto}
-use Rattle.rules.specs.Rules.{obeys, curvesBefore}
+use Rattle.record_rules.specs.Rules.{obeys, curvesBefore}
 use Rattle.sampler.specs.Answers.{elementOf, refusalOf}
 use Rattle.sampler.specs.Demand3.{sampling, Curve, Surface}
 use Rattle.sampler.proofs.Demanded.{curve-coordinates, points-on-curves, filled as run-filled, runs-on-curves}
 use Rattle.sampler.proofs.OnSurfaces.{surface-coordinates, points-on-surfaces}
-use Rattle.tidy_file.specs.declared.Tidied.the-variants.{Written}
-use Rattle.tidy_file.specs.Tidying.{tidyInto}
-use Rattle.tidying.specs.declared.Weights.{Weights}
-use Rattle.tidying.specs.Printed.{tidyText}
-use Rattle.joining.specs.Joined as joined
-use Rattle.joining.proofs.Never15.{used-elements, obeyed, sampling-never-15}
-use Rattle.joining.proofs.Accepted.{accepted-curves, accepted-runs, accepted-surfaces}
-use Rattle.joining.proofs.Tidied.{tidied-samples-alike}
+use Rattle.tidier.specs.declared.TidyResult.the-variants.{Written}
+use Rattle.tidier.specs.Tidying.{tidyInto}
+use Rattle.tidy_form.specs.declared.Weights.{Weights}
+use Rattle.tidy_form.specs.Printed.{tidyText}
+use Rattle.sampled_files.specs.Joined as joined
+use Rattle.sampled_files.proofs.Never15.{used-elements, obeyed, sampling-never-15}
+use Rattle.sampled_files.proofs.Accepted.{accepted-curves, accepted-runs, accepted-surfaces}
+use Rattle.sampled_files.proofs.Tidied.{tidied-samples-alike}
 use Rattle.end_to_end.specs.Demand3.{Plain, PointsIn, PointsOf, Rounded, SampledAlike, Demand3}
 use Rattle.end_to_end.proofs.Inside.{Accepted, accepted, tidied-file}
 use Rattle.end_to_end.proofs.Samples.{curve-not-15, surface-not-15, run-not-15}
@@ -97,7 +97,7 @@ own s S u m h e =
       surfaces = λ number b o c k p q f g d i. accepted-surfaces (roomsOf S) s m e number b o c k p q f g d i;
     })
 
-sampled : (u w x y : Used) (S S' T T' : Tables) → u ≡ w → x ≡ y → S ≡ S' → T ≡ T' → joined.SampledAlike u S x T → SampledAlike sampling w S' y T'
+sampled : (u w x y : Used) (S S' T T' : Tables) → u ≡ w → x ≡ y → S ≡ S' → T ≡ T' → joined.PromisedAlike u S x T → SampledAlike sampling w S' y T'
 sampled u w x y S S' T T' e f g h a = rw (← e, ← f, ← g, ← h) (record { curves = a .curves; surfaces = a .surfaces; runs = a .runs })
 
 alike : (c : Weights) (s : List ℕ) (S : Tables) (a : List ℕ) (n : ℕ) (u : Used) → tidyInto c s S a .answer ≡ Written n u

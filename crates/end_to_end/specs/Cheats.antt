@@ -6,13 +6,13 @@ use lib.ListN.{take, getD}
 use lib.IntN.{ℤ, pos, _+ℤ_}
 use Rattle.tables.specs.Tables.{Tables}
 use Rattle.tables.specs.declared.Used.{Used}
-use Rattle.all_lines.specs.declared.Reading.the-variants as reading
-use Rattle.tidying.specs.declared.Weights.{Weights}
-use Rattle.tidy_file.specs.declared.Tidied.the-variants.{Written, TooLong}
+use Rattle.read_lines.specs.declared.ReadResult.the-variants as reading
+use Rattle.tidy_form.specs.declared.Weights.{Weights}
+use Rattle.tidier.specs.declared.TidyResult.the-variants.{Written, TooLong}
 use Rattle.sampler.specs.Points.{axesOf}
 use Rattle.sampler.specs.Answers.{elementOf}
 use Rattle.sampler.specs.Demand3.{sampling}
-use Rattle.sampler.specs.declared.Sampled.the-variants as sampled
+use Rattle.sampler.specs.declared.PointResult.the-variants as sampled
 use Rattle.end_to_end.specs.EntryPoints.{Reader, Tidier, Sampler}
 use Rattle.end_to_end.specs.Demand1.{Outcomes}
 use Rattle.end_to_end.specs.Demand2.{Demand2}

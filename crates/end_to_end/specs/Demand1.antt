@@ -6,14 +6,14 @@ use lib.IntN.{ℤ}
 use Rattle.tables.specs.Tables.{Tables, zeros}
 use Rattle.tables.specs.declared.Used.{Used}
 use Rattle.model.specs.Layout.{noneUsed}
-use Rattle.all_lines.specs.declared.Reading.the-variants as reading
-use Rattle.reader.specs.Reading.{readOutcome, Result}
-use Rattle.tidying.specs.declared.Weights.{Weights}
-use Rattle.tidy_file.specs.declared.Tidied.the-variants as tidying
-use Rattle.tidy_file.specs.Tidying.{tidyOutcome, TidyResult}
-use Rattle.sampler.specs.declared.Sampled.the-variants as sampled
-use Rattle.sampler.specs.declared.Ran.the-variants as ran
-use Rattle.sampler.specs.Answers.{pointOutcome, runOutcome, SampledResult, RanResult}
+use Rattle.read_lines.specs.declared.ReadResult.the-variants as reading
+use Rattle.reader.specs.Reading.{readOutcome, ReadAnswer}
+use Rattle.tidy_form.specs.declared.Weights.{Weights}
+use Rattle.tidier.specs.declared.TidyResult.the-variants as tidying
+use Rattle.tidier.specs.Tidying.{tidyOutcome, TidyAnswer}
+use Rattle.sampler.specs.declared.PointResult.the-variants as sampled
+use Rattle.sampler.specs.declared.RunResult.the-variants as ran
+use Rattle.sampler.specs.Answers.{pointOutcome, runOutcome, PointAnswer, RunAnswer}
 use Rattle.end_to_end.specs.EntryPoints.{Reader, Tidier, Sampler}
 
 -- "Any answer that is an enum has a definition that gives this paper's number and values for each of the enum's cases": each answer with those of its case
@@ -31,26 +31,26 @@ pub record Between (first last n : ℕ) : Type 0 where
   pub most : n ≤ last
 
 -- a reading that is refused with n, the tables S lent
-pub record RefusedReading (S : Tables) (n : ℕ) (r : Result) : Type 0 where
+pub record RefusedReading (S : Tables) (n : ℕ) (r : ReadAnswer) : Type 0 where
   pub number : Between 1 14 n
   pub tables : r .tables ≡ zeros S
   pub counts : r .outcome .used ≡ noneUsed
 
 -- a tidying of the text s that is refused with n at p, the tables S and the buffer a lent: it is the reader's refusal
-pub record RefusedTidying (reads : Reader) (s : List ℕ) (S : Tables) (a : List ℕ) (n p : ℕ) (r : TidyResult) : Type 0 where
+pub record RefusedTidying (reads : Reader) (s : List ℕ) (S : Tables) (a : List ℕ) (n p : ℕ) (r : TidyAnswer) : Type 0 where
   pub read : reads s S .answer ≡ reading.Refused n p
   pub tables : r .tables ≡ zeros S
   pub counts : r .outcome .used ≡ noneUsed
   pub out : r .out ≡ a
 
 -- "16 at place 0, the tables then filled": as reading fills them, with the counts u
-pub record LongTidying (reads : Reader) (s : List ℕ) (S : Tables) (a : List ℕ) (u : Used) (r : TidyResult) : Type 0 where
+pub record LongTidying (reads : Reader) (s : List ℕ) (S : Tables) (a : List ℕ) (u : Used) (r : TidyAnswer) : Type 0 where
   pub read : reads s S .answer ≡ reading.Read u
   pub tables : r .tables ≡ reads s S .tables
   pub out : r .out ≡ a
 
 -- a run that is refused with n: the point table is as it was lent
-pub record RefusedRun (lent : List ℤ) (n : ℕ) (r : RanResult) : Type 0 where
+pub record RefusedRun (lent : List ℤ) (n : ℕ) (r : RunAnswer) : Type 0 where
   pub number : Between 15 19 n
   pub points : r .points ≡ lent
 

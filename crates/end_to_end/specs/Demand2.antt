@@ -9,17 +9,17 @@ use Rattle.tables.specs.declared.Used.{Used}
 use Rattle.model.specs.Model.{Model}
 use Rattle.model.specs.Read.{read, refused, readOf}
 use Rattle.model.specs.Layout.{tablesOf, usedOf}
-use Rattle.all_lines.specs.declared.Reading.the-variants as reading
-use Rattle.reader.specs.Reading.{roomsOf, Result}
-use Rattle.tidying.specs.declared.Weights.{Weights}
-use Rattle.tidying.specs.Printed.{tidyText}
-use Rattle.tidying.specs.Agree.{TablesAgree}
-use Rattle.tidy_file.specs.declared.Tidied.the-variants.{Written, TooLong}
-use Rattle.tidy_file.specs.Tidying.{TidyResult}
+use Rattle.read_lines.specs.declared.ReadResult.the-variants as reading
+use Rattle.reader.specs.Reading.{roomsOf, ReadAnswer}
+use Rattle.tidy_form.specs.declared.Weights.{Weights}
+use Rattle.tidy_form.specs.Printed.{tidyText}
+use Rattle.tidy_form.specs.Agree.{TablesAgree}
+use Rattle.tidier.specs.declared.TidyResult.the-variants.{Written, TooLong}
+use Rattle.tidier.specs.Tidying.{TidyAnswer}
 use Rattle.end_to_end.specs.EntryPoints.{Reader, Tidier}
 
 -- "Then the tables hold what those rules say.": of the file m, read into the tables S
-pub record AcceptedReading (S : Tables) (m : Model) (r : Result) : Type 0 where
+pub record AcceptedReading (S : Tables) (m : Model) (r : ReadAnswer) : Type 0 where
   pub answer : r .answer ≡ reading.Read (usedOf m)
   pub tables : r .tables ≡ tablesOf (roomsOf S) m
 
@@ -31,7 +31,7 @@ pub record ReadBack (reads : Reader) (w : List ℕ) (T : Tables) (s : List ℕ) 
 
 -- a tidying of the text s that writes n bytes, the tables S and the buffer a lent: it leaves the tables that reading leaves, "success writes only the text",
 -- and the text is read back into any tables of those lengths
-pub record WrittenTidying (reads : Reader) (s : List ℕ) (S : Tables) (a : List ℕ) (n : ℕ) (u : Used) (r : TidyResult) : Type 0 where
+pub record WrittenTidying (reads : Reader) (s : List ℕ) (S : Tables) (a : List ℕ) (n : ℕ) (u : Used) (r : TidyAnswer) : Type 0 where
   pub read : reads s S .answer ≡ reading.Read u
   pub tables : r .tables ≡ reads s S .tables
   pub room : n ≤ length a

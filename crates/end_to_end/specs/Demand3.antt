@@ -11,16 +11,16 @@ use Rattle.tables.specs.Records.{curveKind, curve2Kind, surfaceKind}
 use Rattle.tables.specs.declared.Used.{Used}
 use Rattle.model.specs.Model.{curve, curve2, surface, Body, Model}
 use Rattle.model.specs.Read.{read, readOf}
-use Rattle.all_lines.specs.declared.Reading.the-variants as reading
+use Rattle.read_lines.specs.declared.ReadResult.the-variants as reading
 use Rattle.reader.specs.Reading.{roomsOf}
-use Rattle.tidying.specs.declared.Weights.{Weights}
-use Rattle.tidy_file.specs.declared.Tidied.the-variants.{Written}
-use Rattle.runs.specs.Runs.{listed}
+use Rattle.tidy_form.specs.declared.Weights.{Weights}
+use Rattle.tidier.specs.declared.TidyResult.the-variants.{Written}
+use Rattle.point_runs.specs.Runs.{listed}
 use Rattle.sampler.specs.Points.{axesOf, curveAt, surfaceAt, runNumbers}
 use Rattle.sampler.specs.Answers.{elementOf, bodyOf, filledRun}
-use Rattle.sampler.specs.Demand3.{Curve, Surface, CurveAnswer, RunAnswer, SurfaceAnswer, PointsOnCurves, RunsOnCurves, PointsOnSurfaces}
-use Rattle.joining.specs.Files.{axesIn}
-use Rattle.joining.specs.Joined.{Holds, Carried, PointOnCurve, PointsOfRun, PointOnSurface}
+use Rattle.sampler.specs.Demand3.{Curve, Surface, CurveClaim, RunClaim, SurfaceClaim, PointsOnCurves, RunsOnCurves, PointsOnSurfaces}
+use Rattle.sampled_files.specs.Files.{axesIn}
+use Rattle.sampled_files.specs.Joined.{HasBody, Carried, PointOnCurve, PointsOfRun, PointOnSurface}
 use Rattle.end_to_end.specs.EntryPoints.{Reader, Tidier, Sampler}
 
 -- "any non-rational Bezier or B-spline curve or surface": the element of that number is used and is one
@@ -34,13 +34,13 @@ pub record Plain (u : Used) (t : Tables) (number : ℕ) : Type 0 where
 pub record PointsIn (samples : Sampler) (u : Used) (t : Tables) : Type 0 where
   pub curves : (number : ℕ) → Plain u t number → (elementOf t number .kind ≡ curveKind) ⊎ (elementOf t number .kind ≡ curve2Kind)
       → (p : ℤ) → bodyOf t number .«start_u» ≤ℤ p → p ≤ℤ bodyOf t number .«end_u»
-      → CurveAnswer t number p (samples .curve u t number p)
+      → CurveClaim t number p (samples .curve u t number p)
   pub runs : (number : ℕ) → Plain u t number → (elementOf t number .kind ≡ curveKind) ⊎ (elementOf t number .kind ≡ curve2Kind)
       → (steps at : ℕ) (points : List ℤ) → 1 ≤ steps → steps ≤ 65536 → at + axesOf (elementOf t number) * (steps + 1) ≤ length points
-      → RunAnswer t number steps at (samples .run u t number steps at points)
+      → RunClaim t number steps at (samples .run u t number steps at points)
   pub surfaces : (number : ℕ) → Plain u t number → elementOf t number .kind ≡ surfaceKind
       → (p q : ℤ) → bodyOf t number .«start_u» ≤ℤ p → p ≤ℤ bodyOf t number .«end_u» → bodyOf t number .«start_v» ≤ℤ q → q ≤ℤ bodyOf t number .«end_v»
-      → SurfaceAnswer t number p q (samples .surface u t number p q)
+      → SurfaceClaim t number p q (samples .surface u t number p q)
   -- no answer is 15, whatever the request
   pub curves-15 : (number : ℕ) (p : ℤ) → samples .curve u t number p .outcome .number ≡ 15 → ⊥
   pub runs-15 : (number steps at : ℕ) (points : List ℤ) → samples .run u t number steps at points .outcome .number ≡ 15 → ⊥
@@ -48,12 +48,12 @@ pub record PointsIn (samples : Sampler) (u : Used) (t : Tables) : Type 0 where
 
 -- the same held against the numbers of the file m itself, with no table between: element `number` of the file has the body b
 pub record PointsOf (samples : Sampler) (u : Used) (t : Tables) (m : Model) : Type 0 where
-  pub curves : (number : ℕ) (b : Body) (o : Holds m number b) → Carried b → (b .free ≡ curve) ⊎ (b .free ≡ curve2)
+  pub curves : (number : ℕ) (b : Body) (o : HasBody m number b) → Carried b → (b .free ≡ curve) ⊎ (b .free ≡ curve2)
       → (p : ℤ) → b .start-u ≤ℤ p → p ≤ℤ b .end-u → PointOnCurve m b (o .one .corners) p (samples .curve u t number p)
-  pub runs : (number : ℕ) (b : Body) (o : Holds m number b) → Carried b → (b .free ≡ curve) ⊎ (b .free ≡ curve2)
+  pub runs : (number : ℕ) (b : Body) (o : HasBody m number b) → Carried b → (b .free ≡ curve) ⊎ (b .free ≡ curve2)
       → (steps at : ℕ) (points : List ℤ) → 1 ≤ steps → steps ≤ 65536 → at + axesIn (b .free) * (steps + 1) ≤ length points
       → PointsOfRun m b (o .one .corners) steps at (samples .run u t number steps at points)
-  pub surfaces : (number : ℕ) (b : Body) (o : Holds m number b) → Carried b → b .free ≡ surface
+  pub surfaces : (number : ℕ) (b : Body) (o : HasBody m number b) → Carried b → b .free ≡ surface
       → (p q : ℤ) → b .start-u ≤ℤ p → p ≤ℤ b .end-u → b .start-v ≤ℤ q → q ≤ℤ b .end-v → PointOnSurface m b (o .one .corners) p q (samples .surface u t number p q)
 
 -- 01, "How a point is made": by the rounding rule, which the bound leaves room beside

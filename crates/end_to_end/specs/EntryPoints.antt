@@ -2,13 +2,13 @@
 use Prim.Native.Nat.{ℕ}
 use mathlib.Core.List.{List}
 use Rattle.tables.specs.Tables.{Tables}
-use Rattle.reader.specs.Reading.{Result}
-use Rattle.tidying.specs.declared.Weights.{Weights}
-use Rattle.tidy_file.specs.Tidying.{TidyResult}
+use Rattle.reader.specs.Reading.{ReadAnswer}
+use Rattle.tidy_form.specs.declared.Weights.{Weights}
+use Rattle.tidier.specs.Tidying.{TidyAnswer}
 pub use Rattle.sampler.specs.Demand3.{Sampler}
 
 abbrev pub Reader : Type 0
-Reader = List ℕ → Tables → Result
+Reader = List ℕ → Tables → ReadAnswer
 
 abbrev pub Tidier : Type 0
-Tidier = Weights → List ℕ → Tables → List ℕ → TidyResult
+Tidier = Weights → List ℕ → Tables → List ℕ → TidyAnswer

@@ -11,15 +11,15 @@ use Rattle.tables.specs.Records.{curveKind, curve2Kind}
 use Rattle.tables.specs.declared.Used.{Used}
 use Rattle.model.specs.Model.{curve, curve2, Body, Model}
 use Rattle.model.specs.Read.{read, readOf}
-use Rattle.all_lines.specs.declared.Reading.the-variants as reading
+use Rattle.read_lines.specs.declared.ReadResult.the-variants as reading
 use Rattle.reader.specs.Reading.{roomsOf, readInto}
 use Rattle.sampler.specs.Points.{axesOf}
 use Rattle.sampler.specs.Answers.{elementOf}
 use Rattle.polyline.specs.Answers.{parametersOf, polylineInto}
 use Rattle.polyline.specs.Promises.{PolylineGiven}
-use Rattle.joining.specs.Files.{axesIn}
-use Rattle.joining.specs.Joined.{Holds, Carried}
-use Rattle.joining.specs.Polylines.{PointsOfPolyline}
+use Rattle.sampled_files.specs.Files.{axesIn}
+use Rattle.sampled_files.specs.Joined.{HasBody, Carried}
+use Rattle.sampled_files.specs.Polylines.{PointsOfPolyline}
 use Rattle.end_to_end.specs.Demand3.{Plain}
 
 -- the polylines of the tables t, u of them used
@@ -37,7 +37,7 @@ FilledPolylines = (s : List ℕ) (S : Tables) (u : Used) → readInto s S .answe
 abbrev pub OwnPolylines : Type 0
 OwnPolylines =
     (s : List ℕ) (S : Tables) (u : Used) (m : Model) → readInto s S .answer ≡ reading.Read u → readOf (roomsOf S) s ≡ read m
-    → (number : ℕ) (b : Body) (o : Holds m number b) → Carried b → (b .free ≡ curve) ⊎ (b .free ≡ curve2)
+    → (number : ℕ) (b : Body) (o : HasBody m number b) → Carried b → (b .free ≡ curve) ⊎ (b .free ≡ curve2)
     → (tolerance : ℤ) (at : ℕ) (points : List ℤ) → pos 0 ≤ℤ tolerance
     → at + axesIn (b .free) * length (parametersOf u (readInto s S .tables) number tolerance) ≤ length points
     → PointsOfPolyline m b (o .one .corners) (parametersOf u (readInto s S .tables) number tolerance) at

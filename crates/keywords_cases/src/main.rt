@@ -3,7 +3,7 @@ use keywords::Argument;
 use libc::STDOUT_FILENO;
 use statements::Carried;
 use statements::Statement;
-use text::Met;
+use text::AfterBlanks;
 ghost use Prim.Native.Nat.{_≤_, _<_};
 ghost use lib.ListN.{length};
 
@@ -66,15 +66,15 @@ fn put_word(text: &[u8], start: usize, end: usize)
 fn show(text: &[u8]) {
     let mut i: usize = 0;
     while i < text.len() {
-        match text::gap(text, i) {
-            Met::Start(p) => {
+        match text::skip_blanks(text, i) {
+            AfterBlanks::Start(p) => {
                 i = text::word_end(text, p);
                 put_word(text, p, i);
             }
-            Met::End(q) => {
+            AfterBlanks::End(q) => {
                 i = q;
             }
-            Met::Bad(_) => {
+            AfterBlanks::Bad(_) => {
                 return;
             }
         }

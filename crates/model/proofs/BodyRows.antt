@@ -13,7 +13,7 @@ use Rattle.tables.specs.declared.Body as records
 use Rattle.tables.specs.declared.Used.{Used}
 use Rattle.model.specs.Model.{Body, Kind, free, Element, Model}
 use Rattle.model.specs.Room.{summed, partCount}
-use Rattle.model.specs.Layout.{firstPart, flag, bodyRow, bodyRows, rangeRow, bodyOf, bodiesOf, parameterRow, loopRows, spanRows}
+use Rattle.model.specs.Layout.{firstPart, flag, bodyRow, bodyRows, rangeRow, bodyOfKind, bodiesOf, parameterRow, loopRows, spanRows}
 use Rattle.model.proofs.Rows.{bodyRows-length, bodyRows-append, parameterRows-length, loopRows-length, spanRows-length, bodies-append, summed-append}
 use Rattle.model.proofs.Stands.{Stands, stands-at, stands-is, stands-part, stands-flat, stands-record, Among}
 use Rattle.model.proofs.Laid.{Laid}
@@ -25,7 +25,7 @@ body-among es i a b q =
       before = bodiesOf (a .before);
       one = b;
       after = bodiesOf (a .after);
-      is = ap bodiesOf (a .is) ∙ bodies-append (a .before) (a .one ∷ a .after) ∙ ap (λ (k : Kind). bodiesOf (a .before) ++ (bodyOf k ++ bodiesOf (a .after))) q;
+      is = ap bodiesOf (a .is) ∙ bodies-append (a .before) (a .one ∷ a .after) ∙ ap (λ (k : Kind). bodiesOf (a .before) ++ (bodyOfKind k ++ bodiesOf (a .after))) q;
       many = refl;
     }
 

@@ -5,7 +5,7 @@ use mathlib.Core.List.{List, _∷_, _++_}
 use native.Mathlib.Omega.{arith}
 use lib.ListN.{length, getD}
 use Rattle.lists.specs.Lists.{flat}
-use Rattle.forms.specs.Corner.{Corner}
+use Rattle.references.specs.Corner.{Corner}
 use Rattle.tables.specs.Tables.{Tables}
 use Rattle.tables.specs.Records.{elementWidth, cornerWidth, elementAt, cornerAt, numberAt}
 use Rattle.tables.specs.declared.Element as records-element

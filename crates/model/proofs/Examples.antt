@@ -10,8 +10,8 @@ use Rattle.keywords.specs.Rows.{bytes}
 use Rattle.text.specs.Lines.{linesOf}
 use Rattle.decimals.specs.Number.{numberOf, decimal, numerator, denominator, nearest}
 use Rattle.digits.specs.Digits.{whole}
-use Rattle.forms.specs.Reference.{isReference, refer, referenceOf}
-use Rattle.forms.specs.Corner.{cornerOf}
+use Rattle.references.specs.Reference.{isReference, refer, referenceOf}
+use Rattle.references.specs.Corner.{cornerOf}
 use Rattle.digits.specs.Degree.{degreeOf, smoothingOf, nameOf}
 use Rattle.keywords.specs.Keywords.{statementOf, keywords}
 use Rattle.keywords.specs.Arguments.{argumentOf, arguments, argumentBytes}
@@ -65,7 +65,7 @@ unfolding again said modelIn usedOf partOf tablesOf readOf linesOf numberOf deci
 ex5 = refl
 
 -- of parts that no reading stored, those before the first that begins a loop are in none
-part : ℕ → ℕ → records.Part
+part : ℕ → ℕ → records.PartRecord
 part n c = record { begins = n; curve = c; from = pos 0; to = pos 1 }
 
 ex6 : begunIn (part 0 1 ∷ part 2 2 ∷ part 0 3 ∷ part 1 4 ∷ []) .loops

@@ -10,7 +10,7 @@ use lib.Dec.{leb}
 use lib.IntN.{ℤ}
 use Rattle.lists.specs.Lists.{flat}
 use Rattle.text.specs.Words.{Word}
-use Rattle.forms.specs.Corner.{Corner}
+use Rattle.references.specs.Corner.{Corner}
 use Rattle.tables.specs.Tables.{Tables}
 use Rattle.tables.specs.Records.{vWidth, vtWidth, vnWidth, vpWidth, curveKind, cornerAt, elementAt, bodyAt}
 use Rattle.tables.specs.declared.Used.{Used}

@@ -9,10 +9,10 @@ use lib.ListN.{length, length-append}
 use Rattle.lists.specs.Lists.{flat}
 use Rattle.tables.specs.Records.{cornerWidth, elementWidth, bodyWidth, rangeWidth, loopWidth, spanWidth}
 use Rattle.tables.proofs.Flat.{flat-append, length-flat}
-use Rattle.forms.specs.Corner.{Corner}
+use Rattle.references.specs.Corner.{Corner}
 use Rattle.model.specs.Model.{Kind, plain, free, Body, Part, Loop, Element}
 use Rattle.model.specs.Room.{summed, ofKind, partCount}
-use Rattle.model.specs.Layout.{cornerRow, cornerRows, elementRow, elementRows, flag, bodyRow, bodyRows, bodyOf, bodiesOf, rangeRow, parameterRow, partRow, partRows, loopRow, spanRow, loopRows, spanRows, beginning}
+use Rattle.model.specs.Layout.{cornerRow, cornerRows, elementRow, elementRows, flag, bodyRow, bodyRows, bodyOfKind, bodiesOf, rangeRow, parameterRow, partRow, partRows, loopRow, spanRow, loopRows, spanRows, beginning}
 
 -- ---- sums
 pub summed-append : {A : Type 0} (f : A → ℕ) (xs ys : List A) → summed f (xs ++ ys) ≡ summed f xs + summed f ys
@@ -113,9 +113,9 @@ bodyRows-append p l (b ∷ bs) cs =
 
 -- ---- the bodies of elements, counted in the elements
 pub bodies-append : (es fs : List Element) → bodiesOf (es ++ fs) ≡ bodiesOf es ++ bodiesOf fs
-bodies-append es fs = flat-append (λ e. bodyOf (e .kind)) es fs
+bodies-append es fs = flat-append (λ e. bodyOfKind (e .kind)) es fs
 
-body-sum : (f : Body → ℕ) (k : Kind) → summed f (bodyOf k) ≡ ofKind f k
+body-sum : (f : Body → ℕ) (k : Kind) → summed f (bodyOfKind k) ≡ ofKind f k
 body-sum f (plain k) = refl
 body-sum f (free b) = omega arith
 
@@ -124,7 +124,7 @@ bodies-summed f [] = refl
 bodies-summed f (e ∷ es) =
     let i = bodies-summed f es in
     let j = body-sum f (e .kind) in
-    summed-append f (bodyOf (e .kind)) (bodiesOf es) ∙ (let k : summed f (bodyOf (e .kind)) + summed f (bodiesOf es) ≡ ofKind f (e .kind) + summed (λ e. ofKind f (e .kind)) es = omega arith in k)
+    summed-append f (bodyOfKind (e .kind)) (bodiesOf es) ∙ (let k : summed f (bodyOfKind (e .kind)) + summed f (bodiesOf es) ≡ ofKind f (e .kind) + summed (λ e. ofKind f (e .kind)) es = omega arith in k)
 
 pub length-summed : {A : Type 0} (xs : List A) → length xs ≡ summed (λ a. 1) xs
 length-summed [] = refl

@@ -6,7 +6,7 @@ use native.Mathlib.Omega.{arith}
 use lib.ListN.{length, drop}
 use lib.IntN.{ℤ}
 use Rattle.text.specs.Words.{Word}
-use Rattle.forms.specs.Corner.{Corner}
+use Rattle.references.specs.Corner.{Corner}
 use Rattle.model.specs.Parse.{Parsed, fine, fault, then, placed, WordForm, Value, number, corner, whole, direction, basis, name, nothing, Seen, saidOf, valuesOf, numbersOf, cornersOf, wholesOf, namesOf, partsOf}
 use Rattle.model.proofs.Parsed.{then-fine, fine-is}
 

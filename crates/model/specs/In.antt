@@ -7,7 +7,7 @@ use lib.ListN.{take, drop}
 use lib.Dec.{eqb, leb}
 use lib.IntN.{ℤ}
 use Rattle.text.specs.Words.{Word, wordsOf}
-use Rattle.forms.specs.Corner.{Corner}
+use Rattle.references.specs.Corner.{Corner}
 use Rattle.tables.specs.Tables.{Tables}
 use Rattle.tables.specs.Bodies.{basisOf}
 use Rattle.tables.specs.Records.{vWidth, vtWidth, vnWidth, vpWidth, elementAt, cornerAt, bodyAt, parametersU, parametersV, partAt, pointKind, lineKind, curveKind, curve2Kind}
@@ -61,7 +61,7 @@ abbrev pub cornersFrom : Tables → records-element.Element → List Corner
 cornersFrom t e = each (λ k. cornerFrom (cornerAt t (e .first) k)) (e .count) 0
 
 -- ---- loops: what begins with a part is 1 a trim, 2 a hole, 0 nothing; a part before the first that begins a loop belongs to none
-abbrev pub partFrom : records.Part → Part
+abbrev pub partFrom : records.PartRecord → Part
 partFrom p = record { from = p .from; to = p .to; curve = p .curve }
 
 -- parts in their order: those that go on with a loop begun before them, and the loops that begin after those
@@ -75,10 +75,10 @@ goesOn p r = record { on = p ∷ r .on; loops = r .loops }
 abbrev pub begins : Bool → Part → Begun → Begun
 begins hole p r = record { on = []; loops = record { hole = hole; parts = p ∷ r .on } ∷ r .loops }
 
-abbrev pub begunWith : records.Part → Begun → Begun
+abbrev pub begunWith : records.PartRecord → Begun → Begun
 begunWith p r = cond (eqb (p .begins) 0) (goesOn (partFrom p) r) (begins (eqb (p .begins) 2) (partFrom p) r)
 
-abbrev pub begunIn : List records.Part → Begun
+abbrev pub begunIn : List records.PartRecord → Begun
 begunIn [] = record { on = []; loops = [] }
 begunIn (p ∷ ps) = begunWith p (begunIn ps)
 

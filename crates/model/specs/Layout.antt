@@ -7,7 +7,7 @@ use lib.ListN.{length}
 use lib.IntN.{ℤ, pos}
 use Rattle.lists.specs.Lists.{flat, filled}
 use Rattle.text.specs.Words.{Word}
-use Rattle.forms.specs.Corner.{Corner}
+use Rattle.references.specs.Corner.{Corner}
 use Rattle.tables.specs.Tables.{Tables}
 use Rattle.tables.specs.Bodies.{basisNumber}
 use Rattle.tables.specs.Records.{cornerWidth, pointKind, lineKind, faceKind, curveKind, curve2Kind, surfaceKind}
@@ -85,12 +85,12 @@ abbrev pub rangeRow : Body → List ℤ
 rangeRow b = b .start-u ∷ b .end-u ∷ b .start-v ∷ b .end-v ∷ []
 
 -- the bodies of elements, in their order
-abbrev pub bodyOf : Kind → List Body
-bodyOf (plain k) = []
-bodyOf (free b) = b ∷ []
+abbrev pub bodyOfKind : Kind → List Body
+bodyOfKind (plain k) = []
+bodyOfKind (free b) = b ∷ []
 
 abbrev pub bodiesOf : List Element → List Body
-bodiesOf es = flat (λ e. bodyOf (e .kind)) es
+bodiesOf es = flat (λ e. bodyOfKind (e .kind)) es
 
 abbrev pub bodyRows : ℕ → ℕ → List Body → List ℕ
 bodyRows p l [] = []

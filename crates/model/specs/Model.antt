@@ -6,7 +6,7 @@ use mathlib.Core.Option.{Option, none, some}
 use lib.ListN.{length}
 use lib.IntN.{ℤ, pos}
 use Rattle.text.specs.Words.{Word}
-use Rattle.forms.specs.Corner.{Corner, Counts}
+use Rattle.references.specs.Corner.{Corner, Counts}
 use Rattle.tables.specs.Bodies.{Basis}
 -- v, vt, vn, vp; p, l, f; curv, curv2, surf
 pub use Rattle.statements.specs.declared.VertexKind.{VertexKind}
@@ -32,8 +32,8 @@ pub record Names : Type 0 where
   pub material : Option Word
 
 -- u, v
-pub data Direction : Type 0 where
-  along-u along-v : Direction
+pub data ParmDirection : Type 0 where
+  along-u along-v : ParmDirection
 
 -- one curve of a trimming loop: its two numbers, and the number of the curv2
 pub record Part : Type 0 where

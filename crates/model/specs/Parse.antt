@@ -8,9 +8,9 @@ use lib.Dec.{leb, ltb, eqb}
 use lib.IntN.{ℤ, pos, natAbs}
 use lib.Signed.{ltZ}
 use Rattle.text.specs.Words.{Word}
-use Rattle.forms.specs.Corner.{Corner, alike}
+use Rattle.references.specs.Corner.{Corner, alike}
 use Rattle.tables.specs.Bodies.{Basis, bezier, bspline, cardinal, taylor, low, high, inOrder, curveCount, surfaceCount}
-use Rattle.model.specs.Model.{VertexKind, geometric, texture, normal, parametric, Vertices, Shape, point, line, face, Free, curve, curve2, surface, Direction, along-u, along-v, Part, Loop, Body, Element, Model, Form, Open, State, curves, countsOf}
+use Rattle.model.specs.Model.{VertexKind, geometric, texture, normal, parametric, Vertices, Shape, point, line, face, Free, curve, curve2, surface, ParmDirection, along-u, along-v, Part, Loop, Body, Element, Model, Form, Open, State, curves, countsOf}
 use Rattle.model.specs.Statements.{Statement, vertex, element, group, smoothing, material, type, degree, body, parameters, loop, end, passed}
 use Rattle.statements.specs.Rules as rules
 use Rattle.statements.specs.declared.rules.Rules.{Rules}
@@ -20,7 +20,7 @@ pub use Rattle.statements.specs.Rules.{isSurface, fewest, rangeWords, fewestCon
 -- the statements by the keywords that open them
 pub use Rattle.statements.specs.declared.Carried.{Carried as Keyword}
 pub use Rattle.statements.specs.declared.Carried.the-variants.{Vertex as a-vertex, Element as an-element, Body as a-body, Parameters as parm, Trim as trim, Hole as hole, End as ends, BodyType as cstype, Degree as deg, Group as g, Smoothing as s, Material as usemtl, PassedOver as over}
-pub use Rattle.model.specs.Words.{Parsed, fine, fault, then, must, unless, isV, directionOf, saysV, WordForm, a-number, a-corner, a-control, a-curve, a-direction, a-type, a-rational, a-degree, a-smoothing, a-name, anything, Value, number, corner, whole, direction, basis, name, nothing, onSaid, typeSaid, rationalSaid, directionSaid, Seen, saidOf, placed, valuesOf, numbersOf, cornersOf, wholesOf, namesOf, basisOf, directionIn}
+pub use Rattle.model.specs.Words.{Parsed, fine, fault, then, must, unless, isV, directionOf, saysV, WordForm, a-number, a-corner, a-control, a-curve, a-direction, a-type, a-rational, a-degree, a-smoothing, a-name, anything, Value, number, corner, whole, direction, basis, name, nothing, onSaid, typeSaid, rationalSaid, directionSaid, Seen, saidOf, placed, valuesOf, numbersOf, cornersOf, wholesOf, namesOf, basisSaid, directionIn}
 
 -- ---- 10, 5 and the form of each word, by the statement's row of rules
 
@@ -29,11 +29,11 @@ abbrev pub openFree : Option Open → Option Free
 openFree none = none
 openFree (some o) = some (o .body .free)
 
-abbrev pub inBody : Option Open → (Free → Bool) → Bool
-inBody o f = rules.inBody (openFree o) f
+abbrev pub insideBody : Option Open → (Free → Bool) → Bool
+insideBody o f = rules.inBody (openFree o) f
 
-abbrev pub outside : Option Open → Bool
-outside o = rules.outside (openFree o)
+abbrev pub outsideBody : Option Open → Bool
+outsideBody o = rules.outside (openFree o)
 
 abbrev pub allowed : Keyword → Option Open → List Word → Bool
 allowed k o ws = rules.allowedBy (rulesOf k .standing) (openFree o) (saysV ws)
@@ -99,11 +99,11 @@ countsAgree curve2 b k = curveCount (b .basis) (b .degree-u) (length (b .us)) k
 countsAgree surface b k = surfaceCount (b .basis) (b .degree-u) (length (b .us)) (b .degree-v) (length (b .vs)) k
 
 -- ---- 13, "parameter order or range"; "A curv2's range is the widest allowed and may not be empty."
-abbrev pub inRange : Free → Body → Bool
-inRange curve b = inOrder (b .basis) (b .degree-u) (b .us) (b .start-u) (b .end-u)
-inRange curve2 b =
+abbrev pub rangeWithin : Free → Body → Bool
+rangeWithin curve b = inOrder (b .basis) (b .degree-u) (b .us) (b .start-u) (b .end-u)
+rangeWithin curve2 b =
     inOrder (b .basis) (b .degree-u) (b .us) (low (b .basis) (b .degree-u) (b .us)) (high (b .basis) (b .degree-u) (b .us))
-inRange surface b =
+rangeWithin surface b =
     inOrder (b .basis) (b .degree-u) (b .us) (b .start-u) (b .end-u) && inOrder (b .basis) (b .degree-v) (b .vs) (b .start-v) (b .end-v)
 
 -- ---- the statement of a line whose words have their forms
@@ -124,11 +124,11 @@ abbrev pub completed : VertexKind → List ℤ → List ℤ
 completed k z = z ++ drop (length z) (defaults k)
 
 -- "vp the count given and u v w"
-abbrev pub recordOf : VertexKind → List ℤ → List ℤ
-recordOf geometric z = completed geometric z
-recordOf texture z = completed texture z
-recordOf normal z = completed normal z
-recordOf parametric z = pos (length z) ∷ completed parametric z
+abbrev pub vertexRecord : VertexKind → List ℤ → List ℤ
+vertexRecord geometric z = completed geometric z
+vertexRecord texture z = completed texture z
+vertexRecord normal z = completed normal z
+vertexRecord parametric z = pos (length z) ∷ completed parametric z
 
 -- "Cardinal .. its degree is 3"; "a curve's v entries are 0"
 abbrev pub degreeIn : Option Basis → ℕ → ℕ
@@ -142,12 +142,12 @@ abbrev pub basisIn : Option Basis → Basis
 basisIn none = bezier
 basisIn (some t) = t
 
-abbrev pub bodyOf : Free → Form → List ℤ → Body
-bodyOf curve f z =
+abbrev pub openedBody : Free → Form → List ℤ → Body
+openedBody curve f z =
     record { free = curve; basis = basisIn (f .basis); rational = f .rational; degree-u = degreeIn (f .basis) (f .degree-u); degree-v = 0; start-u = getD z 0 (pos 0); end-u = getD z 1 (pos 0); start-v = pos 0; end-v = pos 0; us = []; vs = []; loops = [] }
-bodyOf curve2 f z =
+openedBody curve2 f z =
     record { free = curve2; basis = basisIn (f .basis); rational = f .rational; degree-u = degreeIn (f .basis) (f .degree-u); degree-v = 0; start-u = pos 0; end-u = pos 0; start-v = pos 0; end-v = pos 0; us = []; vs = []; loops = [] }
-bodyOf surface f z =
+openedBody surface f z =
     record { free = surface; basis = basisIn (f .basis); rational = f .rational; degree-u = degreeIn (f .basis) (f .degree-u); degree-v = degreeIn (f .basis) (f .degree-v); start-u = getD z 0 (pos 0); end-u = getD z 1 (pos 0); start-v = getD z 2 (pos 0); end-v = getD z 3 (pos 0); us = []; vs = []; loops = [] }
 
 -- "A deg with one number clears the v degree"
@@ -173,7 +173,7 @@ closes none key r = fault 10 key
 closes (some o) key r =
     must (complete (o .body .free) (o .body)) 11 key
     (must (countsAgree (o .body .free) (o .body) (length (o .controls))) 12 key
-    (must (inRange (o .body .free) (o .body)) 13 key r))
+    (must (rangeWithin (o .body .free) (o .body)) 13 key r))
 
 abbrev pub heldBy : Held → State → ℕ → List Word → List Value → Parsed Statement → Parsed Statement
 heldBy held.Nothing x key ws xs r = r
@@ -182,14 +182,14 @@ heldBy (held.Body k) x key ws xs r = opens k x key (drop (rangeWords k) ws) (cor
 heldBy held.End x key ws xs r = closes (x .open-body) key r
 
 abbrev pub saysOf : Keyword → Form → List Value → Statement
-saysOf (a-vertex k) f xs = vertex k (recordOf k (numbersOf xs))
+saysOf (a-vertex k) f xs = vertex k (vertexRecord k (numbersOf xs))
 saysOf (an-element k) f xs = element k (cornersOf xs)
-saysOf (a-body k) f xs = body (bodyOf k f (numbersOf xs)) (cornersOf xs)
+saysOf (a-body k) f xs = body (openedBody k f (numbersOf xs)) (cornersOf xs)
 saysOf parm f xs = parameters (directionIn xs) (numbersOf xs)
 saysOf trim f xs = loop (record { hole = false; parts = partsOf (numbersOf xs) (wholesOf xs) })
 saysOf hole f xs = loop (record { hole = true; parts = partsOf (numbersOf xs) (wholesOf xs) })
 saysOf ends f xs = end
-saysOf cstype f xs = type (eqb (length xs) 2) (basisOf xs)
+saysOf cstype f xs = type (eqb (length xs) 2) (basisSaid xs)
 saysOf deg f xs = degreesOf (wholesOf xs)
 saysOf g f xs = group (namesOf xs)
 saysOf s f xs = smoothing (getD (wholesOf xs) 0 0)

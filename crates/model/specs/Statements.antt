@@ -6,9 +6,9 @@ use mathlib.Core.Option.{Option, none, some}
 use lib.ListN.{length}
 use lib.IntN.{ℤ, pos}
 use Rattle.text.specs.Words.{Word}
-use Rattle.forms.specs.Corner.{Corner}
+use Rattle.references.specs.Corner.{Corner}
 use Rattle.tables.specs.Bodies.{Basis, bezier, low, high}
-use Rattle.model.specs.Model.{VertexKind, geometric, texture, normal, parametric, Vertices, Names, Shape, Free, curve, curve2, surface, Direction, along-u, along-v, Part, Loop, Body, Kind, plain, free, Element, Model, Form, Open, State}
+use Rattle.model.specs.Model.{VertexKind, geometric, texture, normal, parametric, Vertices, Names, Shape, Free, curve, curve2, surface, ParmDirection, along-u, along-v, Part, Loop, Body, Kind, plain, free, Element, Model, Form, Open, State}
 
 pub data Statement : Type 0 where
   vertex : VertexKind → List ℤ → Statement
@@ -19,7 +19,7 @@ pub data Statement : Type 0 where
   type : Bool → Basis → Statement
   degree : ℕ → ℕ → Statement
   body : Body → List Corner → Statement
-  parameters : Direction → List ℤ → Statement
+  parameters : ParmDirection → List ℤ → Statement
   loop : Loop → Statement
   end : Statement
   passed : Statement
@@ -54,7 +54,7 @@ abbrev pub withBody : (Body → Body) → Open → Open
 withBody f o = record { body = f (o .body); controls = o .controls; names = o .names }
 
 -- "A later parm of the same direction replaces the earlier."
-abbrev pub withParameters : Direction → List ℤ → Body → Body
+abbrev pub withParameters : ParmDirection → List ℤ → Body → Body
 withParameters along-u z b =
     record { free = b .free; basis = b .basis; rational = b .rational; degree-u = b .degree-u; degree-v = b .degree-v; start-u = b .start-u; end-u = b .end-u; start-v = b .start-v; end-v = b .end-v; us = z; vs = b .vs; loops = b .loops }
 withParameters along-v z b =

@@ -7,14 +7,14 @@ use lib.IntN.{ℤ}
 use Rattle.text.specs.Words.{Word}
 use Rattle.digits.specs.Said.{Said, says, wrong}
 use Rattle.decimals.specs.Number.{numberOf}
-use Rattle.forms.specs.Reference.{referenceOf}
-use Rattle.forms.specs.Corner.{Corner, Counts, cornerOf}
+use Rattle.references.specs.Reference.{referenceOf}
+use Rattle.references.specs.Corner.{Corner, Counts, cornerOf}
 use Rattle.digits.specs.Degree.{degreeOf, smoothingOf, nameOf}
 use Rattle.keywords.specs.declared.Argument.{Argument}
 use Rattle.keywords.specs.declared.Argument.the-variants.{Rational, BasisMatrix, Bezier, Bspline, Cardinal, Taylor, DirectionU, DirectionV, Off, Other}
 use Rattle.keywords.specs.Arguments.{argumentOf}
 use Rattle.tables.specs.Bodies.{Basis, bezier, bspline, cardinal, taylor}
-use Rattle.model.specs.Model.{Direction, along-u, along-v}
+use Rattle.model.specs.Model.{ParmDirection, along-u, along-v}
 pub use Rattle.statements.specs.declared.rules.WordForm.{WordForm}
 pub use Rattle.statements.specs.declared.rules.WordForm.the-variants.{Number as a-number, Corner as a-corner, Control as a-control, Curve as a-curve, Direction as a-direction, «Type» as a-type, Rational as a-rational, Degree as a-degree, Smoothing as a-smoothing, Name as a-name, Anything as anything}
 
@@ -39,12 +39,12 @@ unless (some p) n r = fault n p
 
 -- ---- the fixed words
 -- a parm along v
-abbrev pub isV : Option Direction → Bool
+abbrev pub isV : Option ParmDirection → Bool
 isV none = false
 isV (some along-u) = false
 isV (some along-v) = true
 
-abbrev pub directionOf : Argument → Option Direction
+abbrev pub directionOf : Argument → Option ParmDirection
 directionOf Rational = none
 directionOf BasisMatrix = none
 directionOf Bezier = none
@@ -66,7 +66,7 @@ pub data Value : Type 0 where
   number : ℤ → Value
   corner : Corner → Value
   whole : ℕ → Value
-  direction : Direction → Value
+  direction : ParmDirection → Value
   basis : Basis → Value
   name : Word → Value
   nothing : Value
@@ -101,7 +101,7 @@ rationalSaid Off = wrong 6
 rationalSaid Other = wrong 6
 
 -- "and a parm direction other than u or v"
-abbrev pub directionSaid : Option Direction → Said Value
+abbrev pub directionSaid : Option ParmDirection → Said Value
 directionSaid none = wrong 6
 directionSaid (some d) = says (direction d)
 
@@ -140,7 +140,7 @@ pub record Told : Type 0 where
   pub wholes : List ℕ
   pub names : List Word
   pub type : Basis
-  pub along : Direction
+  pub along : ParmDirection
 
 abbrev pub withValue : Value → Told → Told
 withValue (number z) x = record { numbers = z ∷ x .numbers; corners = x .corners; wholes = x .wholes; names = x .names; type = x .type; along = x .along }
@@ -167,8 +167,8 @@ wholesOf xs = told xs .wholes
 abbrev pub namesOf : List Value → List Word
 namesOf xs = told xs .names
 
-abbrev pub basisOf : List Value → Basis
-basisOf xs = told xs .type
+abbrev pub basisSaid : List Value → Basis
+basisSaid xs = told xs .type
 
-abbrev pub directionIn : List Value → Direction
+abbrev pub directionIn : List Value → ParmDirection
 directionIn xs = told xs .along

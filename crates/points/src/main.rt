@@ -1,6 +1,6 @@
 // The points of a run on a curve of an .obj file: the element's number and the steps are the arguments, the file is standard input.
-use reader::Reading;
-use sampler::Ran;
+use reader::ReadResult;
+use sampler::RunResult;
 use tables::Used;
 ghost use mathlib.Core.Path.{_≡_};
 ghost use Prim.Native.Nat.{_≤_};
@@ -15,9 +15,9 @@ fn put_whole(n: u64) -> bool {
 
 // A number of millionths with six places, by way of the bytes lent.
 fn put_written(bytes: &mut [u8], value: i32) -> bool {
-    let n = writing::number_length(value);
+    let n = word_format::number_length(value);
     if n <= bytes.len() {
-        writing::write_number(bytes, 0, value);
+        word_format::write_number(bytes, 0, value);
         return streams::write_output(&bytes[0..n]);
     }
     false
@@ -99,14 +99,14 @@ fn put_refusal_at(number: u32, place: usize) {
 }
 
 // A point of a run has as many numbers as there are numbers for each of its steps + 1 points.
-fn put_run(ran: Ran, points: &[i32], steps: u32) {
+fn put_run(ran: RunResult, points: &[i32], steps: u32) {
     match ran {
-        Ran::Filled { numbers } => {
+        RunResult::Filled { numbers } => {
             if numbers <= points.len() {
                 put_points(&points[0..numbers], numbers / (steps as usize + 1));
             }
         }
-        Ran::Refused { number } => put_refusal(number),
+        RunResult::Refused { number } => put_refusal(number),
     }
 }
 
@@ -174,8 +174,8 @@ fn run_on_text(text: &[u8], element: u32, steps: u32) {
         &mut loops,
         &mut spans,
     ) {
-        Reading::Refused { number, place } => put_refusal_at(number, place),
-        Reading::Read(used) => run(
+        ReadResult::Refused { number, place } => put_refusal_at(number, place),
+        ReadResult::Read(used) => run(
             used,
             &v,
             &vt,

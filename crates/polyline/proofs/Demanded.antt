@@ -11,13 +11,13 @@ use lib.Seq.{sets, sets-eq, length-take-le, getD-append-add}
 use lib.IntN.{ℤ, pos}
 use lib.Signed.{_≤ℤ_, _<ℤ_, leZ, ltZ, ≤ℤ-refl, clashℤ}
 use Rattle.lists.proofs.Tests.{and-left, and-right, test}
-use Rattle.whole.proofs.Order.{yes-lt, ≤ℤ-trans}
+use Rattle.rounding.proofs.Order.{yes-lt, ≤ℤ-trans}
 use Rattle.tables.specs.Tables.{Tables}
 use Rattle.tables.specs.Records.{parametersU}
 use Rattle.tables.specs.Bodies.{basisOf, ordered, continuous, ranged, low, high, inOrder}
 use Rattle.tables.specs.declared.Used.{Used}
-use Rattle.rules.specs.Rules.{curvesBefore}
-use Rattle.rules.proofs.Element.{curve-of, obeys-facts, body-of}
+use Rattle.record_rules.specs.Rules.{curvesBefore}
+use Rattle.record_rules.proofs.Element.{curve-of, obeys-facts, body-of}
 use Rattle.sampler.specs.Points.{axesOf}
 use Rattle.sampler.specs.Answers.{wanted, elementOf, bodyOf, refusalOf}
 use Rattle.sampler.specs.Demand3.{Curve, OnCurve}

@@ -11,15 +11,15 @@ use lib.Seq.{sets, sets-eq}
 use lib.IntN.{ℤ, pos, negsuc}
 use lib.Signed.{_≤ℤ_, leZ, ltZ, ≤ℤ-refl}
 use Rattle.lists.proofs.Tests.{never}
-use Rattle.whole.proofs.Order.{le-yes, ≤ℤ-trans}
+use Rattle.rounding.proofs.Order.{le-yes, ≤ℤ-trans}
 use Rattle.tables.specs.Tables.{Tables}
 use Rattle.tables.specs.declared.Body.{Body}
 use Rattle.tables.specs.declared.Used.{Used}
 use Rattle.tables.specs.declared.Element.{Element}
 use Rattle.sampler.specs.Points.{axesOf, curveAt}
-use Rattle.sampler.specs.Answers.{elementOf, bodyOf, refusalOf, SampledResult, pointOutcome, refusedPoint, planePoint, spacePoint, inside, curvePoint, pointOnCurve}
-use Rattle.sampler.specs.declared.Sampled.{Sampled}
-use Rattle.sampler.specs.Sampling.{Curved, curveAnswer}
+use Rattle.sampler.specs.Answers.{elementOf, bodyOf, refusalOf, PointAnswer, pointOutcome, refusedPoint, planePoint, spacePoint, inside, curvePoint, pointOnCurve}
+use Rattle.sampler.specs.declared.PointResult.{PointResult}
+use Rattle.sampler.specs.Sampling.{Curved, answerOnCurve}
 use Rattle.sampler.proofs.Obeyed.{granted, curved}
 use Rattle.sampler.proofs.Refusals.{Missed, Looked}
 use Rattle.sampler.proofs.Entries.{curve-tables, curve-answered}
@@ -37,10 +37,10 @@ by-kind t e b p true h = simp h (refl, refl)
 by-kind t e b p false h = simp h (refl, refl)
 
 -- an answer and its outcome are of one case
-abbrev Agreed : SampledResult → Type 0
+abbrev Agreed : PointAnswer → Type 0
 Agreed r = pointOutcome (r .answer) ≡ r .outcome
 
-either-agreed : (c : Bool) (x y : SampledResult) → Agreed x → Agreed y → Agreed (cond c x y)
+either-agreed : (c : Bool) (x y : PointAnswer) → Agreed x → Agreed y → Agreed (cond c x y)
 either-agreed true x y f g = f
 either-agreed false x y f g = g
 
@@ -49,8 +49,8 @@ unfolding curvePoint
 curve-agreed t e b p =
     either-agreed (eqb (e .kind) 5) (planePoint (curveAt t e b p 0) (curveAt t e b p 1)) (spacePoint (curveAt t e b p 0) (curveAt t e b p 1) (curveAt t e b p 2)) refl refl
 
-pub agreed : (t : Tables) (e : Element) (b : Body) (p : ℤ) → Agreed (curveAnswer t e b p)
-unfolding curveAnswer
+pub agreed : (t : Tables) (e : Element) (b : Body) (p : ℤ) → Agreed (answerOnCurve t e b p)
+unfolding answerOnCurve
 agreed t e b p = either-agreed (inside (b .«start_u») (b .«end_u») p) (curvePoint t e b p) (refusedPoint 19) (curve-agreed t e b p) refl
 
 module _ (used : Used) (t : Tables) (number : ℕ) (h : refusalOf false used t number ≡ 0) where
@@ -66,7 +66,7 @@ module _ (used : Used) (t : Tables) (number : ℕ) (h : refusalOf false used t n
     point-is = rw (h, le-yes (bodyOf t number .«start_u») p a, le-yes p (bodyOf t number .«end_u») b)
 
     pub point-axes : length (pointAt used t number p) ≡ axesOf (elementOf t number)
-    point-axes = ap (λ (s : SampledResult). length (s .outcome .coordinates)) point-is ∙ by-kind t (elementOf t number) (bodyOf t number) p (eqb (elementOf t number .kind) 5) refl .0
+    point-axes = ap (λ (s : PointAnswer). length (s .outcome .coordinates)) point-is ∙ by-kind t (elementOf t number) (bodyOf t number) p (eqb (elementOf t number .kind) 5) refl .0
 
 -- ---- how many numbers the points have, where each has w
 module _ (point : ℤ → List ℤ) (tolerance : ℤ) (w : ℕ) where
@@ -163,7 +163,7 @@ module _ (used : Used) (t : Tables) (number : ℕ) (tolerance : ℤ) (at : ℕ) 
         ∙ into-is
 
     same-points : coordinatesOf (curve-tables t) (elementOf t number) (bodyOf t number) ≡ pointAt used t number
-    same-points = fun-ext (λ p. ap (λ (r : SampledResult). r .outcome .coordinates) (curve-answered p (record { given = h; element-is = refl; body-is = refl })))
+    same-points = fun-ext (λ p. ap (λ (r : PointAnswer). r .outcome .coordinates) (curve-answered p (record { given = h; element-is = refl; body-is = refl })))
 
   pub answered : {e : Element} {b : Body} → Looked false used t number e b → polylineBy (curve-tables t) e b tolerance at points ≡ into
   answered {e} {b} l =
@@ -174,12 +174,12 @@ module _ (used : Used) (t : Tables) (number : ℕ) (tolerance : ℤ) (at : ℕ) 
 
 -- a curve that was looked up gives its coordinates at each parameter of its range
 module _ (t : Tables) (e : Element) (b : Body) (p : ℤ) (l : b .«start_u» ≤ℤ p) (h : p ≤ℤ b .«end_u») where
-  curve-in : curveAnswer t e b p ≡ curvePoint t e b p
-  unfolding curveAnswer
+  curve-in : answerOnCurve t e b p ≡ curvePoint t e b p
+  unfolding answerOnCurve
   curve-in = rw (le-yes (b .«start_u») p l, le-yes p (b .«end_u») h)
 
   pub curve-axes : length (coordinatesOf t e b p) ≡ axesOf e
-  curve-axes = ap (λ (r : SampledResult). length (r .outcome .coordinates)) curve-in ∙ by-kind t e b p (eqb (e .kind) 5) refl .0
+  curve-axes = ap (λ (r : PointAnswer). length (r .outcome .coordinates)) curve-in ∙ by-kind t e b p (eqb (e .kind) 5) refl .0
 
 -- an answer and its outcome are of one case
 abbrev Told : PolylineAnswer → Type 0

@@ -10,16 +10,16 @@ use lib.ListN.{length, set, length-append}
 use lib.Seq.{sets}
 use lib.IntN.{ℤ, pos}
 use Rattle.lists.proofs.Tests.{never}
-use Rattle.sampler.specs.Answers.{SampledResult, pointOutcome}
-use Rattle.sampler.specs.declared.Sampled.{Sampled}
-use Rattle.sampler.specs.declared.Sampled.the-variants as sampled
+use Rattle.sampler.specs.Answers.{PointAnswer, pointOutcome}
+use Rattle.sampler.specs.declared.PointResult.{PointResult}
+use Rattle.sampler.specs.declared.PointResult.the-variants as sampled
 use Rattle.polyline.specs.Chords.{middle, straight, short, chord, ends, numbers}
-use Rattle.polyline.specs.Inner.{Interval, splitOf}
+use Rattle.polyline.specs.Inner.{PieceEnds, splitOf}
 use Rattle.polyline.specs.declared.Split.{Split}
 use Rattle.polyline.specs.declared.Split.the-variants as split
 
 -- ---- by the tests that lead to each
-module _ (sample : ℤ → SampledResult) (tolerance a b : ℤ) where
+module _ (sample : ℤ → PointAnswer) (tolerance a b : ℤ) where
   abbrev point : ℤ → List ℤ
   point p = sample p .outcome .coordinates
 
@@ -60,17 +60,17 @@ abbrev middleIn : Split → ℤ
 middleIn split.Chord = pos 0
 middleIn (split.Halves m s) = m
 
-abbrev pointIn : Split → Sampled
+abbrev pointIn : Split → PointResult
 pointIn split.Chord = sampled.Refused 0
 pointIn (split.Halves m s) = s
 
 -- the two halves of an interval at m, where s is sampled
-pub record Parted (point : ℤ → List ℤ) (tolerance : ℤ) (depth : ℕ) (a b m : ℤ) (s : Sampled) : Type 0 where
+pub record Parted (point : ℤ → List ℤ) (tolerance : ℤ) (depth : ℕ) (a b m : ℤ) (s : PointResult) : Type 0 where
   pub deep : depth ≡ 0 → ⊥
   pub point-is : pointOutcome s .coordinates ≡ point m
   pub joined : ends point tolerance depth a b ≡ ends point tolerance (depth - 1) a m ++ ends point tolerance (depth - 1) m b
 
-module _ (sample : ℤ → SampledResult) (agree : (p : ℤ) → pointOutcome (sample p .answer) ≡ sample p .outcome) (tolerance a b : ℤ) where
+module _ (sample : ℤ → PointAnswer) (agree : (p : ℤ) → pointOutcome (sample p .answer) ≡ sample p .outcome) (tolerance a b : ℤ) where
   pub one-chord : (depth : ℕ) → splitOf sample tolerance depth a b ≡ split.Chord → ends (λ p. sample p .outcome .coordinates) tolerance depth a b ≡ b ∷ []
   unfolding ends splitOf
   one-chord zero h = refl
@@ -80,7 +80,7 @@ module _ (sample : ℤ → SampledResult) (agree : (p : ℤ) → pointOutcome (s
       go true x k = refl
       go false x k = never (ap isChord k)
 
-  parted : (depth : ℕ) → (c : Bool) → chord (λ p. sample p .outcome .coordinates) tolerance a b ≡ c → {m : ℤ} {s : Sampled}
+  parted : (depth : ℕ) → (c : Bool) → chord (λ p. sample p .outcome .coordinates) tolerance a b ≡ c → {m : ℤ} {s : PointResult}
       → cond c split.Chord (split.Halves (middle a b) (sample (middle a b) .answer)) ≡ split.Halves m s → Parted (λ p. sample p .outcome .coordinates) tolerance (suc depth) a b m s
   unfolding ends
   parted depth true e k = never (sym (ap isChord k))
@@ -88,11 +88,11 @@ module _ (sample : ℤ → SampledResult) (agree : (p : ℤ) → pointOutcome (s
       let f : m ≡ middle a b = sym (ap middleIn k) in
       record {
         deep = λ z. omega (arith, z);
-        point-is = ap (λ (x : Sampled). pointOutcome x .coordinates) (sym (ap pointIn k)) ∙ ap (λ x. x .coordinates) (agree (middle a b)) ∙ ap (λ (x : ℤ). sample x .outcome .coordinates) (sym f);
+        point-is = ap (λ (x : PointResult). pointOutcome x .coordinates) (sym (ap pointIn k)) ∙ ap (λ x. x .coordinates) (agree (middle a b)) ∙ ap (λ (x : ℤ). sample x .outcome .coordinates) (sym f);
         joined = rw (sub-one (suc depth), f, e) refl;
       }
 
-  pub two-halves : (depth : ℕ) {m : ℤ} {s : Sampled} → splitOf sample tolerance depth a b ≡ split.Halves m s → Parted (λ p. sample p .outcome .coordinates) tolerance depth a b m s
+  pub two-halves : (depth : ℕ) {m : ℤ} {s : PointResult} → splitOf sample tolerance depth a b ≡ split.Halves m s → Parted (λ p. sample p .outcome .coordinates) tolerance depth a b m s
   unfolding splitOf
   two-halves zero h = never (sym (ap isChord h))
   two-halves (suc depth) h = parted depth (chord (λ p. sample p .outcome .coordinates) tolerance a b) refl h
@@ -119,7 +119,7 @@ pub numbers-joined : (point : ℤ → List ℤ) (x y : List ℤ) → numbers poi
 numbers-joined point [] y = refl
 numbers-joined point (p ∷ x) y = ap (λ (l : List ℤ). point p ++ l) (numbers-joined point x y) ∙ sym (append-assoc (point p) (numbers point x) (numbers point y))
 
-pub numbers-chord : {point : ℤ → List ℤ} {a b : ℤ} {p q : Sampled} {x : List ℤ} → Interval point a b p q → x ≡ b ∷ [] → numbers point x ≡ pointOutcome q .coordinates
+pub numbers-chord : {point : ℤ → List ℤ} {a b : ℤ} {p q : PointResult} {x : List ℤ} → PieceEnds point a b p q → x ≡ b ∷ [] → numbers point x ≡ pointOutcome q .coordinates
 numbers-chord {point} {b = b} i e = ap (numbers point) e ∙ append-nil (point b) ∙ sym (i .end-is)
 
 sets-joined : (x y l : List ℤ) (i : ℕ) → sets l i (x ++ y) ≡ sets (sets l i x) (i + length x) y
@@ -146,7 +146,7 @@ module _ (at n : ℕ) (l r : List ℤ) {x : List ℤ} (e : x ≡ l ++ r) where
 pub counted : (point : ℤ → List ℤ) (d : ℕ) {t t' a a' b b' : ℤ} {n : ℕ} → n ≡ length (ends point t' d a' b') → t' ≡ t → a' ≡ a → b' ≡ b → n ≡ length (ends point t d a b)
 counted point d e f g h = rw (f, g, h) at e
 
-pub interval-read : {point : ℤ → List ℤ} {a a' b b' : ℤ} {p q : Sampled} → a' ≡ a → b' ≡ b → Interval point a b p q → Interval point a' b' p q
+pub interval-read : {point : ℤ → List ℤ} {a a' b b' : ℤ} {p q : PointResult} → a' ≡ a → b' ≡ b → PieceEnds point a b p q → PieceEnds point a' b' p q
 interval-read f g i = rw (f, g) i
 
 module _ (point : ℤ → List ℤ) (d : ℕ) {t t' a a' b b' : ℤ} (f : t' ≡ t) (g : a' ≡ a) (h : b' ≡ b) (at : ℕ) where

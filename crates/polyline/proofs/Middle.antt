@@ -10,10 +10,10 @@ use borrow.Author.Tests.{leb-false}
 use lib.Dec.{ltb}
 use lib.IntN.{ℤ, pos, negsuc, negℤ, natAbs, subℕ, _+ℤ_, _-ℤ_, _*ℤ_, pos-+ℤ-pos, +ℤ-idl, +ℤ-invr}
 use lib.Signed.{_≤ℤ_, _<ℤ_, leZ, mag, shrZ, quotZ}
-use Rattle.whole.proofs.IntLaws.{abs-neg, abs-*, sub-eq, cond-ind}
-use Rattle.whole.proofs.Order.{Up, up, up-le, up-abs, lt-or-le, <ℤ→≤ℤ}
-use Rattle.whole.proofs.Ring.{ring, K, _⊕_, _⊝_, _⊗_, _≐_}
-use Rattle.whole.proofs.Rounding.{distance}
+use Rattle.rounding.proofs.IntLaws.{abs-neg, abs-*, sub-eq, cond-ind}
+use Rattle.rounding.proofs.Order.{Up, up, up-le, up-abs, lt-or-le, <ℤ→≤ℤ}
+use Rattle.rounding.proofs.Ring.{ring, K, _⊕_, _⊝_, _⊗_, _≐_}
+use Rattle.rounding.proofs.Rounding.{distance}
 use Rattle.polyline.specs.Chords.{middle, short}
 use Rattle.polyline.specs.Promises.{MiddleFloored}
 

@@ -10,14 +10,14 @@ use lib.Signed.{natAbs-le}
 use mir.Syntax.{w32, w64}
 use mir.Val.{toZ, ofZ, SFits}
 use mir.Facts.{toZ-ofZ, sfits-widen}
-use Rattle.whole.proofs.Bits.{fits-abs, read-back, widened}
-use Rattle.whole.proofs.IntLaws.{abs-+, abs-*, abs-neg}
+use Rattle.rounding.proofs.Bits.{fits-abs, read-back, widened}
+use Rattle.rounding.proofs.IntLaws.{abs-+, abs-*, abs-neg}
 use Rattle.sampler.specs.Answers.{pointOutcome}
-use Rattle.sampler.specs.declared.Sampled.{Sampled}
-use Rattle.sampler.specs.declared.Sampled.the-variants as sampled
+use Rattle.sampler.specs.declared.PointResult.{PointResult}
+use Rattle.sampler.specs.declared.PointResult.the-variants as sampled
 use Rattle.polyline.specs.Inner.{spaceOf}
 
-module _ {s : Sampled} where
+module _ {s : PointResult} where
   pub space-in : {x y z x' y' z' : ℤ} → s ≡ sampled.Space x y z → x' ≡ x → y' ≡ y → z' ≡ z → spaceOf (x' ∷ y' ∷ z' ∷ []) ≡ spaceOf (pointOutcome s .coordinates)
   space-in e f g h = rw (e, f, g, h) refl
 

@@ -11,9 +11,9 @@ use Rattle.tables.specs.Tables.{Tables}
 use Rattle.tables.specs.declared.Element.{Element}
 use Rattle.tables.specs.declared.Body.{Body}
 use Rattle.sampler.specs.Points.{axesOf}
-use Rattle.sampler.specs.Answers.{SampledResult, pointOutcome}
-use Rattle.sampler.specs.Sampling.{curveAnswer}
-use Rattle.sampler.specs.declared.Sampled.{Sampled}
+use Rattle.sampler.specs.Answers.{PointAnswer, pointOutcome}
+use Rattle.sampler.specs.Sampling.{answerOnCurve}
+use Rattle.sampler.specs.declared.PointResult.{PointResult}
 use Rattle.polyline.specs.Chords.{middle, chord, parameters, numbers}
 use Rattle.polyline.specs.Answers.{PolylineAnswer, refusedPolyline, filledPolyline}
 use Rattle.polyline.specs.declared.chords.Space.{Space}
@@ -25,19 +25,19 @@ abbrev pub spaceOf : List ℤ → Space
 spaceOf p = record { x = getD p 0 (pos 0); y = getD p 1 (pos 0); z = getD p 2 (pos 0) }
 
 -- what is sampled at the two ends of an interval
-pub record Interval (point : ℤ → List ℤ) (a b : ℤ) (p q : Sampled) : Type 0 where
+pub record PieceEnds (point : ℤ → List ℤ) (a b : ℤ) (p q : PointResult) : Type 0 where
   pub start-is : pointOutcome p .coordinates ≡ point a
   pub end-is : pointOutcome q .coordinates ≡ point b
 
 -- an interval handed out, or its middle with what is sampled there
-unfoldable pub splitOf : (sample : ℤ → SampledResult) (tolerance : ℤ) (depth : ℕ) (a b : ℤ) → Split
+unfoldable pub splitOf : (sample : ℤ → PointAnswer) (tolerance : ℤ) (depth : ℕ) (a b : ℤ) → Split
 splitOf sample tolerance zero a b = split.Chord
 splitOf sample tolerance (suc depth) a b =
     cond (chord (λ p. sample p .outcome .coordinates) tolerance a b) split.Chord (split.Halves (middle a b) (sample (middle a b) .answer))
 
 -- the coordinates at a parameter of an element that was looked up
 abbrev pub coordinatesOf : Tables → Element → Body → (p : ℤ) → List ℤ
-coordinatesOf t e b p = curveAnswer t e b p .outcome .coordinates
+coordinatesOf t e b p = answerOnCurve t e b p .outcome .coordinates
 
 -- 19, 16 or the points, of a curve that gives `axes` coordinates at each parameter from start to end
 unfoldable pub polylineOver : (point : ℤ → List ℤ) (axes : ℕ) (start end tolerance : ℤ) (at : ℕ) → List ℤ → PolylineAnswer

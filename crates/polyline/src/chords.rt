@@ -6,7 +6,7 @@ ghost use lib.Seq.{sets};
 ghost use Rattle.sampler.specs.Answers.{pointOutcome};
 ghost use Rattle.polyline.specs.Chords.{middle, near, straight, short};
 ghost use Rattle.polyline.specs.Inner.{spaceOf};
-use sampler::Sampled;
+use sampler::PointResult;
 
 // The middle, rounded down: `/` rounds towards zero, so what it halves is raised above zero first.
 pub fn middle_of(a: i32, b: i32) -> i32
@@ -41,17 +41,17 @@ pub struct Space {
     pub z: i32,
 }
 
-pub fn space_of(p: Sampled) -> Space
+pub fn space_of(p: PointResult) -> Space
     ensures { λ r. ⌜ r ≡ spaceOf (pointOutcome p .coordinates) ⌝ }
 {
     match p {
-        Sampled::Space { x, y, z } => Space { x, y, z },
-        Sampled::Plane { u, v } => Space { x: u, y: v, z: 0 },
-        Sampled::Refused { number: _ } => Space { x: 0, y: 0, z: 0 },
+        PointResult::Space { x, y, z } => Space { x, y, z },
+        PointResult::Plane { u, v } => Space { x: u, y: v, z: 0 },
+        PointResult::Refused { number: _ } => Space { x: 0, y: 0, z: 0 },
     }
 }
 
-pub fn is_straight(tolerance: i32, p: Sampled, m: Sampled, q: Sampled) -> bool
+pub fn is_straight(tolerance: i32, p: PointResult, m: PointResult, q: PointResult) -> bool
     ensures { λ r. ⌜ r ≡ straight tolerance (pointOutcome p .coordinates) (pointOutcome m .coordinates) (pointOutcome q .coordinates) ⌝ }
 {
     let a = space_of(p);
@@ -66,33 +66,33 @@ pub fn is_straight(tolerance: i32, p: Sampled, m: Sampled, q: Sampled) -> bool
     is_near(tolerance, a.z, b.z, c.z)
 }
 
-pub fn axes_in(p: Sampled) -> usize
+pub fn axes_in(p: PointResult) -> usize
     ensures { λ r. ⌜ (r ≡ length (pointOutcome p .coordinates)) × (r ≤ 3) ⌝ }
 {
     match p {
-        Sampled::Space { x: _, y: _, z: _ } => 3,
-        Sampled::Plane { u: _, v: _ } => 2,
-        Sampled::Refused { number: _ } => 0,
+        PointResult::Space { x: _, y: _, z: _ } => 3,
+        PointResult::Plane { u: _, v: _ } => 2,
+        PointResult::Refused { number: _ } => 0,
     }
 }
 
 // A point's numbers from place `at` on; the place after them.
-pub fn store(points: &mut [i32], at: usize, p: Sampled) -> usize
+pub fn store(points: &mut [i32], at: usize, p: PointResult) -> usize
     requires { ⌜ at + length (pointOutcome p .coordinates) ≤ length (now points) ⌝ }
     ensures { λ r. ⌜ (r ≡ at + length (pointOutcome p .coordinates)) × (now (points .exit) ≡ sets (now (points .entry)) at (pointOutcome p .coordinates)) ⌝ }
 {
     match p {
-        Sampled::Space { x, y, z } => {
+        PointResult::Space { x, y, z } => {
             points[at] = x;
             points[at + 1] = y;
             points[at + 2] = z;
             at + 3
         }
-        Sampled::Plane { u, v } => {
+        PointResult::Plane { u, v } => {
             points[at] = u;
             points[at + 1] = v;
             at + 2
         }
-        Sampled::Refused { number: _ } => at,
+        PointResult::Refused { number: _ } => at,
     }
 }

@@ -5,17 +5,17 @@ ghost use Prim.Native.Nat.{_+_, _≤_};
 ghost use lib.ListN.{length};
 ghost use lib.Seq.{sets};
 ghost use Rattle.tables.specs.Tables.{tables};
-ghost use Rattle.sampler.specs.Sampling.{Curved, curveAnswer};
+ghost use Rattle.sampler.specs.Sampling.{Curved, answerOnCurve};
 ghost use Rattle.polyline.specs.Chords.{ends, numbers};
 ghost use Rattle.polyline.specs.Answers.{polylineInto, polylineAnswer};
-ghost use Rattle.polyline.specs.Inner.{Interval, coordinatesOf, splitOf, polylineBy};
+ghost use Rattle.polyline.specs.Inner.{PieceEnds, coordinatesOf, splitOf, polylineBy};
 use crate::chords::axes_in;
 use crate::chords::is_short;
 use crate::chords::is_straight;
 use crate::chords::middle_of;
 use crate::chords::store;
 use sampler::Lookup;
-use sampler::Sampled;
+use sampler::PointResult;
 use sampler::look_up;
 use sampler::sampling::curve_at;
 use tables::Body;
@@ -36,7 +36,7 @@ pub enum PolylineResult {
 // An interval is a chord, or halved at its middle, with what is sampled there.
 pub enum Split {
     Chord,
-    Halves { middle: i32, point: Sampled },
+    Halves { middle: i32, point: PointResult },
 }
 
 // What the interval from a to b comes to, where p and q are sampled.
@@ -51,11 +51,11 @@ fn split_of(
     depth: u32,
     a: i32,
     b: i32,
-    p: Sampled,
-    q: Sampled,
+    p: PointResult,
+    q: PointResult,
 ) -> Split
-    requires { ⌜ Curved (tables (now v) [] [] (now vp) (now corners) [] [] [] (now parameters) [] []) element body × Interval (coordinatesOf (tables (now v) [] [] (now vp) (now corners) [] [] [] (now parameters) [] []) element body) a b p q ⌝ }
-    ensures { λ r. ⌜ r ≡ splitOf (curveAnswer (tables (now (v .entry)) [] [] (now (vp .entry)) (now (corners .entry)) [] [] [] (now (parameters .entry)) [] []) element body) tolerance depth a b ⌝ }
+    requires { ⌜ Curved (tables (now v) [] [] (now vp) (now corners) [] [] [] (now parameters) [] []) element body × PieceEnds (coordinatesOf (tables (now v) [] [] (now vp) (now corners) [] [] [] (now parameters) [] []) element body) a b p q ⌝ }
+    ensures { λ r. ⌜ r ≡ splitOf (answerOnCurve (tables (now (v .entry)) [] [] (now (vp .entry)) (now (corners .entry)) [] [] [] (now (parameters .entry)) [] []) element body) tolerance depth a b ⌝ }
 {
     if depth == 0 {
         return Split::Chord;
@@ -83,10 +83,10 @@ fn count(
     depth: u32,
     a: i32,
     b: i32,
-    p: Sampled,
-    q: Sampled,
+    p: PointResult,
+    q: PointResult,
 ) -> u32
-    requires { ⌜ (depth ≤ 12) × (Curved (tables (now v) [] [] (now vp) (now corners) [] [] [] (now parameters) [] []) element body × Interval (coordinatesOf (tables (now v) [] [] (now vp) (now corners) [] [] [] (now parameters) [] []) element body) a b p q) ⌝ }
+    requires { ⌜ (depth ≤ 12) × (Curved (tables (now v) [] [] (now vp) (now corners) [] [] [] (now parameters) [] []) element body × PieceEnds (coordinatesOf (tables (now v) [] [] (now vp) (now corners) [] [] [] (now parameters) [] []) element body) a b p q) ⌝ }
     ensures { λ r. ⌜ r ≡ length (ends (coordinatesOf (tables (now (v .entry)) [] [] (now (vp .entry)) (now (corners .entry)) [] [] [] (now (parameters .entry)) [] []) element body) tolerance depth a b) ⌝ }
 {
     let split = split_of(
@@ -149,12 +149,12 @@ fn write(
     depth: u32,
     a: i32,
     b: i32,
-    p: Sampled,
-    q: Sampled,
+    p: PointResult,
+    q: PointResult,
     points: &mut [i32],
     at: usize,
 ) -> usize
-    requires { ⌜ (at + length (numbers (coordinatesOf (tables (now v) [] [] (now vp) (now corners) [] [] [] (now parameters) [] []) element body) (ends (coordinatesOf (tables (now v) [] [] (now vp) (now corners) [] [] [] (now parameters) [] []) element body) tolerance depth a b)) ≤ length (now points)) × (Curved (tables (now v) [] [] (now vp) (now corners) [] [] [] (now parameters) [] []) element body × Interval (coordinatesOf (tables (now v) [] [] (now vp) (now corners) [] [] [] (now parameters) [] []) element body) a b p q) ⌝ }
+    requires { ⌜ (at + length (numbers (coordinatesOf (tables (now v) [] [] (now vp) (now corners) [] [] [] (now parameters) [] []) element body) (ends (coordinatesOf (tables (now v) [] [] (now vp) (now corners) [] [] [] (now parameters) [] []) element body) tolerance depth a b)) ≤ length (now points)) × (Curved (tables (now v) [] [] (now vp) (now corners) [] [] [] (now parameters) [] []) element body × PieceEnds (coordinatesOf (tables (now v) [] [] (now vp) (now corners) [] [] [] (now parameters) [] []) element body) a b p q) ⌝ }
     ensures { λ r. ⌜ (r ≡ at + length (numbers (coordinatesOf (tables (now (v .entry)) [] [] (now (vp .entry)) (now (corners .entry)) [] [] [] (now (parameters .entry)) [] []) element body) (ends (coordinatesOf (tables (now (v .entry)) [] [] (now (vp .entry)) (now (corners .entry)) [] [] [] (now (parameters .entry)) [] []) element body) tolerance depth a b))) × (now (points .exit) ≡ sets (now (points .entry)) at (numbers (coordinatesOf (tables (now (v .entry)) [] [] (now (vp .entry)) (now (corners .entry)) [] [] [] (now (parameters .entry)) [] []) element body) (ends (coordinatesOf (tables (now (v .entry)) [] [] (now (vp .entry)) (now (corners .entry)) [] [] [] (now (parameters .entry)) [] []) element body) tolerance depth a b))) ⌝ }
 {
     let split = split_of(

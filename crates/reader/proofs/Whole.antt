@@ -5,20 +5,20 @@ use mathlib.Core.List.{List}
 use lib.ListN.{length}
 use Rattle.tables.specs.Tables.{Tables, zeros}
 use Rattle.model.specs.Room.{Rooms}
-use Rattle.all_lines.specs.declared.Reading.{Reading}
-use Rattle.all_lines.specs.declared.Reading.the-variants.{Refused}
-use Rattle.all_lines.specs.Answered.{result, roomsOf, answered}
-use Rattle.all_lines.specs.Lines.{linesRead}
-use Rattle.all_lines.proofs.Cleared.{zeros-nothing, zeros-rooms}
-use Rattle.all_lines.proofs.Going.{read-short, read-long}
+use Rattle.read_lines.specs.declared.ReadResult.{ReadResult}
+use Rattle.read_lines.specs.declared.ReadResult.the-variants.{Refused}
+use Rattle.read_lines.specs.Answered.{readAnswer, roomsOf, answered}
+use Rattle.read_lines.specs.Lines.{linesRead}
+use Rattle.read_lines.proofs.Cleared.{zeros-nothing, zeros-rooms}
+use Rattle.read_lines.proofs.Going.{read-short, read-long}
 use Rattle.reader.specs.Reading.{readInto}
 
 module _ (s : List ℕ) (t u : Tables) (e : u ≡ zeros t) where
-  pub read-too-long : 16777216 < length s → result (Refused 1 0) u ≡ readInto s t
+  pub read-too-long : 16777216 < length s → readAnswer (Refused 1 0) u ≡ readInto s t
   unfolding readInto
-  read-too-long h = ap (λ (y : Tables). result (Refused 1 0) y) (e ∙ zeros-nothing t) ∙ ap (answered (roomsOf t)) (sym (read-long (roomsOf t) s h))
+  read-too-long h = ap (λ (y : Tables). readAnswer (Refused 1 0) y) (e ∙ zeros-nothing t) ∙ ap (answered (roomsOf t)) (sym (read-long (roomsOf t) s h))
 
-  pub read-whole : length s ≤ 16777216 → (y : Tables) (a : Reading) → result a y ≡ linesRead s (roomsOf u) → result a y ≡ readInto s t
+  pub read-whole : length s ≤ 16777216 → (y : Tables) (a : ReadResult) → readAnswer a y ≡ linesRead s (roomsOf u) → readAnswer a y ≡ readInto s t
   unfolding readInto
   read-whole h y a k =
       k ∙ ap (λ (R : Rooms). linesRead s R) (ap roomsOf e ∙ zeros-rooms t) ∙ ap (answered (roomsOf t)) (sym (read-short (roomsOf t) s h))

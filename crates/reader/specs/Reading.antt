@@ -3,8 +3,8 @@ use Prim.Native.Nat.{ℕ}
 use mathlib.Core.List.{List}
 use Rattle.tables.specs.Tables.{Tables}
 use Rattle.model.specs.Read.{readOf}
-pub use Rattle.all_lines.specs.Answered.{roomsOf, ReadOutcome, readOutcome, Result, result, answered}
+pub use Rattle.read_lines.specs.Answered.{roomsOf, ReadOutcome, readOutcome, ReadAnswer, readAnswer, answered}
 
 -- what reading the text s into the tables t comes to
-unfoldable pub readInto : List ℕ → Tables → Result
+unfoldable pub readInto : List ℕ → Tables → ReadAnswer
 readInto s t = answered (roomsOf t) (readOf (roomsOf t) s)

@@ -1,10 +1,10 @@
 // Reading a text into lent tables.
-pub use all_lines::Reading;
-use all_lines::lines_of;
-use storing::clear;
+pub use read_lines::ReadResult;
+use read_lines::lines_of;
+use table_store::clear;
 ghost use mathlib.Core.Path.{_≡_};
 ghost use Rattle.tables.specs.Tables.{tables};
-ghost use Rattle.all_lines.specs.Answered.{result};
+ghost use Rattle.read_lines.specs.Answered.{readAnswer};
 ghost use Rattle.reader.specs.Reading.{readInto};
 
 // Reads a text into the lent tables: 01's rules decide what they hold and what is refused.
@@ -21,8 +21,8 @@ pub fn read(
     parameters: &mut [i32],
     loops: &mut [u32],
     spans: &mut [i32],
-) -> Reading
-    ensures { λ r. ⌜ result r (tables (now (v .exit)) (now (vt .exit)) (now (vn .exit)) (now (vp .exit)) (now (corners .exit)) (now (elements .exit)) (now (bodies .exit)) (now (ranges .exit)) (now (parameters .exit)) (now (loops .exit)) (now (spans .exit))) ≡ readInto (now (text .entry)) (tables (now (v .entry)) (now (vt .entry)) (now (vn .entry)) (now (vp .entry)) (now (corners .entry)) (now (elements .entry)) (now (bodies .entry)) (now (ranges .entry)) (now (parameters .entry)) (now (loops .entry)) (now (spans .entry))) ⌝ }
+) -> ReadResult
+    ensures { λ r. ⌜ readAnswer r (tables (now (v .exit)) (now (vt .exit)) (now (vn .exit)) (now (vp .exit)) (now (corners .exit)) (now (elements .exit)) (now (bodies .exit)) (now (ranges .exit)) (now (parameters .exit)) (now (loops .exit)) (now (spans .exit))) ≡ readInto (now (text .entry)) (tables (now (v .entry)) (now (vt .entry)) (now (vn .entry)) (now (vp .entry)) (now (corners .entry)) (now (elements .entry)) (now (bodies .entry)) (now (ranges .entry)) (now (parameters .entry)) (now (loops .entry)) (now (spans .entry))) ⌝ }
 {
     clear(
         v,
@@ -38,7 +38,7 @@ pub fn read(
         spans,
     );
     if 16_777_216 < text.len() {
-        return Reading::Refused {
+        return ReadResult::Refused {
             number: 1,
             place: 0,
         };

@@ -5,7 +5,7 @@ use case_files::line_end;
 use case_files::number_at;
 use libc::STDIN_FILENO;
 use libc::STDOUT_FILENO;
-use reader::Reading;
+use reader::ReadResult;
 use tables::Used;
 ghost use Prim.Native.Nat.{_≤_, _<_};
 ghost use lib.ListN.{length};
@@ -21,7 +21,7 @@ fn put_number(n: u64) {
 
 // Twice its magnitude, and one more below zero.
 fn unsigned(n: i32) -> u64 {
-    let m = writing::magnitude(n) as u64;
+    let m = word_format::magnitude(n) as u64;
     if n < 0 {
         return 2 * m + 1;
     }
@@ -72,10 +72,10 @@ fn put_used(used: Used) {
     put_number(used.loops as u64);
 }
 
-fn put_reading(reading: Reading) {
+fn put_reading(reading: ReadResult) {
     match reading {
-        Reading::Read(used) => put_used(used),
-        Reading::Refused { number, place } => {
+        ReadResult::Read(used) => put_used(used),
+        ReadResult::Refused { number, place } => {
             put(b"refused");
             put_number(number as u64);
             put(b" at");
@@ -85,7 +85,7 @@ fn put_reading(reading: Reading) {
 }
 
 fn report(
-    reading: Reading,
+    reading: ReadResult,
     v: &[i32],
     vt: &[i32],
     vn: &[i32],

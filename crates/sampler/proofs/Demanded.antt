@@ -13,27 +13,27 @@ use lib.Seq.{length-take-le, getD-append-add}
 use lib.IntN.{ℤ, pos}
 use lib.Signed.{_≤ℤ_, leZ}
 use Rattle.lists.proofs.Tests.{test}
-use Rattle.whole.proofs.Order.{le-yes}
-use Rattle.whole.specs.Fractions.{Close}
+use Rattle.rounding.proofs.Order.{le-yes}
+use Rattle.rounding.specs.Fractions.{Close}
 use Rattle.tables.specs.Tables.{Tables}
 use Rattle.tables.specs.declared.Body.{Body}
 use Rattle.tables.specs.declared.Used.{Used}
 use Rattle.tables.specs.declared.Element.{Element}
-use Rattle.rules.specs.Rules.{obeys, curvesBefore}
-use Rattle.rules.proofs.Element.{obeys-facts}
-use Rattle.curves.specs.Directions.{Rules}
-use Rattle.curves.specs.Exact.{curveExact}
-use Rattle.curves.proofs.CurveNear.{curve-near}
-use Rattle.runs.specs.Runs.{joined, listed, parameterAt}
+use Rattle.record_rules.specs.Rules.{obeys, curvesBefore}
+use Rattle.record_rules.proofs.Element.{obeys-facts}
+use Rattle.point_exact.specs.Directions.{Rules}
+use Rattle.point_exact.specs.Exact.{curveExact}
+use Rattle.point_exact.proofs.CurveNear.{curve-near}
+use Rattle.point_runs.specs.Runs.{joined, listed, parameterAt}
 use Rattle.sampler.specs.Points.{directionU, controlOf, axesOf, curveAt, runNumbers}
-use Rattle.sampler.specs.Answers.{SampledResult, RanResult, wanted, carried, elementOf, bodyOf, refusalOf, filledRun, curvePoint, pointOnCurve, runInto}
-use Rattle.sampler.specs.Demand3.{sampling, Curve, OnCurve, CurveAnswer, PointsOnCurves, RunAnswer, RunsOnCurves}
+use Rattle.sampler.specs.Answers.{PointAnswer, RunAnswer, wanted, carried, elementOf, bodyOf, refusalOf, filledRun, curvePoint, pointOnCurve, runInto}
+use Rattle.sampler.specs.Demand3.{sampling, Curve, OnCurve, CurveClaim, PointsOnCurves, RunClaim, RunsOnCurves}
 use Rattle.sampler.specs.Sampling.{Curved}
 use Rattle.sampler.proofs.Obeyed.{granted, curved}
 use Rattle.sampler.proofs.Refusals.{none-given}
 use Rattle.sampler.proofs.Runners.{run-given}
-use Rattle.runs.proofs.Steps.{parameter-from, parameter-upto}
-use Rattle.runs.proofs.Written.{joined-length, listed-length}
+use Rattle.point_runs.proofs.Steps.{parameter-from, parameter-upto}
+use Rattle.point_runs.proofs.Written.{joined-length, listed-length}
 
 curve-wanted : (kind : ℕ) → (kind ≡ 4) ⊎ (kind ≡ 5) → wanted false kind ≡ true
 curve-wanted kind (inl e) = rw e
@@ -107,7 +107,7 @@ answer-is {used} {t} {number} c p a b = rw (curve-given c, le-yes (bodyOf t numb
 pub curve-coordinates : {used : Used} {t : Tables} {number : ℕ} → Curve used t number → (p : ℤ) → bodyOf t number .«start_u» ≤ℤ p → p ≤ℤ bodyOf t number .«end_u»
     → pointOnCurve used t number p .outcome .coordinates ≡ listed (axesOf (elementOf t number)) (curveAt t (elementOf t number) (bodyOf t number) p)
 curve-coordinates {used} {t} {number} c p a b =
-    ap (λ (r : SampledResult). r .outcome .coordinates) (answer-is c p a b) ∙ coordinates-are t (elementOf t number) (bodyOf t number) p (eqb (elementOf t number .kind) 5) refl .0
+    ap (λ (r : PointAnswer). r .outcome .coordinates) (answer-is c p a b) ∙ coordinates-are t (elementOf t number) (bodyOf t number) p (eqb (elementOf t number .kind) 5) refl .0
 
 -- each coordinate that is handed out is the rounded rule's
 pub curve-coordinate : {used : Used} {t : Tables} {number : ℕ} → Curve used t number → (p : ℤ) → bodyOf t number .«start_u» ≤ℤ p → p ≤ℤ bodyOf t number .«end_u»
@@ -122,7 +122,7 @@ points-on-curves used t number p c a b =
     let m = bodyOf t number in
     let s = answer-is c p a b in
     record {
-      given = ap (λ (r : SampledResult). r .outcome .number) s ∙ coordinates-are t e m p (eqb (e .kind) 5) refl .1;
+      given = ap (λ (r : PointAnswer). r .outcome .number) s ∙ coordinates-are t e m p (eqb (e .kind) 5) refl .1;
       axes = ap length (curve-coordinates c p a b) ∙ listed-length (axesOf e) (curveAt t e m p);
       near = λ axis h. subst (OnCurve t number p axis) (sym (curve-coordinate c p a b axis h)) (curve-close c p a b axis);
     }
@@ -160,7 +160,7 @@ module _ {used : Used} {t : Tables} {number : ℕ} (c : Curve used t number) (st
       let i = axesOf e * j + axis in
       let front : length (take at points) ≡ at = length-take-le at points (omega arith) in
       let l : i < length (runNumbers t e m steps) = omega (arith, numbers-long, mul-le-mul-left (axesOf e) h) in
-      ap (λ (r : RanResult). getD (r .points) (at + i) (pos 0)) filled
+      ap (λ (r : RunAnswer). getD (r .points) (at + i) (pos 0)) filled
       ∙ ap (λ (q : ℕ). getD (take at points ++ (runNumbers t e m steps ++ rest)) (q + i) (pos 0)) (sym front)
       ∙ getD-append-add (take at points) (runNumbers t e m steps ++ rest) i (pos 0)
       ∙ List·getD-append (runNumbers t e m steps) rest (pos 0) i l
@@ -170,8 +170,8 @@ pub runs-on-curves : RunsOnCurves sampling
 runs-on-curves used t number steps at points c some most room =
     let m = bodyOf t number in
     record {
-      given = ap (λ (r : RanResult). r .outcome .number) (filled c steps at points some most room);
-      count = ap (λ (r : RanResult). r .outcome .count) (filled c steps at points some most room);
+      given = ap (λ (r : RunAnswer). r .outcome .number) (filled c steps at points some most room);
+      count = ap (λ (r : RunAnswer). r .outcome .count) (filled c steps at points some most room);
       near = λ j axis h k. subst (OnCurve t number (parameterAt (m .«start_u») (m .«end_u») steps j) axis) (sym (run-coordinate c steps at points some most room j axis h k))
           (curve-close c (parameterAt (m .«start_u») (m .«end_u») steps j) (parameter-from (m .«start_u») (m .«end_u») (ordered c) steps j)
           (parameter-upto (m .«start_u») (m .«end_u») (ordered c) steps j h) axis);

@@ -10,30 +10,30 @@ use lib.ListN.{take, drop}
 use native.Mathlib.Omega.{arith}
 use lib.Signed.{leZ}
 use Rattle.lists.proofs.Tests.{and-left, and-right}
-use Rattle.whole.proofs.Order.{yes-le}
+use Rattle.rounding.proofs.Order.{yes-le}
 use Rattle.tables.specs.Tables.{Tables, tables}
 use Rattle.tables.specs.Records.{parametersU}
 use Rattle.tables.specs.declared.Body.{Body}
 use Rattle.tables.specs.declared.Used.{Used}
 use Rattle.tables.specs.declared.Element.{Element}
-use Rattle.curves.specs.Sampled.{firstControl}
-use Rattle.curves.proofs.Pyramid.{sampled-cong}
-use Rattle.rows.specs.Places.{direction, Sound}
-use Rattle.rows.specs.Controls.{controlAt, Held}
-use Rattle.runs.specs.Runs.{Ranged}
-use Rattle.rows.specs.declared.Along.{Along}
-use Rattle.sampler.specs.Points.{alongOf, controlOf, curveAt}
-use Rattle.sampler.specs.Answers.{sampledResult, inside, curvePoint, pointOnCurve}
+use Rattle.point_exact.specs.Sampled.{firstControl}
+use Rattle.point_exact.proofs.Pyramid.{sampled-cong}
+use Rattle.point_rows.specs.Places.{direction, Sound}
+use Rattle.point_rows.specs.Controls.{controlAt, ControlsLent}
+use Rattle.point_runs.specs.Runs.{Ranged}
+use Rattle.point_rows.specs.declared.BodyDirection.{BodyDirection}
+use Rattle.sampler.specs.Points.{bodyDirection, controlOf, curveAt}
+use Rattle.sampler.specs.Answers.{pointAnswer, inside, curvePoint, pointOnCurve}
 use Rattle.sampler.specs.Inner.{pointBy, coordinateBy}
-use Rattle.sampler.specs.declared.Sampled.the-variants as sampled
-use Rattle.sampler.specs.Sampling.{Curved, curveAnswer}
+use Rattle.sampler.specs.declared.PointResult.the-variants as sampled
+use Rattle.sampler.specs.Sampling.{Curved, answerOnCurve}
 use Rattle.sampler.proofs.Refusals.{Missed, Looked}
 use Rattle.sampler.proofs.Obeyed.{granted, curved}
 
 -- a coordinate of the lent parts is one of the tables
 module _ (t : Tables) (e : Element) (b : Body) (p : ℤ) (axis : ℕ) where
-  abbrev along : Along
-  along = alongOf (b .basis) (b .«degree_u») (b .«count_u»)
+  abbrev along : BodyDirection
+  along = bodyDirection (b .basis) (b .«degree_u») (b .«count_u»)
 
   pub plane-control : eqb (e .kind) 5 ≡ true → (i : ℕ) → controlAt (t .vp) (t .corners) (e .first) (1 + axis) i ≡ controlOf t e axis i
   unfolding controlAt controlOf
@@ -59,10 +59,10 @@ pub space-eq : {a b c d e f : ℤ} → a ≡ d → b ≡ e → c ≡ f → sampl
 space-eq p q r = cc
 
 point-is : (t : Tables) (e : Element) (b : Body) (p : ℤ) (q : Bool) → eqb (e .kind) 5 ≡ q
-    → sampledResult (pointBy (e .kind) (t .v) (t .vp) (t .corners) (e .first) (alongOf (b .basis) (b .«degree_u») (b .«count_u»)) (parametersU t b) p) ≡ curvePoint t e b p
+    → pointAnswer (pointBy (e .kind) (t .v) (t .vp) (t .corners) (e .first) (bodyDirection (b .basis) (b .«degree_u») (b .«count_u»)) (parametersU t b) p) ≡ curvePoint t e b p
 unfolding pointBy curvePoint
-point-is t e b p true h = rw h (ap sampledResult (ap₂ sampled.Plane (plane-coordinate t e b p 0 h) (plane-coordinate t e b p 1 h)))
-point-is t e b p false h = rw h (ap sampledResult (space-eq (space-coordinate t e b p 0 h) (space-coordinate t e b p 1 h) (space-coordinate t e b p 2 h)))
+point-is t e b p true h = rw h (ap pointAnswer (ap₂ sampled.Plane (plane-coordinate t e b p 0 h) (plane-coordinate t e b p 1 h)))
+point-is t e b p false h = rw h (ap pointAnswer (space-eq (space-coordinate t e b p 0 h) (space-coordinate t e b p 1 h) (space-coordinate t e b p 2 h)))
 
 -- the tables that a curve's points are made of
 abbrev pub curve-tables : Tables → Tables
@@ -75,33 +75,33 @@ pub curve-found : {used : Used} {t : Tables} {number : ℕ} {e : Element} {b : B
 curve-found {used} {t} {number} l = rw (l .element-is, l .body-is) (curved used t number (granted false used t number (l .given)))
 
 module _ (t : Tables) (e : Element) (b : Body) (p : ℤ) where
-  pub curve-outside : inside (b .«start_u») (b .«end_u») p ≡ false → sampledResult (sampled.Refused 19) ≡ curveAnswer t e b p
-  unfolding curveAnswer
+  pub curve-outside : inside (b .«start_u») (b .«end_u») p ≡ false → pointAnswer (sampled.Refused 19) ≡ answerOnCurve t e b p
+  unfolding answerOnCurve
   curve-outside h = rw h
 
   pub curve-there : inside (b .«start_u») (b .«end_u») p ≡ true
-      → sampledResult (pointBy (e .kind) (t .v) (t .vp) (t .corners) (e .first) (alongOf (b .basis) (b .«degree_u») (b .«count_u»)) (parametersU t b) p) ≡ curveAnswer t e b p
-  unfolding curveAnswer
+      → pointAnswer (pointBy (e .kind) (t .v) (t .vp) (t .corners) (e .first) (bodyDirection (b .basis) (b .«degree_u») (b .«count_u»)) (parametersU t b) p) ≡ answerOnCurve t e b p
+  unfolding answerOnCurve
   curve-there h = rw h (point-is t e b p (eqb (e .kind) 5) refl)
 
-  curve-parts : curveAnswer (curve-tables t) e b p ≡ curveAnswer t e b p
-  unfolding curveAnswer curvePoint curveAt controlOf
+  curve-parts : answerOnCurve (curve-tables t) e b p ≡ answerOnCurve t e b p
+  unfolding answerOnCurve curvePoint curveAt controlOf
   curve-parts = refl
 
 module _ {used : Used} {t : Tables} {number : ℕ} (p : ℤ) where
-  pub refused-curve : {n : ℕ} → Missed false used t number n → sampledResult (sampled.Refused n) ≡ pointOnCurve used t number p
+  pub refused-curve : {n : ℕ} → Missed false used t number n → pointAnswer (sampled.Refused n) ≡ pointOnCurve used t number p
   unfolding pointOnCurve
   refused-curve {n} m = rw (sym (m .is), ne-eqb n 0 (m .some))
 
-  found-curve : {e : Element} {b : Body} → Looked false used t number e b → curveAnswer t e b p ≡ pointOnCurve used t number p
-  unfolding pointOnCurve curveAnswer
+  found-curve : {e : Element} {b : Body} → Looked false used t number e b → answerOnCurve t e b p ≡ pointOnCurve used t number p
+  unfolding pointOnCurve answerOnCurve
   found-curve l = rw (l .given, l .element-is, l .body-is)
 
-  pub curve-answered : {e : Element} {b : Body} → Looked false used t number e b → curveAnswer (curve-tables t) e b p ≡ pointOnCurve used t number p
+  pub curve-answered : {e : Element} {b : Body} → Looked false used t number e b → answerOnCurve (curve-tables t) e b p ≡ pointOnCurve used t number p
   curve-answered {e} {b} l = curve-parts t e b p ∙ found-curve l
 
 -- a parameter that was found inside is sound in its direction
-pub sound-inside : {a : Along} {x : List ℤ} {s e : ℤ} → Ranged a x s e → (p : ℤ) → inside s e p ≡ true → Sound a x p
+pub sound-inside : {a : BodyDirection} {x : List ℤ} {s e : ℤ} → Ranged a x s e → (p : ℤ) → inside s e p ≡ true → Sound a x p
 sound-inside {a} {x} {s} {e} r p h = r .sound p (yes-le s p (and-left (leZ s p) (leZ p e) h)) (yes-le p e (and-right (leZ s p) (leZ p e) h))
 
 -- a part that is lent from `from` to `from + count` has `count` numbers
@@ -111,22 +111,22 @@ part-is l from count =
     ap (λ (q : ℕ). take q (drop from l)) c
 
 -- what was read of the element and its body
-pub record Read (t : Tables) (e : Element) (b : Body) (kind first from count : ℕ) (a : Along) : Type 0 where
+pub record Read (t : Tables) (e : Element) (b : Body) (kind first from count : ℕ) (a : BodyDirection) : Type 0 where
   pub kind-is : kind ≡ e .kind
   pub first-is : first ≡ e .first
   pub from-is : from ≡ b .«first_parameter»
   pub count-is : count ≡ b .«count_u»
-  pub along-is : a ≡ alongOf (b .basis) (b .«degree_u») (b .«count_u»)
+  pub along-is : a ≡ bodyDirection (b .basis) (b .«degree_u») (b .«count_u»)
 
-module _ {t : Tables} {e : Element} {b : Body} {kind first from count : ℕ} {a : Along} (r : Read t e b kind first from count a) where
+module _ {t : Tables} {e : Element} {b : Body} {kind first from count : ℕ} {a : BodyDirection} (r : Read t e b kind first from count a) where
   pub run-is : take (from + count - from) (drop from (t .parameters)) ≡ parametersU t b
   run-is = part-is (t .parameters) from count ∙ rw (r .from-is, r .count-is)
 
   pub curve-asked : (p q : ℤ) → q ≡ p → Curved t e b → inside (b .«start_u») (b .«end_u») p ≡ true
-      → Held (cond (eqb kind 5) (t .vp) (t .v)) (t .corners) first 0 (a .controls) × Sound a (take (from + count - from) (drop from (t .parameters))) q
+      → ControlsLent (cond (eqb kind 5) (t .vp) (t .v)) (t .corners) first 0 (a .controls) × Sound a (take (from + count - from) (drop from (t .parameters))) q
   curve-asked p q k c h = rw (run-is, k, r .kind-is, r .first-is, r .along-is) (c .held, sound-inside (c .along .ranged) p h)
 
   pub point-read : (p q : ℤ) → q ≡ p
       → pointBy kind (t .v) (t .vp) (t .corners) first a (take (from + count - from) (drop from (t .parameters))) q
-      ≡ pointBy (e .kind) (t .v) (t .vp) (t .corners) (e .first) (alongOf (b .basis) (b .«degree_u») (b .«count_u»)) (parametersU t b) p
+      ≡ pointBy (e .kind) (t .v) (t .vp) (t .corners) (e .first) (bodyDirection (b .basis) (b .«degree_u») (b .«count_u»)) (parametersU t b) p
   point-read p q k = rw (run-is, k, r .kind-is, r .first-is, r .along-is)

@@ -11,36 +11,36 @@ use lib.ListN.{length, getD, take, drop, length-drop}
 use lib.Seq.{length-take-le, getD-take, getD-drop}
 use lib.IntN.{ℤ, pos}
 use Rattle.lists.proofs.Tests.{and-left, and-right, test, never}
-use Rattle.whole.specs.Round.{Small}
+use Rattle.rounding.specs.Round.{InRange}
 use Rattle.tables.specs.Tables.{Tables}
 use Rattle.tables.specs.Records.{bodyAt, elementAt, cornerAt, parametersU, parametersV}
 use Rattle.tables.specs.declared.Body.{Body}
 use Rattle.tables.specs.Bodies.{enough, controls, inOrder, curveCount, surfaceCount, basisOf}
 use Rattle.tables.specs.declared.Used.{Used}
 use Rattle.tables.specs.declared.Element.{Element}
-use Rattle.rules.specs.Numbers.{small}
-use Rattle.rules.specs.Rules.{obeys, curvesBefore}
-use Rattle.rules.specs.Bodies.{bodyObeys}
-use Rattle.rules.proofs.OneVertex.{Vertex}
-use Rattle.rules.proofs.OneBody.{Run, run-v}
-use Rattle.rules.proofs.Facts.{Corners, corner-vertex, corner-control, Curve, Surface, degree-facts}
-use Rattle.rules.proofs.Element.{Recorded, recorded, curve-of, surface-of, Obeys, obeys-facts, body-of}
+use Rattle.record_rules.specs.Numbers.{inRange}
+use Rattle.record_rules.specs.Rules.{obeys, curvesBefore}
+use Rattle.record_rules.specs.Bodies.{bodyObeys}
+use Rattle.record_rules.proofs.OneVertex.{Vertex}
+use Rattle.record_rules.proofs.OneBody.{Run, run-v}
+use Rattle.record_rules.proofs.Facts.{Corners, corner-vertex, corner-control, Curve, Surface, degree-facts}
+use Rattle.record_rules.proofs.Element.{Recorded, recorded, curve-of, surface-of, Obeys, obeys-facts, body-of}
 use Rattle.basis.proofs.Basis.{curve-enough, surface-enough-u, surface-enough-v}
-use Rattle.curves.specs.Directions.{at}
-use Rattle.rows.specs.Places.{Sized}
-use Rattle.rows.specs.Controls.{controlAt, Held}
-use Rattle.runs.specs.Runs.{Ranged}
-use Rattle.sampler.specs.Points.{alongOf}
+use Rattle.point_exact.specs.Directions.{at}
+use Rattle.point_rows.specs.Places.{Sized}
+use Rattle.point_rows.specs.Controls.{controlAt, ControlsLent}
+use Rattle.point_runs.specs.Runs.{Ranged}
+use Rattle.sampler.specs.Points.{bodyDirection}
 use Rattle.sampler.specs.Answers.{wanted, carried, elementOf, bodyOf, refusalOf}
 use Rattle.sampler.specs.Sampling.{Directed, Curved, Surfaced}
 use Rattle.sampler.proofs.Ranges.{ranged-of}
 
-is-small : (z : ℤ) → small z ≡ true → Small z
-unfolding small
+is-small : (z : ℤ) → inRange z ≡ true → InRange z
+unfolding inRange
 is-small z h = leb-true _ 2000000000 h
 
 held-by : (values : List ℤ) (corners : List ℕ) (used first count : ℕ) → first + 3 * count ≤ length corners
-    → ((i : ℕ) → i < count → Vertex 4 values used (getD corners (first + 3 * i) 0)) → Held values corners first 0 count
+    → ((i : ℕ) → i < count → Vertex 4 values used (getD corners (first + 3 * i) 0)) → ControlsLent values corners first 0 count
 unfolding controlAt
 held-by values corners used first count w f = record {
   within = w;
@@ -50,13 +50,13 @@ held-by values corners used first count w f = record {
 }
 
 module _ (used : Used) (t : Tables) (kind first count : ℕ) (c : Corners used t kind first count) where
-  pub held-plane : kind ≡ 5 → Held (t .vp) (t .corners) first 0 count
+  pub held-plane : kind ≡ 5 → ControlsLent (t .vp) (t .corners) first 0 count
   held-plane e = held-by (t .vp) (t .corners) (used .vp) first count (c .lent-run) (λ i l. corner-control used t kind first count c i l e)
 
-  pub held-space : (kind ≡ 5 → ⊥) → Held (t .v) (t .corners) first 0 count
+  pub held-space : (kind ≡ 5 → ⊥) → ControlsLent (t .v) (t .corners) first 0 count
   held-space f = held-by (t .v) (t .corners) (used .v) first count (c .lent-run) (λ i l. corner-vertex used t kind first count c i l f)
 
-  pub held-either : Held (cond (eqb kind 5) (t .vp) (t .v)) (t .corners) first 0 count
+  pub held-either : ControlsLent (cond (eqb kind 5) (t .vp) (t .v)) (t .corners) first 0 count
   held-either = ⊎-elim (λ e. rw e (held-plane (eqb-true kind 5 e))) (λ e. rw e (held-space (λ k. never (sym e ∙ eq-eqb kind 5 k)))) (test (eqb kind 5))
 
 knots-of : (type n p : ℕ) → enough (basisOf type) n p ≡ true → eqb type 2 ≡ true → n + 1 ≤ p
@@ -68,12 +68,12 @@ module _ (l : List ℤ) (first p : ℕ) (h : first + p ≤ length l) where
   part-length : length (take p (drop first l)) ≡ p
   part-length = length-take-le p (drop first l) (omega (arith, length-drop first l))
 
-  part-small : ((k : ℕ) → k < p → small (getD l (first + k) (pos 0)) ≡ true) → (i : ℕ) → i < length (take p (drop first l)) → Small (at (take p (drop first l)) i)
+  part-small : ((k : ℕ) → k < p → inRange (getD l (first + k) (pos 0)) ≡ true) → (i : ℕ) → i < length (take p (drop first l)) → InRange (at (take p (drop first l)) i)
   part-small f i m =
       let k : i < p = omega (arith, part-length) in
       rw (getD-take p (drop first l) i (pos 0) k, getD-drop first l i (pos 0)) (is-small (getD l (first + i) (pos 0)) (f i k))
 
-  directed : (type n : ℕ) (s e : ℤ) → (type ≡ 1) ⊎ (type ≡ 2) → n ≤ 20 → 2 ≤ p → ((k : ℕ) → k < p → small (getD l (first + k) (pos 0)) ≡ true)
+  directed : (type n : ℕ) (s e : ℤ) → (type ≡ 1) ⊎ (type ≡ 2) → n ≤ 20 → 2 ≤ p → ((k : ℕ) → k < p → inRange (getD l (first + k) (pos 0)) ≡ true)
       → enough (basisOf type) n p ≡ true → inOrder (basisOf type) n (take p (drop first l)) s e ≡ true → Directed l first type n p s e
   directed type n s e c few many f g o = record {
     sized = record { few = few; many = many; knots = knots-of type n p g };
@@ -89,7 +89,7 @@ types rational type h = go (eqb type 1) refl (and-right (eqb rational 0) (eqb ty
     go false e k = inr (eqb-true type 2 k)
 
 -- the type's count of controls is that of the rules
-pub same-controls : (type n p : ℕ) → (type ≡ 1) ⊎ (type ≡ 2) → controls (basisOf type) n p ≡ alongOf type n p .controls
+pub same-controls : (type n p : ℕ) → (type ≡ 1) ⊎ (type ≡ 2) → controls (basisOf type) n p ≡ bodyDirection type n p .controls
 same-controls type n p (inl e) = rw e
 same-controls type n p (inr e) = rw e
 
@@ -148,7 +148,7 @@ curved used t number g =
     record {
       run = r .run .lent-ones;
       counted = same;
-      held = subst (λ (q : ℕ). Held (cond (eqb (e .kind) 5) (t .vp) (t .v)) (t .corners) (e .first) 0 q) same (held-either used t (e .kind) (e .first) (e .count) (o .corners));
+      held = subst (λ (q : ℕ). ControlsLent (cond (eqb (e .kind) 5) (t .vp) (t .v)) (t .corners) (e .first) 0 q) same (held-either used t (e .kind) (e .first) (e .count) (o .corners));
       along = directed (t .parameters) (b .«first_parameter») (b .«count_u») (omega (arith, r .run .lent-ones)) (b .basis) (b .«degree_u») (b .«start_u») (b .«end_u») (g .type)
           (r .typed .degree-u .most) (r .run .along-u) (λ j l. r .run .small-ones j (omega arith)) enough-there (c .in-order);
     }
@@ -177,11 +177,11 @@ surfaced used t number g =
       kind = six;
       run = r .run .lent-ones;
       counted = same;
-      held = subst (λ (q : ℕ). Held (t .v) (t .corners) (e .first) 0 q) same (held-space used t (e .kind) (e .first) (e .count) (o .corners) (λ k. omega (arith, six)));
+      held = subst (λ (q : ℕ). ControlsLent (t .v) (t .corners) (e .first) 0 q) same (held-space used t (e .kind) (e .first) (e .count) (o .corners) (λ k. omega (arith, six)));
       along-u = directed (t .parameters) (b .«first_parameter») (b .«count_u») (omega (arith, r .run .lent-ones)) (b .basis) (b .«degree_u») (b .«start_u») (b .«end_u») (g .type)
           (r .typed .degree-u .most) (r .run .along-u) (λ j l. r .run .small-ones j (omega arith)) enough-u (c .along-u);
       along-v = directed (t .parameters) (b .«first_parameter» + b .«count_u») (b .«count_v») (omega (arith, r .run .lent-ones)) (b .basis) (b .«degree_v») (b .«start_v») (b .«end_v») (g .type)
           (degree .most) (leb-true 2 (b .«count_v») (rw yes at (r .run .along-v)))
           (λ j l. let k : b .«first_parameter» + (b .«count_u» + j) ≡ b .«first_parameter» + b .«count_u» + j = omega arith in
-          subst (λ (q : ℕ). small (getD (t .parameters) q (pos 0)) ≡ true) k (r .run .small-ones (b .«count_u» + j) (omega arith))) enough-v (c .along-v);
+          subst (λ (q : ℕ). inRange (getD (t .parameters) q (pos 0)) ≡ true) k (r .run .small-ones (b .«count_u» + j) (omega arith))) enough-v (c .along-v);
     }

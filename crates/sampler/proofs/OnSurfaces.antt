@@ -7,20 +7,20 @@ use borrow.Author.Tests.{eq-eqb}
 use lib.ListN.{length, getD}
 use lib.IntN.{ℤ, pos}
 use lib.Signed.{_≤ℤ_}
-use Rattle.whole.proofs.Order.{le-yes}
+use Rattle.rounding.proofs.Order.{le-yes}
 use Rattle.tables.specs.Tables.{Tables}
 use Rattle.tables.specs.declared.Body.{Body}
 use Rattle.tables.specs.declared.Used.{Used}
 use Rattle.tables.specs.declared.Element.{Element}
-use Rattle.curves.specs.Directions.{Rules}
-use Rattle.curves.proofs.SurfaceNear.{surface-near}
-use Rattle.runs.specs.Runs.{listed}
+use Rattle.point_exact.specs.Directions.{Rules}
+use Rattle.point_exact.proofs.SurfaceNear.{surface-near}
+use Rattle.point_runs.specs.Runs.{listed}
 use Rattle.sampler.specs.Points.{directionU, directionV, gridOf, surfaceAt}
-use Rattle.sampler.specs.Answers.{SampledResult, elementOf, bodyOf, refusalOf, surfacePoint, pointOnSurface}
-use Rattle.sampler.specs.Demand3.{sampling, Surface, OnSurface, SurfaceAnswer, PointsOnSurfaces}
+use Rattle.sampler.specs.Answers.{PointAnswer, elementOf, bodyOf, refusalOf, surfacePoint, pointOnSurface}
+use Rattle.sampler.specs.Demand3.{sampling, Surface, OnSurface, SurfaceClaim, PointsOnSurfaces}
 use Rattle.sampler.specs.Sampling.{Surfaced}
 use Rattle.sampler.proofs.Obeyed.{granted, surfaced}
-use Rattle.runs.proofs.Written.{listed-length}
+use Rattle.point_runs.proofs.Written.{listed-length}
 use Rattle.sampler.proofs.Demanded.{all-passed, listed-at}
 
 module _ {used : Used} {t : Tables} {number : ℕ} (c : Surface used t number) where
@@ -61,7 +61,7 @@ pub surface-coordinates : {used : Used} {t : Tables} {number : ℕ} → Surface 
     → bodyOf t number .«start_v» ≤ℤ q → q ≤ℤ bodyOf t number .«end_v»
     → pointOnSurface used t number p q .outcome .coordinates ≡ listed 3 (surfaceAt t (elementOf t number) (bodyOf t number) p q)
 surface-coordinates {used} {t} {number} c p q f g h k =
-    ap (λ (r : SampledResult). r .outcome .coordinates) (answer-is c p q f g h k) ∙ coordinates-are t (elementOf t number) (bodyOf t number) p q
+    ap (λ (r : PointAnswer). r .outcome .coordinates) (answer-is c p q f g h k) ∙ coordinates-are t (elementOf t number) (bodyOf t number) p q
 
 not-refused : (t : Tables) (e : Element) (b : Body) (p q : ℤ) → surfacePoint t e b p q .outcome .number ≡ 0
 unfolding surfacePoint
@@ -78,7 +78,7 @@ pub points-on-surfaces : PointsOnSurfaces sampling
 points-on-surfaces used t number p q c f g h k =
     let s = answer-is c p q f g h k in
     record {
-      given = ap (λ (r : SampledResult). r .outcome .number) s ∙ not-refused t (elementOf t number) (bodyOf t number) p q;
+      given = ap (λ (r : PointAnswer). r .outcome .number) s ∙ not-refused t (elementOf t number) (bodyOf t number) p q;
       axes = ap length (surface-coordinates c p q f g h k) ∙ listed-length 3 (surfaceAt t (elementOf t number) (bodyOf t number) p q);
       near = λ axis m. subst (OnSurface t number p q axis) (sym (surface-coordinate c p q f g h k axis m)) (surface-close c p q f g h k axis);
     }

@@ -12,14 +12,14 @@ use lib.ListN.{length}
 use lib.IntN.{ℤ}
 use lib.Signed.{_≤ℤ_, _<ℤ_, leZ, ltZ, <ℤ-≤ℤ-trans}
 use Rattle.lists.proofs.Tests.{and-left, and-right}
-use Rattle.whole.specs.Round.{Small}
-use Rattle.whole.proofs.Order.{yes-le, yes-lt, ≤ℤ-trans, ≤ℤ-<ℤ-trans, <ℤ→≤ℤ}
+use Rattle.rounding.specs.Round.{InRange}
+use Rattle.rounding.proofs.Order.{yes-le, yes-lt, ≤ℤ-trans, ≤ℤ-<ℤ-trans, <ℤ→≤ℤ}
 use Rattle.tables.specs.Bodies.{Basis, bezier, bspline, enough, rising, steady, ordered, continuous, low, high, ranged, inOrder, basisOf}
-use Rattle.curves.specs.Directions.{at, BezierRules, SplineRules, Rules}
-use Rattle.rows.specs.Places.{direction, Sound}
-use Rattle.runs.specs.Runs.{Ranged}
-use Rattle.sampler.specs.Points.{alongOf}
-use Rattle.runs.proofs.Steps.{small-between}
+use Rattle.point_exact.specs.Directions.{at, BezierRules, SplineRules, Rules}
+use Rattle.point_rows.specs.Places.{direction, Sound}
+use Rattle.point_runs.specs.Runs.{Ranged}
+use Rattle.sampler.specs.Points.{bodyDirection}
+use Rattle.point_runs.proofs.Steps.{small-between}
 
 rising-at : (x : List ℤ) → rising x ≡ true → (i : ℕ) → suc i < length x → at x i <ℤ at x (suc i)
 rising-at [] h i l = absurd (not-suc-le-zero l)
@@ -73,15 +73,15 @@ module _ (n : ℕ) (x : List ℤ) (s e : ℤ) (many : 2 ≤ length x) where
         high = ≤ℤ-trans b (in-high bspline n x s e h);
       }
 
-module _ (n : ℕ) (x : List ℤ) (s e : ℤ) (many : 2 ≤ length x) (few : n ≤ 20) (small : (i : ℕ) → i < length x → Small (at x i)) where
-  module _ (t : Basis) (h : inOrder t n x s e ≡ true) (a : Small (low t n x)) (b : Small (high t n x)) where
-    start-fits : Small s
+module _ (n : ℕ) (x : List ℤ) (s e : ℤ) (many : 2 ≤ length x) (few : n ≤ 20) (small : (i : ℕ) → i < length x → InRange (at x i)) where
+  module _ (t : Basis) (h : inOrder t n x s e ≡ true) (a : InRange (low t n x)) (b : InRange (high t n x)) where
+    start-fits : InRange s
     start-fits = small-between (in-low t n x s e h) (≤ℤ-trans (<ℤ→≤ℤ (in-wide t n x s e h)) (in-high t n x s e h)) a b
 
-    end-fits : Small e
+    end-fits : InRange e
     end-fits = small-between (≤ℤ-trans (in-low t n x s e h) (<ℤ→≤ℤ (in-wide t n x s e h))) (in-high t n x s e h) a b
 
-  bezier-ranged : inOrder bezier n x s e ≡ true → Ranged (alongOf 1 n (length x)) x s e
+  bezier-ranged : inOrder bezier n x s e ≡ true → Ranged (bodyDirection 1 n (length x)) x s e
   unfolding Rules
   bezier-ranged h =
       let a = small 0 (omega arith) in
@@ -98,7 +98,7 @@ module _ (n : ℕ) (x : List ℤ) (s e : ℤ) (many : 2 ≤ length x) (few : n �
         };
       }
 
-  spline-ranged : enough bspline n (length x) ≡ true → inOrder bspline n x s e ≡ true → Ranged (alongOf 2 n (length x)) x s e
+  spline-ranged : enough bspline n (length x) ≡ true → inOrder bspline n x s e ≡ true → Ranged (bodyDirection 2 n (length x)) x s e
   unfolding Rules
   spline-ranged g h =
       let k = leb-true (n + 1) (length x - n - 1) g in
@@ -116,10 +116,10 @@ module _ (n : ℕ) (x : List ℤ) (s e : ℤ) (many : 2 ≤ length x) (few : n �
         };
       }
 
-  pub ranged-of : (type p : ℕ) → (type ≡ 1) ⊎ (type ≡ 2) → length x ≡ p → enough (basisOf type) n p ≡ true → inOrder (basisOf type) n x s e ≡ true → Ranged (alongOf type n p) x s e
+  pub ranged-of : (type p : ℕ) → (type ≡ 1) ⊎ (type ≡ 2) → length x ≡ p → enough (basisOf type) n p ≡ true → inOrder (basisOf type) n x s e ≡ true → Ranged (bodyDirection type n p) x s e
   ranged-of type p c l =
-      subst (λ (q : ℕ). enough (basisOf type) n q ≡ true → inOrder (basisOf type) n x s e ≡ true → Ranged (alongOf type n q) x s e) l
+      subst (λ (q : ℕ). enough (basisOf type) n q ≡ true → inOrder (basisOf type) n x s e ≡ true → Ranged (bodyDirection type n q) x s e) l
       (⊎-elim
-      (λ k. subst (λ (q : ℕ). enough (basisOf q) n (length x) ≡ true → inOrder (basisOf q) n x s e ≡ true → Ranged (alongOf q n (length x)) x s e) (sym k) (λ g h. bezier-ranged h))
-      (λ k. subst (λ (q : ℕ). enough (basisOf q) n (length x) ≡ true → inOrder (basisOf q) n x s e ≡ true → Ranged (alongOf q n (length x)) x s e) (sym k) (λ g h. spline-ranged g h))
+      (λ k. subst (λ (q : ℕ). enough (basisOf q) n (length x) ≡ true → inOrder (basisOf q) n x s e ≡ true → Ranged (bodyDirection q n (length x)) x s e) (sym k) (λ g h. bezier-ranged h))
+      (λ k. subst (λ (q : ℕ). enough (basisOf q) n (length x) ≡ true → inOrder (basisOf q) n x s e ≡ true → Ranged (bodyDirection q n (length x)) x s e) (sym k) (λ g h. spline-ranged g h))
       c)

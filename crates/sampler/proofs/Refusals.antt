@@ -13,10 +13,10 @@ use Rattle.tables.specs.Asking as Asking
 use Rattle.tables.specs.declared.Used.{Used}
 use Rattle.tables.specs.declared.Element.{Element}
 use Rattle.tables.specs.declared.Body.{Body}
-use Rattle.rules.specs.Rules.{obeys, curvesAmong, curvesBefore, recordsObey}
-use Rattle.rules.proofs.Records.{records-lent, records-counted, records-are}
-use Rattle.rules.proofs.Bodied.{body-is, body-there}
-use Rattle.rules.proofs.Element.{obeys-facts, body-of}
+use Rattle.record_rules.specs.Rules.{obeys, curvesAmong, curvesBefore, recordsObey}
+use Rattle.record_rules.proofs.Records.{records-lent, records-counted, records-are}
+use Rattle.record_rules.proofs.Bodied.{body-is, body-there}
+use Rattle.record_rules.proofs.Element.{obeys-facts, body-of}
 use Rattle.sampler.specs.Answers.{wanted, carried, elementOf, bodyOf, refusalOf, lookupOf}
 use Rattle.sampler.specs.declared.Lookup.{Lookup}
 use Rattle.sampler.specs.declared.Lookup.the-variants as lookup
@@ -119,19 +119,19 @@ module _ (surface : Bool) (used : Used) (t : Tables) (number : ℕ) where
 
   -- the records as they are read, held against the rules
   pub held-against : 9 * (number - 1) + 9 ≤ length (t .elements) → {r : Bool} {curves : ℕ} {e : Element} {b : Body} → e ≡ elementOf t number
-      → b ≡ Asking.bodyOf used (t .bodies) (t .ranges) (e .body) → curves ≡ cond (eqb (b .loops) 0) 0 (curvesAmong (t .elements) (number - 1))
+      → b ≡ Asking.askedBody used (t .bodies) (t .ranges) (e .body) → curves ≡ cond (eqb (b .loops) 0) 0 (curvesAmong (t .elements) (number - 1))
       → r ≡ recordsObey used (tables (t .v) (t .vt) (t .vn) (t .vp) (t .corners) [] [] [] (t .parameters) (t .loops) (t .spans)) curves e b
       → r ≡ obeys used t (curvesBefore t (number - 1)) (number - 1)
   held-against parts {r} {curves} {e} {b} e-is b-is c-is r-is =
       let n = curvesBefore t (number - 1) in
       r-is ∙ records-lent used t curves e b ∙ ap (λ (k : ℕ). recordsObey used t k e b) c-is ∙ records-counted used t n e b
       ∙ ap (λ (x : Body). recordsObey used t n e x) b-is
-      ∙ ap (λ (x : Element). recordsObey used t n x (Asking.bodyOf used (t .bodies) (t .ranges) (x .body))) e-is
+      ∙ ap (λ (x : Element). recordsObey used t n x (Asking.askedBody used (t .bodies) (t .ranges) (x .body))) e-is
       ∙ records-are used t n (number - 1) parts
 
   -- a body that obeys is the element's own
   pub body-found : wanted surface (elementOf t number .kind) ≡ true → obeys used t (curvesBefore t (number - 1)) (number - 1) ≡ true
-      → Asking.bodyOf used (t .bodies) (t .ranges) (elementOf t number .body) ≡ bodyOf t number
+      → Asking.askedBody used (t .bodies) (t .ranges) (elementOf t number .body) ≡ bodyOf t number
   body-found kind obeyed =
       let e = elementOf t number in
       let n = curvesBefore t (number - 1) in

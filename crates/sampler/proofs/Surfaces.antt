@@ -13,25 +13,25 @@ use Rattle.tables.specs.Records.{parametersU, parametersV}
 use Rattle.tables.specs.declared.Body.{Body}
 use Rattle.tables.specs.declared.Used.{Used}
 use Rattle.tables.specs.declared.Element.{Element}
-use Rattle.curves.proofs.Pyramid.{surface-cong}
-use Rattle.rows.specs.Places.{direction, Sound}
-use Rattle.rows.specs.Controls.{controlAt, Held}
-use Rattle.rows.specs.declared.Along.{Along}
-use Rattle.sampler.specs.Points.{alongOf, gridOf, surfaceAt}
-use Rattle.sampler.specs.Answers.{SampledResult, sampledResult, refusedPoint, inside, surfacePoint, pointOnSurface}
+use Rattle.point_exact.proofs.Pyramid.{surface-cong}
+use Rattle.point_rows.specs.Places.{direction, Sound}
+use Rattle.point_rows.specs.Controls.{controlAt, ControlsLent}
+use Rattle.point_rows.specs.declared.BodyDirection.{BodyDirection}
+use Rattle.sampler.specs.Points.{bodyDirection, gridOf, surfaceAt}
+use Rattle.sampler.specs.Answers.{PointAnswer, pointAnswer, refusedPoint, inside, surfacePoint, pointOnSurface}
 use Rattle.sampler.specs.Inner.{acrossBy, surfaceBy}
-use Rattle.sampler.specs.declared.Sampled.the-variants as sampled
-use Rattle.sampler.specs.Sampling.{Surfaced, surfaceAnswer}
+use Rattle.sampler.specs.declared.PointResult.the-variants as sampled
+use Rattle.sampler.specs.Sampling.{Surfaced, answerOnSurface}
 use Rattle.sampler.proofs.Refusals.{Missed, Looked}
 use Rattle.sampler.proofs.Obeyed.{granted, surfaced}
 use Rattle.sampler.proofs.Entries.{space-control, space-eq, sound-inside, part-is}
 
 module _ (t : Tables) (e : Element) (b : Body) (p q : ℤ) (other : eqb (e .kind) 5 ≡ false) where
-  abbrev along-u : Along
-  along-u = alongOf (b .basis) (b .«degree_u») (b .«count_u»)
+  abbrev along-u : BodyDirection
+  along-u = bodyDirection (b .basis) (b .«degree_u») (b .«count_u»)
 
-  abbrev along-v : Along
-  along-v = alongOf (b .basis) (b .«degree_v») (b .«count_v»)
+  abbrev along-v : BodyDirection
+  along-v = bodyDirection (b .basis) (b .«degree_v») (b .«count_v»)
 
   across-is : (axis : ℕ) → acrossBy (t .v) (t .corners) (e .first) along-u along-v (parametersU t b) (parametersV t b) p q axis ≡ surfaceAt t e b p q axis
   unfolding surfaceAt
@@ -40,9 +40,9 @@ module _ (t : Tables) (e : Element) (b : Body) (p q : ℤ) (other : eqb (e .kind
       (λ i j. controlAt (t .v) (t .corners) (e .first) axis (j * along-u .controls + i)) (gridOf t e b axis)
       (λ i j. space-control t e b p axis other (j * along-u .controls + i))
 
-  surface-is : sampledResult (surfaceBy (t .v) (t .corners) (e .first) along-u along-v (parametersU t b) (parametersV t b) p q) ≡ surfacePoint t e b p q
+  surface-is : pointAnswer (surfaceBy (t .v) (t .corners) (e .first) along-u along-v (parametersU t b) (parametersV t b) p q) ≡ surfacePoint t e b p q
   unfolding surfaceBy surfacePoint
-  surface-is = ap sampledResult (space-eq (across-is 0) (across-is 1) (across-is 2))
+  surface-is = ap pointAnswer (space-eq (across-is 0) (across-is 1) (across-is 2))
 
 no-curve2 : (kind : ℕ) → kind ≡ 6 → eqb kind 5 ≡ false
 no-curve2 kind s = ne-eqb kind 5 (λ k. omega (arith, s))
@@ -58,51 +58,51 @@ pub surface-found : {used : Used} {t : Tables} {number : ℕ} {e : Element} {b :
 surface-found {used} {t} {number} l = rw (l .element-is, l .body-is) (surfaced used t number (granted true used t number (l .given)))
 
 module _ (t : Tables) (e : Element) (b : Body) (p q : ℤ) where
-  pub outside-u : inside (b .«start_u») (b .«end_u») p ≡ false → sampledResult (sampled.Refused 19) ≡ surfaceAnswer t e b p q
-  unfolding surfaceAnswer
+  pub outside-u : inside (b .«start_u») (b .«end_u») p ≡ false → pointAnswer (sampled.Refused 19) ≡ answerOnSurface t e b p q
+  unfolding answerOnSurface
   outside-u h = rw h
 
   module _ (in-u : inside (b .«start_u») (b .«end_u») p ≡ true) where
-    pub outside-v : inside (b .«start_v») (b .«end_v») q ≡ false → sampledResult (sampled.Refused 19) ≡ surfaceAnswer t e b p q
-    unfolding surfaceAnswer
+    pub outside-v : inside (b .«start_v») (b .«end_v») q ≡ false → pointAnswer (sampled.Refused 19) ≡ answerOnSurface t e b p q
+    unfolding answerOnSurface
     outside-v h = rw (in-u, h)
 
     pub surface-there : e .kind ≡ 6 → inside (b .«start_v») (b .«end_v») q ≡ true
-        → sampledResult (surfaceBy (t .v) (t .corners) (e .first) (alongOf (b .basis) (b .«degree_u») (b .«count_u»)) (alongOf (b .basis) (b .«degree_v») (b .«count_v»)) (parametersU t b) (parametersV t b) p q)
-        ≡ surfaceAnswer t e b p q
-    unfolding surfaceAnswer
+        → pointAnswer (surfaceBy (t .v) (t .corners) (e .first) (bodyDirection (b .basis) (b .«degree_u») (b .«count_u»)) (bodyDirection (b .basis) (b .«degree_v») (b .«count_v»)) (parametersU t b) (parametersV t b) p q)
+        ≡ answerOnSurface t e b p q
+    unfolding answerOnSurface
     surface-there k h = rw (in-u, h) (surface-is t e b p q (no-curve2 (e .kind) k))
 
 -- a surface's controls are v's, whatever vp holds
-surface-parts : (t : Tables) (e : Element) (b : Body) (p q : ℤ) → e .kind ≡ 6 → surfaceAnswer (surface-tables t) e b p q ≡ surfaceAnswer t e b p q
-unfolding surfaceAnswer
+surface-parts : (t : Tables) (e : Element) (b : Body) (p q : ℤ) → e .kind ≡ 6 → answerOnSurface (surface-tables t) e b p q ≡ answerOnSurface t e b p q
+unfolding answerOnSurface
 surface-parts t e b p q k =
     let o = no-curve2 (e .kind) k in
-    ap (λ (x : SampledResult). cond (inside (b .«start_u») (b .«end_u») p && inside (b .«start_v») (b .«end_v») q) x (refusedPoint 19))
+    ap (λ (x : PointAnswer). cond (inside (b .«start_u») (b .«end_u») p && inside (b .«start_v») (b .«end_v») q) x (refusedPoint 19))
     (sym (surface-is (surface-tables t) e b p q o) ∙ surface-is t e b p q o)
 
 module _ {used : Used} {t : Tables} {number : ℕ} (p q : ℤ) where
-  pub refused-surface : {n : ℕ} → Missed true used t number n → sampledResult (sampled.Refused n) ≡ pointOnSurface used t number p q
+  pub refused-surface : {n : ℕ} → Missed true used t number n → pointAnswer (sampled.Refused n) ≡ pointOnSurface used t number p q
   unfolding pointOnSurface
   refused-surface {n} m = rw (sym (m .is), ne-eqb n 0 (m .some))
 
-  found-surface : {e : Element} {b : Body} → Looked true used t number e b → surfaceAnswer t e b p q ≡ pointOnSurface used t number p q
-  unfolding pointOnSurface surfaceAnswer
+  found-surface : {e : Element} {b : Body} → Looked true used t number e b → answerOnSurface t e b p q ≡ pointOnSurface used t number p q
+  unfolding pointOnSurface answerOnSurface
   found-surface l = rw (l .given, l .element-is, l .body-is)
 
-  pub surface-answered : {e : Element} {b : Body} → Looked true used t number e b → surfaceAnswer (surface-tables t) e b p q ≡ pointOnSurface used t number p q
+  pub surface-answered : {e : Element} {b : Body} → Looked true used t number e b → answerOnSurface (surface-tables t) e b p q ≡ pointOnSurface used t number p q
   surface-answered {e} {b} l = surface-parts t e b p q (surface-found l .kind) ∙ found-surface l
 
 -- what was read of the element and its body
-pub record Laid (t : Tables) (e : Element) (b : Body) (first from m n : ℕ) (u v : Along) : Type 0 where
+pub record Laid (t : Tables) (e : Element) (b : Body) (first from m n : ℕ) (u v : BodyDirection) : Type 0 where
   pub first-is : first ≡ e .first
   pub from-is : from ≡ b .«first_parameter»
   pub count-u-is : m ≡ b .«count_u»
   pub count-v-is : n ≡ b .«count_v»
-  pub along-u-is : u ≡ alongOf (b .basis) (b .«degree_u») (b .«count_u»)
-  pub along-v-is : v ≡ alongOf (b .basis) (b .«degree_v») (b .«count_v»)
+  pub along-u-is : u ≡ bodyDirection (b .basis) (b .«degree_u») (b .«count_u»)
+  pub along-v-is : v ≡ bodyDirection (b .basis) (b .«degree_v») (b .«count_v»)
 
-module _ {t : Tables} {e : Element} {b : Body} {first from m n : ℕ} {u v : Along} (r : Laid t e b first from m n u v) where
+module _ {t : Tables} {e : Element} {b : Body} {first from m n : ℕ} {u v : BodyDirection} (r : Laid t e b first from m n u v) where
   u-run : take (from + m - from) (drop from (t .parameters)) ≡ parametersU t b
   u-run = part-is (t .parameters) from m ∙ rw (r .from-is, r .count-u-is)
 
@@ -110,12 +110,12 @@ module _ {t : Tables} {e : Element} {b : Body} {first from m n : ℕ} {u v : Alo
   v-run = part-is (t .parameters) (from + m) n ∙ rw (r .from-is, r .count-u-is, r .count-v-is)
 
   pub surface-asked : (p p′ q q′ : ℤ) → p′ ≡ p → q′ ≡ q → Surfaced t e b → inside (b .«start_u») (b .«end_u») p ≡ true → inside (b .«start_v») (b .«end_v») q ≡ true
-      → Held (t .v) (t .corners) first 0 (u .controls * v .controls) × Sound u (take (from + m - from) (drop from (t .parameters))) p′
+      → ControlsLent (t .v) (t .corners) first 0 (u .controls * v .controls) × Sound u (take (from + m - from) (drop from (t .parameters))) p′
       × Sound v (take (from + m + n - (from + m)) (drop (from + m) (t .parameters))) q′
   surface-asked p p′ q q′ k l c g h =
       rw (v-run, u-run, k, l, r .first-is, r .along-u-is, r .along-v-is) (c .held, sound-inside (c .along-u .ranged) p g, sound-inside (c .along-v .ranged) q h)
 
   pub surface-read : (p p′ q q′ : ℤ) → p′ ≡ p → q′ ≡ q
       → surfaceBy (t .v) (t .corners) first u v (take (from + m - from) (drop from (t .parameters))) (take (from + m + n - (from + m)) (drop (from + m) (t .parameters))) p′ q′
-      ≡ surfaceBy (t .v) (t .corners) (e .first) (alongOf (b .basis) (b .«degree_u») (b .«count_u»)) (alongOf (b .basis) (b .«degree_v») (b .«count_v»)) (parametersU t b) (parametersV t b) p q
+      ≡ surfaceBy (t .v) (t .corners) (e .first) (bodyDirection (b .basis) (b .«degree_u») (b .«count_u»)) (bodyDirection (b .basis) (b .«degree_v») (b .«count_v»)) (parametersU t b) (parametersV t b) p q
   surface-read p p′ q q′ k l = rw (v-run, u-run, k, l, r .first-is, r .along-u-is, r .along-v-is)

@@ -11,12 +11,12 @@ use Rattle.tables.specs.Records.{bodyAt, elementAt, elementWidth, curveKind, cu
 use Rattle.tables.specs.declared.Body.{Body}
 use Rattle.tables.specs.declared.Used.{Used}
 use Rattle.tables.specs.declared.Element.{Element}
-use Rattle.rules.specs.Rules.{obeys, curvesBefore}
+use Rattle.record_rules.specs.Rules.{obeys, curvesBefore}
 use Rattle.sampler.specs.Points.{axesOf, curveAt, surfaceAt, runNumbers}
-use Rattle.sampler.specs.declared.Sampled.{Sampled}
-use Rattle.sampler.specs.declared.Sampled.the-variants as sampled
-use Rattle.sampler.specs.declared.Ran.{Ran}
-use Rattle.sampler.specs.declared.Ran.the-variants as ran
+use Rattle.sampler.specs.declared.PointResult.{PointResult}
+use Rattle.sampler.specs.declared.PointResult.the-variants as sampled
+use Rattle.sampler.specs.declared.RunResult.{RunResult}
+use Rattle.sampler.specs.declared.RunResult.the-variants as ran
 use Rattle.sampler.specs.declared.Lookup.{Lookup}
 use Rattle.sampler.specs.declared.Lookup.the-variants as lookup
 
@@ -26,7 +26,7 @@ pub record PointOutcome : Type 0 where
   pub number : ℕ
   pub coordinates : List ℤ
 
-abbrev pub pointOutcome : Sampled → PointOutcome
+abbrev pub pointOutcome : PointResult → PointOutcome
 pointOutcome (sampled.Space x y z) = record { number = 0; coordinates = x ∷ y ∷ z ∷ [] }
 pointOutcome (sampled.Plane u v) = record { number = 0; coordinates = u ∷ v ∷ [] }
 pointOutcome (sampled.Refused n) = record { number = n; coordinates = [] }
@@ -36,26 +36,26 @@ pub record RunOutcome : Type 0 where
   pub number : ℕ
   pub count : ℕ
 
-abbrev pub runOutcome : Ran → RunOutcome
+abbrev pub runOutcome : RunResult → RunOutcome
 runOutcome (ran.Filled n) = record { number = 0; count = n }
 runOutcome (ran.Refused n) = record { number = n; count = 0 }
 
 -- the answer to a point, with its number and coordinates
-pub record SampledResult : Type 0 where
-  pub answer : Sampled
+pub record PointAnswer : Type 0 where
+  pub answer : PointResult
   pub outcome : PointOutcome
 
-abbrev pub sampledResult : Sampled → SampledResult
-sampledResult r = record { answer = r; outcome = pointOutcome r }
+abbrev pub pointAnswer : PointResult → PointAnswer
+pointAnswer r = record { answer = r; outcome = pointOutcome r }
 
 -- the answer to a run, with its number and count, and the final contents of the point table
-pub record RanResult : Type 0 where
-  pub answer : Ran
+pub record RunAnswer : Type 0 where
+  pub answer : RunResult
   pub outcome : RunOutcome
   pub points : List ℤ
 
-abbrev pub ranResult : Ran → List ℤ → RanResult
-ranResult r points = record { answer = r; outcome = runOutcome r; points = points }
+abbrev pub runAnswer : RunResult → List ℤ → RunAnswer
+runAnswer r points = record { answer = r; outcome = runOutcome r; points = points }
 
 -- "runs are for curves"; a curve's point is one of a curv or a curv2
 abbrev pub wanted : (surface : Bool) (kind : ℕ) → Bool
@@ -96,23 +96,23 @@ lookupOf surface used t number =
 abbrev pub inside : (start end p : ℤ) → Bool
 inside start end p = leZ start p && leZ p end
 
-abbrev pub refusedPoint : ℕ → SampledResult
+abbrev pub refusedPoint : ℕ → PointAnswer
 refusedPoint n = record { answer = sampled.Refused n; outcome = record { number = n; coordinates = [] } }
 
-abbrev pub spacePoint : (x y z : ℤ) → SampledResult
+abbrev pub spacePoint : (x y z : ℤ) → PointAnswer
 spacePoint x y z = record { answer = sampled.Space x y z; outcome = record { number = 0; coordinates = x ∷ y ∷ z ∷ [] } }
 
-abbrev pub planePoint : (u v : ℤ) → SampledResult
+abbrev pub planePoint : (u v : ℤ) → PointAnswer
 planePoint u v = record { answer = sampled.Plane u v; outcome = record { number = 0; coordinates = u ∷ v ∷ [] } }
 
 -- "surf and curv give x y z, curv2 u v"
-unfoldable pub curvePoint : Tables → Element → Body → (p : ℤ) → SampledResult
+unfoldable pub curvePoint : Tables → Element → Body → (p : ℤ) → PointAnswer
 curvePoint t e b p =
     cond (eqb (e .kind) curve2Kind)
     (planePoint (curveAt t e b p 0) (curveAt t e b p 1))
     (spacePoint (curveAt t e b p 0) (curveAt t e b p 1) (curveAt t e b p 2))
 
-unfoldable pub pointOnCurve : Used → Tables → (number : ℕ) (p : ℤ) → SampledResult
+unfoldable pub pointOnCurve : Used → Tables → (number : ℕ) (p : ℤ) → PointAnswer
 pointOnCurve used t number p =
     cond (eqb (refusalOf false used t number) 0)
     (cond (inside (bodyOf t number .«start_u») (bodyOf t number .«end_u») p)
@@ -120,10 +120,10 @@ pointOnCurve used t number p =
     (refusedPoint 19))
     (refusedPoint (refusalOf false used t number))
 
-unfoldable pub surfacePoint : Tables → Element → Body → (p q : ℤ) → SampledResult
+unfoldable pub surfacePoint : Tables → Element → Body → (p q : ℤ) → PointAnswer
 surfacePoint t e b p q = spacePoint (surfaceAt t e b p q 0) (surfaceAt t e b p q 1) (surfaceAt t e b p q 2)
 
-unfoldable pub pointOnSurface : Used → Tables → (number : ℕ) (p q : ℤ) → SampledResult
+unfoldable pub pointOnSurface : Used → Tables → (number : ℕ) (p q : ℤ) → PointAnswer
 pointOnSurface used t number p q =
     cond (eqb (refusalOf true used t number) 0)
     (cond
@@ -134,10 +134,10 @@ pointOnSurface used t number p q =
     (refusedPoint (refusalOf true used t number))
 
 -- "A refused .. sampling leaves the output as it was; success writes only .. the named part"
-abbrev pub refusedRun : ℕ → List ℤ → RanResult
+abbrev pub refusedRun : ℕ → List ℤ → RunAnswer
 refusedRun n points = record { answer = ran.Refused n; outcome = record { number = n; count = 0 }; points = points }
 
-abbrev pub filledRun : (count at : ℕ) → List ℤ → List ℤ → RanResult
+abbrev pub filledRun : (count at : ℕ) → List ℤ → List ℤ → RunAnswer
 filledRun count at numbers points =
     record {
       answer = ran.Filled count;
@@ -146,7 +146,7 @@ filledRun count at numbers points =
     }
 
 -- "or a run of 0 or over 65,536 steps; 16 no room for the run"; it "fills the caller's point table from a chosen place onward, counted in numbers"
-unfoldable pub runInto : Used → Tables → (number steps at : ℕ) → List ℤ → RanResult
+unfoldable pub runInto : Used → Tables → (number steps at : ℕ) → List ℤ → RunAnswer
 runInto used t number steps at points =
     cond (eqb (refusalOf false used t number) 0)
     (cond (leb 1 steps && leb steps 65536)

@@ -8,21 +8,21 @@ use Prim.Native.Nat.{ℕ, _+_, _*_, _-_, _≤_, _<_}
 use lib.ListN.{length, getD}
 use lib.IntN.{ℤ, pos}
 use lib.Signed.{_≤ℤ_}
-use Rattle.whole.specs.Fractions.{Close}
+use Rattle.rounding.specs.Fractions.{Close}
 use Rattle.tables.specs.Tables.{Tables}
 use Rattle.tables.specs.Records.{curveKind, curve2Kind, surfaceKind}
 use Rattle.tables.specs.declared.Used.{Used}
-use Rattle.rules.specs.Rules.{obeys, curvesBefore}
-use Rattle.curves.specs.Exact.{curveExact, surfaceExact}
-use Rattle.runs.specs.Runs.{parameterAt}
+use Rattle.record_rules.specs.Rules.{obeys, curvesBefore}
+use Rattle.point_exact.specs.Exact.{curveExact, surfaceExact}
+use Rattle.point_runs.specs.Runs.{parameterAt}
 use Rattle.sampler.specs.Points.{directionU, directionV, controlOf, gridOf, axesOf}
-use Rattle.sampler.specs.Answers.{SampledResult, RanResult, elementOf, bodyOf, pointOnCurve, pointOnSurface, runInto}
+use Rattle.sampler.specs.Answers.{PointAnswer, RunAnswer, elementOf, bodyOf, pointOnCurve, pointOnSurface, runInto}
 
 -- any sampler: what it gives for every request, and the one that the entry points `point_on_curve`, `point_on_surface` and `run_on_curve` are equal to
 pub record Sampler : Type 0 where
-  pub curve : Used → Tables → (number : ℕ) (p : ℤ) → SampledResult
-  pub surface : Used → Tables → (number : ℕ) (p q : ℤ) → SampledResult
-  pub run : Used → Tables → (number steps at : ℕ) → List ℤ → RanResult
+  pub curve : Used → Tables → (number : ℕ) (p : ℤ) → PointAnswer
+  pub surface : Used → Tables → (number : ℕ) (p q : ℤ) → PointAnswer
+  pub run : Used → Tables → (number steps at : ℕ) → List ℤ → RunAnswer
 
 abbrev pub sampling : Sampler
 sampling = record { curve = pointOnCurve; surface = pointOnSurface; run = runInto }
@@ -41,7 +41,7 @@ abbrev pub OnCurve : Tables → (number : ℕ) (p : ℤ) (axis : ℕ) → ℤ �
 OnCurve t number p axis z = Close z (curveExact (directionU t (bodyOf t number)) p (controlOf t (elementOf t number) axis)) (bodyOf t number .«degree_u»)
 
 -- what r, the answer to the point at p, has to be
-pub record CurveAnswer (t : Tables) (number : ℕ) (p : ℤ) (r : SampledResult) : Type 0 where
+pub record CurveClaim (t : Tables) (number : ℕ) (p : ℤ) (r : PointAnswer) : Type 0 where
   pub given : r .outcome .number ≡ 0
   pub axes : length (r .outcome .coordinates) ≡ axesOf (elementOf t number)
   pub near : (axis : ℕ) → axis < axesOf (elementOf t number) → OnCurve t number p axis (getD (r .outcome .coordinates) axis (pos 0))
@@ -50,9 +50,9 @@ pub record CurveAnswer (t : Tables) (number : ℕ) (p : ℤ) (r : SampledResult)
 abbrev pub PointsOnCurves : Sampler → Type 0
 PointsOnCurves samples =
     (used : Used) (t : Tables) (number : ℕ) (p : ℤ) → Curve used t number → bodyOf t number .«start_u» ≤ℤ p → p ≤ℤ bodyOf t number .«end_u»
-    → CurveAnswer t number p (samples .curve used t number p)
+    → CurveClaim t number p (samples .curve used t number p)
 
-pub record RunAnswer (t : Tables) (number steps at : ℕ) (r : RanResult) : Type 0 where
+pub record RunClaim (t : Tables) (number steps at : ℕ) (r : RunAnswer) : Type 0 where
   pub given : r .outcome .number ≡ 0
   pub count : r .outcome .count ≡ axesOf (elementOf t number) * (steps + 1)
   pub near : (j axis : ℕ) → j ≤ steps → axis < axesOf (elementOf t number)
@@ -63,7 +63,7 @@ pub record RunAnswer (t : Tables) (number steps at : ℕ) (r : RanResult) : Type
 abbrev pub RunsOnCurves : Sampler → Type 0
 RunsOnCurves samples =
     (used : Used) (t : Tables) (number steps at : ℕ) (points : List ℤ) → Curve used t number → 1 ≤ steps → steps ≤ 65536
-    → at + axesOf (elementOf t number) * (steps + 1) ≤ length points → RunAnswer t number steps at (samples .run used t number steps at points)
+    → at + axesOf (elementOf t number) * (steps + 1) ≤ length points → RunClaim t number steps at (samples .run used t number steps at points)
 
 -- "any non-rational Bezier or B-spline .. surface in tables that obey the rules"
 pub record Surface (used : Used) (t : Tables) (number : ℕ) : Type 0 where
@@ -81,7 +81,7 @@ OnSurface t number p q axis z =
     (surfaceExact (directionU t (bodyOf t number)) (directionV t (bodyOf t number)) p q (gridOf t (elementOf t number) (bodyOf t number) axis))
     (bodyOf t number .«degree_u» + bodyOf t number .«degree_v»)
 
-pub record SurfaceAnswer (t : Tables) (number : ℕ) (p q : ℤ) (r : SampledResult) : Type 0 where
+pub record SurfaceClaim (t : Tables) (number : ℕ) (p q : ℤ) (r : PointAnswer) : Type 0 where
   pub given : r .outcome .number ≡ 0
   pub axes : length (r .outcome .coordinates) ≡ 3
   pub near : (axis : ℕ) → axis < 3 → OnSurface t number p q axis (getD (r .outcome .coordinates) axis (pos 0))
@@ -91,4 +91,4 @@ abbrev pub PointsOnSurfaces : Sampler → Type 0
 PointsOnSurfaces samples =
     (used : Used) (t : Tables) (number : ℕ) (p q : ℤ) → Surface used t number
     → bodyOf t number .«start_u» ≤ℤ p → p ≤ℤ bodyOf t number .«end_u» → bodyOf t number .«start_v» ≤ℤ q → q ≤ℤ bodyOf t number .«end_v»
-    → SurfaceAnswer t number p q (samples .surface used t number p q)
+    → SurfaceClaim t number p q (samples .surface used t number p q)

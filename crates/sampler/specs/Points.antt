@@ -10,21 +10,21 @@ use Rattle.tables.specs.Records.{cornerAt, valueAt, vWidth, vpWidth, parameters
 use Rattle.tables.specs.declared.Body.{Body}
 use Rattle.tables.specs.Bodies.{bezier, bspline, controls}
 use Rattle.tables.specs.declared.Element.{Element}
-use Rattle.curves.specs.Directions.{Direction}
-use Rattle.curves.specs.Sampled.{curveSampled, surfaceSampled}
-use Rattle.rows.specs.Places.{direction}
-use Rattle.runs.specs.Runs.{joined, listed, parameterAt}
-use Rattle.rows.specs.declared.Along.{Along}
+use Rattle.point_exact.specs.Directions.{Direction}
+use Rattle.point_exact.specs.Sampled.{curveSampled, surfaceSampled}
+use Rattle.point_rows.specs.Places.{direction}
+use Rattle.point_runs.specs.Runs.{joined, listed, parameterAt}
+use Rattle.point_rows.specs.declared.BodyDirection.{BodyDirection}
 
 -- "Controls k along one direction, from p parameters and degree n", of the two types that are sampled
-abbrev pub alongOf : (type n p : ℕ) → Along
-alongOf type n p = record { basis = type; degree = n; controls = controls (cond (eqb type 2) bspline bezier) n p }
+abbrev pub bodyDirection : (type n p : ℕ) → BodyDirection
+bodyDirection type n p = record { basis = type; degree = n; controls = controls (cond (eqb type 2) bspline bezier) n p }
 
 abbrev pub directionU : Tables → Body → Direction
-directionU t b = direction (alongOf (b .basis) (b .«degree_u») (b .«count_u»)) (parametersU t b)
+directionU t b = direction (bodyDirection (b .basis) (b .«degree_u») (b .«count_u»)) (parametersU t b)
 
 abbrev pub directionV : Tables → Body → Direction
-directionV t b = direction (alongOf (b .basis) (b .«degree_v») (b .«count_v»)) (parametersV t b)
+directionV t b = direction (bodyDirection (b .basis) (b .«degree_v») (b .«count_v»)) (parametersV t b)
 
 -- "the control's number on that axis": "surf and curv give x y z, curv2 u v"; a vp record holds u and v after the count given
 unfoldable pub controlOf : Tables → Element → (axis i : ℕ) → ℤ

@@ -10,44 +10,44 @@ use Rattle.tables.specs.Tables.{Tables}
 use Rattle.tables.specs.Records.{surfaceKind}
 use Rattle.tables.specs.declared.Body.{Body}
 use Rattle.tables.specs.declared.Element.{Element}
-use Rattle.rows.specs.Places.{Sized}
-use Rattle.rows.specs.Controls.{Held}
-use Rattle.runs.specs.Runs.{Ranged}
-use Rattle.sampler.specs.Points.{alongOf, axesOf, runNumbers}
-use Rattle.sampler.specs.Answers.{SampledResult, RanResult, inside, curvePoint, surfacePoint, refusedPoint, refusedRun, filledRun}
+use Rattle.point_rows.specs.Places.{Sized}
+use Rattle.point_rows.specs.Controls.{ControlsLent}
+use Rattle.point_runs.specs.Runs.{Ranged}
+use Rattle.sampler.specs.Points.{bodyDirection, axesOf, runNumbers}
+use Rattle.sampler.specs.Answers.{PointAnswer, RunAnswer, inside, curvePoint, surfacePoint, refusedPoint, refusedRun, filledRun}
 
 -- one direction of a body: its p parameters stand from number `first` on
 pub record Directed (l : List ℤ) (first type n p : ℕ) (s e : ℤ) : Type 0 where
   pub sized : Sized type n p
-  pub ranged : Ranged (alongOf type n p) (take p (drop first l)) s e
+  pub ranged : Ranged (bodyDirection type n p) (take p (drop first l)) s e
 
 -- a curve whose records obey: its parameters and controls are lent, its directions those of a curve
 pub record Curved (t : Tables) (e : Element) (b : Body) : Type 0 where
   pub run : b .«first_parameter» + (b .«count_u» + b .«count_v») ≤ length (t .parameters)
-  pub counted : e .count ≡ alongOf (b .basis) (b .«degree_u») (b .«count_u») .controls
-  pub held : Held (cond (eqb (e .kind) 5) (t .vp) (t .v)) (t .corners) (e .first) 0 (alongOf (b .basis) (b .«degree_u») (b .«count_u») .controls)
+  pub counted : e .count ≡ bodyDirection (b .basis) (b .«degree_u») (b .«count_u») .controls
+  pub held : ControlsLent (cond (eqb (e .kind) 5) (t .vp) (t .v)) (t .corners) (e .first) 0 (bodyDirection (b .basis) (b .«degree_u») (b .«count_u») .controls)
   pub along : Directed (t .parameters) (b .«first_parameter») (b .basis) (b .«degree_u») (b .«count_u») (b .«start_u») (b .«end_u»)
 
 -- the same of a surface
 pub record Surfaced (t : Tables) (e : Element) (b : Body) : Type 0 where
   pub kind : e .kind ≡ surfaceKind
   pub run : b .«first_parameter» + (b .«count_u» + b .«count_v») ≤ length (t .parameters)
-  pub counted : e .count ≡ alongOf (b .basis) (b .«degree_u») (b .«count_u») .controls * alongOf (b .basis) (b .«degree_v») (b .«count_v») .controls
-  pub held : Held (t .v) (t .corners) (e .first) 0 (alongOf (b .basis) (b .«degree_u») (b .«count_u») .controls * alongOf (b .basis) (b .«degree_v») (b .«count_v») .controls)
+  pub counted : e .count ≡ bodyDirection (b .basis) (b .«degree_u») (b .«count_u») .controls * bodyDirection (b .basis) (b .«degree_v») (b .«count_v») .controls
+  pub held : ControlsLent (t .v) (t .corners) (e .first) 0 (bodyDirection (b .basis) (b .«degree_u») (b .«count_u») .controls * bodyDirection (b .basis) (b .«degree_v») (b .«count_v») .controls)
   pub along-u : Directed (t .parameters) (b .«first_parameter») (b .basis) (b .«degree_u») (b .«count_u») (b .«start_u») (b .«end_u»)
   pub along-v : Directed (t .parameters) (b .«first_parameter» + b .«count_u») (b .basis) (b .«degree_v») (b .«count_v») (b .«start_v») (b .«end_v»)
 
 -- "19 parameter outside start..end", and the point
-unfoldable pub curveAnswer : Tables → Element → Body → (p : ℤ) → SampledResult
-curveAnswer t e b p = cond (inside (b .«start_u») (b .«end_u») p) (curvePoint t e b p) (refusedPoint 19)
+unfoldable pub answerOnCurve : Tables → Element → Body → (p : ℤ) → PointAnswer
+answerOnCurve t e b p = cond (inside (b .«start_u») (b .«end_u») p) (curvePoint t e b p) (refusedPoint 19)
 
-unfoldable pub surfaceAnswer : Tables → Element → Body → (p q : ℤ) → SampledResult
-surfaceAnswer t e b p q =
+unfoldable pub answerOnSurface : Tables → Element → Body → (p q : ℤ) → PointAnswer
+answerOnSurface t e b p q =
     cond (inside (b .«start_u») (b .«end_u») p && inside (b .«start_v») (b .«end_v») q) (surfacePoint t e b p q) (refusedPoint 19)
 
 -- "or a run of 0 or over 65,536 steps; 16 no room for the run"
-unfoldable pub runAnswer : Tables → Element → Body → (steps at : ℕ) → List ℤ → RanResult
-runAnswer t e b steps at points =
+unfoldable pub answerOfRun : Tables → Element → Body → (steps at : ℕ) → List ℤ → RunAnswer
+answerOfRun t e b steps at points =
     cond (leb 1 steps && leb steps 65536)
     (cond (leb (at + axesOf e * (steps + 1)) (length points)) (filledRun (axesOf e * (steps + 1)) at (runNumbers t e b steps) points) (refusedRun 16 points))
     (refusedRun 19 points)

@@ -1,14 +1,14 @@
 // Points on curves and surfaces, alone and in runs.
 ghost use mathlib.Core.Path.{_≡_};
 ghost use Rattle.tables.specs.Tables.{tables};
-ghost use Rattle.sampler.specs.Answers.{lookupOf, sampledResult, pointOnCurve, pointOnSurface, ranResult, runInto};
+ghost use Rattle.sampler.specs.Answers.{lookupOf, pointAnswer, pointOnCurve, pointOnSurface, runAnswer, runInto};
 use crate::records::is_carried;
 use crate::records::is_wanted;
 use crate::sampling::curve_at;
 use crate::sampling::run_at;
 use crate::sampling::surface_at;
-use rules::loops::curves_for;
-use rules::records_obey;
+use record_rules::loops::curves_for;
+use record_rules::records_obey;
 use tables::Body;
 use tables::Element;
 use tables::Used;
@@ -17,14 +17,14 @@ mod points;
 mod records;
 pub mod sampling;
 
-pub enum Sampled {
+pub enum PointResult {
     Space { x: i32, y: i32, z: i32 },
     Plane { u: i32, v: i32 },
     Refused { number: u32 },
 }
 
 // How many numbers a run wrote, or why it wrote none.
-pub enum Ran {
+pub enum RunResult {
     Filled { numbers: usize },
     Refused { number: u32 },
 }
@@ -108,8 +108,8 @@ pub fn point_on_curve(
     spans: &[i32],
     element: u32,
     t: i32,
-) -> Sampled
-    ensures { λ r. ⌜ sampledResult r ≡ pointOnCurve used (tables (now (v .entry)) (now (vt .entry)) (now (vn .entry)) (now (vp .entry)) (now (corners .entry)) (now (elements .entry)) (now (bodies .entry)) (now (ranges .entry)) (now (parameters .entry)) (now (loops .entry)) (now (spans .entry))) element t ⌝ }
+) -> PointResult
+    ensures { λ r. ⌜ pointAnswer r ≡ pointOnCurve used (tables (now (v .entry)) (now (vt .entry)) (now (vn .entry)) (now (vp .entry)) (now (corners .entry)) (now (elements .entry)) (now (bodies .entry)) (now (ranges .entry)) (now (parameters .entry)) (now (loops .entry)) (now (spans .entry))) element t ⌝ }
 {
     let found = look_up(
         false,
@@ -128,7 +128,7 @@ pub fn point_on_curve(
         element,
     );
     match found {
-        Lookup::Refused { number } => Sampled::Refused { number },
+        Lookup::Refused { number } => PointResult::Refused { number },
         Lookup::Found { element, body } => curve_at(v, vp, corners, parameters, element, body, t),
     }
 }
@@ -150,8 +150,8 @@ pub fn point_on_surface(
     element: u32,
     s: i32,
     t: i32,
-) -> Sampled
-    ensures { λ r. ⌜ sampledResult r ≡ pointOnSurface used (tables (now (v .entry)) (now (vt .entry)) (now (vn .entry)) (now (vp .entry)) (now (corners .entry)) (now (elements .entry)) (now (bodies .entry)) (now (ranges .entry)) (now (parameters .entry)) (now (loops .entry)) (now (spans .entry))) element s t ⌝ }
+) -> PointResult
+    ensures { λ r. ⌜ pointAnswer r ≡ pointOnSurface used (tables (now (v .entry)) (now (vt .entry)) (now (vn .entry)) (now (vp .entry)) (now (corners .entry)) (now (elements .entry)) (now (bodies .entry)) (now (ranges .entry)) (now (parameters .entry)) (now (loops .entry)) (now (spans .entry))) element s t ⌝ }
 {
     let found = look_up(
         true,
@@ -170,7 +170,7 @@ pub fn point_on_surface(
         element,
     );
     match found {
-        Lookup::Refused { number } => Sampled::Refused { number },
+        Lookup::Refused { number } => PointResult::Refused { number },
         Lookup::Found { element, body } => surface_at(v, corners, parameters, element, body, s, t),
     }
 }
@@ -193,8 +193,8 @@ pub fn run_on_curve(
     steps: u32,
     points: &mut [i32],
     at: usize,
-) -> Ran
-    ensures { λ r. ⌜ ranResult r (now (points .exit)) ≡ runInto used (tables (now (v .entry)) (now (vt .entry)) (now (vn .entry)) (now (vp .entry)) (now (corners .entry)) (now (elements .entry)) (now (bodies .entry)) (now (ranges .entry)) (now (parameters .entry)) (now (loops .entry)) (now (spans .entry))) element steps at (now (points .entry)) ⌝ }
+) -> RunResult
+    ensures { λ r. ⌜ runAnswer r (now (points .exit)) ≡ runInto used (tables (now (v .entry)) (now (vt .entry)) (now (vn .entry)) (now (vp .entry)) (now (corners .entry)) (now (elements .entry)) (now (bodies .entry)) (now (ranges .entry)) (now (parameters .entry)) (now (loops .entry)) (now (spans .entry))) element steps at (now (points .entry)) ⌝ }
 {
     let found = look_up(
         false,
@@ -213,7 +213,7 @@ pub fn run_on_curve(
         element,
     );
     match found {
-        Lookup::Refused { number } => Ran::Refused { number },
+        Lookup::Refused { number } => RunResult::Refused { number },
         Lookup::Found { element, body } => run_at(
             v,
             vp,

@@ -2,13 +2,13 @@ ghost use mathlib.Core.Path.{_≡_};
 ghost use mathlib.Core.Bool.{cond};
 ghost use Prim.Native.Nat.{_*_};
 ghost use lib.Dec.{eqb};
-ghost use Rattle.rows.specs.Places.{Sound};
-ghost use Rattle.rows.specs.Controls.{Held};
+ghost use Rattle.point_rows.specs.Places.{Sound};
+ghost use Rattle.point_rows.specs.Controls.{ControlsLent};
 ghost use Rattle.sampler.specs.Inner.{pointBy, surfaceBy};
-use crate::Sampled;
-use quick::across;
-use rows::Along;
-use rows::search::find;
+use crate::PointResult;
+use point_rows::BodyDirection;
+use point_rows::search::find;
+use point_single::across;
 
 // The point at t of a curv, or of a curv2 where the kind is 5.
 pub fn curve_point(
@@ -18,19 +18,19 @@ pub fn curve_point(
     corners: &[u32],
     first: u32,
     x: &[i32],
-    along: Along,
+    along: BodyDirection,
     t: i32,
-) -> Sampled
-    requires { ⌜ Held (cond (eqb kind 5) (now vp) (now v)) (now corners) first 0 (along .controls) × Sound along (now x) t ⌝ }
+) -> PointResult
+    requires { ⌜ ControlsLent (cond (eqb kind 5) (now vp) (now v)) (now corners) first 0 (along .controls) × Sound along (now x) t ⌝ }
     ensures { λ r. ⌜ r ≡ pointBy kind (now (v .entry)) (now (vp .entry)) (now (corners .entry)) first along (now (x .entry)) t ⌝ }
 {
     let chosen = find(x, along, t);
     if kind == 5 {
-        let p = quick::curve_point(vp, corners, first, 1, x, along, chosen, t);
-        return Sampled::Plane { u: p.x, v: p.y };
+        let p = point_single::curve_point(vp, corners, first, 1, x, along, chosen, t);
+        return PointResult::Plane { u: p.x, v: p.y };
     }
-    let p = quick::curve_point(v, corners, first, 0, x, along, chosen, t);
-    Sampled::Space {
+    let p = point_single::curve_point(v, corners, first, 0, x, along, chosen, t);
+    PointResult::Space {
         x: p.x,
         y: p.y,
         z: p.z,
@@ -43,19 +43,19 @@ pub fn surface_point(
     corners: &[u32],
     first: u32,
     x: &[i32],
-    u: Along,
+    u: BodyDirection,
     s: i32,
     y: &[i32],
-    v: Along,
+    v: BodyDirection,
     t: i32,
-) -> Sampled
-    requires { ⌜ Held (now values) (now corners) first 0 (u .controls * v .controls) × Sound u (now x) s × Sound v (now y) t ⌝ }
+) -> PointResult
+    requires { ⌜ ControlsLent (now values) (now corners) first 0 (u .controls * v .controls) × Sound u (now x) s × Sound v (now y) t ⌝ }
     ensures { λ r. ⌜ r ≡ surfaceBy (now (values .entry)) (now (corners .entry)) first u v (now (x .entry)) (now (y .entry)) s t ⌝ }
 {
     let in_u = find(x, u, s);
     let in_v = find(y, v, t);
     let p = across(values, corners, first, x, u, s, in_u, y, v, t, in_v);
-    Sampled::Space {
+    PointResult::Space {
         x: p.x,
         y: p.y,
         z: p.z,

@@ -1,10 +1,10 @@
 ghost use mathlib.Core.Path.{_≡_};
 ghost use Prim.Native.Nat.{_≤_};
-ghost use Rattle.rows.specs.Places.{Sized};
-ghost use Rattle.sampler.specs.Points.{alongOf};
+ghost use Rattle.point_rows.specs.Places.{Sized};
+ghost use Rattle.sampler.specs.Points.{bodyDirection};
 ghost use Rattle.sampler.specs.Answers.{wanted, carried, inside};
-ghost use Rattle.runs.specs.Runs.{axesBy};
-use rows::Along;
+ghost use Rattle.point_runs.specs.Runs.{axesBy};
+use point_rows::BodyDirection;
 
 pub fn is_wanted(surface: bool, kind: u32) -> bool
     ensures { λ r. ⌜ r ≡ wanted surface kind ⌝ }
@@ -31,20 +31,20 @@ pub fn is_carried(rational: u32, basis: u32) -> bool
 }
 
 // A direction of type 1 or 2 from its degree and the count of its parameters.
-pub fn along_of(basis: u32, degree: u32, count: u32) -> Along
+pub fn body_direction(basis: u32, degree: u32, count: u32) -> BodyDirection
     requires { ⌜ Sized basis degree count ⌝ }
-    ensures { λ r. ⌜ r ≡ alongOf basis degree count ⌝ }
+    ensures { λ r. ⌜ r ≡ bodyDirection basis degree count ⌝ }
 {
     let n = degree as usize;
     let p = count as usize;
     if basis == 2 {
-        return Along {
+        return BodyDirection {
             basis,
             degree: n,
             controls: p - n - 1,
         };
     }
-    Along {
+    BodyDirection {
         basis,
         degree: n,
         controls: n * (p - 1) + 1,

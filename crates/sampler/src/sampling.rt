@@ -2,16 +2,16 @@
 ghost use mathlib.Core.Path.{_≡_};
 ghost use mathlib.Core.List.{[]};
 ghost use Rattle.tables.specs.Tables.{tables};
-ghost use Rattle.sampler.specs.Answers.{sampledResult, ranResult};
-ghost use Rattle.sampler.specs.Sampling.{Curved, Surfaced, curveAnswer, surfaceAnswer, runAnswer};
-use crate::Ran;
-use crate::Sampled;
+ghost use Rattle.sampler.specs.Answers.{pointAnswer, runAnswer};
+ghost use Rattle.sampler.specs.Sampling.{Curved, Surfaced, answerOnCurve, answerOnSurface, answerOfRun};
+use crate::PointResult;
+use crate::RunResult;
 use crate::points::curve_point;
 use crate::points::surface_point;
-use crate::records::along_of;
 use crate::records::axes_of;
+use crate::records::body_direction;
 use crate::records::is_inside;
-use runs::write_run;
+use point_runs::write_run;
 use tables::Body;
 use tables::Element;
 
@@ -23,14 +23,14 @@ pub fn curve_at(
     element: Element,
     body: Body,
     t: i32,
-) -> Sampled
+) -> PointResult
     requires { ⌜ Curved (tables (now v) [] [] (now vp) (now corners) [] [] [] (now parameters) [] []) element body ⌝ }
-    ensures { λ r. ⌜ sampledResult r ≡ curveAnswer (tables (now (v .entry)) [] [] (now (vp .entry)) (now (corners .entry)) [] [] [] (now (parameters .entry)) [] []) element body t ⌝ }
+    ensures { λ r. ⌜ pointAnswer r ≡ answerOnCurve (tables (now (v .entry)) [] [] (now (vp .entry)) (now (corners .entry)) [] [] [] (now (parameters .entry)) [] []) element body t ⌝ }
 {
     if !is_inside(body.start_u, body.end_u, t) {
-        return Sampled::Refused { number: 19 };
+        return PointResult::Refused { number: 19 };
     }
-    let along = along_of(body.basis, body.degree_u, body.count_u);
+    let along = body_direction(body.basis, body.degree_u, body.count_u);
     let from = body.first_parameter as usize;
     let to = from + body.count_u as usize;
     let x = &parameters[from..to];
@@ -45,18 +45,18 @@ pub fn surface_at(
     body: Body,
     s: i32,
     t: i32,
-) -> Sampled
+) -> PointResult
     requires { ⌜ Surfaced (tables (now v) [] [] [] (now corners) [] [] [] (now parameters) [] []) element body ⌝ }
-    ensures { λ r. ⌜ sampledResult r ≡ surfaceAnswer (tables (now (v .entry)) [] [] [] (now (corners .entry)) [] [] [] (now (parameters .entry)) [] []) element body s t ⌝ }
+    ensures { λ r. ⌜ pointAnswer r ≡ answerOnSurface (tables (now (v .entry)) [] [] [] (now (corners .entry)) [] [] [] (now (parameters .entry)) [] []) element body s t ⌝ }
 {
     if !is_inside(body.start_u, body.end_u, s) {
-        return Sampled::Refused { number: 19 };
+        return PointResult::Refused { number: 19 };
     }
     if !is_inside(body.start_v, body.end_v, t) {
-        return Sampled::Refused { number: 19 };
+        return PointResult::Refused { number: 19 };
     }
-    let along_u = along_of(body.basis, body.degree_u, body.count_u);
-    let along_v = along_of(body.basis, body.degree_v, body.count_v);
+    let along_u = body_direction(body.basis, body.degree_u, body.count_u);
+    let along_v = body_direction(body.basis, body.degree_v, body.count_v);
     let from = body.first_parameter as usize;
     let middle = from + body.count_u as usize;
     let to = middle + body.count_v as usize;
@@ -75,24 +75,24 @@ pub fn run_at(
     steps: u32,
     points: &mut [i32],
     at: usize,
-) -> Ran
+) -> RunResult
     requires { ⌜ Curved (tables (now v) [] [] (now vp) (now corners) [] [] [] (now parameters) [] []) element body ⌝ }
-    ensures { λ r. ⌜ ranResult r (now (points .exit)) ≡ runAnswer (tables (now (v .entry)) [] [] (now (vp .entry)) (now (corners .entry)) [] [] [] (now (parameters .entry)) [] []) element body steps at (now (points .entry)) ⌝ }
+    ensures { λ r. ⌜ runAnswer r (now (points .exit)) ≡ answerOfRun (tables (now (v .entry)) [] [] (now (vp .entry)) (now (corners .entry)) [] [] [] (now (parameters .entry)) [] []) element body steps at (now (points .entry)) ⌝ }
 {
     if steps < 1 {
-        return Ran::Refused { number: 19 };
+        return RunResult::Refused { number: 19 };
     }
     if 65536 < steps {
-        return Ran::Refused { number: 19 };
+        return RunResult::Refused { number: 19 };
     }
     let numbers = axes_of(element.kind) * (steps as usize + 1);
     if points.len() < numbers {
-        return Ran::Refused { number: 16 };
+        return RunResult::Refused { number: 16 };
     }
     if points.len() - numbers < at {
-        return Ran::Refused { number: 16 };
+        return RunResult::Refused { number: 16 };
     }
-    let along = along_of(body.basis, body.degree_u, body.count_u);
+    let along = body_direction(body.basis, body.degree_u, body.count_u);
     let from = body.first_parameter as usize;
     let to = from + body.count_u as usize;
     let x = &parameters[from..to];
@@ -109,5 +109,5 @@ pub fn run_at(
         body.end_u,
         steps,
     );
-    Ran::Filled { numbers }
+    RunResult::Filled { numbers }
 }

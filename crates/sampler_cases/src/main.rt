@@ -7,9 +7,9 @@ use case_files::number_at;
 use libc::STDIN_FILENO;
 use libc::STDOUT_FILENO;
 use polyline::PolylineResult;
-use reader::Reading;
-use sampler::Ran;
-use sampler::Sampled;
+use reader::ReadResult;
+use sampler::PointResult;
+use sampler::RunResult;
 use tables::Used;
 ghost use Prim.Native.Nat.{_≤_, _<_};
 ghost use lib.ListN.{length};
@@ -28,7 +28,7 @@ fn put_number(n: i32) {
     if n < 0 {
         put(b"-");
     }
-    io::print_decimal(STDOUT_FILENO, writing::magnitude(n) as u64);
+    io::print_decimal(STDOUT_FILENO, word_format::magnitude(n) as u64);
 }
 
 fn put_refusal(number: u32) {
@@ -44,26 +44,26 @@ fn put_numbers(numbers: &[i32]) {
     }
 }
 
-fn put_point(sampled: Sampled) {
+fn put_point(sampled: PointResult) {
     match sampled {
-        Sampled::Space { x, y, z } => {
+        PointResult::Space { x, y, z } => {
             put_number(x);
             put_number(y);
             put_number(z);
         }
-        Sampled::Plane { u, v } => {
+        PointResult::Plane { u, v } => {
             put_number(u);
             put_number(v);
         }
-        Sampled::Refused { number } => put_refusal(number),
+        PointResult::Refused { number } => put_refusal(number),
     }
 }
 
 // A run's answer, and the whole table that it was to fill.
-fn put_run(ran: Ran, points: &[i32]) {
+fn put_run(ran: RunResult, points: &[i32]) {
     match ran {
-        Ran::Filled { numbers } => put_whole(numbers as u64),
-        Ran::Refused { number } => put_refusal(number),
+        RunResult::Filled { numbers } => put_whole(numbers as u64),
+        RunResult::Refused { number } => put_refusal(number),
     }
     put(b":");
     put_numbers(points);
@@ -194,7 +194,7 @@ fn sample(
         s,
     ));
     put(b" | cubic");
-    put_point(cubics::cubic_at(
+    put_point(point_cubics::cubic_at(
         used,
         v,
         vt,
@@ -316,7 +316,7 @@ fn sample_elements(
 }
 
 fn answer(
-    reading: Reading,
+    reading: ReadResult,
     v: &[i32],
     vt: &[i32],
     vn: &[i32],
@@ -332,7 +332,7 @@ fn answer(
     first: usize,
 ) {
     match reading {
-        Reading::Read(used) => sample_elements(
+        ReadResult::Read(used) => sample_elements(
             used,
             v,
             vt,
@@ -348,7 +348,7 @@ fn answer(
             steps,
             first,
         ),
-        Reading::Refused { number, place: _ } => put_refusal(number),
+        ReadResult::Refused { number, place: _ } => put_refusal(number),
     }
 }
 

@@ -8,7 +8,7 @@ use native.Mathlib.Omega.{arith}
 use borrow.Author.Tests.{eqb-true, ne-eqb}
 use Rattle.statements.specs.declared.Free.{Free}
 use Rattle.statements.specs.declared.Free.the-variants.{Curve, Curve2, Surface}
-use Rattle.statements.specs.Rules.{isSurface, inBody, outside, openFree, rangeWords, fewestControls}
+use Rattle.statements.specs.Rules.{isSurface, inBody, outside, freeNumbered, rangeWords, fewestControls}
 
 pub few-words : (k : Free) → rangeWords k + fewestControls k ≤ 5
 few-words Curve = omega arith
@@ -36,14 +36,14 @@ by-curve true v = refl
 by-curve false v = refl
 
 module _ (kind : ℕ) where
-  pub outside-kind : eqb kind 0 ≡ outside (openFree kind)
+  pub outside-kind : eqb kind 0 ≡ outside (freeNumbered kind)
   outside-kind = by-none (eqb kind 0) _
 
-  pub body-kind : not (eqb kind 0) ≡ inBody (openFree kind) (λ k. true)
+  pub body-kind : not (eqb kind 0) ≡ inBody (freeNumbered kind) (λ k. true)
   body-kind = by-some (eqb kind 0) _
 
-  pub surface-kind : eqb kind 6 ≡ inBody (openFree kind) isSurface
+  pub surface-kind : eqb kind 6 ≡ inBody (freeNumbered kind) isSurface
   surface-kind = by-surface (eqb kind 0) (eqb kind 6) (eqb kind 5) (λ e. let l = eqb-true kind 6 e in ne-eqb kind 0 (λ z. omega arith))
 
-  pub curve-kind : (v : Bool) → (kind ≡ 0 → ⊥) → (kind ≡ 6 → ⊥) → not v ≡ inBody (openFree kind) (λ k. isSurface k || not v)
+  pub curve-kind : (v : Bool) → (kind ≡ 0 → ⊥) → (kind ≡ 6 → ⊥) → not v ≡ inBody (freeNumbered kind) (λ k. isSurface k || not v)
   curve-kind v a b = rw (ne-eqb kind 0 a, ne-eqb kind 6 b) (by-curve (eqb kind 5) v)

@@ -47,8 +47,8 @@ allowedBy standing.Surface o v = inBody o isSurface
 allowedBy standing.Parameters o v = inBody o (λ k. isSurface k || not v)
 
 -- the kind of the element by its number, 0 for none
-abbrev pub openFree : ℕ → Option Free
-openFree kind = cond (eqb kind 0) none (some (cond (eqb kind 6) free.Surface (cond (eqb kind 5) free.Curve2 free.Curve)))
+abbrev pub freeNumbered : ℕ → Option Free
+freeNumbered kind = cond (eqb kind 0) none (some (cond (eqb kind 6) free.Surface (cond (eqb kind 5) free.Curve2 free.Curve)))
 
 -- ---- 5, "Words after the keyword"
 abbrev pub countedBy : Count → ℕ → Bool

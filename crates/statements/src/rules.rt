@@ -3,7 +3,7 @@ use crate::Free;
 use crate::Shape;
 use crate::VertexKind;
 ghost use mathlib.Core.Path.{_≡_};
-ghost use Rattle.statements.specs.Rules.{vertexCount, fewest, parts, rangeWords, fewestControls, controlForm, rulesOf, openFree, allowedBy, countedBy, fewestBy, mostBy, formBy};
+ghost use Rattle.statements.specs.Rules.{vertexCount, fewest, parts, rangeWords, fewestControls, controlForm, rulesOf, freeNumbered, allowedBy, countedBy, fewestBy, mostBy, formBy};
 
 // Which parts a corner may have besides v.
 pub struct Parts {
@@ -229,7 +229,7 @@ pub fn rules_of(statement: Carried) -> Rules
 
 // Whether the statement may stand in the body of an element of the kind, 0 for none; `v` is said by a parm along v.
 pub fn allowed(standing: Standing, kind: u32, v: bool) -> bool
-    ensures { λ r. ⌜ r ≡ allowedBy standing (openFree kind) v ⌝ }
+    ensures { λ r. ⌜ r ≡ allowedBy standing (freeNumbered kind) v ⌝ }
 {
     match standing {
         Standing::Outside => kind == 0,

@@ -12,19 +12,19 @@ use lib.ListN.{length, getD, take, drop, length-append, List·getD-append}
 use lib.Seq.{sets, sets-eq, length-sets, take-at, getD-append-add}
 use Rattle.lists.specs.Lists.{filled}
 use Rattle.lists.proofs.Tests.{test}
-use Rattle.storing.proofs.Clearing.{tables-eq}
+use Rattle.table_store.proofs.Clearing.{tables-eq}
 use Rattle.tables.specs.Tables.{Tables, tables}
 use Rattle.tables.specs.Records.{elementAt, cornerAt, curve2Kind}
 use Rattle.tables.specs.declared.Used.{Used}
 use Rattle.tables.specs.declared.Corner.{Corner}
 use Rattle.model.specs.Model.{VertexKind, geometric, texture, normal, parametric}
 use Rattle.table_rules.specs.Whole.{wholeObeys}
-use Rattle.sweep_rows.specs.Marks.{numberOf, cornerBy, cornerNumbers, runBy, runsBy, cornersUpto}
+use Rattle.sweep_rows.specs.Marks.{numberListed, cornerBy, cornerNumbers, runBy, runsBy, cornersUpto}
 use Rattle.sweep_rows.proofs.Counting.{kept-dropped, kept-most}
 use Rattle.sweep_rows.proofs.FlatBelow.{flatBelow-same}
 use Rattle.sweep_rows.proofs.Numbering.{length-numbers, numbers-at}
 use Rattle.sweep_rows.proofs.Renumbering.{length-runs}
-use Rattle.sweep.specs.Named.{named, reference, usedIn, keptUpto, newNumber, newNumbers, cornerAfter, cornersAfter}
+use Rattle.sweep.specs.Named.{named, reference, usedOf, keptUpto, newNumber, newNumbers, cornerAfter, cornersAfter}
 use Rattle.sweep.specs.Swept.{sweepAnswer, sweepInto, sweptUsed, droppedOf, sweptTables, numbersOf, numbersNeeded, keptIn, droppedIn, sweptAnswer, refusedSweep}
 use Rattle.sweep.specs.Vertices.{VerticesSwept, fewer, refusalOf}
 use Rattle.sweep.specs.declared.Dropped.{Dropped}
@@ -35,7 +35,7 @@ use Rattle.sweep.proofs.References.{references-within, corners-follow, 
 
 -- ---- a number looked up is the record's new number
 module _ (f : ℕ → Bool) (n : ℕ) where
-  pub number-is : (list pre post : List ℕ) (base k : ℕ) → list ≡ pre ++ (newNumbers f n ++ post) → length pre ≡ base → k ≤ n → numberOf list base k ≡ newNumber f k
+  pub number-is : (list pre post : List ℕ) (base k : ℕ) → list ≡ pre ++ (newNumbers f n ++ post) → length pre ≡ base → k ≤ n → numberListed list base k ≡ newNumber f k
   number-is list pre post base zero e b h = go (f 0)
     where
       go : (z : Bool) → _≡_ {A = ℕ} 0 (cond z 0 0)
@@ -52,10 +52,10 @@ module _ (used : Used) (t : Tables) (rest : List ℕ) where
   list = numbersOf used t ++ rest
 
   abbrev N : VertexKind → List ℕ
-  N kind = newNumbers (named used t kind) (usedIn kind used)
+  N kind = newNumbers (named used t kind) (usedOf kind used)
 
-  long : (kind : VertexKind) → length (N kind) ≡ usedIn kind used
-  long kind = length-numbers (named used t kind) (usedIn kind used)
+  long : (kind : VertexKind) → length (N kind) ≡ usedOf kind used
+  long kind = length-numbers (named used t kind) (usedOf kind used)
 
   split-v : list ≡ [] ++ (N geometric ++ (N texture ++ (N normal ++ (N parametric ++ rest))))
   unfolding numbersOf
@@ -80,13 +80,13 @@ module _ (used : Used) (t : Tables) (rest : List ℕ) where
   three-long = length-append (N geometric ++ N texture) (N normal) ∙ ap₂ (λ (a b : ℕ). a + b) two-long (long normal)
 
   -- a corner whose numbers are those of used records
-  module _ (e : ℕ) (c : Corner) (within : (kind : VertexKind) → reference kind e c ≤ usedIn kind used) where
-    first-after : numberOf list (cond (eqb e curve2Kind) (used .v + used .vt + used .vn) 0) (c .v)
+  module _ (e : ℕ) (c : Corner) (within : (kind : VertexKind) → reference kind e c ≤ usedOf kind used) where
+    first-after : numberListed list (cond (eqb e curve2Kind) (used .v + used .vt + used .vn) 0) (c .v)
         ≡ cond (eqb e curve2Kind) (newNumber (named used t parametric) (c .v)) (newNumber (named used t geometric) (c .v))
     first-after = go (test (eqb e curve2Kind))
       where
         go : (eqb e curve2Kind ≡ true) ⊎ (eqb e curve2Kind ≡ false) →
-            numberOf list (cond (eqb e curve2Kind) (used .v + used .vt + used .vn) 0) (c .v)
+            numberListed list (cond (eqb e curve2Kind) (used .v + used .vt + used .vn) 0) (c .v)
             ≡ cond (eqb e curve2Kind) (newNumber (named used t parametric) (c .v)) (newNumber (named used t geometric) (c .v))
         go (inl z) =
             let h : c .v ≤ used .vp = rw z at (within parametric) in
@@ -165,8 +165,8 @@ module _ (used : Used) (t : Tables) (list : List ℕ) where
         (kept-most (named used t geometric) (used .v), kept-most (named used t texture) (used .vt), kept-most (named used t normal) (used .vn), kept-most (named used t parametric) (used .vp))
 
     -- what is not kept is dropped
-    left-over : (kind : VertexKind) → usedIn kind used - keptIn used t kind ≡ droppedIn used t kind
-    left-over kind = let e = kept-dropped (named used t kind) (usedIn kind used) in omega arith
+    left-over : (kind : VertexKind) → usedOf kind used - keptIn used t kind ≡ droppedIn used t kind
+    left-over kind = let e = kept-dropped (named used t kind) (usedOf kind used) in omega arith
 
     dropped-are : fewer used after ≡ droppedOf used t
     unfolding sweptUsed droppedOf

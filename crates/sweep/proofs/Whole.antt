@@ -8,9 +8,9 @@ use lib.Dec.{leb}
 use Rattle.lists.proofs.Tests.{and-left, and-right, and-both}
 use Rattle.tables.specs.Tables.{Tables}
 use Rattle.tables.specs.declared.Used.{Used}
-use Rattle.rules.specs.Numbers.{allBelow}
-use Rattle.rules.specs.Rules.{obeys, curvesBefore}
-use Rattle.rules.proofs.Below.{below-at, below-all}
+use Rattle.record_rules.specs.Numbers.{allBelow}
+use Rattle.record_rules.specs.Rules.{obeys, curvesBefore}
+use Rattle.record_rules.proofs.Below.{below-at, below-all}
 use Rattle.table_rules.specs.Whole.{lentAll, verticesObey, elementsObey, followsAt, endsBefore, endsUsed, runsFollow, wholeObeys}
 
 -- the four tests

@@ -13,11 +13,11 @@ pub use Rattle.sweep_rows.specs.Counting.{reference, anyBelow, keptUpto, droppe
 unfoldable pub use Rattle.sweep_rows.specs.Counting.{newNumbers, keptRows}
 
 -- the records of one kind: how many are used, their table, and the numbers of each
-abbrev pub usedIn : VertexKind → Used → ℕ
-usedIn geometric used = used .v
-usedIn texture used = used .vt
-usedIn normal used = used .vn
-usedIn parametric used = used .vp
+abbrev pub usedOf : VertexKind → Used → ℕ
+usedOf geometric used = used .v
+usedOf texture used = used .vt
+usedOf normal used = used .vn
+usedOf parametric used = used .vp
 
 abbrev pub tableIn : VertexKind → Tables → List ℤ
 tableIn geometric t = t .v

@@ -12,7 +12,7 @@ use Rattle.tables.specs.declared.Used.{Used}
 use Rattle.model.specs.Model.{VertexKind, geometric, texture, normal, parametric}
 use Rattle.model.specs.Layout.{noneUsed}
 use Rattle.table_rules.specs.Whole.{wholeObeys}
-use Rattle.sweep.specs.Named.{usedIn, tableIn, widthIn, named, keptUpto, droppedUpto, newNumbers, keptRows, cornersAfter}
+use Rattle.sweep.specs.Named.{usedOf, tableIn, widthIn, named, keptUpto, droppedUpto, newNumbers, keptRows, cornersAfter}
 use Rattle.sweep.specs.declared.Dropped.{Dropped}
 use Rattle.sweep.specs.declared.SweepResult.{SweepResult}
 use Rattle.sweep.specs.declared.SweepResult.the-variants as result
@@ -47,10 +47,10 @@ sweepAnswer r t numbers = record { answer = r; outcome = sweepOutcome r; tables 
 
 -- how many of a kind stay, and how many do not: "dropped is counted from the references alone"
 abbrev pub keptIn : Used → Tables → VertexKind → ℕ
-keptIn used t kind = keptUpto (named used t kind) (usedIn kind used)
+keptIn used t kind = keptUpto (named used t kind) (usedOf kind used)
 
 abbrev pub droppedIn : Used → Tables → VertexKind → ℕ
-droppedIn used t kind = droppedUpto (named used t kind) (usedIn kind used)
+droppedIn used t kind = droppedUpto (named used t kind) (usedOf kind used)
 
 unfoldable pub sweptUsed : Used → Tables → Used
 sweptUsed used t =
@@ -77,7 +77,7 @@ droppedOf used t =
 
 -- the rows of a kind that stay
 abbrev pub rowsAfter : Used → Tables → VertexKind → List ℤ
-rowsAfter used t kind = keptRows (widthIn kind) (named used t kind) (tableIn kind t) (usedIn kind used)
+rowsAfter used t kind = keptRows (widthIn kind) (named used t kind) (tableIn kind t) (usedOf kind used)
 
 -- "Entries after the used ones are 0", in every table
 unfoldable pub sweptTables : Used → Tables → Tables

@@ -11,14 +11,14 @@ fn clear_rest_i32(values: &mut [i32], used: usize)
     requires { ⌜ used ≤ length (now values) ⌝ }
     ensures { λ r. ⌜ now (values .exit) ≡ filled (length (now (values .entry))) (pos 0) (take used (now (values .entry))) ⌝ }
 {
-    storing::clear_i32(&mut values[used..]);
+    table_store::clear_i32(&mut values[used..]);
 }
 
 fn clear_rest_u32(numbers: &mut [u32], used: usize)
     requires { ⌜ used ≤ length (now numbers) ⌝ }
     ensures { λ r. ⌜ now (numbers .exit) ≡ filled (length (now (numbers .entry))) 0 (take used (now (numbers .entry))) ⌝ }
 {
-    storing::clear_u32(&mut numbers[used..]);
+    table_store::clear_u32(&mut numbers[used..]);
 }
 
 // The four tables of vertices are cleared where their rows are moved.

@@ -15,7 +15,7 @@ use Rattle.tables.specs.Records.{elementIn, cornerIn, cornersEnd}
 use Rattle.tables.specs.declared.Used.{Used}
 use Rattle.tables.specs.declared.Corner.{Corner}
 use Rattle.sweep_rows.specs.Counting.{flatBelow}
-use Rattle.sweep_rows.specs.Marks.{numberOf, cornerBy, cornerNumbers, runBy, runsBy, cornersUpto}
+use Rattle.sweep_rows.specs.Marks.{numberListed, cornerBy, cornerNumbers, runBy, runsBy, cornersUpto}
 use Rattle.sweep_rows.proofs.FlatBelow.{flatBelow-same, flatBelow-length}
 use Rattle.sweep_rows.proofs.Stored.{getD-sets-past}
 
@@ -125,7 +125,7 @@ module _ (used : Used) (numbers : List ℕ) where
             record { within = omega arith; long = ap length next ∙ length-sets l 0 (runsBy used numbers elements l (suc i)); stored = rw add-one next }
 
 -- the lookup of one number
-pub number-past : (l : List ℕ) (base k : ℕ) → (k ≡ 0 → ⊥) → {r : ℕ} → r ≡ getD l (base + (k - 1)) 0 → r ≡ numberOf l base k
+pub number-past : (l : List ℕ) (base k : ℕ) → (k ≡ 0 → ⊥) → {r : ℕ} → r ≡ getD l (base + (k - 1)) 0 → r ≡ numberListed l base k
 number-past l base zero h e = absurd (h refl)
 number-past l base (suc k) h e = e ∙ ap (λ (n : ℕ). getD l (base + n) 0) (let z : suc k - 1 ≡ k = omega arith in z)
 

@@ -62,17 +62,17 @@ markedIn l (suc k) = not (eqb (getD l k 0) 0)
 -- ---- corners
 
 -- the new number of record k of a kind whose numbers begin at `base`; 0 stays 0
-abbrev pub numberOf : List ℕ → (base : ℕ) → ℕ → ℕ
-numberOf numbers base zero = 0
-numberOf numbers base (suc k) = getD numbers (base + k) 0
+abbrev pub numberListed : List ℕ → (base : ℕ) → ℕ → ℕ
+numberListed numbers base zero = 0
+numberListed numbers base (suc k) = getD numbers (base + k) 0
 
 -- a corner of an element of kind e with its new numbers
 unfoldable pub cornerBy : Used → List ℕ → (e : ℕ) → Corner → Corner
 cornerBy used numbers e c =
     record {
-      v = numberOf numbers (cond (eqb e curve2Kind) (used .v + used .vt + used .vn) 0) (c .v);
-      vt = numberOf numbers (used .v) (c .vt);
-      vn = numberOf numbers (used .v + used .vt) (c .vn);
+      v = numberListed numbers (cond (eqb e curve2Kind) (used .v + used .vt + used .vn) 0) (c .v);
+      vt = numberListed numbers (used .v) (c .vt);
+      vn = numberListed numbers (used .v + used .vt) (c .vn);
     }
 
 abbrev pub cornerNumbers : Corner → List ℕ

@@ -6,14 +6,14 @@ ghost use lib.Dec.{eqb};
 ghost use lib.ListN.{length, getD};
 ghost use lib.Seq.{sets};
 ghost use Rattle.tables.specs.Records.{elementIn, curve2Kind};
-ghost use Rattle.sweep_rows.specs.Marks.{numberOf, cornerBy, runBy, runsBy, cornersUpto};
+ghost use Rattle.sweep_rows.specs.Marks.{numberListed, cornerBy, runBy, runsBy, cornersUpto};
 use tables::Corner;
 use tables::Used;
 
 // The new number of record `number` of a kind whose numbers begin at `base`; 0 stays 0.
 fn number_of(numbers: &[u32], base: usize, number: u32) -> u32
     requires { ⌜ base ≤ 12884901885 ⌝ }
-    ensures { λ r. ⌜ r ≡ numberOf (now (numbers .entry)) base number ⌝ }
+    ensures { λ r. ⌜ r ≡ numberListed (now (numbers .entry)) base number ⌝ }
 {
     if number == 0 {
         return 0;
@@ -50,7 +50,7 @@ fn renumber_run(used: Used, numbers: &[u32], corners: &mut [u32], kind: u32, fir
     while j < count {
         let old = tables::corner_at(corners, first, j as usize);
         let new = corner_by(used, numbers, kind, old);
-        storing::put3_u32(
+        table_store::put3_u32(
             corners,
             first as usize + 3 * j as usize,
             new.v,

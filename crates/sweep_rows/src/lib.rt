@@ -34,7 +34,7 @@ fn sweep_table(
     requires { ⌜ (width * length (now numbers) ≤ length (now values)) × (width ≤ 4) × (length (now numbers) ≤ 4294967295) ⌝ }
     ensures { λ r. ⌜ (r ≡ keptUpto (namedIn count (now (elements .entry)) (now (corners .entry)) (kindOf table)) (length (now (numbers .entry)))) × (now (numbers .exit) ≡ newNumbers (namedIn count (now (elements .entry)) (now (corners .entry)) (kindOf table)) (length (now (numbers .entry)))) × (now (values .exit) ≡ filled (length (now (values .entry))) (pos 0) (keptRows width (namedIn count (now (elements .entry)) (now (corners .entry)) (kindOf table)) (now (values .entry)) (length (now (numbers .entry))))) ⌝ }
 {
-    storing::clear_u32(numbers);
+    table_store::clear_u32(numbers);
     marks::mark_elements(table, elements, count, corners, numbers);
     let kept = marks::number_marks(numbers);
     rows::move_rows(values, width, numbers);

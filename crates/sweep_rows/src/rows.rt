@@ -46,5 +46,5 @@ pub fn move_rows(values: &mut [i32], width: usize, numbers: &[u32])
         i += 1;
     }
     let rest = width * to;
-    storing::clear_i32(&mut values[rest..]);
+    table_store::clear_i32(&mut values[rest..]);
 }

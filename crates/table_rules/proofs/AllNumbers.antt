@@ -9,24 +9,24 @@ use borrow.Author.Tests.{leb-true, le-leb}
 use lib.Dec.{leb}
 use lib.ListN.{length, getD}
 use lib.IntN.{ℤ, pos}
-use Rattle.rules.specs.Numbers.{small, allBelow, smallRun}
-use Rattle.rules.specs.Vertices.{vertexObeys}
-use Rattle.rules.proofs.Below.{below-same}
+use Rattle.record_rules.specs.Numbers.{inRange, allBelow, runInRange}
+use Rattle.record_rules.specs.Vertices.{vertexObeys}
+use Rattle.record_rules.proofs.Below.{below-same}
 
 below-append : (f : ℕ → Bool) (a b : ℕ) → allBelow (a + b) f ≡ (allBelow a f && allBelow b (λ k. f (a + k)))
 below-append f a zero = rw add-zero (sym (and-true (allBelow a f)))
 below-append f a (suc b) = rw (add-suc, below-append f a b) (and-assoc (allBelow a f) _ _)
 
 module _ (l : List ℤ) where
-  run-append : (first a b : ℕ) → smallRun l first (a + b) ≡ (smallRun l first a && smallRun l (first + a) b)
-  unfolding smallRun
+  run-append : (first a b : ℕ) → runInRange l first (a + b) ≡ (runInRange l first a && runInRange l (first + a) b)
+  unfolding runInRange
   run-append first a b = go (leb (first + a + b) (length l)) refl
     where
       f : ℕ → Bool
-      f k = small (getD l (first + k) (pos 0))
+      f k = inRange (getD l (first + k) (pos 0))
 
       g : ℕ → Bool
-      g k = small (getD l (first + a + k) (pos 0))
+      g k = inRange (getD l (first + a + k) (pos 0))
 
       go : (q : Bool) → leb (first + a + b) (length l) ≡ q
           → (leb (first + (a + b)) (length l) && allBelow (a + b) f) ≡ (leb (first + a) (length l) && allBelow a f && (leb (first + a + b) (length l) && allBelow b g))
@@ -35,12 +35,12 @@ module _ (l : List ℤ) where
           rw (← add-assoc first a b, h, less, below-append f a b, below-same (λ k. f (a + k)) g (λ k. rw add-assoc) b)
       go false h = rw (← add-assoc first a b, h) (sym (and-false (leb (first + a) (length l) && allBelow a f)))
 
-  numbers-upto : (w n m : ℕ) → m ≤ n → smallRun l 0 (w * m) ≡ allBelow m (λ k. vertexObeys w l n (suc k))
-  unfolding smallRun vertexObeys
+  numbers-upto : (w n m : ℕ) → m ≤ n → runInRange l 0 (w * m) ≡ allBelow m (λ k. vertexObeys w l n (suc k))
+  unfolding runInRange vertexObeys
   numbers-upto w n zero h = rw (mul-zero, le-leb (0 + 0) (length l) (omega arith))
   numbers-upto w n (suc m) h =
       let at : suc m - 1 ≡ m = omega arith in
       rw (mul-suc, run-append 0 (w * m) w, numbers-upto w n m (omega arith), le-leb 1 (suc m) (omega arith), le-leb (suc m) n h, zero-add, at)
 
-  pub numbers-are : (w n : ℕ) → smallRun l 0 (w * n) ≡ allBelow n (λ k. vertexObeys w l n (suc k))
+  pub numbers-are : (w n : ℕ) → runInRange l 0 (w * n) ≡ allBelow n (λ k. vertexObeys w l n (suc k))
   numbers-are w n = numbers-upto w n n (omega arith)

@@ -9,14 +9,14 @@ use mathlib.Core.Logic.{_⊎_, inl, inr}
 use Rattle.lists.proofs.Tests.{and-left, and-right, test}
 use Rattle.tables.specs.Tables.{Tables}
 use Rattle.tables.specs.Records.{elementAt, bodyAt}
-use Rattle.tables.specs.Asking.{bodyOf}
+use Rattle.tables.specs.Asking.{askedBody}
 use Rattle.tables.specs.declared.Used.{Used}
 use Rattle.tables.specs.declared.Element.{Element}
 use Rattle.tables.specs.declared.Body.{Body}
-use Rattle.rules.specs.Bodies.{bodyObeys}
-use Rattle.rules.specs.Rules.{obeys}
-use Rattle.rules.proofs.Bodied.{body-is, body-there}
-use Rattle.rules.proofs.Element.{Obeys, obeys-facts, body-of, recorded, parts-used}
+use Rattle.record_rules.specs.Bodies.{bodyObeys}
+use Rattle.record_rules.specs.Rules.{obeys}
+use Rattle.record_rules.proofs.Bodied.{body-is, body-there}
+use Rattle.record_rules.proofs.Element.{Obeys, obeys-facts, body-of, recorded, parts-used}
 use Rattle.table_rules.specs.Whole.{Ends, isPlain, endsAfter, bodyFollows, elementFollows}
 
 -- every end is among the used entries
@@ -32,7 +32,7 @@ module _ (used : Used) (t : Tables) (curves i : ℕ) where
 
   -- the element's body as it is asked for
   abbrev b : Body
-  b = bodyOf used (t .bodies) (t .ranges) (e .body)
+  b = askedBody used (t .bodies) (t .ranges) (e .body)
 
   module _ (h : obeys used t curves i ≡ true) (n : Ends) where
     abbrev next : Body

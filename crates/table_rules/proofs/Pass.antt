@@ -9,15 +9,15 @@ use lib.ListN.{length}
 use Rattle.lists.proofs.Tests.{and-first, and-second}
 use Rattle.tables.specs.Tables.{Tables}
 use Rattle.tables.specs.Records.{elementAt}
-use Rattle.tables.specs.Asking.{bodyOf}
+use Rattle.tables.specs.Asking.{askedBody}
 use Rattle.tables.specs.declared.Used.{Used}
 use Rattle.tables.specs.declared.Element.{Element}
 use Rattle.tables.specs.declared.Body.{Body}
-use Rattle.rules.specs.Numbers.{allBelow}
-use Rattle.rules.specs.Rules.{obeys, curvesBefore, recordsObey}
-use Rattle.rules.proofs.Below.{below-more, below-fails}
-use Rattle.rules.proofs.OneBody.{curves-more}
-use Rattle.rules.proofs.Records.{records-are}
+use Rattle.record_rules.specs.Numbers.{allBelow}
+use Rattle.record_rules.specs.Rules.{obeys, curvesBefore, recordsObey}
+use Rattle.record_rules.proofs.Below.{below-more, below-fails}
+use Rattle.record_rules.proofs.OneBody.{curves-more}
+use Rattle.record_rules.proofs.Records.{records-are}
 use Rattle.table_rules.specs.Whole.{Ends, noEnds, endsAfter, endsBefore, elementFollows, followsAt, endsUsed, elementsObey, runsFollow}
 use Rattle.table_rules.proofs.OneElement.{Within, follows-are, ends-are, ends-within}
 
@@ -59,7 +59,7 @@ module _ (used : Used) (t : Tables) where
 
   -- the element at i, with its body
   module _ {i curves : ℕ} {ends : Ends} (p : Passed i curves ends) (more : i < used .elements) (lent : 9 * used .elements ≤ length (t .elements))
-      (e : Element) (b : Body) (e-is : e ≡ elementAt t i) (b-is : b ≡ bodyOf used (t .bodies) (t .ranges) (e .body)) where
+      (e : Element) (b : Body) (e-is : e ≡ elementAt t i) (b-is : b ≡ askedBody used (t .bodies) (t .ranges) (e .body)) where
     obeys-here : recordsObey used t curves e b ≡ obeysAt i
     obeys-here = rw (b-is, e-is, p .counted) (records-are used t (curvesBefore t i) i (omega arith))
 

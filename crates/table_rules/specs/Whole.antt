@@ -9,9 +9,9 @@ use Rattle.tables.specs.Records.{vWidth, vtWidth, vnWidth, vpWidth, elementWidt
 use Rattle.tables.specs.declared.Used.{Used}
 use Rattle.tables.specs.declared.Element.{Element}
 use Rattle.tables.specs.declared.Body.{Body}
-use Rattle.rules.specs.Numbers.{allBelow}
-use Rattle.rules.specs.Vertices.{vertexObeys, parameterVertexObeys}
-use Rattle.rules.specs.Rules.{obeys, curvesBefore}
+use Rattle.record_rules.specs.Numbers.{allBelow}
+use Rattle.record_rules.specs.Vertices.{vertexObeys, parameterVertexObeys}
+use Rattle.record_rules.specs.Rules.{obeys, curvesBefore}
 use Rattle.table_rules.specs.declared.ends.Ends as declared
 
 -- all used entries are lent: here, and not for sampling, a used count past its slice is a fault by itself

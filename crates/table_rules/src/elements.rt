@@ -10,8 +10,8 @@ use crate::ends::Ends;
 use crate::ends::element_follows;
 use crate::ends::ends_after;
 use crate::ends::ends_used;
-use rules::loops::curve_or_none;
-use rules::records_obey;
+use record_rules::loops::curve_or_none;
+use record_rules::records_obey;
 use tables::Used;
 
 pub fn elements_obey(

@@ -2,18 +2,18 @@ ghost use mathlib.Core.Path.{_≡_};
 ghost use mathlib.Core.List.{[]};
 ghost use Prim.Native.Nat.{suc};
 ghost use Rattle.tables.specs.Tables.{tables};
-ghost use Rattle.rules.specs.Numbers.{allBelow};
-ghost use Rattle.rules.specs.Vertices.{vertexObeys, parameterVertexObeys};
+ghost use Rattle.record_rules.specs.Numbers.{allBelow};
+ghost use Rattle.record_rules.specs.Vertices.{vertexObeys, parameterVertexObeys};
 ghost use Rattle.table_rules.specs.Whole.{verticesObey};
-use rules::numbers::small_run;
-use rules::vertices::parameter_vertex;
+use record_rules::numbers::run_in_range;
+use record_rules::vertices::parameter_vertex;
 use tables::Used;
 
 // Every v, vt or vn: all of their numbers are one run.
 fn numbers_obey(values: &[i32], width: u32, used: u32) -> bool
     ensures { λ r. ⌜ r ≡ allBelow used (λ k. vertexObeys width (now (values .entry)) used (suc k)) ⌝ }
 {
-    small_run(values, 0, (width as usize) * (used as usize))
+    run_in_range(values, 0, (width as usize) * (used as usize))
 }
 
 // Every vp.

@@ -12,7 +12,7 @@ use lib.IntN.{ℤ, pos}
 use lib.Pow.{pow-pos, pow-add}
 use Rattle.lists.proofs.Tests.{and-left, and-right}
 use Rattle.tables.specs.Records.{elementIn, bodyIn, cornerIn}
-use Rattle.tables.specs.Asking.{held, elementOf, noElement, bodyHeld, bodyOf, noBody, cornerWith, cornerOf, noCorner, partOf, groupOf, materialOf}
+use Rattle.tables.specs.Asking.{held, askedElement, noElement, bodyHeld, askedBody, noBody, cornerWith, askedCorner, noCorner, partOf, askedGroup, askedMaterial}
 use Rattle.tables.specs.declared.Used.{Used}
 use Rattle.tables.specs.declared.Element.{Element}
 use Rattle.tables.specs.declared.Body.{Body}
@@ -45,12 +45,12 @@ module _ (number used w lent : ℕ) where
   held-whole h = leb-true (w * number) lent (and-right (leb 1 number && leb number used) (leb (w * number) lent) h)
 
 module _ (used : Used) (elements : List ℕ) (number : ℕ) where
-  pub element-held : {e : Element} {b : Bool} → b ≡ held number (used .elements) 9 (length elements) → b ≡ true → e ≡ elementIn elements (number - 1) → e ≡ elementOf used elements number
-  unfolding elementOf
+  pub element-held : {e : Element} {b : Bool} → b ≡ held number (used .elements) 9 (length elements) → b ≡ true → e ≡ elementIn elements (number - 1) → e ≡ askedElement used elements number
+  unfolding askedElement
   element-held h t p = p ∙ rw (sym h ∙ t) refl
 
-  pub element-none : {b : Bool} → b ≡ held number (used .elements) 9 (length elements) → b ≡ false → noElement ≡ elementOf used elements number
-  unfolding elementOf
+  pub element-none : {b : Bool} → b ≡ held number (used .elements) 9 (length elements) → b ≡ false → noElement ≡ askedElement used elements number
+  unfolding askedElement
   element-none h t = rw (sym h ∙ t) refl
 
 module _ (used : Used) (bodies : List ℕ) (ranges : List ℤ) (number : ℕ) where
@@ -75,12 +75,12 @@ module _ (used : Used) (bodies : List ℕ) (ranges : List ℤ) (number : ℕ) wh
       let range-lent = leb-true (4 * number) (length ranges) (and-right (held number (used .bodies) 9 (length bodies)) (leb (4 * number) (length ranges)) h) in
       (omega arith, omega arith)
 
-  pub body-held : {e : Body} {b : Bool} → b ≡ bodyHeld used bodies ranges number → b ≡ true → e ≡ bodyIn bodies ranges (number - 1) → e ≡ bodyOf used bodies ranges number
-  unfolding bodyOf
+  pub body-held : {e : Body} {b : Bool} → b ≡ bodyHeld used bodies ranges number → b ≡ true → e ≡ bodyIn bodies ranges (number - 1) → e ≡ askedBody used bodies ranges number
+  unfolding askedBody
   body-held h t p = p ∙ rw (sym h ∙ t) refl
 
-  pub body-none : {b : Bool} → b ≡ bodyHeld used bodies ranges number → b ≡ false → noBody ≡ bodyOf used bodies ranges number
-  unfolding bodyOf
+  pub body-none : {b : Bool} → b ≡ bodyHeld used bodies ranges number → b ≡ false → noBody ≡ askedBody used bodies ranges number
+  unfolding askedBody
   body-none h t = rw (sym h ∙ t) refl
 
 -- a body's numbers, each by its place
@@ -129,8 +129,8 @@ module _ (used : Used) (corners : List ℕ) (e : Element) (k : ℕ) where
   unfolding cornerWith
   corner-there h u l = rw (lt-ltb k (e .count) h, le-leb (e .first + 3 * k + 3) (used .corners) u, le-leb (e .first + 3 * k + 3) (length corners) l) refl
 
-pub corner-asked : (used : Used) (elements corners : List ℕ) (number k : ℕ) {e : Element} {c : Corner} → e ≡ elementOf used elements number → c ≡ cornerWith used corners e k → c ≡ cornerOf used elements corners number k
-unfolding cornerOf
+pub corner-asked : (used : Used) (elements corners : List ℕ) (number k : ℕ) {e : Element} {c : Corner} → e ≡ askedElement used elements number → c ≡ cornerWith used corners e k → c ≡ askedCorner used elements corners number k
+unfolding askedCorner
 corner-asked used elements corners number k p q = q ∙ ap (λ (e : Element). cornerWith used corners e k) p
 
 module _ (text : List ℕ) (place count : ℕ) where
@@ -144,11 +144,11 @@ module _ (text : List ℕ) (place count : ℕ) where
   unfolding partOf
   part-past h = rw (lt-leb (place + count) (length text) h) refl
 
-module _ (text : List ℕ) (used : Used) (elements : List ℕ) (number : ℕ) {e : Element} {part : List ℕ} (p : e ≡ elementOf used elements number) where
-  pub group-asked : part ≡ partOf text (e .«group_place») (e .«group_length») → part ≡ groupOf text used elements number
-  unfolding groupOf
+module _ (text : List ℕ) (used : Used) (elements : List ℕ) (number : ℕ) {e : Element} {part : List ℕ} (p : e ≡ askedElement used elements number) where
+  pub group-asked : part ≡ partOf text (e .«group_place») (e .«group_length») → part ≡ askedGroup text used elements number
+  unfolding askedGroup
   group-asked q = q ∙ ap (λ (e : Element). partOf text (e .«group_place») (e .«group_length»)) p
 
-  pub material-asked : part ≡ partOf text (e .«material_place») (e .«material_length») → part ≡ materialOf text used elements number
-  unfolding materialOf
+  pub material-asked : part ≡ partOf text (e .«material_place») (e .«material_length») → part ≡ askedMaterial text used elements number
+  unfolding askedMaterial
   material-asked q = q ∙ ap (λ (e : Element). partOf text (e .«material_place») (e .«material_length»)) p

@@ -3,7 +3,7 @@ use Prim.Native.Nat.{ℕ}
 use mathlib.Core.Path.{_≡_, refl}
 use mathlib.Core.List.{List, [], _∷_}
 use lib.IntN.{ℤ, pos}
-use Rattle.tables.specs.Asking.{held, elementOf, bodyHeld, bodyOf, noBody, noCorner, cornerWith, cornerOf, partOf, groupOf, materialOf}
+use Rattle.tables.specs.Asking.{held, askedElement, bodyHeld, askedBody, noBody, noCorner, cornerWith, askedCorner, partOf, askedGroup, askedMaterial}
 use Rattle.tables.specs.declared.Used.{Used}
 use Rattle.tables.specs.declared.Body.{Body}
 
@@ -27,32 +27,32 @@ ranges = pos 5 ∷ pos 6 ∷ pos 0 ∷ pos 0 ∷ pos 1 ∷ pos 2 ∷ pos 0 ∷ [
 abbrev text : List ℕ
 text = 65 ∷ 66 ∷ 67 ∷ 68 ∷ []
 
-second : cornerOf used elements corners 1 1 ≡ record { v = 2; vt = 5; vn = 0 }
-unfolding held elementOf cornerWith cornerOf
+second : askedCorner used elements corners 1 1 ≡ record { v = 2; vt = 5; vn = 0 }
+unfolding held askedElement cornerWith askedCorner
 second = refl
 
-past-used : cornerOf used elements corners 1 2 ≡ noCorner
-unfolding held elementOf cornerWith cornerOf
+past-used : askedCorner used elements corners 1 2 ≡ noCorner
+unfolding held askedElement cornerWith askedCorner
 past-used = refl
 
-element-zero : cornerOf used elements corners 0 0 ≡ noCorner
-unfolding held elementOf cornerWith cornerOf
+element-zero : askedCorner used elements corners 0 0 ≡ noCorner
+unfolding held askedElement cornerWith askedCorner
 element-zero = refl
 
-element-unused : cornerOf used elements corners 2 0 ≡ noCorner
-unfolding held elementOf cornerWith cornerOf
+element-unused : askedCorner used elements corners 2 0 ≡ noCorner
+unfolding held askedElement cornerWith askedCorner
 element-unused = refl
 
-group : groupOf text used elements 1 ≡ 66 ∷ 67 ∷ []
-unfolding held elementOf partOf groupOf
+group : askedGroup text used elements 1 ≡ 66 ∷ 67 ∷ []
+unfolding held askedElement partOf askedGroup
 group = refl
 
-group-zero : groupOf text used elements 0 ≡ []
-unfolding held elementOf partOf groupOf
+group-zero : askedGroup text used elements 0 ≡ []
+unfolding held askedElement partOf askedGroup
 group-zero = refl
 
-material-past : materialOf text used elements 1 ≡ []
-unfolding held elementOf partOf materialOf
+material-past : askedMaterial text used elements 1 ≡ []
+unfolding held askedElement partOf askedMaterial
 material-past = refl
 
 abbrev curve : Body
@@ -73,14 +73,14 @@ curve =
       «end_v» = pos 0;
     }
 
-first-body : bodyOf used bodies ranges 1 ≡ curve
-unfolding held bodyHeld bodyOf
+first-body : askedBody used bodies ranges 1 ≡ curve
+unfolding held bodyHeld askedBody
 first-body = refl
 
-body-zero : bodyOf used bodies ranges 0 ≡ noBody
-unfolding held bodyHeld bodyOf
+body-zero : askedBody used bodies ranges 0 ≡ noBody
+unfolding held bodyHeld askedBody
 body-zero = refl
 
-body-unranged : bodyOf used bodies ranges 2 ≡ noBody
-unfolding held bodyHeld bodyOf
+body-unranged : askedBody used bodies ranges 2 ≡ noBody
+unfolding held bodyHeld askedBody
 body-unranged = refl

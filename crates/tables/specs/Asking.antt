@@ -30,8 +30,8 @@ noElement =
     }
 
 -- the element of that number, all zeros for no such element
-unfoldable pub elementOf : Used → List ℕ → ℕ → Element
-elementOf used elements number =
+unfoldable pub askedElement : Used → List ℕ → ℕ → Element
+askedElement used elements number =
     cond (held number (used .elements) elementWidth (length elements)) (elementIn elements (number - 1)) noElement
 
 -- the body of that number is held, and its range too
@@ -57,8 +57,8 @@ noBody =
     }
 
 -- the body of that number, all zeros for no such body
-unfoldable pub bodyOf : Used → List ℕ → List ℤ → ℕ → Body
-bodyOf used bodies ranges number = cond (bodyHeld used bodies ranges number) (bodyIn bodies ranges (number - 1)) noBody
+unfoldable pub askedBody : Used → List ℕ → List ℤ → ℕ → Body
+askedBody used bodies ranges number = cond (bodyHeld used bodies ranges number) (bodyIn bodies ranges (number - 1)) noBody
 
 abbrev pub noCorner : Corner
 noCorner = record { v = 0; vt = 0; vn = 0 }
@@ -72,20 +72,20 @@ cornerWith used corners e k =
     (cornerIn corners at)
     noCorner
 
-unfoldable pub cornerOf : Used → List ℕ → List ℕ → ℕ → ℕ → Corner
-cornerOf used elements corners number k = cornerWith used corners (elementOf used elements number) k
+unfoldable pub askedCorner : Used → List ℕ → List ℕ → ℕ → ℕ → Corner
+askedCorner used elements corners number k = cornerWith used corners (askedElement used elements number) k
 
 -- "that part of the caller's own text"; "a run past the text's end, gives an empty part"
 unfoldable pub partOf : List ℕ → ℕ → ℕ → List ℕ
 partOf text place count = cond (leb (place + count) (length text)) (take count (drop place text)) []
 
 -- "Place and length are 0 where none is set": the empty part then, and for no such element
-unfoldable pub groupOf : List ℕ → Used → List ℕ → ℕ → List ℕ
-groupOf text used elements number =
-    let e = elementOf used elements number in
+unfoldable pub askedGroup : List ℕ → Used → List ℕ → ℕ → List ℕ
+askedGroup text used elements number =
+    let e = askedElement used elements number in
     partOf text (e .«group_place») (e .«group_length»)
 
-unfoldable pub materialOf : List ℕ → Used → List ℕ → ℕ → List ℕ
-materialOf text used elements number =
-    let e = elementOf used elements number in
+unfoldable pub askedMaterial : List ℕ → Used → List ℕ → ℕ → List ℕ
+askedMaterial text used elements number =
+    let e = askedElement used elements number in
     partOf text (e .«material_place») (e .«material_length»)

@@ -106,13 +106,13 @@ abbrev pub parametersV : Tables → Body → List ℤ
 parametersV t b = take (b .«count_v») (drop (b .«first_parameter» + b .«count_u») (t .parameters))
 
 -- a part of a trimming loop: what begins with it (1 a trim, 2 a hole, 0 nothing), its curv2's number, its two numbers
-pub record Part : Type 0 where
+pub record PartRecord : Type 0 where
   pub begins : ℕ
   pub curve : ℕ
   pub from : ℤ
   pub to : ℤ
 
-abbrev pub partAt : Tables → ℕ → Part
+abbrev pub partAt : Tables → ℕ → PartRecord
 partAt t i =
     record {
       begins = numberAt loopWidth (t .loops) i 0;

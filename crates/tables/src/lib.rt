@@ -6,7 +6,7 @@ ghost use mathlib.Core.Bool.{_&&_};
 ghost use lib.Dec.{leb};
 ghost use lib.ListN.{length, getD};
 ghost use Rattle.tables.specs.Records.{elementWidth, bodyWidth, rangeWidth, numberAt, elementIn, bodyIn, cornersEnd, cornerIn};
-ghost use Rattle.tables.specs.Asking.{held, elementOf, bodyHeld, bodyOf, cornerWith, cornerOf, partOf, groupOf, materialOf};
+ghost use Rattle.tables.specs.Asking.{held, askedElement, bodyHeld, askedBody, cornerWith, askedCorner, partOf, askedGroup, askedMaterial};
 
 // Records, but for the corners, which count numbers.
 #[repr(C)]
@@ -148,7 +148,7 @@ pub fn element_in(elements: &[u32], index: u32) -> Element
 
 // The element of that number, counted from 1; all zeros for no such element.
 pub fn element_of(used: Used, elements: &[u32], element: u32) -> Element
-    ensures { λ r. ⌜ r ≡ elementOf used (now (elements .entry)) element ⌝ }
+    ensures { λ r. ⌜ r ≡ askedElement used (now (elements .entry)) element ⌝ }
 {
     if is_held(element, used.elements, 9, elements.len()) {
         return lent_element(elements, element - 1);
@@ -238,7 +238,7 @@ pub fn has_body(used: Used, bodies: &[u32], ranges: &[i32], body: u32) -> bool
 
 // The body of that number, counted from 1; all zeros for no such body.
 pub fn body_of(used: Used, bodies: &[u32], ranges: &[i32], body: u32) -> Body
-    ensures { λ r. ⌜ r ≡ bodyOf used (now (bodies .entry)) (now (ranges .entry)) body ⌝ }
+    ensures { λ r. ⌜ r ≡ askedBody used (now (bodies .entry)) (now (ranges .entry)) body ⌝ }
 {
     if has_body(used, bodies, ranges, body) {
         return lent_body(bodies, ranges, body - 1);
@@ -309,7 +309,7 @@ pub fn corner_with(used: Used, corners: &[u32], element: Element, k: u32) -> Cor
 
 // Corner `k`, counted from 0, of the element of that number, counted from 1; three zeros for no such corner.
 pub fn corner_of(used: Used, elements: &[u32], corners: &[u32], element: u32, k: u32) -> Corner
-    ensures { λ r. ⌜ r ≡ cornerOf used (now (elements .entry)) (now (corners .entry)) element k ⌝ }
+    ensures { λ r. ⌜ r ≡ askedCorner used (now (elements .entry)) (now (corners .entry)) element k ⌝ }
 {
     let e = element_of(used, elements, element);
     corner_with(used, corners, e, k)
@@ -329,7 +329,7 @@ fn part_of(text: &[u8], place: u32, count: u32) -> &[u8]
 
 // The run of group names of the element of that number, counted from 1, as it stands in the caller's text.
 pub fn group_of<'a, 'b>(text: &'a [u8], used: Used, elements: &'b [u32], element: u32) -> &'a [u8]
-    ensures { λ r. ⌜ now r ≡ groupOf (now (text .entry)) used (now (elements .entry)) element ⌝ }
+    ensures { λ r. ⌜ now r ≡ askedGroup (now (text .entry)) used (now (elements .entry)) element ⌝ }
 {
     let e = element_of(used, elements, element);
     part_of(text, e.group_place, e.group_length)
@@ -342,7 +342,7 @@ pub fn material_of<'a, 'b>(
     elements: &'b [u32],
     element: u32,
 ) -> &'a [u8]
-    ensures { λ r. ⌜ now r ≡ materialOf (now (text .entry)) used (now (elements .entry)) element ⌝ }
+    ensures { λ r. ⌜ now r ≡ askedMaterial (now (text .entry)) used (now (elements .entry)) element ⌝ }
 {
     let e = element_of(used, elements, element);
     part_of(text, e.material_place, e.material_length)

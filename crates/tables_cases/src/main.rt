@@ -24,7 +24,7 @@ fn put_value(z: i32) {
     if z < 0 {
         put(b"-");
     }
-    put_number(writing::magnitude(z));
+    put_number(word_format::magnitude(z));
 }
 
 fn put_body(b: Body) {
@@ -121,7 +121,7 @@ fn bodies(bodies: &[u32], ranges: &[i32]) {
 }
 
 fn ask_stored(t: &mut [u32], at: usize) {
-    if storing::put3_u32(t, at, 7, 8, 4294967295) {
+    if table_store::put3_u32(t, at, 7, 8, 4294967295) {
         put(b"stored\n");
     } else {
         put(b"no room\n");
@@ -137,7 +137,7 @@ fn stores() {
     put_number(t[1]);
     put_number(t[2]);
     put_number(t[3]);
-    storing::clear_u32(&mut t);
+    table_store::clear_u32(&mut t);
     put_number(t[0]);
     put_number(t[3]);
     put(b"\n");

@@ -1,4 +1,4 @@
--- The answers of `gap`, one by one: what each says of the rest of the line.
+-- The answers of `skip_blanks`, one by one: what each says of the rest of the line.
 use Prim.Native.Nat.{ℕ, _+_, _≤_, _<_}
 use mathlib.Core.Path.{_≡_}
 use mathlib.Core.List.{List}
@@ -9,11 +9,11 @@ use lib.Dec.{leb}
 use native.Mathlib.Omega.{arith}
 use borrow.Author.Tests.{leb-true, leb-false}
 use Rattle.lists.proofs.Tests.{test}
-use Rattle.text.specs.Rest.{WordMet, EndMet, BadMet, gapIs}
-use Rattle.text.specs.declared.Met.{Met}
-use Rattle.text.specs.declared.Met.the-variants.{Start, End, Bad}
+use Rattle.text.specs.Rest.{WordMet, EndMet, BadMet, afterBlanksIs}
+use Rattle.text.specs.declared.AfterBlanks.{AfterBlanks}
+use Rattle.text.specs.declared.AfterBlanks.the-variants.{Start, End, Bad}
 
-module _ (s : List ℕ) (at : ℕ) (r : Met) (m : gapIs s at r) where
+module _ (s : List ℕ) (at : ℕ) (r : AfterBlanks) (m : afterBlanksIs s at r) where
   pub word-found : {p : ℕ} → r ≡ Start p → WordMet s at p
   word-found e = rw e at m
 

@@ -93,7 +93,7 @@ module _ (s : List ℕ) (at i : ℕ) (w : InComment s at i) where
               ∙ ap (λ (q : ℕ). W.restIn comment q (drop (i + 1) s)) (sym (add-one i));
         }
 
--- ---- `gap`: blanks and joins up to p, and then what stands there
+-- ---- `skip_blanks`: blanks and joins up to p, and then what stands there
 pub record InBlanks (s : List ℕ) (at i : ℕ) : Type 0 where
   pub from : at ≤ i
   pub to : i ≤ length s

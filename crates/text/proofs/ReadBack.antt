@@ -13,7 +13,7 @@ use Rattle.text.specs.Bytes.{isWord, startsWord}
 use Rattle.text.specs.Lines.{gap, word, lineOf, strideOf, linesOf}
 use Rattle.text.specs.Words.{Word, wordOf, words, refusedAt}
 use Rattle.text.specs.Rest.{Rest, restAt, push}
-use Rattle.text.specs.Written.{isToken, writtenAfter, writtenLine, writtenLines, areLines, Said, bytesOf, saidBy, sayingOf}
+use Rattle.text.specs.Written.{isToken, writtenAfter, writtenLine, writtenLines, areLines, WrittenStatement, bytesOf, saidBy, sayingOf}
 use Rattle.text.proofs.Cut.{words-cut, refused-cut}
 use Rattle.text.proofs.Walk.{restIn, rest-in, rest-goes, rest-opens, rest-ends, past-word, word-look, starts-word}
 use Rattle.text.proofs.LineByLine.{linesIn, lines-cons}
@@ -123,7 +123,7 @@ lines-back p [] h = refl
 lines-back p (ws ∷ ls) h =
     let a : all isToken ws ≡ true = and-left (all isToken ws) (areLines ls) h in
     ap (map saidBy) (written-on p ws (writtenLines ls) a)
-    ∙ ap₂ (λ (x : Said) (xs : List Said). x ∷ xs) (said-back p ws (writtenLines ls) a)
+    ∙ ap₂ (λ (x : WrittenStatement) (xs : List WrittenStatement). x ∷ xs) (said-back p ws (writtenLines ls) a)
     (lines-back (p + length (writtenLine ws)) ls (and-right (all isToken ws) (areLines ls) h))
 
 -- a text of written lines says, line by line, their words, and has no byte that is not allowed

@@ -5,9 +5,9 @@ use mathlib.Core.List.{List}
 use mathlib.Core.Option.{Option, none, some}
 use lib.ListN.{length}
 use native.Mathlib.Omega.{arith}
-use Rattle.text.specs.Rest.{Rest, restAt, endOf, WordMet, EndMet, BadMet, gapIs, scanned, scanOf}
-use Rattle.text.specs.declared.Met.{Met}
-use Rattle.text.specs.declared.Met.the-variants.{End, Bad}
+use Rattle.text.specs.Rest.{Rest, restAt, endOf, WordMet, EndMet, BadMet, afterBlanksIs, scanned, scanOf}
+use Rattle.text.specs.declared.AfterBlanks.{AfterBlanks}
+use Rattle.text.specs.declared.AfterBlanks.the-variants.{End, Bad}
 use Rattle.text.proofs.Found.{end-found, bad-found}
 use Rattle.text.specs.declared.Scan.the-variants.{Good, Bad as Fault}
 
@@ -46,7 +46,7 @@ module _ (s : List ℕ) (at i count : ℕ) (w : Scanning s at i count) where
         omega arith,
       )
 
-  module _ (r : Met) (m : gapIs s i r) where
+  module _ (r : AfterBlanks) (m : afterBlanksIs s i r) where
     pub scan-end : {q : ℕ} → r ≡ End q → Good count q ≡ scanOf (restAt s at)
     scan-end {q} e =
         let j : EndMet s i q = end-found s i r m e in

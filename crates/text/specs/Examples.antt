@@ -11,15 +11,15 @@ use Rattle.text.specs.Lines.{Line, linesOf}
 use Rattle.text.specs.Words.{Word, wordsOf, badOf}
 
 -- a line: its place, how many bytes it has without its ending, its words up to its first byte that is not allowed, and the place of that byte
-pub record Seen : Type 0 where
+pub record SeenLine : Type 0 where
   pub place : ℕ
   pub size : ℕ
   pub words : List Word
   pub bad : Option ℕ
 
-pub record Row : Type 0 where
+pub record Example : Type 0 where
   pub text : List ℕ
-  pub lines : List Seen
+  pub lines : List SeenLine
 
 abbrev same-words : List Word → List Word → Bool
 same-words [] [] = true
@@ -33,25 +33,25 @@ same-place none (some q) = false
 same-place (some p) none = false
 same-place (some p) (some q) = eqb p q
 
-abbrev same-line : Line → Seen → Bool
+abbrev same-line : Line → SeenLine → Bool
 same-line l r = eqb (l .place) (r .place) && eqb (length (l .bytes)) (r .size) && same-words (wordsOf l) (r .words) && same-place (badOf l) (r .bad)
 
-abbrev same-lines : List Line → List Seen → Bool
+abbrev same-lines : List Line → List SeenLine → Bool
 same-lines [] [] = true
 same-lines [] (r ∷ rs) = false
 same-lines (l ∷ ls) [] = false
 same-lines (l ∷ ls) (r ∷ rs) = same-line l r && same-lines ls rs
 
-abbrev pub holds : Row → Bool
+abbrev pub holds : Example → Bool
 holds r = same-lines (linesOf (r .text)) (r .lines)
 
 abbrev at : ℕ → List ℕ → Word
 at p l = record { place = p; bytes = l }
 
-abbrev line : ℕ → ℕ → List Word → Option ℕ → Seen
+abbrev line : ℕ → ℕ → List Word → Option ℕ → SeenLine
 line p n ws b = record { place = p; size = n; words = ws; bad = b }
 
-unfoldable pub table : List Row
+unfoldable pub table : List Example
 table =
     -- v, a join, 1, and a comment, in which a backslash joins nothing; x is the next line
     record { text = 118 ∷ 32 ∷ 92 ∷ 10 ∷ 49 ∷ 32 ∷ 35 ∷ 92 ∷ 13 ∷ 10 ∷ 120 ∷ []; lines = line 0 8 (at 0 (118 ∷ []) ∷ at 4 (49 ∷ []) ∷ []) none ∷ line 10 1 (at 10 (120 ∷ []) ∷ []) none ∷ [] } ∷

@@ -10,8 +10,8 @@ use Rattle.text.specs.Lines.{gap, lineOf, strideOf}
 use Rattle.text.specs.Words.{Word, wordOf, words, refusedAt}
 use Rattle.text.specs.declared.Turn.{Turn}
 use Rattle.text.specs.declared.Turn.the-variants.{On, End as Over, Refused}
-use Rattle.text.specs.declared.Met.{Met}
-use Rattle.text.specs.declared.Met.the-variants.{Start, End, Bad}
+use Rattle.text.specs.declared.AfterBlanks.{AfterBlanks}
+use Rattle.text.specs.declared.AfterBlanks.the-variants.{Start, End, Bad}
 use Rattle.text.specs.declared.Scan.{Scan}
 use Rattle.text.specs.declared.Scan.the-variants.{Good, Bad as Fault}
 
@@ -39,7 +39,7 @@ wordAt s p = record { place = p; bytes = wordOf (drop p s) }
 abbrev pub endOf : List ℕ → ℕ → ℕ
 endOf s p = p + length (wordOf (drop p s))
 
--- ---- what `gap` finds from the place `at` on, which is between words
+-- ---- what `skip_blanks` finds from the place `at` on, which is between words
 -- a word, at p
 pub record WordMet (s : List ℕ) (at p : ℕ) : Type 0 where
   pub from : at ≤ p
@@ -72,10 +72,10 @@ turnIs s at (On p) = JoinMet s at p
 turnIs s at (Over q) = EndMet s at q
 turnIs s at Refused = BadMet s at at
 
-abbrev pub gapIs : List ℕ → ℕ → Met → Type 0
-gapIs s at (Start p) = WordMet s at p
-gapIs s at (End q) = EndMet s at q
-gapIs s at (Bad p) = BadMet s at p
+abbrev pub afterBlanksIs : List ℕ → ℕ → AfterBlanks → Type 0
+afterBlanksIs s at (Start p) = WordMet s at p
+afterBlanksIs s at (End q) = EndMet s at q
+afterBlanksIs s at (Bad p) = BadMet s at p
 
 -- what `scan_line` answers
 abbrev pub scanned : Option ℕ → ℕ → ℕ → Scan

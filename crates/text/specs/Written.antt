@@ -30,16 +30,16 @@ abbrev pub areLines : List (List (List ℕ)) → Bool
 areLines ls = all (all isToken) ls
 
 -- what a line says, wherever it stands
-pub record Said : Type 0 where
+pub record WrittenStatement : Type 0 where
   pub texts : List (List ℕ)
   pub bad : Option ℕ
 
 abbrev pub bytesOf : List Word → List (List ℕ)
 bytesOf ws = map (λ w. w .bytes) ws
 
-abbrev pub saidBy : Line → Said
+abbrev pub saidBy : Line → WrittenStatement
 saidBy l = record { texts = bytesOf (wordsOf l); bad = badOf l }
 
 -- these words, and no byte that is not allowed
-abbrev pub sayingOf : List (List ℕ) → Said
+abbrev pub sayingOf : List (List ℕ) → WrittenStatement
 sayingOf ws = record { texts = ws; bad = none }

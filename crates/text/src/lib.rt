@@ -4,7 +4,7 @@ ghost use Prim.Native.Nat.{_+_, _≤_, _<_};
 ghost use lib.ListN.{length, getD, drop};
 ghost use mathlib.Core.Bool.{true, false};
 ghost use Rattle.text.specs.Bytes.{isBlank, isWord, startsWord, lf};
-ghost use Rattle.text.specs.Rest.{restAt, endOf, EndMet, turnIs, gapIs, scanOf};
+ghost use Rattle.text.specs.Rest.{restAt, endOf, EndMet, turnIs, afterBlanksIs, scanOf};
 ghost use Rattle.text.specs.Lines.{breakOf};
 
 // 01: "Words hold bytes 33 to 126"; a backslash is no word byte.
@@ -131,16 +131,16 @@ fn turn_at(text: &[u8], at: usize) -> Turn
 }
 
 // What a line goes on with: a word, its end with the place of the next line, a byte that is not allowed.
-pub enum Met {
+pub enum AfterBlanks {
     Start(usize),
     End(usize),
     Bad(usize),
 }
 
 // What the line goes on with at or after `at`, which is between words.
-pub fn gap(text: &[u8], at: usize) -> Met
+pub fn skip_blanks(text: &[u8], at: usize) -> AfterBlanks
     requires { ⌜ at ≤ length (now text) ⌝ }
-    ensures { λ r. ⌜ gapIs (now (text .entry)) at r ⌝ }
+    ensures { λ r. ⌜ afterBlanksIs (now (text .entry)) at r ⌝ }
 {
     let mut i = at;
     while i < text.len() {
@@ -149,22 +149,22 @@ pub fn gap(text: &[u8], at: usize) -> Met
             i += 1;
         } else {
             if starts_word(b) {
-                return Met::Start(i);
+                return AfterBlanks::Start(i);
             }
             match turn_at(text, i) {
                 Turn::On(j) => {
                     i = j;
                 }
                 Turn::End(q) => {
-                    return Met::End(q);
+                    return AfterBlanks::End(q);
                 }
                 Turn::Refused => {
-                    return Met::Bad(i);
+                    return AfterBlanks::Bad(i);
                 }
             }
         }
     }
-    Met::End(i)
+    AfterBlanks::End(i)
 }
 
 pub enum Scan {
@@ -180,18 +180,18 @@ pub fn scan_line(text: &[u8], at: usize) -> Scan
     let mut i = at;
     let mut count: usize = 0;
     loop {
-        match gap(text, i) {
-            Met::Start(p) => {
+        match skip_blanks(text, i) {
+            AfterBlanks::Start(p) => {
                 i = word_end(text, p);
                 count += 1;
             }
-            Met::End(q) => {
+            AfterBlanks::End(q) => {
                 return Scan::Good {
                     count: count,
                     next: q,
                 };
             }
-            Met::Bad(p) => {
+            AfterBlanks::Bad(p) => {
                 return Scan::Bad(p);
             }
         }

@@ -1,6 +1,6 @@
 // The lines of small texts, each with its words and their places, up to the first byte that is not allowed.
 use libc::STDOUT_FILENO;
-use text::Met;
+use text::AfterBlanks;
 use text::Scan;
 ghost use Prim.Native.Nat.{_≤_, _<_};
 ghost use lib.ListN.{length};
@@ -49,15 +49,15 @@ fn words(text: &[u8], at: usize) -> usize
 {
     let mut i = at;
     loop {
-        match text::gap(text, i) {
-            Met::Start(p) => {
+        match text::skip_blanks(text, i) {
+            AfterBlanks::Start(p) => {
                 i = text::word_end(text, p);
                 put_word(text, p, i);
             }
-            Met::End(q) => {
+            AfterBlanks::End(q) => {
                 return q;
             }
-            Met::Bad(_) => {
+            AfterBlanks::Bad(_) => {
                 return text.len();
             }
         }

@@ -1,3 +1,1 @@
-pub mod NamedLines
-pub mod Turns
-pub mod ElementTurns
+pub mod Answers

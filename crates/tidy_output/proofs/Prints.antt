@@ -11,15 +11,15 @@ use lib.ListN.{length, take, drop, length-append, take-append-drop, drop-of-leng
 use lib.Seq.{length-take-le, take-all, sets-eq}
 use Rattle.lists.proofs.Tests.{test}
 use Rattle.keywords.specs.Rows.{bytes}
-use Rattle.forms.specs.Written.{writtenWhole}
-use Rattle.forms.proofs.Numerals.{short-length}
+use Rattle.references.specs.Written.{writtenWhole}
+use Rattle.references.proofs.Numerals.{short-length}
 use Rattle.tables.specs.Tables.{Tables}
 use Rattle.tables.specs.declared.Used.{Used}
-use Rattle.emitting.specs.Emitting.{Emitted}
-use Rattle.tidying.specs.declared.Weights.the-variants.{WhenNeeded}
-use Rattle.tidy_file.specs.Tidying.{TidyResult, tidyResult, tidyInto}
-use Rattle.tidy_file.specs.declared.Tidied.{Tidied}
-use Rattle.tidy_file.specs.declared.Tidied.the-variants.{Written, TooLong, Refused}
+use Rattle.tidy_words.specs.Emitting.{Emitted}
+use Rattle.tidy_form.specs.declared.Weights.the-variants.{WhenNeeded}
+use Rattle.tidier.specs.Tidying.{TidyAnswer, tidyAnswer, tidyInto}
+use Rattle.tidier.specs.declared.TidyResult.{TidyResult}
+use Rattle.tidier.specs.declared.TidyResult.the-variants.{Written, TooLong, Refused}
 use Rattle.tidy_output.specs.Output.{refusalLine, answerBytes, Printing, printing, printedIn, output, printedFor, outputOf}
 
 module _ (w l : List ℕ) where
@@ -73,22 +73,22 @@ front-printed n r l e =
     (test (leb n (length l)))
 
 -- ---- an answer, and the program's whole output
-module _ (l : List ℕ) {a : Tidied} {r : ℕ} where
+module _ (l : List ℕ) {a : TidyResult} {r : ℕ} where
   pub text-answer : {n : ℕ} {u : Used} → a ≡ Written n u → r ≡ min n (length l) → printing r l ≡ printedIn (answerBytes a l) l
-  text-answer {n} e h = front-printed n r l h ∙ ap (λ (x : Tidied). printedIn (answerBytes x l) l) (sym e)
+  text-answer {n} e h = front-printed n r l h ∙ ap (λ (x : TidyResult). printedIn (answerBytes x l) l) (sym e)
 
   pub long-answer : {k : ℕ} {u : Used} {m : List ℕ} → a ≡ TooLong k u → printing r m ≡ printedIn (refusalLine 16 0) l → printing r m ≡ printedIn (answerBytes a l) l
-  long-answer e h = h ∙ ap (λ (x : Tidied). printedIn (answerBytes x l) l) (sym e)
+  long-answer e h = h ∙ ap (λ (x : TidyResult). printedIn (answerBytes x l) l) (sym e)
 
   pub refused-answer : {n p : ℕ} {m : List ℕ} → a ≡ Refused n p → (q : ℕ) → q ≡ min p 4294967295 → printing r m ≡ printedIn (refusalLine n q) l → printing r m ≡ printedIn (answerBytes a l) l
-  refused-answer {n} e q k h = h ∙ ap (λ (i : ℕ). printedIn (refusalLine n i) l) k ∙ ap (λ (x : Tidied). printedIn (answerBytes x l) l) (sym e)
+  refused-answer {n} e q k h = h ∙ ap (λ (i : ℕ). printedIn (refusalLine n i) l) k ∙ ap (λ (x : TidyResult). printedIn (answerBytes x l) l) (sym e)
 
 module _ (s : List ℕ) (t : Tables) (out : List ℕ) {r : ℕ} {m : List ℕ} where
   pub output-long : 65536 < length s → printing r m ≡ printedIn (answerBytes (Refused 1 0) out) out → output (printing r m) t ≡ outputOf s t out
   unfolding outputOf
   output-long h p = rw (lt-leb (length s) 65536 h) (ap (λ (x : Printing). output x t) p)
 
-  pub output-short : length s ≤ 65536 → (u : Tables) (a : Tidied) (o : List ℕ) → tidyResult a u o ≡ tidyInto WhenNeeded s t out → printing r m ≡ printedIn (answerBytes a o) o
+  pub output-short : length s ≤ 65536 → (u : Tables) (a : TidyResult) (o : List ℕ) → tidyAnswer a u o ≡ tidyInto WhenNeeded s t out → printing r m ≡ printedIn (answerBytes a o) o
       → output (printing r m) u ≡ outputOf s t out
   unfolding outputOf
   output-short h u a o e p = rw (le-leb (length s) 65536 h) (ap (λ (x : Printing). output x u) p ∙ ap printedFor e)

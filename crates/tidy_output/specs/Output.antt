@@ -5,12 +5,12 @@ use mathlib.Core.Bool.{cond}
 use lib.Dec.{leb}
 use lib.ListN.{length, take, drop}
 use Rattle.keywords.specs.Rows.{bytes}
-use Rattle.forms.specs.Written.{writtenWhole}
+use Rattle.references.specs.Written.{writtenWhole}
 use Rattle.tables.specs.Tables.{Tables}
-use Rattle.tidying.specs.declared.Weights.the-variants.{WhenNeeded}
-use Rattle.tidy_file.specs.Tidying.{TidyResult, tidyResult, tidyInto}
-use Rattle.tidy_file.specs.declared.Tidied.{Tidied}
-use Rattle.tidy_file.specs.declared.Tidied.the-variants.{Written, TooLong, Refused}
+use Rattle.tidy_form.specs.declared.Weights.the-variants.{WhenNeeded}
+use Rattle.tidier.specs.Tidying.{TidyAnswer, tidyAnswer, tidyInto}
+use Rattle.tidier.specs.declared.TidyResult.{TidyResult}
+use Rattle.tidier.specs.declared.TidyResult.the-variants.{Written, TooLong, Refused}
 
 -- "A refusal prints `refused 8 at 14` and LF"
 unfoldable pub refusalLine : ℕ → ℕ → List ℕ
@@ -18,7 +18,7 @@ refusalLine n p = bytes "refused" ++ ((32 ∷ writtenWhole n) ++ (bytes " at" ++
 
 -- what is printed for an answer of tidying, whose text stands at the front of out: the text; "16 at place 0"; the refusal. No place of a text passes
 -- 4,294,967,295, the largest that is written.
-abbrev pub answerBytes : Tidied → List ℕ → List ℕ
+abbrev pub answerBytes : TidyResult → List ℕ → List ℕ
 answerBytes (Written n u) out = take n out
 answerBytes (TooLong k u) out = refusalLine 16 0
 answerBytes (Refused n p) out = refusalLine n (min p 4294967295)
@@ -43,9 +43,9 @@ pub record Output : Type 0 where
 abbrev pub output : Printing → Tables → Output
 output p t = record { printing = p; tables = t }
 
-abbrev pub printedFor : TidyResult → Output
+abbrev pub printedFor : TidyAnswer → Output
 printedFor x = output (printedIn (answerBytes (x .answer) (x .out)) (x .out)) (x .tables)
 
 -- "The program takes 65,536 bytes; longer prints `refused 1 at 0`": the tables are then as they were. Q-11, "By default tidy now leaves w off"
 unfoldable pub outputOf : List ℕ → Tables → List ℕ → Output
-outputOf s t out = printedFor (cond (leb (length s) 65536) (tidyInto WhenNeeded s t out) (tidyResult (Refused 1 0) t out))
+outputOf s t out = printedFor (cond (leb (length s) 65536) (tidyInto WhenNeeded s t out) (tidyAnswer (Refused 1 0) t out))

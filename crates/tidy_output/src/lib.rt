@@ -1,11 +1,11 @@
 // What the program `tidy` prints for its input: 01, "The tidy text".
-use tidy_file::Tidied;
-use tidying::Weights;
+use tidier::TidyResult;
+use tidy_form::Weights;
 ghost use mathlib.Core.Path.{_≡_};
 ghost use Prim.Native.Nat.{_≤_, min};
 ghost use lib.ListN.{length};
 ghost use Rattle.tables.specs.Tables.{tables};
-ghost use Rattle.emitting.specs.Emitting.{Emitted};
+ghost use Rattle.tidy_words.specs.Emitting.{Emitted};
 ghost use Rattle.tidy_output.specs.Output.{refusalLine, answerBytes, printing, printedIn, output, outputOf};
 
 fn least(a: usize, b: usize) -> usize
@@ -21,7 +21,7 @@ fn emit_bytes(bytes: &[u8], out: &mut [u8], at: usize) -> usize
     let mut to = at;
     let mut i = 0;
     while i < bytes.len() {
-        to = emitting::emit_byte(out, to, bytes[i]);
+        to = tidy_words::emit_byte(out, to, bytes[i]);
         i += 1;
     }
     to
@@ -31,10 +31,10 @@ fn emit_refusal(number: u32, place: u32, out: &mut [u8]) -> usize
     ensures { λ r. ⌜ Emitted 0 (refusalLine number place) (now (out .entry)) (now (out .exit)) r ⌝ }
 {
     let first = emit_bytes(b"refused", out, 0);
-    let second = emitting::emit_spaced_whole(out, first, number);
+    let second = tidy_words::emit_spaced_whole(out, first, number);
     let third = emit_bytes(b" at", out, second);
-    let fourth = emitting::emit_spaced_whole(out, third, place);
-    emitting::emit_byte(out, fourth, b'\n')
+    let fourth = tidy_words::emit_spaced_whole(out, third, place);
+    tidy_words::emit_byte(out, fourth, b'\n')
 }
 
 fn refusal_length(number: u32, place: u32) -> usize
@@ -55,13 +55,13 @@ fn print_refusal(number: u32, place: u32, out: &mut [u8]) -> usize
 }
 
 // How many bytes of the front of `out` are printed for an answer of tidying into it; a refusal is written there first.
-pub fn print_answer(tidied: Tidied, out: &mut [u8]) -> usize
+pub fn print_answer(tidied: TidyResult, out: &mut [u8]) -> usize
     ensures { λ r. ⌜ printing r (now (out .exit)) ≡ printedIn (answerBytes tidied (now (out .entry))) (now (out .entry)) ⌝ }
 {
     match tidied {
-        Tidied::Written { length, used: _ } => least(length, out.len()),
-        Tidied::TooLong { needed: _, used: _ } => print_refusal(16, 0, out),
-        Tidied::Refused { number, place } => {
+        TidyResult::Written { length, used: _ } => least(length, out.len()),
+        TidyResult::TooLong { needed: _, used: _ } => print_refusal(16, 0, out),
+        TidyResult::Refused { number, place } => {
             print_refusal(number, least(place, 4_294_967_295) as u32, out)
         }
     }
@@ -86,13 +86,13 @@ pub fn tidy_output(
     ensures { λ r. ⌜ output (printing r (now (out .exit))) (tables (now (v .exit)) (now (vt .exit)) (now (vn .exit)) (now (vp .exit)) (now (corners .exit)) (now (elements .exit)) (now (bodies .exit)) (now (ranges .exit)) (now (parameters .exit)) (now (loops .exit)) (now (spans .exit))) ≡ outputOf (now (input .entry)) (tables (now (v .entry)) (now (vt .entry)) (now (vn .entry)) (now (vp .entry)) (now (corners .entry)) (now (elements .entry)) (now (bodies .entry)) (now (ranges .entry)) (now (parameters .entry)) (now (loops .entry)) (now (spans .entry))) (now (out .entry)) ⌝ }
 {
     if 65_536 < input.len() {
-        let refused = Tidied::Refused {
+        let refused = TidyResult::Refused {
             number: 1,
             place: 0,
         };
         return print_answer(refused, out);
     }
-    let tidied = tidy_file::tidy(
+    let tidied = tidier::tidy(
         input,
         Weights::WhenNeeded,
         v,

@@ -8,8 +8,8 @@ use Rattle.basis.proofs.Walks.{walk-holds}
 use Rattle.basis.proofs.in_order.Statement.{statement}
 use Rattle.basis.proofs.in_order.Tie as tie
 
-asked-of-requires : tie.Need-asked-of-requires
-asked-of-requires c κs = search needs
+requirement-of-requires : tie.Need-requirement-of-requires
+requirement-of-requires c κs = search needs
 
 walk-requires : tie.Need-walk-requires
 walk-requires c κs = search needs
@@ -23,8 +23,8 @@ returns c =
     let asked = walk .before in
     let s = asked .before in
     let a = s .pre .0 in
-    let e = rw (walk .walk .ensures, asked .asked-of .ensures, toZ-ofZ (s .fits .start), toZ-ofZ (s .fits .end)) at (c .holds .ensures) in
+    let e = rw (walk .walk .ensures, asked .requirement-of .ensures, toZ-ofZ (s .fits .start), toZ-ofZ (s .fits .end)) at (c .holds .ensures) in
     e ∙ walk-holds (s .args .basis) (s .args .n) (now (s .args .x)) (s .args .start) (s .args .end) (omega arith) (s .pre .1)
 
 pub in-order-spec : {M : Type 1} → statement M
-in-order-spec = tie.close (tie.spec asked-of-requires walk-requires holds-requires returns)
+in-order-spec = tie.close (tie.spec requirement-of-requires walk-requires holds-requires returns)

@@ -4,7 +4,7 @@ use lib.IntN.{ℤ}
 use lib.Ieee.{binary64, sub, toSigned}
 use mir.Syntax.{w32}
 use mir.Val.{toZ, ofZ}
-use Rattle.whole.proofs.Bits.{read-back-small}
+use Rattle.rounding.proofs.Bits.{read-back-small}
 use Rattle.doubles.proofs.Whole.{anchored, encode-back, decode-is}
 use Rattle.doubles.proofs.decode.Statement.{statement}
 use Rattle.doubles.proofs.decode.Tie as tie

@@ -1,6 +1,6 @@
 -- A number in range is kept by its sum with the anchor (`encode-sum`).
 use borrow.Author.Needs.{needs}
-use Rattle.whole.proofs.Bits.{read-back-small}
+use Rattle.rounding.proofs.Bits.{read-back-small}
 use Rattle.doubles.proofs.Whole.{encode-sum}
 use Rattle.doubles.proofs.encode.Statement.{statement}
 use Rattle.doubles.proofs.encode.Tie as tie

@@ -2,8 +2,8 @@
 use borrow.Author.Needs.{needs}
 use mathlib.Core.Path.{ap₂}
 use lib.Ieee.{binary64, div}
-use Rattle.whole.proofs.Bits.{read-back-small}
-use Rattle.whole.proofs.Order.{up, lt→up}
+use Rattle.rounding.proofs.Bits.{read-back-small}
+use Rattle.rounding.proofs.Order.{up, lt→up}
 use Rattle.doubles.specs.Doubles.{weightOf}
 use Rattle.doubles.proofs.Whole.{way-up}
 use Rattle.doubles.proofs.weight.Statement.{statement}

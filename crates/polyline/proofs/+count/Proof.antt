@@ -11,10 +11,10 @@ use mir.Val.{toZ, ofZ}
 use mir.Facts.{toZ-ofZ}
 use Rattle.tables.specs.Tables.{Tables, tables}
 use Rattle.tables.proofs.Bits.{fitted}
-use Rattle.sampler.specs.Answers.{SampledResult}
-use Rattle.sampler.specs.Sampling.{Curved, curveAnswer}
+use Rattle.sampler.specs.Answers.{PointAnswer}
+use Rattle.sampler.specs.Sampling.{Curved, answerOnCurve}
 use Rattle.polyline.specs.Chords.{ends}
-use Rattle.polyline.specs.Inner.{Interval, splitOf}
+use Rattle.polyline.specs.Inner.{PieceEnds, splitOf}
 use Rattle.polyline.proofs.Halves.{Parted, one-chord, two-halves, counted, ends-few, interval-read}
 use Rattle.polyline.proofs.Granted.{agreed}
 use borrow.Fn.Kinds.{In}
@@ -42,8 +42,8 @@ module _ {t : ℕ} (s : count-lts.Start (claims t) (count-at t) count.Post) wher
   abbrev lent : Tables
   lent = tables (s .args .v .now) [] [] (s .args .vp .now) (s .args .corners .now) [] [] [] (s .args .parameters .now) [] []
 
-  abbrev sample : ℤ → SampledResult
-  sample = curveAnswer lent (s .args .element) (s .args .body)
+  abbrev sample : ℤ → PointAnswer
+  sample = answerOnCurve lent (s .args .element) (s .args .body)
 
   abbrev point : ℤ → List ℤ
   point p = sample p .outcome .coordinates
@@ -51,7 +51,7 @@ module _ {t : ℕ} (s : count-lts.Start (claims t) (count-at t) count.Post) wher
   curved : Curved lent (s .args .element) (s .args .body)
   curved = s .pre .1 .1 .0
 
-  interval : Interval point (s .args .a) (s .args .b) (s .args .p) (s .args .q)
+  interval : PieceEnds point (s .args .a) (s .args .b) (s .args .p) (s .args .q)
   interval = s .pre .1 .1 .1
 
   falling : (s .args .depth ≡ 0 → ⊥) → s .args .depth - 1 < t

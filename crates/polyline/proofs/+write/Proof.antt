@@ -12,10 +12,10 @@ use mir.Val.{toZ, ofZ}
 use mir.Facts.{toZ-ofZ}
 use Rattle.tables.specs.Tables.{Tables, tables}
 use Rattle.tables.proofs.Bits.{fitted}
-use Rattle.sampler.specs.Answers.{SampledResult, pointOutcome}
-use Rattle.sampler.specs.Sampling.{Curved, curveAnswer}
+use Rattle.sampler.specs.Answers.{PointAnswer, pointOutcome}
+use Rattle.sampler.specs.Sampling.{Curved, answerOnCurve}
 use Rattle.polyline.specs.Chords.{ends, numbers}
-use Rattle.polyline.specs.Inner.{Interval, splitOf}
+use Rattle.polyline.specs.Inner.{PieceEnds, splitOf}
 use Rattle.polyline.proofs.Halves.{Parted, one-chord, two-halves, interval-read, numbers-chord, numbers-joined, room-first, room-second, both-written, room-read, written}
 use Rattle.polyline.proofs.Granted.{agreed}
 use borrow.Fn.Kinds.{In}
@@ -44,8 +44,8 @@ module _ {t : ℕ} (s : write-lts.Start (claims t) (write-at t) write.Post) wher
   abbrev lent : Tables
   lent = tables (s .args .v .now) [] [] (s .args .vp .now) (s .args .corners .now) [] [] [] (s .args .parameters .now) [] []
 
-  abbrev sample : ℤ → SampledResult
-  sample = curveAnswer lent (s .args .element) (s .args .body)
+  abbrev sample : ℤ → PointAnswer
+  sample = answerOnCurve lent (s .args .element) (s .args .body)
 
   abbrev point : ℤ → List ℤ
   point p = sample p .outcome .coordinates
@@ -53,7 +53,7 @@ module _ {t : ℕ} (s : write-lts.Start (claims t) (write-at t) write.Post) wher
   curved : Curved lent (s .args .element) (s .args .body)
   curved = s .pre .1 .1 .0
 
-  interval : Interval point (s .args .a) (s .args .b) (s .args .p) (s .args .q)
+  interval : PieceEnds point (s .args .a) (s .args .b) (s .args .p) (s .args .q)
   interval = s .pre .1 .1 .1
 
   abbrev parameters : List ℤ

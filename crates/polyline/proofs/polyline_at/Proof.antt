@@ -18,10 +18,10 @@ use Rattle.tables.specs.declared.Body.{Body}
 use Rattle.tables.specs.declared.Element.{Element}
 use Rattle.tables.proofs.Bits.{fitted}
 use Rattle.sampler.specs.Points.{axesOf}
-use Rattle.sampler.specs.Answers.{SampledResult, sampledResult, pointOutcome}
-use Rattle.sampler.specs.Sampling.{Curved, curveAnswer}
+use Rattle.sampler.specs.Answers.{PointAnswer, pointAnswer, pointOutcome}
+use Rattle.sampler.specs.Sampling.{Curved, answerOnCurve}
 use Rattle.polyline.specs.Chords.{ends, numbers, parameters}
-use Rattle.polyline.specs.Inner.{Interval, coordinatesOf}
+use Rattle.polyline.specs.Inner.{PieceEnds, coordinatesOf}
 use Rattle.polyline.proofs.Halves.{counted, ends-few, interval-read, room-first, room-second, both-written, room-read, written}
 use Rattle.polyline.proofs.Granted.{curve-axes, is-negative, is-full, is-filled, numbers-many}
 use Rattle.polyline.proofs.polyline_at.Statement.{statement}
@@ -37,8 +37,8 @@ module _ (s : tie.Start) where
   abbrev bo : Body
   bo = s .args .body
 
-  abbrev sample : ℤ → SampledResult
-  sample = curveAnswer t el bo
+  abbrev sample : ℤ → PointAnswer
+  sample = answerOnCurve t el bo
 
   abbrev point : ℤ → List ℤ
   point = coordinatesOf t el bo
@@ -59,7 +59,7 @@ module _ (c : tie.After-curve-at) where
   end-is : toZ w32 (ofZ w32 (bo s1 .«end_u»)) ≡ bo s1 .«end_u»
   end-is = fitted {z = bo s1 .«end_u»} (c .before .struct-told2 .given .1 .1 .1 .1 .1 .1 .1 .1 .1 .1 .0 .1)
 
-  first-is : sampledResult (c .curve-at .result) ≡ sample s1 (bo s1 .«start_u»)
+  first-is : pointAnswer (c .curve-at .result) ≡ sample s1 (bo s1 .«start_u»)
   first-is = c .curve-at .ensures ∙ ap (sample s1) start-is
 
   tolerance-is : ltZ (s1 .args .tolerance) (pos 0) ≡ false
@@ -72,10 +72,10 @@ module _ (c : tie.After-curve-at2) where
   abbrev s3 : tie.Start
   s3 = s1 f3
 
-  interval : Interval (point s3) (bo s3 .«start_u») (bo s3 .«end_u») (f3 .curve-at .result) (c .curve-at2 .result)
+  interval : PieceEnds (point s3) (bo s3 .«start_u») (bo s3 .«end_u») (f3 .curve-at .result) (c .curve-at2 .result)
   interval = record {
-    start-is = ap (λ (x : SampledResult). x .outcome .coordinates) (first-is f3);
-    end-is = ap (λ (x : SampledResult). x .outcome .coordinates) (c .curve-at2 .ensures ∙ ap (sample s3) (end-is f3));
+    start-is = ap (λ (x : PointAnswer). x .outcome .coordinates) (first-is f3);
+    end-is = ap (λ (x : PointAnswer). x .outcome .coordinates) (c .curve-at2 .ensures ∙ ap (sample s3) (end-is f3));
   }
 
 module _ (c : tie.After-axes-in) where
@@ -99,7 +99,7 @@ module _ (c : tie.After-axes-in) where
 
   axes-are : c .axes-in .result ≡ axesOf (el s4)
   axes-are =
-      c .axes-in .ensures .0 ∙ ap (λ (x : SampledResult). length (x .outcome .coordinates)) (first-is (f3 p4))
+      c .axes-in .ensures .0 ∙ ap (λ (x : PointAnswer). length (x .outcome .coordinates)) (first-is (f3 p4))
       ∙ curve-axes (t s4) (el s4) (bo s4) start (≤ℤ-refl start) (s4 .pre .along .ranged .ordered)
 
   points-are : c .before .count .result + 1 ≡ length (all-parameters s4)

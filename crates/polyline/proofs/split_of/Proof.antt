@@ -8,16 +8,16 @@ use mir.Syntax.{w32}
 use mir.Val.{toZ, ofZ}
 use mir.Facts.{toZ-ofZ}
 use Rattle.tables.specs.Tables.{tables}
-use Rattle.sampler.specs.Answers.{SampledResult, sampledResult}
-use Rattle.sampler.specs.Sampling.{curveAnswer}
+use Rattle.sampler.specs.Answers.{PointAnswer, pointAnswer}
+use Rattle.sampler.specs.Sampling.{answerOnCurve}
 use Rattle.polyline.specs.Chords.{middle, short, straight}
 use Rattle.polyline.specs.declared.Split.the-variants as split
 use Rattle.polyline.proofs.Halves.{split-none, split-short, split-straight, split-halves}
 use Rattle.polyline.proofs.split_of.Statement.{statement}
 use Rattle.polyline.proofs.split_of.Tie as tie
 
-abbrev sample : tie.Start → ℤ → SampledResult
-sample s = curveAnswer (tables (s .args .v .now) [] [] (s .args .vp .now) (s .args .corners .now) [] [] [] (s .args .parameters .now) [] []) (s .args .element) (s .args .body)
+abbrev sample : tie.Start → ℤ → PointAnswer
+sample s = answerOnCurve (tables (s .args .v .now) [] [] (s .args .vp .now) (s .args .corners .now) [] [] [] (s .args .parameters .now) [] []) (s .args .element) (s .args .body)
 
 abbrev point : tie.Start → ℤ → List ℤ
 point s p = sample s p .outcome .coordinates
@@ -40,7 +40,7 @@ module _ (c : tie.After-curve-at) where
   middle-is : toZ w32 (ofZ w32 (c .before .middle-of .result)) ≡ middle (s2 .args .a) (s2 .args .b)
   middle-is = toZ-ofZ {w = w32} (record { sfits = c .before .middle-of .ok }) ∙ (rw (toZ-ofZ (s2 .fits .a), toZ-ofZ (s2 .fits .b)) at (c .before .middle-of .ensures))
 
-  sampled-is : sampledResult (c .curve-at .result) ≡ sample s2 (middle (s2 .args .a) (s2 .args .b))
+  sampled-is : pointAnswer (c .curve-at .result) ≡ sample s2 (middle (s2 .args .a) (s2 .args .b))
   sampled-is = c .curve-at .ensures ∙ ap (sample s2) middle-is
 
 module _ (c : tie.After-is-straight) where
@@ -49,7 +49,7 @@ module _ (c : tie.After-is-straight) where
 
   straight-is : c .is-straight .result ≡ straight (s3 .args .tolerance) (point s3 (s3 .args .a)) (point s3 (middle (s3 .args .a) (s3 .args .b))) (point s3 (s3 .args .b))
   straight-is =
-      straight-read (c .is-straight .ensures) (toZ-ofZ (s3 .fits .tolerance)) (s3 .pre .1 .start-is) (ap (λ (x : SampledResult). x .outcome .coordinates) (sampled-is (c .before))) (s3 .pre .1 .end-is)
+      straight-read (c .is-straight .ensures) (toZ-ofZ (s3 .fits .tolerance)) (s3 .pre .1 .start-is) (ap (λ (x : PointAnswer). x .outcome .coordinates) (sampled-is (c .before))) (s3 .pre .1 .end-is)
 
 returns : tie.Need-returns
 returns c = let s = c .before .before in split-none (sample s) (s .args .tolerance) (s .args .a) (s .args .b) (s .args .depth) (c .if1 .taken)
@@ -80,7 +80,7 @@ returns-4 c =
     let s = s3 (c .before) in
     let p = c .before .before in
     let k = p .before .before in
-    ap₂ split.Halves (middle-is p) (ap (λ (x : SampledResult). x .answer) (sampled-is p))
+    ap₂ split.Halves (middle-is p) (ap (λ (x : PointAnswer). x .answer) (sampled-is p))
     ∙ split-halves (sample s) (s .args .tolerance) (s .args .a) (s .args .b) (s .args .depth) (sym (short-is (k .before)) ∙ k .if2 .left) (k .before .before .if1 .left) (sym (straight-is (c .before)) ∙ c .if3 .left)
 
 pub split-of-spec : {M : Type 1} → statement M

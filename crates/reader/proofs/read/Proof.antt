@@ -2,7 +2,7 @@
 use mathlib.Core.Path.{_∙_}
 use denote.Ref.{now}
 use Rattle.tables.specs.Tables.{tables}
-use Rattle.all_lines.proofs.Cleared.{cleared-blank}
+use Rattle.read_lines.proofs.Cleared.{cleared-blank}
 use Rattle.reader.proofs.Whole.{read-too-long, read-whole}
 use borrow.Author.Needs.{needs}
 use Rattle.reader.proofs.read.Statement.{statement}
@@ -11,8 +11,8 @@ use Rattle.reader.proofs.read.Reads as reads
 use Rattle.reader.proofs.read.Lts as lts
 use Rattle.keywords.proofs.argument_table.Reads as argument-table-reads
 use Rattle.keywords.proofs.keyword_table.Reads as keyword-table-reads
-use Rattle.all_lines.proofs.lines_of.Reads as lines-of-reads
-use Rattle.storing.proofs.clear.Reads as clear-reads
+use Rattle.read_lines.proofs.lines_of.Reads as lines-of-reads
+use Rattle.table_store.proofs.clear.Reads as clear-reads
 
 clear-requires : tie.Need-clear-requires
 clear-requires c κs = search needs

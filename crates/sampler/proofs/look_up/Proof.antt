@@ -9,7 +9,7 @@ use Rattle.tables.specs.Tables.{Tables, tables}
 use Rattle.tables.specs.Asking as Asking
 use Rattle.tables.specs.declared.Element.{Element}
 use Rattle.tables.specs.declared.Body.{Body}
-use Rattle.rules.specs.Rules.{obeys, curvesBefore}
+use Rattle.record_rules.specs.Rules.{obeys, curvesBefore}
 use Rattle.sampler.specs.Answers.{wanted, carried, elementOf, bodyOf}
 use Rattle.sampler.proofs.Refusals.{none-such, past-used, past-lent, other-kind, broken, not-carried, none-given, refuses, finds, held-against, body-found}
 use borrow.Author.Needs.{needs}
@@ -74,7 +74,7 @@ module _ (c : tie.Else5) where
   body-is : o .before .before .body-of .result ≡ bodyOf (lent-tables d) (d .args .element)
   body-is =
       o .before .before .body-of .ensures
-      ∙ ap (λ (x : Element). Asking.bodyOf (d .args .used) (d .args .bodies .now) (d .args .ranges .now) (x .body)) (element-is (k o))
+      ∙ ap (λ (x : Element). Asking.askedBody (d .args .used) (d .args .bodies .now) (d .args .ranges .now) (x .body)) (element-is (k o))
       ∙ body-found (d .args .surface) (d .args .used) (lent-tables d) (d .args .element) (kind-yes o) obeyed
 
 carried-is : (c : tie.After-is-carried) → let q = c .before in let m = bodyOf (lent-tables (d q)) (d q .args .element) in c .is-carried .result ≡ carried (m .rational) (m .basis)

@@ -6,7 +6,7 @@ use mir.Facts.{toZ-ofZ}
 use Rattle.tables.specs.Tables.{Tables, tables}
 use Rattle.tables.specs.declared.Body.{Body}
 use Rattle.tables.specs.declared.Element.{Element}
-use Rattle.sampler.specs.Sampling.{curveAnswer}
+use Rattle.sampler.specs.Sampling.{answerOnCurve}
 use Rattle.sampler.proofs.Refusals.{missed, Looked, looked}
 use Rattle.sampler.proofs.Entries.{curve-tables, curve-found, curve-lent, refused-curve, curve-answered}
 use Rattle.sampler.proofs.point_on_curve.Statement.{statement}
@@ -51,7 +51,7 @@ returns c =
 returns-2 : tie.Need-returns-2
 returns-2 c =
     let s = s (c .before) in
-    c .curve-at .ensures ∙ ap (curveAnswer (curve-tables (lent-tables s)) (el (c .before)) (bo (c .before))) (toZ-ofZ (s .fits .t)) ∙ curve-answered (s .args .t) (there (c .before))
+    c .curve-at .ensures ∙ ap (answerOnCurve (curve-tables (lent-tables s)) (el (c .before)) (bo (c .before))) (toZ-ofZ (s .fits .t)) ∙ curve-answered (s .args .t) (there (c .before))
 
 pub point-on-curve-spec : {M : Type 1} → statement M
 point-on-curve-spec =

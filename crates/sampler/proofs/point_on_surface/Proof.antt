@@ -6,7 +6,7 @@ use mir.Facts.{toZ-ofZ}
 use Rattle.tables.specs.Tables.{Tables, tables}
 use Rattle.tables.specs.declared.Body.{Body}
 use Rattle.tables.specs.declared.Element.{Element}
-use Rattle.sampler.specs.Sampling.{surfaceAnswer}
+use Rattle.sampler.specs.Sampling.{answerOnSurface}
 use Rattle.sampler.proofs.Refusals.{missed, Looked, looked}
 use Rattle.sampler.proofs.Surfaces.{surface-tables, surface-found, surface-lent, refused-surface, surface-answered}
 use Rattle.sampler.proofs.point_on_surface.Statement.{statement}
@@ -51,7 +51,7 @@ returns c =
 returns-2 : tie.Need-returns-2
 returns-2 c =
     let s = s (c .before) in
-    c .surface-at .ensures ∙ ap₂ (surfaceAnswer (surface-tables (lent-tables s)) (el (c .before)) (bo (c .before))) (toZ-ofZ (s .fits .s)) (toZ-ofZ (s .fits .t)) ∙ surface-answered (s .args .s) (s .args .t) (there (c .before))
+    c .surface-at .ensures ∙ ap₂ (answerOnSurface (surface-tables (lent-tables s)) (el (c .before)) (bo (c .before))) (toZ-ofZ (s .fits .s)) (toZ-ofZ (s .fits .t)) ∙ surface-answered (s .args .s) (s .args .t) (there (c .before))
 
 pub point-on-surface-spec : {M : Type 1} → statement M
 point-on-surface-spec =

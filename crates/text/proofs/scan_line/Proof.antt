@@ -19,8 +19,8 @@ abbrev μ-loop : tie.MeasureT-loop
 loop-holds : tie.Need-loop-holds Inv-loop μ-loop
 loop-holds c = record { to = c .before .pre; small = omega arith; bad-is = refl; next-is = refl; count-is = omega arith }
 
-gap-requires : tie.Need-gap-requires Inv-loop μ-loop
-gap-requires c κs = search needs
+skip-blanks-requires : tie.Need-skip-blanks-requires Inv-loop μ-loop
+skip-blanks-requires c κs = search needs
 
 enum-known-p : tie.Need-enum-known-p Inv-loop μ-loop
 enum-known-p c = search needs
@@ -30,7 +30,7 @@ word-end-requires c κs =
     let found = c .before .before .before in
     let turn = found .before in
     let start = turn .before .before in
-    let met = F.word-found (now (start .args .text)) (turn .loop .i) _ (found .gap .ensures) (c .before .p .given .1) in
+    let met = F.word-found (now (start .args .text)) (turn .loop .i) _ (found .skip-blanks .ensures) (c .before .p .given .1) in
     let more = met .more in
     let to = met .to in
     omega arith
@@ -40,7 +40,7 @@ add-count c =
     let found = c .before .before .before .before in
     let turn = found .before in
     let start = turn .before .before in
-    let met = F.word-found (now (start .args .text)) (turn .loop .i) _ (found .gap .ensures) (c .before .before .p .given .1) in
+    let met = F.word-found (now (start .args .text)) (turn .loop .i) _ (found .skip-blanks .ensures) (c .before .before .p .given .1) in
     let next = S.scan-turn (now (start .args .text)) (start .args .at) (turn .loop .i) (turn .loop .count) (turn .loop .inv) met (c .word-end .ensures .0) in
     let small = next .0 .small in
     let to = next .0 .to in
@@ -51,7 +51,7 @@ loop-less c =
     let found = c .before .before .before .before in
     let turn = found .before in
     let start = turn .before .before in
-    let met = F.word-found (now (start .args .text)) (turn .loop .i) _ (found .gap .ensures) (c .before .before .p .given .1) in
+    let met = F.word-found (now (start .args .text)) (turn .loop .i) _ (found .skip-blanks .ensures) (c .before .before .p .given .1) in
     let next = S.scan-turn (now (start .args .text)) (start .args .at) (turn .loop .i) (turn .loop .count) (turn .loop .inv) met (c .word-end .ensures .0) in
     let ahead = next .1 in
     let to = next .0 .to in
@@ -62,7 +62,7 @@ loop-again c =
     let found = c .before .before .before .before in
     let turn = found .before in
     let start = turn .before .before in
-    let met = F.word-found (now (start .args .text)) (turn .loop .i) _ (found .gap .ensures) (c .before .before .p .given .1) in
+    let met = F.word-found (now (start .args .text)) (turn .loop .i) _ (found .skip-blanks .ensures) (c .before .before .p .given .1) in
     let next = S.scan-turn (now (start .args .text)) (start .args .at) (turn .loop .i) (turn .loop .count) (turn .loop .inv) met (c .word-end .ensures .0) in
     next .0
 
@@ -74,7 +74,7 @@ returns c =
     let found = c .before .before .before in
     let turn = found .before in
     let start = turn .before .before in
-    S.scan-end (now (start .args .text)) (start .args .at) (turn .loop .i) (turn .loop .count) (turn .loop .inv) _ (found .gap .ensures) (c .before .q .given .1)
+    S.scan-end (now (start .args .text)) (start .args .at) (turn .loop .i) (turn .loop .count) (turn .loop .inv) _ (found .skip-blanks .ensures) (c .before .q .given .1)
 
 enum-known-p-2 : tie.Need-enum-known-p-2 Inv-loop μ-loop
 enum-known-p-2 c = search needs
@@ -84,7 +84,7 @@ returns-2 c =
     let found = c .before .before .before in
     let turn = found .before in
     let start = turn .before .before in
-    S.scan-bad (now (start .args .text)) (start .args .at) (turn .loop .i) (turn .loop .count) (turn .loop .inv) _ (found .gap .ensures) (c .before .p2 .given .1)
+    S.scan-bad (now (start .args .text)) (start .args .at) (turn .loop .i) (turn .loop .count) (turn .loop .inv) _ (found .skip-blanks .ensures) (c .before .p2 .given .1)
 
 pub scan-line-spec : {M : Type 1} → statement M
 scan-line-spec =
@@ -93,7 +93,7 @@ scan-line-spec =
     Inv-loop
     μ-loop
     loop-holds
-    gap-requires
+    skip-blanks-requires
     enum-known-p
     word-end-requires
     add-count

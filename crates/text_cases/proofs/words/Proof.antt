@@ -17,8 +17,8 @@ abbrev μ-loop : tie.MeasureT-loop
 loop-holds : tie.Need-loop-holds Inv-loop μ-loop
 loop-holds c = (omega arith, omega arith)
 
-gap-requires : tie.Need-gap-requires Inv-loop μ-loop
-gap-requires c κs = search needs
+skip-blanks-requires : tie.Need-skip-blanks-requires Inv-loop μ-loop
+skip-blanks-requires c κs = search needs
 
 enum-known-p : tie.Need-enum-known-p Inv-loop μ-loop
 enum-known-p c = search needs
@@ -28,7 +28,7 @@ word-end-requires c κs =
     let found = c .before .before .before in
     let turn = found .before in
     let start = turn .before .before in
-    let met = F.word-found (now (start .args .text)) (turn .loop .i) _ (found .gap .ensures) (c .before .p .given .1) in
+    let met = F.word-found (now (start .args .text)) (turn .loop .i) _ (found .skip-blanks .ensures) (c .before .p .given .1) in
     let from = met .from in
     let more = met .more in
     let to = met .to in
@@ -39,7 +39,7 @@ put-word-requires c κs =
     let found = c .before .before .before .before in
     let turn = found .before in
     let start = turn .before .before in
-    let met = F.word-found (now (start .args .text)) (turn .loop .i) _ (found .gap .ensures) (c .before .before .p .given .1) in
+    let met = F.word-found (now (start .args .text)) (turn .loop .i) _ (found .skip-blanks .ensures) (c .before .before .p .given .1) in
     let from = met .from in
     let more = met .more in
     let to = met .to in
@@ -50,7 +50,7 @@ loop-less c =
     let found = c .before .before .before .before .before in
     let turn = found .before in
     let start = turn .before .before in
-    let met = F.word-found (now (start .args .text)) (turn .loop .i) _ (found .gap .ensures) (c .before .before .before .p .given .1) in
+    let met = F.word-found (now (start .args .text)) (turn .loop .i) _ (found .skip-blanks .ensures) (c .before .before .before .p .given .1) in
     let from = met .from in
     let more = met .more in
     let to = met .to in
@@ -61,7 +61,7 @@ loop-again c =
     let found = c .before .before .before .before .before in
     let turn = found .before in
     let start = turn .before .before in
-    let met = F.word-found (now (start .args .text)) (turn .loop .i) _ (found .gap .ensures) (c .before .before .before .p .given .1) in
+    let met = F.word-found (now (start .args .text)) (turn .loop .i) _ (found .skip-blanks .ensures) (c .before .before .before .p .given .1) in
     let from = met .from in
     let more = met .more in
     let to = met .to in
@@ -75,7 +75,7 @@ returns c =
     let found = c .before .before .before in
     let turn = found .before in
     let start = turn .before .before in
-    let met = F.end-found (now (start .args .text)) (turn .loop .i) _ (found .gap .ensures) (c .before .q .given .1) in
+    let met = F.end-found (now (start .args .text)) (turn .loop .i) _ (found .skip-blanks .ensures) (c .before .q .given .1) in
     (F.end-past (now (start .args .text)) (start .args .at) (turn .loop .i) _ (turn .loop .inv .0) (start .pre) (turn .loop .inv .1) met, met .to)
 
 enum-told : tie.Need-enum-told Inv-loop μ-loop
@@ -91,7 +91,7 @@ words-spec =
     Inv-loop
     μ-loop
     loop-holds
-    gap-requires
+    skip-blanks-requires
     enum-known-p
     word-end-requires
     put-word-requires

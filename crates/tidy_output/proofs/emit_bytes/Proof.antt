@@ -4,7 +4,7 @@ use lib.ListN.{length, drop, drop-of-length-le}
 use denote.Ref.{now}
 use borrow.Author.Needs.{needs}
 use Rattle.text.proofs.Places.{here}
-use Rattle.emitting.proofs.Emissions.{Left, left-start, left-turn, left-ends, emitted-whole}
+use Rattle.tidy_words.proofs.Emissions.{Left, left-start, left-turn, left-ends, emitted-whole}
 use Rattle.tidy_output.proofs.emit_bytes.Statement.{statement}
 use Rattle.tidy_output.proofs.emit_bytes.Tie as tie
 

@@ -1,7 +1,7 @@
 -- The words and numbers of the line, one after the other.
 use native.Mathlib.Omega.{arith}
 use Rattle.tidy_output.specs.Output.{refusalLine}
-use Rattle.emitting.proofs.Emissions.{emitted-then, emitted-whole, emitted-spaced}
+use Rattle.tidy_words.proofs.Emissions.{emitted-then, emitted-whole, emitted-spaced}
 use borrow.Author.Needs.{needs}
 use Rattle.tidy_output.proofs.emit_refusal.Statement.{statement}
 use Rattle.tidy_output.proofs.emit_refusal.Tie as tie

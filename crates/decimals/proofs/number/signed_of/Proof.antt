@@ -2,7 +2,7 @@
 use Prim.Native.Nat.{ℕ}
 use mathlib.Core.Path.{_∙_, sym, ap}
 use mathlib.Core.Bool.{Bool}
-use Rattle.decimals.specs.Number.{signed}
+use Rattle.decimals.specs.Number.{withSign}
 use Rattle.decimals.proofs.Signs.{reads, minus-fits, minus-back}
 use borrow.Author.Needs.{needs}
 use Rattle.decimals.proofs.number.signed_of.Statement.{statement}
@@ -16,11 +16,11 @@ sub-result c = minus-fits (c .before .args .m) (c .before .pre)
 
 returns : tie.Need-returns
 returns c =
-    minus-back (c .before .args .m) (c .before .pre) ∙ sym (ap (λ (b : Bool). signed b (c .before .args .m)) (c .if1 .taken))
+    minus-back (c .before .args .m) (c .before .pre) ∙ sym (ap (λ (b : Bool). withSign b (c .before .args .m)) (c .if1 .taken))
 
 returns-2 : tie.Need-returns-2
 returns-2 c =
-    reads (c .before .args .m) (c .before .pre) ∙ sym (ap (λ (b : Bool). signed b (c .before .args .m)) (c .if1 .left))
+    reads (c .before .args .m) (c .before .pre) ∙ sym (ap (λ (b : Bool). withSign b (c .before .args .m)) (c .if1 .left))
 
 pub signed-of-spec : {M : Type 1} → statement M
 signed-of-spec = tie.close (tie.spec cast-n sub-result returns returns-2)

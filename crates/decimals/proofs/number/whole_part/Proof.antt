@@ -8,15 +8,15 @@ use Rattle.decimals.proofs.number.whole_part.Tie as tie
 sub-if1 : tie.Need-sub-if1
 sub-if1 c = search needs
 
-few-requires : tie.Need-few-requires
-few-requires c κs = search needs
+digits-upto-requires : tie.Need-digits-upto-requires
+digits-upto-requires c κs = search needs
 
 sub-if2 : tie.Need-sub-if2
 sub-if2 c = search needs
 
 returns : tie.Need-returns
 returns c =
-    let f = c .before .before .few in
+    let f = c .before .before .digits-upto in
     let a = c .before .before .before .before .before .args in
     few-whole (now (a .text)) (a .at) (f .result .end) (f .result .value) (f .ensures) (c .if2 .taken)
 
@@ -28,4 +28,4 @@ returns-2 c = search needs
 
 pub whole-part-spec : {M : Type 1} → statement M
 whole-part-spec =
-    tie.close (tie.spec sub-if1 few-requires sub-if2 returns whole-run-requires returns-2)
+    tie.close (tie.spec sub-if1 digits-upto-requires sub-if2 returns whole-run-requires returns-2)

@@ -5,7 +5,7 @@ use native.Mathlib.Omega.{arith}
 use lib.IntN.{ℤ, pos, natAbs, _+ℤ_, _-ℤ_, _*ℤ_}
 use mir.Syntax.{w32, w64}
 use mir.Val.{SFits}
-use Rattle.whole.proofs.Bits.{fits-abs, read-back, widened}
+use Rattle.rounding.proofs.Bits.{fits-abs, read-back, widened}
 use Rattle.polyline.specs.Chords.{near}
 use Rattle.polyline.proofs.Tests.{twice-size, sum-size, off-size, wide, kept, wide-fits, sum-fits, sum-is}
 use Rattle.polyline.proofs.chords.is_near.Statement.{statement}

@@ -7,8 +7,8 @@ use lib.Signed.{quotZ}
 use mir.Syntax.{w32, w64}
 use mir.Val.{toZ, ofZ, SFits}
 use mir.Facts.{toZ-ofZ, sfits-widen}
-use Rattle.whole.proofs.IntLaws.{abs-+}
-use Rattle.whole.proofs.Bits.{fits-abs, read-back}
+use Rattle.rounding.proofs.IntLaws.{abs-+}
+use Rattle.rounding.proofs.Bits.{fits-abs, read-back}
 use Rattle.polyline.specs.Chords.{middle}
 use Rattle.polyline.proofs.Middle.{lowered, half-size, middle-fits}
 use Rattle.polyline.proofs.Tests.{wide, kept, wide-fits, sum-fits, sum-is, sum-size}

@@ -4,18 +4,18 @@ use mathlib.Core.Path.{ap₂, _∙_}
 use native.Mathlib.Omega.{arith}
 use borrow.Author.Tests.{eq-eqb, ne-eqb}
 use mir.Facts.{toZ-ofZ}
-use Rattle.whole.proofs.Bits.{read-back-small}
-use Rattle.rows.specs.Controls.{Held}
+use Rattle.rounding.proofs.Bits.{read-back-small}
+use Rattle.point_rows.specs.Controls.{ControlsLent}
 use Rattle.sampler.specs.Inner.{pointBy}
-use Rattle.sampler.specs.declared.Sampled.the-variants as sampled
+use Rattle.sampler.specs.declared.PointResult.the-variants as sampled
 use Rattle.sampler.proofs.Entries.{space-eq}
 use Rattle.sampler.proofs.points.curve_point.Statement.{statement}
 use Rattle.sampler.proofs.points.curve_point.Tie as tie
 
-from-plane : (c : tie.Then1) → let s = c .before .before .before in Held (s .args .vp .now) (s .args .corners .now) (s .args .first) 0 (s .args .along .controls)
+from-plane : (c : tie.Then1) → let s = c .before .before .before in ControlsLent (s .args .vp .now) (s .args .corners .now) (s .args .first) 0 (s .args .along .controls)
 from-plane c = rw (eq-eqb _ _ (c .if1 .taken)) at (c .before .before .before .pre .0)
 
-from-space : (c : tie.Else1) → let s = c .before .before .before in Held (s .args .v .now) (s .args .corners .now) (s .args .first) 0 (s .args .along .controls)
+from-space : (c : tie.Else1) → let s = c .before .before .before in ControlsLent (s .args .v .now) (s .args .corners .now) (s .args .first) 0 (s .args .along .controls)
 from-space c = rw (ne-eqb _ _ (c .if1 .left)) at (c .before .before .before .pre .0)
 
 find-requires : tie.Need-find-requires

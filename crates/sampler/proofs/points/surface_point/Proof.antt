@@ -2,7 +2,7 @@
 use borrow.Author.Needs.{needs}
 use mathlib.Core.Path.{_≡_, refl, _∙_}
 use mir.Facts.{toZ-ofZ}
-use Rattle.whole.proofs.Bits.{read-back-small}
+use Rattle.rounding.proofs.Bits.{read-back-small}
 use Rattle.sampler.specs.Inner.{surfaceBy}
 use Rattle.sampler.proofs.Entries.{space-eq}
 use Rattle.sampler.proofs.points.surface_point.Statement.{statement}

@@ -12,7 +12,7 @@ use Rattle.tables.specs.Tables.{Tables, tables}
 use Rattle.tables.specs.declared.Body.{Body}
 use Rattle.tables.specs.declared.Element.{Element}
 use Rattle.tables.proofs.Bits.{fitted}
-use Rattle.sampler.specs.Answers.{sampledResult, inside}
+use Rattle.sampler.specs.Answers.{pointAnswer, inside}
 use Rattle.sampler.specs.Sampling.{Curved}
 use Rattle.sampler.proofs.Entries.{curve-outside, curve-there, Read, curve-asked, point-read}
 use Rattle.sampler.proofs.sampling.curve_at.Statement.{statement}
@@ -36,7 +36,7 @@ module _ (c : tie.After-is-inside) where
       rw (fitted {z = bo .«start_u»} (c .before .before .struct-told .given .1 .1 .1 .1 .1 .1 .1 .1 .1 .0 .1), fitted {z = bo .«end_u»} (c .before .struct-told2 .given .1 .1 .1 .1 .1 .1 .1 .1 .1 .1 .0 .1), toZ-ofZ (s .fits .t)) at (c .is-inside .ensures)
 
 -- all that was read
-module _ (c : tie.After-along-of) where
+module _ (c : tie.After-body-direction) where
   abbrev m : tie.After-is-inside
   m = c .before .before
 
@@ -46,8 +46,8 @@ module _ (c : tie.After-along-of) where
   abbrev b : Body
   b = bo m
 
-  read : Read (t m) e b (e .kind) (e .first) (b .«first_parameter») (b .«count_u») (c .along-of .result)
-  read = record { kind-is = refl; first-is = refl; from-is = refl; count-is = refl; along-is = c .along-of .ensures }
+  read : Read (t m) e b (e .kind) (e .first) (b .«first_parameter») (b .«count_u») (c .body-direction .result)
+  read = record { kind-is = refl; first-is = refl; from-is = refl; count-is = refl; along-is = c .body-direction .ensures }
 
   within : inside (b .«start_u») (b .«end_u») (s m .args .t) ≡ true
   within = sym (inside-is m) ∙ not-false _ (c .before .if1 .left)
@@ -58,8 +58,8 @@ is-inside-requires c κs = search needs
 returns : tie.Need-returns
 returns c = let m = c .before in curve-outside (t m) (el m) (bo m) (s m .args .t) (sym (inside-is m) ∙ not-true _ (c .if1 .taken))
 
-along-of-requires : tie.Need-along-of-requires
-along-of-requires c κs = c .before .before .before .before .before .pre .along .sized
+body-direction-requires : tie.Need-body-direction-requires
+body-direction-requires c κs = c .before .before .before .before .before .pre .along .sized
 
 cast-from : tie.Need-cast-from
 cast-from c = search needs
@@ -92,7 +92,7 @@ returns-2 : tie.Need-returns-2
 returns-2 c =
     let a = c .before .before .before .before in
     let s = s (m a) in
-    ap sampledResult (c .curve-point .ensures ∙ point-read (read a) (s .args .t) (toZ w32 (ofZ w32 (s .args .t))) (toZ-ofZ (s .fits .t)))
+    ap pointAnswer (c .curve-point .ensures ∙ point-read (read a) (s .args .t) (toZ w32 (ofZ w32 (s .args .t))) (toZ-ofZ (s .fits .t)))
     ∙ curve-there (t (m a)) (e a) (b a) (s .args .t) (within a)
 
 pub curve-at-spec : {M : Type 1} → statement M
@@ -101,7 +101,7 @@ curve-at-spec =
     (tie.spec
     is-inside-requires
     returns
-    along-of-requires
+    body-direction-requires
     cast-from
     cast-to
     add-to

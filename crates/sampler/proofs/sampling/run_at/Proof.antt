@@ -14,10 +14,10 @@ use Rattle.tables.specs.Tables.{Tables, tables}
 use Rattle.tables.specs.declared.Body.{Body}
 use Rattle.tables.specs.declared.Element.{Element}
 use Rattle.tables.proofs.Bits.{fitted}
-use Rattle.runs.specs.Runs.{axesBy}
+use Rattle.point_runs.specs.Runs.{axesBy}
 use Rattle.sampler.specs.Points.{axesOf, runNumbers}
 use Rattle.sampler.specs.Sampling.{Curved}
-use Rattle.sampler.specs.declared.Ran.the-variants as ran
+use Rattle.sampler.specs.declared.RunResult.the-variants as ran
 use Rattle.sampler.proofs.Entries.{Read}
 use Rattle.sampler.proofs.Runners.{Same, run-none, run-many, run-room, run-filled, run-asked, run-read}
 use Rattle.sampler.proofs.sampling.run_at.Statement.{statement}
@@ -51,7 +51,7 @@ module _ (c : tie.After-axes-of) where
   most = omega (arith, c .before .if2 .left)
 
 -- there is room
-module _ (c : tie.After-along-of) where
+module _ (c : tie.After-body-direction) where
   abbrev ax : tie.After-axes-of
   ax = c .before .before .before
 
@@ -61,12 +61,12 @@ module _ (c : tie.After-along-of) where
   room : j .args .at + axesOf (el j) * (j .args .steps + 1) ≤ length (j .args .points .now)
   room = omega (arith, numbers-are ax, c .before .if4 .left, c .before .before .if3 .left)
 
-  read : Read (t j) (el j) (bo j) (el j .kind) (el j .first) (bo j .«first_parameter») (bo j .«count_u») (c .along-of .result)
-  read = record { kind-is = refl; first-is = refl; from-is = refl; count-is = refl; along-is = c .along-of .ensures }
+  read : Read (t j) (el j) (bo j) (el j .kind) (el j .first) (bo j .«first_parameter») (bo j .«count_u») (c .body-direction .result)
+  read = record { kind-is = refl; first-is = refl; from-is = refl; count-is = refl; along-is = c .body-direction .ensures }
 
 -- the range as it is passed
 module _ (c : tie.After-struct-told2) where
-  abbrev w : tie.After-along-of
+  abbrev w : tie.After-body-direction
   w = c .before .before .before .before .before .before
 
   abbrev d : tie.Start
@@ -110,8 +110,8 @@ returns-4 c =
     let a = s .args in
     run-room (t s) (el s) (bo s) (a .steps) (a .at) (a .points .now) (some m) (most m) (omega (arith, numbers-are m, c .before .if3 .left, c .if4 .taken))
 
-along-of-requires : tie.Need-along-of-requires
-along-of-requires c κs = k (c .before .before) .pre .along .sized
+body-direction-requires : tie.Need-body-direction-requires
+body-direction-requires c κs = k (c .before .before) .pre .along .sized
 
 cast-from : tie.Need-cast-from
 cast-from c = search needs
@@ -181,7 +181,7 @@ run-at-spec =
     returns-3
     sub-if4
     returns-4
-    along-of-requires
+    body-direction-requires
     cast-from
     cast-to
     add-to

@@ -12,7 +12,7 @@ use Rattle.tables.specs.Tables.{Tables, tables}
 use Rattle.tables.specs.declared.Body.{Body}
 use Rattle.tables.specs.declared.Element.{Element}
 use Rattle.tables.proofs.Bits.{fitted}
-use Rattle.sampler.specs.Answers.{sampledResult, inside}
+use Rattle.sampler.specs.Answers.{pointAnswer, inside}
 use Rattle.sampler.specs.Sampling.{Surfaced}
 use Rattle.sampler.proofs.Surfaces.{outside-u, outside-v, surface-there, Laid, surface-asked, surface-read}
 use Rattle.sampler.proofs.sampling.surface_at.Statement.{statement}
@@ -47,7 +47,7 @@ module _ (c : tie.After-is-inside2) where
       rw (fitted {z = bo u .«start_v»} (c .before .before .struct-told3 .given .1 .1 .1 .1 .1 .1 .1 .1 .1 .1 .1 .0 .1), fitted {z = bo u .«end_v»} (c .before .struct-told4 .given .1 .1 .1 .1 .1 .1 .1 .1 .1 .1 .1 .1 .0 .1), toZ-ofZ (s u .fits .t)) at (c .is-inside2 .ensures)
 
 -- all that was read
-module _ (c : tie.After-along-of2) where
+module _ (c : tie.After-body-direction2) where
   abbrev w : tie.After-is-inside2
   w = c .before .before .before
 
@@ -60,8 +60,8 @@ module _ (c : tie.After-along-of2) where
   abbrev b : Body
   b = bo m
 
-  laid : Laid (t m) e b (e .first) (b .«first_parameter») (b .«count_u») (b .«count_v») (c .before .along-of .result) (c .along-of2 .result)
-  laid = record { first-is = refl; from-is = refl; count-u-is = refl; count-v-is = refl; along-u-is = c .before .along-of .ensures; along-v-is = c .along-of2 .ensures }
+  laid : Laid (t m) e b (e .first) (b .«first_parameter») (b .«count_u») (b .«count_v») (c .before .body-direction .result) (c .body-direction2 .result)
+  laid = record { first-is = refl; from-is = refl; count-u-is = refl; count-v-is = refl; along-u-is = c .before .body-direction .ensures; along-v-is = c .body-direction2 .ensures }
 
   in-v : inside (b .«start_v») (b .«end_v») (s m .args .t) ≡ true
   in-v = sym (inside-v w) ∙ not-false _ (c .before .before .if2 .left)
@@ -78,11 +78,11 @@ is-inside-requires-2 c κs = search needs
 returns-2 : tie.Need-returns-2
 returns-2 c = let w = c .before in let m = u w in outside-v (t m) (el m) (bo m) (s m .args .s) (s m .args .t) (in-u w) (sym (inside-v w) ∙ not-true _ (c .if2 .taken))
 
-along-of-requires : tie.Need-along-of-requires
-along-of-requires c κs = s (u (c .before)) .pre .along-u .sized
+body-direction-requires : tie.Need-body-direction-requires
+body-direction-requires c κs = s (u (c .before)) .pre .along-u .sized
 
-along-of-requires-2 : tie.Need-along-of-requires-2
-along-of-requires-2 c κs = s (u (c .before .before)) .pre .along-v .sized
+body-direction-requires-2 : tie.Need-body-direction-requires-2
+body-direction-requires-2 c κs = s (u (c .before .before)) .pre .along-v .sized
 
 cast-from : tie.Need-cast-from
 cast-from c = search needs
@@ -133,7 +133,7 @@ returns-3 : tie.Need-returns-3
 returns-3 c =
     let a = c .before .before .before .before .before .before in
     let j = s (m a) in
-    ap sampledResult (c .surface-point .ensures
+    ap pointAnswer (c .surface-point .ensures
     ∙ surface-read (laid a) (j .args .s) (toZ w32 (ofZ w32 (j .args .s))) (j .args .t) (toZ w32 (ofZ w32 (j .args .t))) (toZ-ofZ (j .fits .s)) (toZ-ofZ (j .fits .t)))
     ∙ surface-there (t (m a)) (e a) (b a) (j .args .s) (j .args .t) (in-u (w a)) (j .pre .kind) (in-v a)
 
@@ -145,8 +145,8 @@ surface-at-spec =
     returns
     is-inside-requires-2
     returns-2
-    along-of-requires
-    along-of-requires-2
+    body-direction-requires
+    body-direction-requires-2
     cast-from
     cast-middle
     add-middle

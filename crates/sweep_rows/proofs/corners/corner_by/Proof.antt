@@ -2,7 +2,7 @@ use Rattle.sweep_rows.proofs.Renumbering.{corner-of}
 use Prim.Native.Nat.{ℕ}
 -- Each number by its own lookup.
 use mathlib.Core.Path.{_∙_, ap}
-use Rattle.sweep_rows.specs.Marks.{numberOf, cornerBy}
+use Rattle.sweep_rows.specs.Marks.{numberListed, cornerBy}
 use borrow.Author.Needs.{needs}
 use Rattle.sweep_rows.proofs.corners.corner_by.Statement.{statement}
 use Rattle.sweep_rows.proofs.corners.corner_by.Tie as tie
@@ -30,7 +30,7 @@ number-of-requires-3 c κs = search needs
 
 returns : tie.Need-returns
 unfolding cornerBy
-returns c = let base = c .before .before .before .before .point-base .ensures .0 in corner-of (c .before .before .before .number-of .ensures ∙ ap (λ (b : ℕ). numberOf (c .before .before .before .before .before .before .before .args .numbers .now) b (c .before .before .before .before .before .before .before .args .corner .v)) base) (c .before .before .number-of2 .ensures) (c .number-of3 .ensures)
+returns c = let base = c .before .before .before .before .point-base .ensures .0 in corner-of (c .before .before .before .number-of .ensures ∙ ap (λ (b : ℕ). numberListed (c .before .before .before .before .before .before .before .args .numbers .now) b (c .before .before .before .before .before .before .before .args .corner .v)) base) (c .before .before .number-of2 .ensures) (c .number-of3 .ensures)
 
 pub corner-by-spec : {M : Type 1} → statement M
 corner-by-spec =

@@ -5,8 +5,8 @@ use native.Mathlib.Omega.{arith}
 use lib.ListN.{length}
 use Rattle.tables.specs.Tables.{Tables, tables}
 use Rattle.basis.proofs.Tests.{failed, passed}
-use Rattle.rules.specs.Rules.{recordsObey}
-use Rattle.rules.proofs.Records.{records-lent}
+use Rattle.record_rules.specs.Rules.{recordsObey}
+use Rattle.record_rules.proofs.Records.{records-lent}
 use Rattle.table_rules.proofs.Pass.{Passed, starts, breaks, leaves-gap, goes-on, ends-with}
 use borrow.Author.Needs.{needs}
 use Rattle.table_rules.proofs.elements.elements_obey.Statement.{statement}

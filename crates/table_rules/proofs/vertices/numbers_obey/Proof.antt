@@ -6,14 +6,14 @@ use borrow.Author.Needs.{needs}
 use Rattle.table_rules.proofs.vertices.numbers_obey.Statement.{statement}
 use Rattle.table_rules.proofs.vertices.numbers_obey.Tie as tie
 
-mul-small-run : tie.Need-mul-small-run
-mul-small-run c = record { fits = product (c .fits .width .fits) (c .fits .used .fits) }
+mul-run-in-range : tie.Need-mul-run-in-range
+mul-run-in-range c = record { fits = product (c .fits .width .fits) (c .fits .used .fits) }
 
-small-run-requires : tie.Need-small-run-requires
-small-run-requires c κs = search needs
+run-in-range-requires : tie.Need-run-in-range-requires
+run-in-range-requires c κs = search needs
 
 returns : tie.Need-returns
-returns c = let a = c .before .args in c .small-run .ensures ∙ numbers-are (a .values .now) (a .width) (a .used)
+returns c = let a = c .before .args in c .run-in-range .ensures ∙ numbers-are (a .values .now) (a .width) (a .used)
 
 pub numbers-obey-spec : {M : Type 1} → statement M
-numbers-obey-spec = tie.close (tie.spec mul-small-run small-run-requires returns)
+numbers-obey-spec = tie.close (tie.spec mul-run-in-range run-in-range-requires returns)

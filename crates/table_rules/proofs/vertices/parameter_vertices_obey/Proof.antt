@@ -6,9 +6,9 @@ use Prim.Native.Nat.{ℕ, suc, _-_, _≤_}
 use native.Mathlib.Numerals.{add-one}
 use native.Mathlib.Omega.{arith}
 use lib.IntN.{ℤ}
-use Rattle.rules.specs.Numbers.{allBelow}
-use Rattle.rules.specs.Vertices.{parameterVertexObeys}
-use Rattle.rules.proofs.Below.{below-more, below-fails, below-ends}
+use Rattle.record_rules.specs.Numbers.{allBelow}
+use Rattle.record_rules.specs.Vertices.{parameterVertexObeys}
+use Rattle.record_rules.proofs.Below.{below-more, below-fails, below-ends}
 use Rattle.basis.proofs.Tests.{failed, passed}
 use borrow.Author.Needs.{needs}
 use Rattle.table_rules.proofs.vertices.parameter_vertices_obey.Statement.{statement}

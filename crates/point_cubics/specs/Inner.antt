@@ -1,0 +1,45 @@
+-- What the functions below the entry point promise: three numbers, and a point from the parts that are lent.
+use mathlib.Core.Bool.{cond}
+use mathlib.Core.Path.{_≡_}
+use mathlib.Core.List.{List}
+use Prim.Native.Nat.{ℕ}
+use lib.Dec.{eqb}
+use lib.IntN.{ℤ}
+use Rattle.rounding.specs.Round.{InRange}
+use Rattle.tables.specs.Tables.{Tables}
+use Rattle.tables.specs.Records.{parametersU}
+use Rattle.tables.specs.declared.Element.{Element}
+use Rattle.tables.specs.declared.Body.{Body}
+use Rattle.point_rows.specs.Controls.{controlAt}
+use Rattle.sampler.specs.Answers.{PointAnswer, refusedPoint}
+use Rattle.sampler.specs.declared.PointResult.{PointResult}
+use Rattle.sampler.specs.declared.PointResult.the-variants as sampled
+use Rattle.point_cubics.specs.Weights.{cubicSampled}
+use Rattle.point_cubics.specs.Answers.{cubic, reached, cubicPoint}
+use Rattle.point_cubics.specs.declared.Triple.{Triple}
+
+-- three numbers, each of them in range
+pub record Has (p : Triple) (x y z : ℤ) : Type 0 where
+  pub x-is : p .x ≡ x
+  pub y-is : p .y ≡ y
+  pub z-is : p .z ≡ z
+  pub x-small : InRange (p .x)
+  pub y-small : InRange (p .y)
+  pub z-small : InRange (p .z)
+
+-- one coordinate, from number `entry` of each vertex that is named
+abbrev pub axisBy : List ℤ → List ℕ → (first g j entry : ℕ) → ℤ
+axisBy values corners first g j entry = cubicSampled g j (controlAt values corners first entry)
+
+unfoldable pub pointBy : (kind : ℕ) → List ℤ → List ℤ → List ℕ → (first g j : ℕ) → PointResult
+pointBy kind v vp corners first g j =
+    cond (eqb kind 5)
+    (sampled.Plane (axisBy vp corners first g j 1) (axisBy vp corners first g j 2))
+    (sampled.Space (axisBy v corners first g j 0) (axisBy v corners first g j 1) (axisBy v corners first g j 2))
+
+-- the answer for an element that was looked up: "18 also for another type or degree", 19, or the point
+unfoldable pub stepAnswer : Tables → Element → Body → (g j : ℕ) → PointAnswer
+stepAnswer t e b g j =
+    cond (cubic (b .basis) (b .«degree_u»))
+    (cond (reached (parametersU t b) (b .«start_u») (b .«end_u») g j) (cubicPoint t e g j) (refusedPoint 19))
+    (refusedPoint 18)

@@ -1,0 +1,290 @@
+// The end of a body: its parameters held against its controls and ranges, then stored with its record.
+use crate::numbers::Counted;
+use crate::numbers::Step;
+use crate::numbers::count_numbers;
+use crate::numbers::next_number;
+use basis::curve_count;
+use basis::stepping::Order;
+use basis::stepping::Requirement;
+use basis::stepping::holds;
+use basis::stepping::no_order;
+use basis::stepping::requirement_of;
+use basis::stepping::step;
+use basis::surface_count;
+use read_state::Form;
+use read_state::Open;
+use table_store::put_i32;
+use table_store::put4_i32;
+use table_store::put9_u32;
+use tables::Used;
+ghost use mathlib.Core.Path.{_≡_};
+ghost use mathlib.Core.List.{[], _∷_, _++_};
+ghost use mathlib.Core.Bool.{true, cond};
+ghost use Prim.Native.Nat.{_+_, _*_, _-_, _≤_, _<_};
+ghost use lib.ListN.{length, take, getD};
+ghost use lib.Dec.{eqb};
+ghost use lib.IntN.{pos};
+ghost use lib.Seq.{sets};
+ghost use Rattle.basis.specs.Stepping.{walked};
+ghost use Rattle.model.specs.Layout.{firstPart};
+ghost use Rattle.read_bodies.specs.Numbers.{numbersAt};
+ghost use Rattle.read_bodies.specs.Closing.{parmOf, completeOf, agreeOf, bodyFor, bodyIn, settledIs, bodyCheckIs, storedIs, bodyRecordOf, closedIs};
+
+pub enum BodyCheck {
+    Refused(u32),
+    Valid {
+        u: u32,
+        v: u32,
+        start: i32,
+        end: i32,
+    },
+}
+
+pub enum Closed {
+    Closed { u: u32, v: u32 },
+    Refused(u32),
+}
+
+// How many parameters the last parm of a direction gave: none where its place is 0.
+fn parm_count(text: &[u8], at: usize) -> u32
+    requires { ⌜ (at ≤ length (now text)) × (length (now text) ≤ 16777216) ⌝ }
+    ensures { λ r. ⌜ (r ≡ length (parmOf (now (text .entry)) at)) × (r ≤ 16777216) ⌝ }
+{
+    if at == 0 {
+        return 0;
+    }
+    match count_numbers(text, at) {
+        Counted::Ended { count, next: _ } => count as u32,
+        Counted::Stopped(count) => count as u32,
+    }
+}
+
+// 11: a curve needs parm u, a surface parm u and parm v.
+fn complete(kind: u32, u: u32, v: u32) -> bool
+    ensures { λ r. ⌜ r ≡ completeOf kind u v ⌝ }
+{
+    if u == 0 {
+        return false;
+    }
+    if kind == 6 {
+        return v != 0;
+    }
+    true
+}
+
+// 12.
+fn counts_agree(kind: u32, form: Form, u: u32, v: u32, controls: u32) -> bool
+    requires { ⌜ completeOf kind u v ≡ true ⌝ }
+    ensures { λ r. ⌜ r ≡ agreeOf kind form u v controls ⌝ }
+{
+    if kind == 6 {
+        return surface_count(form.basis, form.degree_u, u, form.degree_v, v, controls);
+    }
+    curve_count(form.basis, form.degree_u, u, controls)
+}
+
+// The first `count` numbers of a line, judged one after the other, and stored from `first` on as far as there is room.
+fn store(
+    text: &[u8],
+    at: usize,
+    count: u32,
+    asked: Requirement,
+    parameters: &mut [i32],
+    first: usize,
+) -> Order
+    requires { ⌜ (at ≤ length (now text)) × (first ≤ 8589934592) ⌝ }
+    ensures { λ r. ⌜ r ≡ walked asked (take count (numbersAt (now (text .entry)) at)) ⌝ }
+    ensures { λ r. ⌜ now (parameters .exit) ≡ sets (now (parameters .entry)) first (take count (numbersAt (now (text .entry)) at)) ⌝ }
+{
+    let mut i = at;
+    let mut done: u32 = 0;
+    let mut order = no_order();
+    while done < count {
+        match next_number(text, i) {
+            Step::Stopped => {
+                return order;
+            }
+            Step::End(_) => {
+                return order;
+            }
+            Step::Number { value, end } => {
+                order = step(asked, done as usize, order, value);
+                put_i32(parameters, first + done as usize, value);
+                done += 1;
+                i = end;
+            }
+        }
+    }
+    order
+}
+
+// A curv2's range is the widest; other kinds state theirs.
+fn end_of(kind: u32, widest: i32, stated: i32) -> i32
+    ensures { λ r. ⌜ r ≡ cond (eqb kind 5) widest stated ⌝ }
+{
+    if kind == 5 {
+        return widest;
+    }
+    stated
+}
+
+// 13, from what the parameters of each direction came to.
+fn settle(
+    kind: u32,
+    u: u32,
+    v: u32,
+    along_u: Order,
+    along_v: Order,
+    start_u: i32,
+    end_u: i32,
+    start_v: i32,
+    end_v: i32,
+) -> BodyCheck
+    ensures { λ r. ⌜ settledIs kind u v «along_u» «along_v» «start_u» «end_u» «start_v» «end_v» r ⌝ }
+{
+    let start = end_of(kind, along_u.low, start_u);
+    let end = end_of(kind, along_u.high, end_u);
+    if !holds(along_u, start, end) {
+        return BodyCheck::Refused(13);
+    }
+    if kind == 6 {
+        if !holds(along_v, start_v, end_v) {
+            return BodyCheck::Refused(13);
+        }
+    }
+    BodyCheck::Valid {
+        u: u,
+        v: v,
+        start: start,
+        end: end,
+    }
+}
+
+// 11, 12 and 13, in this order; the parameters are stored, u then v, where 13 is asked.
+fn judge(
+    u_text: &[u8],
+    v_text: &[u8],
+    form: Form,
+    body: Open,
+    start_u: i32,
+    end_u: i32,
+    start_v: i32,
+    end_v: i32,
+    parameters: &mut [i32],
+    first: u32,
+) -> BodyCheck
+    requires { ⌜ (body .«u_at» ≤ length (now «u_text»)) × (length (now «u_text») ≤ 16777216) ⌝ }
+    requires { ⌜ (body .«v_at» ≤ length (now «v_text»)) × (length (now «v_text») ≤ 16777216) ⌝ }
+    ensures { λ r. ⌜ bodyCheckIs (bodyFor form (body .kind) (parmOf (now («u_text» .entry)) (body .«u_at»)) (parmOf (now («v_text» .entry)) (body .«v_at»)) «start_u» «end_u» «start_v» «end_v») (body .controls) r ⌝ }
+    ensures { λ r. ⌜ storedIs (now (parameters .entry)) (now (parameters .exit)) first (parmOf (now («u_text» .entry)) (body .«u_at») ++ parmOf (now («v_text» .entry)) (body .«v_at»)) r ⌝ }
+{
+    let u_at = body.u_at;
+    let v_at = body.v_at;
+    let u = parm_count(u_text, u_at);
+    let v = parm_count(v_text, v_at);
+    if !complete(body.kind, u, v) {
+        return BodyCheck::Refused(11);
+    }
+    if !counts_agree(body.kind, form, u, v, body.controls) {
+        return BodyCheck::Refused(12);
+    }
+    let at = first as usize;
+    let asked_u = requirement_of(form.basis, form.degree_u, u as usize);
+    let along_u = store(u_text, u_at, u, asked_u, parameters, at);
+    let asked_v = requirement_of(form.basis, form.degree_v, v as usize);
+    let along_v = store(v_text, v_at, v, asked_v, parameters, at + u as usize);
+    settle(
+        body.kind,
+        u,
+        v,
+        along_u,
+        along_v,
+        start_u,
+        end_u,
+        start_v,
+        end_v,
+    )
+}
+
+// The first loop part of a body that has some, after those before it.
+fn first_part(used: u32, parts: u32) -> u32
+    requires { ⌜ parts ≤ used ⌝ }
+    ensures { λ r. ⌜ r ≡ firstPart (used - parts) parts ⌝ }
+{
+    if parts == 0 {
+        return 0;
+    }
+    used - parts
+}
+
+fn store_record(form: Form, body: Open, used: Used, u: u32, v: u32, bodies: &mut [u32])
+    requires { ⌜ (1 ≤ used .bodies) × (9 * used .bodies ≤ length (now bodies)) × (body .parts ≤ used .loops) ⌝ }
+    ensures { λ r. ⌜ now (bodies .exit) ≡ sets (now (bodies .entry)) (9 * (used .bodies - 1)) (bodyRecordOf form body used u v) ⌝ }
+{
+    put9_u32(
+        bodies,
+        9 * (used.bodies as usize - 1),
+        form.basis,
+        form.rational,
+        form.degree_u,
+        form.degree_v,
+        used.parameters,
+        u,
+        v,
+        first_part(used.loops, body.parts),
+        body.parts,
+    );
+}
+
+// The range's record anew: a curv2's was not known before.
+fn store_range(bodies: u32, start: i32, end: i32, ranges: &mut [i32])
+    requires { ⌜ (1 ≤ bodies) × (4 * bodies ≤ length (now ranges)) ⌝ }
+    ensures { λ r. ⌜ now (ranges .exit) ≡ sets (now (ranges .entry)) (4 * (bodies - 1)) (start ∷ end ∷ getD (now (ranges .entry)) (4 * (bodies - 1) + 2) (pos 0) ∷ getD (now (ranges .entry)) (4 * (bodies - 1) + 3) (pos 0) ∷ []) ⌝ }
+{
+    let at = 4 * (bodies as usize - 1);
+    let start_v = ranges[at + 2];
+    let end_v = ranges[at + 3];
+    put4_i32(ranges, at, start, end, start_v, end_v);
+}
+
+// The `end` of an open body: the form is the one in force at its element's line, the degrees those that the body has. The texts hold the last parm line of
+// each direction, at the places that `body` has.
+pub fn close_body(
+    u_text: &[u8],
+    v_text: &[u8],
+    form: Form,
+    body: Open,
+    used: Used,
+    bodies: &mut [u32],
+    ranges: &mut [i32],
+    parameters: &mut [i32],
+) -> Closed
+    requires { ⌜ (body .«u_at» ≤ length (now «u_text»)) × (length (now «u_text») ≤ 16777216) ⌝ }
+    requires { ⌜ (body .«v_at» ≤ length (now «v_text»)) × (length (now «v_text») ≤ 16777216) ⌝ }
+    requires { ⌜ (1 ≤ used .bodies) × (9 * used .bodies ≤ length (now bodies)) × (4 * used .bodies ≤ length (now ranges)) × (body .parts ≤ used .loops) ⌝ }
+    ensures { λ r. ⌜ closedIs form body used (bodyIn form body used (now («u_text» .entry)) (now («v_text» .entry)) (now (ranges .entry))) (now (bodies .entry)) (now (bodies .exit)) (now (ranges .entry)) (now (ranges .exit)) (now (parameters .entry)) (now (parameters .exit)) r ⌝ }
+{
+    let at = 4 * (used.bodies as usize - 1);
+    match judge(
+        u_text,
+        v_text,
+        form,
+        body,
+        ranges[at],
+        ranges[at + 1],
+        ranges[at + 2],
+        ranges[at + 3],
+        parameters,
+        used.parameters,
+    ) {
+        BodyCheck::Refused(n) => Closed::Refused(n),
+        BodyCheck::Valid { u, v, start, end } => {
+            if parameters.len() < used.parameters as usize + u as usize + v as usize {
+                return Closed::Refused(14);
+            }
+            store_record(form, body, used, u, v, bodies);
+            store_range(used.bodies, start, end, ranges);
+            Closed::Closed { u: u, v: v }
+        }
+    }
+}

@@ -1,0 +1,2 @@
+pub mod Diagnosed
+pub mod Sorted

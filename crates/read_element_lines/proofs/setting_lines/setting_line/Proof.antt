@@ -1,0 +1,142 @@
+-- Each way out by the law of its setting.
+use mathlib.Core.Path.{_≡_, refl}
+use denote.Ref.{now}
+use Rattle.read_element_lines.proofs.Quiet.{setting-inside, setting-is, type-line, degree-line, group-line, smoothing-line, material-line}
+use borrow.Author.Needs.{needs}
+use Rattle.read_element_lines.proofs.setting_lines.setting_line.Statement.{statement}
+use Rattle.read_element_lines.proofs.setting_lines.setting_line.Tie as tie
+use Rattle.read_element_lines.proofs.setting_lines.setting_line.Reads as reads
+use Rattle.read_element_lines.proofs.setting_lines.setting_line.Lts as lts
+use Rattle.read_element_lines.proofs.setting_lines.form_step.Reads as form-step-reads
+use Rattle.read_element_lines.proofs.setting_lines.names_step.Reads as names-step-reads
+use Rattle.read_element_lines.proofs.setting_lines.passed_line.Reads as passed-line-reads
+use Rattle.read_settings.proofs.take_degree.Reads as take-degree-reads
+use Rattle.read_settings.proofs.take_group.Reads as take-group-reads
+use Rattle.read_settings.proofs.take_material.Reads as take-material-reads
+use Rattle.read_settings.proofs.take_smoothing.Reads as take-smoothing-reads
+use Rattle.read_settings.proofs.take_type.Reads as take-type-reads
+
+returns : tie.Need-returns
+returns c = let a = c .before .before .before .before .args in setting-inside (now (a .text)) (a .at) (a .state) (a .setting) (c .if1 .taken)
+
+enum-told : tie.Need-enum-told
+enum-told c = search needs
+
+take-type-requires : tie.Need-take-type-requires
+take-type-requires c κs = search needs
+
+form-step-requires : tie.Need-form-step-requires
+form-step-requires c κs = search needs
+
+enum-told-2 : tie.Need-enum-told-2
+enum-told-2 c = search needs
+
+take-degree-requires : tie.Need-take-degree-requires
+take-degree-requires c κs = search needs
+
+form-step-requires-2 : tie.Need-form-step-requires-2
+form-step-requires-2 c κs = search needs
+
+enum-told-3 : tie.Need-enum-told-3
+enum-told-3 c = search needs
+
+take-group-requires : tie.Need-take-group-requires
+take-group-requires c κs = search needs
+
+names-step-requires : tie.Need-names-step-requires
+names-step-requires c κs = search needs
+
+enum-told-4 : tie.Need-enum-told-4
+enum-told-4 c = search needs
+
+take-smoothing-requires : tie.Need-take-smoothing-requires
+take-smoothing-requires c κs = search needs
+
+names-step-requires-2 : tie.Need-names-step-requires-2
+names-step-requires-2 c κs = search needs
+
+enum-told-5 : tie.Need-enum-told-5
+enum-told-5 c = search needs
+
+take-material-requires : tie.Need-take-material-requires
+take-material-requires c κs = search needs
+
+names-step-requires-3 : tie.Need-names-step-requires-3
+names-step-requires-3 c κs = search needs
+
+enum-told-6 : tie.Need-enum-told-6
+enum-told-6 c = search needs
+
+passed-line-requires : tie.Need-passed-line-requires
+passed-line-requires c κs = search needs
+
+returns-2 : tie.Need-returns-2
+returns-2 c =
+    let told = c .before .before in
+    let left = told .before .before .before .before in
+    let a = left .before .before .before .before .args in
+    setting-is (now (a .text)) (a .at) (a .state) (told .enum-told .given .1) (c .form-step .ensures) (type-line (now (a .text)) (a .at) (a .state) (left .if1 .left) _ (c .before .take-type .ensures))
+
+returns-3 : tie.Need-returns-3
+returns-3 c =
+    let told = c .before .before in
+    let left = told .before .before .before .before in
+    let a = left .before .before .before .before .args in
+    setting-is (now (a .text)) (a .at) (a .state) (told .enum-told2 .given .1) (c .form-step2 .ensures) (degree-line (now (a .text)) (a .at) (a .state) (left .if1 .left) _ (c .before .take-degree .ensures))
+
+returns-4 : tie.Need-returns-4
+returns-4 c =
+    let told = c .before .before in
+    let left = told .before .before .before .before in
+    let a = left .before .before .before .before .args in
+    setting-is (now (a .text)) (a .at) (a .state) (told .enum-told3 .given .1) (c .names-step .ensures) (group-line (now (a .text)) (a .at) (a .state) (left .if1 .left) _ (c .before .take-group .ensures))
+
+returns-5 : tie.Need-returns-5
+returns-5 c =
+    let told = c .before .before in
+    let left = told .before .before .before .before in
+    let a = left .before .before .before .before .args in
+    setting-is (now (a .text)) (a .at) (a .state) (told .enum-told4 .given .1) (c .names-step2 .ensures) (smoothing-line (now (a .text)) (a .at) (a .state) (left .if1 .left) _ (c .before .take-smoothing .ensures))
+
+returns-6 : tie.Need-returns-6
+returns-6 c =
+    let told = c .before .before in
+    let left = told .before .before .before .before in
+    let a = left .before .before .before .before .args in
+    setting-is (now (a .text)) (a .at) (a .state) (told .enum-told5 .given .1) (c .names-step3 .ensures) (material-line (now (a .text)) (a .at) (a .state) (left .if1 .left) _ (c .before .take-material .ensures))
+
+returns-7 : tie.Need-returns-7
+returns-7 c =
+    let told = c .before in
+    let left = told .before .before .before .before in
+    let a = left .before .before .before .before .args in
+    setting-is (now (a .text)) (a .at) (a .state) (told .enum-told6 .given .1) (let e : c .passed-line .result ≡ c .passed-line .result = refl in e) (c .passed-line .ensures (left .if1 .left))
+
+pub setting-line-spec : {M : Type 1} → statement M
+setting-line-spec =
+    tie.close
+    (tie.spec
+    returns
+    enum-told
+    take-type-requires
+    form-step-requires
+    enum-told-2
+    take-degree-requires
+    form-step-requires-2
+    enum-told-3
+    take-group-requires
+    names-step-requires
+    enum-told-4
+    take-smoothing-requires
+    names-step-requires-2
+    enum-told-5
+    take-material-requires
+    names-step-requires-3
+    enum-told-6
+    passed-line-requires
+    returns-2
+    returns-3
+    returns-4
+    returns-5
+    returns-6
+    returns-7)

@@ -1,0 +1,139 @@
+-- The answer of `store_lines`, and after a refusal the tables cleared.
+use mathlib.Core.Path.{_∙_}
+use denote.Ref.{now}
+use Rattle.tables.specs.Tables.{tables}
+use Rattle.read_lines.proofs.Loop.{rooms-eq}
+use Rattle.read_lines.proofs.Cleared.{all-read, all-refused}
+use borrow.Author.Needs.{needs}
+use Rattle.read_lines.proofs.lines_of.Statement.{statement}
+use Rattle.read_lines.proofs.lines_of.Tie as tie
+use Rattle.read_lines.proofs.lines_of.Reads as reads
+use Rattle.read_lines.proofs.lines_of.Lts as lts
+use Rattle.read_lines.proofs.store_lines.Reads as store-lines-reads
+use Rattle.table_store.proofs.clear.Reads as clear-reads
+
+store-lines-requires : tie.Need-store-lines-requires
+store-lines-requires c κs = search needs
+
+enum-known-used : tie.Need-enum-known-used
+enum-known-used c = search needs
+
+enum-known-number : tie.Need-enum-known-number
+enum-known-number c = search needs
+
+clear-requires : tie.Need-clear-requires
+clear-requires c κs = search needs
+
+same-length : tie.Need-same-length
+same-length c = c .before .before .before .before .before .before .before .before .before .before .before .before .before .before .before .before .before .before .store-lines .kept .1 .0
+
+same-length-2 : tie.Need-same-length-2
+same-length-2 c = c .before .before .before .before .before .before .before .before .before .before .before .before .before .before .before .before .before .before .store-lines .kept .1 .1 .0
+
+same-length-3 : tie.Need-same-length-3
+same-length-3 c = c .before .before .before .before .before .before .before .before .before .before .before .before .before .before .before .before .before .before .store-lines .kept .1 .1 .1 .0
+
+same-length-4 : tie.Need-same-length-4
+same-length-4 c = c .before .before .before .before .before .before .before .before .before .before .before .before .before .before .before .before .before .before .store-lines .kept .1 .1 .1 .1 .0
+
+same-length-5 : tie.Need-same-length-5
+same-length-5 c = c .before .before .before .before .before .before .before .before .before .before .before .before .before .before .before .before .before .before .store-lines .kept .1 .1 .1 .1 .1 .0
+
+same-length-6 : tie.Need-same-length-6
+same-length-6 c = c .before .before .before .before .before .before .before .before .before .before .before .before .before .before .before .before .before .before .store-lines .kept .1 .1 .1 .1 .1 .1 .0
+
+same-length-7 : tie.Need-same-length-7
+same-length-7 c = c .before .before .before .before .before .before .before .before .before .before .before .before .before .before .before .before .before .before .store-lines .kept .1 .1 .1 .1 .1 .1 .1 .0
+
+same-length-8 : tie.Need-same-length-8
+same-length-8 c = c .before .before .before .before .before .before .before .before .before .before .before .before .before .before .before .before .before .before .store-lines .kept .1 .1 .1 .1 .1 .1 .1 .1 .0
+
+same-length-9 : tie.Need-same-length-9
+same-length-9 c = c .before .before .before .before .before .before .before .before .before .before .before .before .before .before .before .before .before .before .store-lines .kept .1 .1 .1 .1 .1 .1 .1 .1 .1 .0
+
+same-length-10 : tie.Need-same-length-10
+same-length-10 c = c .before .before .before .before .before .before .before .before .before .before .before .before .before .before .before .before .before .before .store-lines .kept .1 .1 .1 .1 .1 .1 .1 .1 .1 .1 .0
+
+same-length-11 : tie.Need-same-length-11
+same-length-11 c = c .before .before .before .before .before .before .before .before .before .before .before .before .before .before .before .before .before .before .store-lines .kept .1 .1 .1 .1 .1 .1 .1 .1 .1 .1 .1 .0
+
+returns : tie.Need-returns
+returns c =
+    let went = c .before .before .before .before .before .before .before .before .before .before .before .before .before .before .before .before .before .before in
+    let a = went .before .before .before .before .before .before .before .before .before .before .before .before .before .before .before .before .before .args in
+    all-read (now (a .text)) (tables (now (a .v)) (now (a .vt)) (now (a .vn)) (now (a .vp)) (now (a .corners)) (now (a .elements)) (now (a .bodies)) (now (a .ranges)) (now (a .parameters)) (now (a .loops)) (now (a .spans))) (tables (went .store-lines .last .1 .0) (went .store-lines .last .1 .1 .0) (went .store-lines .last .1 .1 .1 .0) (went .store-lines .last .1 .1 .1 .1 .0) (went .store-lines .last .1 .1 .1 .1 .1 .0) (went .store-lines .last .1 .1 .1 .1 .1 .1 .0) (went .store-lines .last .1 .1 .1 .1 .1 .1 .1 .0) (went .store-lines .last .1 .1 .1 .1 .1 .1 .1 .1 .0) (went .store-lines .last .1 .1 .1 .1 .1 .1 .1 .1 .1 .0) (went .store-lines .last .1 .1 .1 .1 .1 .1 .1 .1 .1 .1 .0) (went .store-lines .last .1 .1 .1 .1 .1 .1 .1 .1 .1 .1 .1 .0)) (went .store-lines .result) (went .store-lines .ensures) _ (c .before .used .given .1)
+
+same-length-12 : tie.Need-same-length-12
+same-length-12 c = c .before .before .before .before .before .before .before .before .before .before .before .before .before .before .before .clear .kept .0 ∙ c .before .before .before .before .before .before .before .before .before .before .before .before .before .before .before .before .before .before .before .before .before .before .before .before .before .before .before .before .before .before .before .before .before .before .before .before .before .before .before .before .before .before .before .before .before .store-lines .kept .1 .0
+
+same-length-13 : tie.Need-same-length-13
+same-length-13 c = c .before .before .before .before .before .before .before .before .before .before .before .before .before .before .before .clear .kept .1 .0 ∙ c .before .before .before .before .before .before .before .before .before .before .before .before .before .before .before .before .before .before .before .before .before .before .before .before .before .before .before .before .before .before .before .before .before .before .before .before .before .before .before .before .before .before .before .before .before .store-lines .kept .1 .1 .0
+
+same-length-14 : tie.Need-same-length-14
+same-length-14 c = c .before .before .before .before .before .before .before .before .before .before .before .before .before .before .before .clear .kept .1 .1 .0 ∙ c .before .before .before .before .before .before .before .before .before .before .before .before .before .before .before .before .before .before .before .before .before .before .before .before .before .before .before .before .before .before .before .before .before .before .before .before .before .before .before .before .before .before .before .before .before .store-lines .kept .1 .1 .1 .0
+
+same-length-15 : tie.Need-same-length-15
+same-length-15 c = c .before .before .before .before .before .before .before .before .before .before .before .before .before .before .before .clear .kept .1 .1 .1 .0 ∙ c .before .before .before .before .before .before .before .before .before .before .before .before .before .before .before .before .before .before .before .before .before .before .before .before .before .before .before .before .before .before .before .before .before .before .before .before .before .before .before .before .before .before .before .before .before .store-lines .kept .1 .1 .1 .1 .0
+
+same-length-16 : tie.Need-same-length-16
+same-length-16 c = c .before .before .before .before .before .before .before .before .before .before .before .before .before .before .before .clear .kept .1 .1 .1 .1 .0 ∙ c .before .before .before .before .before .before .before .before .before .before .before .before .before .before .before .before .before .before .before .before .before .before .before .before .before .before .before .before .before .before .before .before .before .before .before .before .before .before .before .before .before .before .before .before .before .store-lines .kept .1 .1 .1 .1 .1 .0
+
+same-length-17 : tie.Need-same-length-17
+same-length-17 c = c .before .before .before .before .before .before .before .before .before .before .before .before .before .before .before .clear .kept .1 .1 .1 .1 .1 .0 ∙ c .before .before .before .before .before .before .before .before .before .before .before .before .before .before .before .before .before .before .before .before .before .before .before .before .before .before .before .before .before .before .before .before .before .before .before .before .before .before .before .before .before .before .before .before .before .store-lines .kept .1 .1 .1 .1 .1 .1 .0
+
+same-length-18 : tie.Need-same-length-18
+same-length-18 c = c .before .before .before .before .before .before .before .before .before .before .before .before .before .before .before .clear .kept .1 .1 .1 .1 .1 .1 .0 ∙ c .before .before .before .before .before .before .before .before .before .before .before .before .before .before .before .before .before .before .before .before .before .before .before .before .before .before .before .before .before .before .before .before .before .before .before .before .before .before .before .before .before .before .before .before .before .store-lines .kept .1 .1 .1 .1 .1 .1 .1 .0
+
+same-length-19 : tie.Need-same-length-19
+same-length-19 c = c .before .before .before .before .before .before .before .before .before .before .before .before .before .before .before .clear .kept .1 .1 .1 .1 .1 .1 .1 .0 ∙ c .before .before .before .before .before .before .before .before .before .before .before .before .before .before .before .before .before .before .before .before .before .before .before .before .before .before .before .before .before .before .before .before .before .before .before .before .before .before .before .before .before .before .before .before .before .store-lines .kept .1 .1 .1 .1 .1 .1 .1 .1 .0
+
+same-length-20 : tie.Need-same-length-20
+same-length-20 c = c .before .before .before .before .before .before .before .before .before .before .before .before .before .before .before .clear .kept .1 .1 .1 .1 .1 .1 .1 .1 .0 ∙ c .before .before .before .before .before .before .before .before .before .before .before .before .before .before .before .before .before .before .before .before .before .before .before .before .before .before .before .before .before .before .before .before .before .before .before .before .before .before .before .before .before .before .before .before .before .store-lines .kept .1 .1 .1 .1 .1 .1 .1 .1 .1 .0
+
+same-length-21 : tie.Need-same-length-21
+same-length-21 c = c .before .before .before .before .before .before .before .before .before .before .before .before .before .before .before .clear .kept .1 .1 .1 .1 .1 .1 .1 .1 .1 .0 ∙ c .before .before .before .before .before .before .before .before .before .before .before .before .before .before .before .before .before .before .before .before .before .before .before .before .before .before .before .before .before .before .before .before .before .before .before .before .before .before .before .before .before .before .before .before .before .store-lines .kept .1 .1 .1 .1 .1 .1 .1 .1 .1 .1 .0
+
+same-length-22 : tie.Need-same-length-22
+same-length-22 c = c .before .before .before .before .before .before .before .before .before .before .before .before .before .before .before .clear .kept .1 .1 .1 .1 .1 .1 .1 .1 .1 .1 .0 ∙ c .before .before .before .before .before .before .before .before .before .before .before .before .before .before .before .before .before .before .before .before .before .before .before .before .before .before .before .before .before .before .before .before .before .before .before .before .before .before .before .before .before .before .before .before .before .store-lines .kept .1 .1 .1 .1 .1 .1 .1 .1 .1 .1 .1 .0
+
+returns-2 : tie.Need-returns-2
+returns-2 c =
+    let cleared = c .before .before .before .before .before .before .before .before .before .before .before .before .before .before .before in
+    let told = cleared .before .before .before .before .before .before .before .before .before .before .before .before .before in
+    let went = told .before .before .before .before .before .before .before .before .before .before .before .before .before .before .before .before .before in
+    let a = went .before .before .before .before .before .before .before .before .before .before .before .before .before .before .before .before .before .args in
+    all-refused (now (a .text)) (tables (now (a .v)) (now (a .vt)) (now (a .vn)) (now (a .vp)) (now (a .corners)) (now (a .elements)) (now (a .bodies)) (now (a .ranges)) (now (a .parameters)) (now (a .loops)) (now (a .spans))) (tables (went .store-lines .last .1 .0) (went .store-lines .last .1 .1 .0) (went .store-lines .last .1 .1 .1 .0) (went .store-lines .last .1 .1 .1 .1 .0) (went .store-lines .last .1 .1 .1 .1 .1 .0) (went .store-lines .last .1 .1 .1 .1 .1 .1 .0) (went .store-lines .last .1 .1 .1 .1 .1 .1 .1 .0) (went .store-lines .last .1 .1 .1 .1 .1 .1 .1 .1 .0) (went .store-lines .last .1 .1 .1 .1 .1 .1 .1 .1 .1 .0) (went .store-lines .last .1 .1 .1 .1 .1 .1 .1 .1 .1 .1 .0) (went .store-lines .last .1 .1 .1 .1 .1 .1 .1 .1 .1 .1 .1 .0)) (went .store-lines .result) (went .store-lines .ensures) _ _ (told .number .given .1)
+    (tables (cleared .clear .last .0) (cleared .clear .last .1 .0) (cleared .clear .last .1 .1 .0) (cleared .clear .last .1 .1 .1 .0) (cleared .clear .last .1 .1 .1 .1 .0) (cleared .clear .last .1 .1 .1 .1 .1 .0) (cleared .clear .last .1 .1 .1 .1 .1 .1 .0) (cleared .clear .last .1 .1 .1 .1 .1 .1 .1 .0) (cleared .clear .last .1 .1 .1 .1 .1 .1 .1 .1 .0) (cleared .clear .last .1 .1 .1 .1 .1 .1 .1 .1 .1 .0) (cleared .clear .last .1 .1 .1 .1 .1 .1 .1 .1 .1 .1 .0)) (cleared .clear .ensures) (rooms-eq (went .store-lines .kept .1 .0) (went .store-lines .kept .1 .1 .0) (went .store-lines .kept .1 .1 .1 .0) (went .store-lines .kept .1 .1 .1 .1 .0) (went .store-lines .kept .1 .1 .1 .1 .1 .0) (went .store-lines .kept .1 .1 .1 .1 .1 .1 .0) (went .store-lines .kept .1 .1 .1 .1 .1 .1 .1 .0) (went .store-lines .kept .1 .1 .1 .1 .1 .1 .1 .1 .0) (went .store-lines .kept .1 .1 .1 .1 .1 .1 .1 .1 .1 .0) (went .store-lines .kept .1 .1 .1 .1 .1 .1 .1 .1 .1 .1 .0) (went .store-lines .kept .1 .1 .1 .1 .1 .1 .1 .1 .1 .1 .1 .0))
+
+pub lines-of-spec : {M : Type 1} → statement M
+lines-of-spec =
+    tie.close
+    (tie.spec
+    store-lines-requires
+    enum-known-used
+    enum-known-number
+    clear-requires
+    same-length
+    same-length-2
+    same-length-3
+    same-length-4
+    same-length-5
+    same-length-6
+    same-length-7
+    same-length-8
+    same-length-9
+    same-length-10
+    same-length-11
+    returns
+    same-length-12
+    same-length-13
+    same-length-14
+    same-length-15
+    same-length-16
+    same-length-17
+    same-length-18
+    same-length-19
+    same-length-20
+    same-length-21
+    same-length-22
+    returns-2)

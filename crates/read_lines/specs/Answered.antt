@@ -1,0 +1,52 @@
+-- An answer and what every lent table holds with it.
+use Prim.Native.Nat.{ℕ}
+use lib.ListN.{length}
+use Rattle.tables.specs.Tables.{Tables}
+use Rattle.tables.specs.declared.Used.{Used}
+use Rattle.model.specs.Room.{Rooms}
+use Rattle.model.specs.Read.{Answer, read, refused}
+use Rattle.model.specs.Layout.{tablesOf, usedOf, noneUsed, nothing}
+use Rattle.read_lines.specs.declared.ReadResult.{ReadResult}
+use Rattle.read_lines.specs.declared.ReadResult.the-variants.{Read, Refused}
+
+-- "14 is given exactly when the entries needed pass the lent length"
+abbrev pub roomsOf : Tables → Rooms
+roomsOf t =
+    record {
+      v = length (t .v);
+      vt = length (t .vt);
+      vn = length (t .vn);
+      vp = length (t .vp);
+      corners = length (t .corners);
+      elements = length (t .elements);
+      bodies = length (t .bodies);
+      ranges = length (t .ranges);
+      parameters = length (t .parameters);
+      loops = length (t .loops);
+      spans = length (t .spans);
+    }
+
+-- "Any answer that is an enum has a definition that gives this paper's number and values for each of the enum's cases": the number of refusal, 0 where
+-- the text is read, its place, and the counts
+pub record ReadOutcome : Type 0 where
+  pub number : ℕ
+  pub place : ℕ
+  pub used : Used
+
+abbrev pub readOutcome : ReadResult → ReadOutcome
+readOutcome (Read used) = record { number = 0; place = 0; used = used }
+readOutcome (Refused n p) = record { number = n; place = p; used = noneUsed }
+
+-- the answer, its number and values, and the tables' final contents
+pub record ReadAnswer : Type 0 where
+  pub answer : ReadResult
+  pub outcome : ReadOutcome
+  pub tables : Tables
+
+abbrev pub readAnswer : ReadResult → Tables → ReadAnswer
+readAnswer r t = record { answer = r; outcome = readOutcome r; tables = t }
+
+-- "Then the tables hold what those rules say"; "A refusal zeroes every lent table and every count."
+abbrev pub answered : Rooms → Answer → ReadAnswer
+answered R (read m) = record { answer = Read (usedOf m); outcome = record { number = 0; place = 0; used = usedOf m }; tables = tablesOf R m }
+answered R (refused n p) = record { answer = Refused n p; outcome = record { number = n; place = p; used = noneUsed }; tables = tablesOf R nothing }

@@ -1,0 +1,254 @@
+-- What the code finds in a line is what the parser finds, both ways: by how many words there are, and by what each says.
+use Prim.Native.Nat.{ℕ, suc, _+_, _-_}
+use mathlib.Core.Path.{_≡_, refl, sym, ap, _∙_}
+use mathlib.Core.List.{List, [], _∷_}
+use mathlib.Core.Bool.{Bool, true, false, cond, _&&_}
+use mathlib.Core.Option.{Option, none, some}
+use lib.ListN.{length}
+use lib.Dec.{leb, eqb}
+use native.Mathlib.Omega.{arith}
+use borrow.Author.Tests.{lt-leb, ne-eqb}
+use Rattle.lists.specs.Lists.{all}
+use Rattle.lists.proofs.Tests.{and-left, and-right, test, never}
+use mathlib.Core.Logic.{⊎-elim}
+use Rattle.text.specs.Words.{Word}
+use Rattle.text.specs.Rest.{Rest}
+use Rattle.digits.specs.Said.{Said, says, wrong}
+use Rattle.digits.specs.Degree.{degreeOf, smoothingOf, nameOf}
+use Rattle.keywords.specs.Arguments.{argumentOf}
+use Rattle.keywords.specs.declared.Argument.{Argument}
+use Rattle.keywords.specs.declared.Argument.the-variants.{Rational, BasisMatrix, Bezier, Bspline, Cardinal, Taylor, DirectionU, DirectionV, Off, Other}
+use Rattle.model.specs.Model as model
+use Rattle.model.specs.Statements as statements
+use Rattle.model.specs.Parse as parse
+use Rattle.model.specs.Parse.{Parsed, fine, fault, then, cstype, deg, g, s, usemtl, valuesOf, Value, Seen, a-name, placed, namesOf, parse, seenIn, outsideBody}
+use Rattle.statements.specs.declared.rules.Count.the-variants.{Within}
+use Rattle.statements.specs.Rules.{countedBy}
+use Rattle.read_state.specs.State.{formIn, namesIn}
+use Rattle.read_state.specs.declared.Form.{Form}
+use Rattle.read_state.specs.declared.Names.{Names}
+use Rattle.read_settings.specs.declared.TakenForm.the-variants as form
+use Rattle.read_settings.specs.declared.TakenNames.the-variants as names
+use Rattle.read_settings.specs.Steps.{onSaid, formTaken, namesTaken, isName, isRational, typeWords, firstDegree, typeTaken, degreeTaken, smoothingTaken, materialTaken, groupTaken, withMaterial}
+
+and-false : (b : Bool) → (b && false) ≡ false
+and-false true = refl
+and-false false = refl
+
+two-most : (n : ℕ) → countedBy (Within 1 2) (suc (suc (suc n))) ≡ false
+two-most n = rw (lt-leb (suc (suc (suc n))) 2 (omega arith)) (and-false (leb 1 (suc (suc (suc n)))))
+
+one-only : (n : ℕ) → eqb (suc (suc n)) 1 ≡ false
+one-only n = ne-eqb (suc (suc n)) 1 (λ e. omega arith)
+
+given-up : (x : model.State) (b : Option ℕ) (q n p : ℕ) → form.Rejected ≡ formTaken x b q (fault n p)
+given-up x none q n p = refl
+given-up x (some c) q n p = refl
+
+names-given-up : (x : model.State) (b : Option ℕ) (q n p : ℕ) → names.Rejected ≡ namesTaken x b q (fault n p)
+names-given-up x none q n p = refl
+names-given-up x (some c) q n p = refl
+
+-- ---- the values of names
+abbrev nameValues : List Word → List Value
+nameValues [] = []
+nameValues (w ∷ ws) = parse.name w ∷ nameValues ws
+
+names-back : (ws : List Word) → namesOf (nameValues ws) ≡ ws
+names-back [] = refl
+names-back (w ∷ ws) = ap (λ (vs : List Word). w ∷ vs) (names-back ws)
+
+record Fault (v : Parsed (List Value)) : Type 0 where
+  pub number : ℕ
+  pub place : ℕ
+  pub is : v ≡ fault number place
+
+module _ (n : Seen) where
+  cons-fine : (y : Said (List ℕ)) (w : Word) (v : Parsed (List Value)) (xs : List Value) → onSaid y (λ b. true) false ≡ true → v ≡ fine xs
+      → then (placed (parse.onSaid (λ b. parse.name w) y) (w .place)) (λ x. then v (λ xs. fine (x ∷ xs))) ≡ fine (parse.name w ∷ xs)
+  cons-fine (says c) w v xs h e = rw e refl
+  cons-fine (wrong m) w v xs h e = never h
+
+  names-fine : (i : ℕ) (ws : List Word) → all isName ws ≡ true → valuesOf n (λ i. a-name) i ws ≡ fine (nameValues ws)
+  names-fine i [] h = refl
+  names-fine i (w ∷ ws) h =
+      cons-fine (nameOf (w .bytes)) w (valuesOf n (λ i. a-name) (suc i) ws) (nameValues ws) (and-left (isName w) (all isName ws) h) (names-fine (suc i) ws (and-right (isName w) (all isName ws) h))
+
+  cons-fault : (y : Said (List ℕ)) (w : Word) (v : Parsed (List Value)) (r : Bool) → (onSaid y (λ b. true) false && r) ≡ false → (r ≡ false → Fault v)
+      → Fault (then (placed (parse.onSaid (λ b. parse.name w) y) (w .place)) (λ x. then v (λ xs. fine (x ∷ xs))))
+  cons-fault (says c) w v r h k = let f = k h in record { number = f .number; place = f .place; is = rw (f .is) refl }
+  cons-fault (wrong m) w v r h k = record { number = m; place = w .place; is = refl }
+
+  names-fault : (i : ℕ) (ws : List Word) → all isName ws ≡ false → Fault (valuesOf n (λ i. a-name) i ws)
+  names-fault i [] h = never (sym h)
+  names-fault i (w ∷ ws) h = cons-fault (nameOf (w .bytes)) w (valuesOf n (λ i. a-name) (suc i) ws) (all isName ws) h (λ e. names-fault (suc i) ws e)
+
+module _ (x : model.State) (h : outsideBody (x .open-body) ≡ true) (key : ℕ) where
+  -- ---- deg
+  degree-one : (b : Option ℕ) (q : ℕ) (w : Word) (y : Said ℕ) → degreeOf (w .bytes) ≡ y → firstDegree (formIn (x .form)) (w ∷ []) b q ≡ formTaken x b q (parse deg x key (w ∷ []))
+  unfolding parse
+  degree-one none q w (says n) e = rw (h, e) refl
+  degree-one none q w (wrong n) e = rw (h, e) refl
+  degree-one (some c) q w (says n) e = rw e refl
+  degree-one (some c) q w (wrong n) e = rw e refl
+
+  degree-two : (b : Option ℕ) (q : ℕ) (w v : Word) (y z : Said ℕ) → degreeOf (w .bytes) ≡ y → degreeOf (v .bytes) ≡ z → firstDegree (formIn (x .form)) (w ∷ v ∷ []) b q ≡ formTaken x b q (parse deg x key (w ∷ v ∷ []))
+  unfolding parse
+  degree-two none q w v (says n) (says m) e k = rw (h, e, k) refl
+  degree-two none q w v (says n) (wrong m) e k = rw (h, e, k) refl
+  degree-two none q w v (wrong n) z e k = rw (h, e) refl
+  degree-two (some c) q w v (says n) z e k = rw e refl
+  degree-two (some c) q w v (wrong n) z e k = rw e refl
+
+  degree-more : (b : Option ℕ) (q : ℕ) (w v u : Word) (ws : List Word) (y : Said ℕ) → degreeOf (w .bytes) ≡ y → firstDegree (formIn (x .form)) (w ∷ v ∷ u ∷ ws) b q ≡ form.Rejected
+  degree-more b q w v u ws (says n) e = rw e refl
+  degree-more b q w v u ws (wrong n) e = rw e refl
+
+  degree-words : (b : Option ℕ) (q : ℕ) (ws : List Word) → firstDegree (formIn (x .form)) ws b q ≡ formTaken x b q (parse deg x key ws)
+  unfolding parse
+  degree-words b q [] = rw h (given-up x b q 5 key)
+  degree-words b q (w ∷ []) = degree-one b q w (degreeOf (w .bytes)) refl
+  degree-words b q (w ∷ v ∷ []) = degree-two b q w v (degreeOf (w .bytes)) (degreeOf (v .bytes)) refl refl
+  degree-words b q (w ∷ v ∷ u ∷ ws) = rw (h, two-most (length ws)) (degree-more b q w v u ws (degreeOf (w .bytes)) refl ∙ given-up x b q 5 key)
+
+  pub degree-parse : (r : Rest) → degreeTaken (formIn (x .form)) r ≡ formTaken x (r .bad) (r .next) (parse deg x key (r .words))
+  degree-parse r = degree-words (r .bad) (r .next) (r .words)
+
+  -- ---- s
+  smoothing-one : (b : Option ℕ) (q : ℕ) (w : Word) (y : Said ℕ) → smoothingOf (w .bytes) ≡ y → smoothingTaken (namesIn (x .names)) (record { words = w ∷ []; bad = b; next = q }) ≡ namesTaken x b q (parse s x key (w ∷ []))
+  unfolding parse
+  smoothing-one none q w (says n) e = rw (h, e) refl
+  smoothing-one none q w (wrong n) e = rw (h, e) refl
+  smoothing-one (some c) q w y e = refl
+
+  smoothing-words : (b : Option ℕ) (q : ℕ) (ws : List Word) → smoothingTaken (namesIn (x .names)) (record { words = ws; bad = b; next = q }) ≡ namesTaken x b q (parse s x key ws)
+  unfolding parse
+  smoothing-words b q [] = rw h (names-given-up x b q 5 key)
+  smoothing-words b q (w ∷ []) = smoothing-one b q w (smoothingOf (w .bytes)) refl
+  smoothing-words b q (w ∷ v ∷ ws) = rw (h, one-only (length ws)) (names-given-up x b q 5 key)
+
+  pub smoothing-parse : (r : Rest) → smoothingTaken (namesIn (x .names)) r ≡ namesTaken x (r .bad) (r .next) (parse s x key (r .words))
+  smoothing-parse r = smoothing-words (r .bad) (r .next) (r .words)
+
+  -- ---- usemtl
+  material-one : (b : Option ℕ) (q : ℕ) (w : Word) (y : Said (List ℕ)) → nameOf (w .bytes) ≡ y → materialTaken (namesIn (x .names)) (record { words = w ∷ []; bad = b; next = q }) ≡ namesTaken x b q (parse usemtl x key (w ∷ []))
+  unfolding parse
+  material-one none q w (says n) e =
+      let l : length (w .bytes) ≡ (w .place + length (w .bytes)) - w .place = omega arith in
+      rw (h, e) (ap (λ (k : ℕ). names.Accepted (withMaterial (namesIn (x .names)) (w .place) k) q) l)
+  material-one none q w (wrong n) e = rw (h, e) refl
+  material-one (some c) q w y e = refl
+
+  material-words : (b : Option ℕ) (q : ℕ) (ws : List Word) → materialTaken (namesIn (x .names)) (record { words = ws; bad = b; next = q }) ≡ namesTaken x b q (parse usemtl x key ws)
+  unfolding parse
+  material-words b q [] = rw h (names-given-up x b q 5 key)
+  material-words b q (w ∷ []) = material-one b q w (nameOf (w .bytes)) refl
+  material-words b q (w ∷ v ∷ ws) = rw (h, one-only (length ws)) (names-given-up x b q 5 key)
+
+  pub material-parse : (r : Rest) → materialTaken (namesIn (x .names)) r ≡ namesTaken x (r .bad) (r .next) (parse usemtl x key (r .words))
+  material-parse r = material-words (r .bad) (r .next) (r .words)
+
+  -- ---- cstype
+  either : (b : Bool) → cond b form.Rejected form.Rejected ≡ form.Rejected
+  either true = refl
+  either false = refl
+
+  type-one : (q : ℕ) (w : Word) (a : Argument) → argumentOf (w .bytes) ≡ a → typeWords (formIn (x .form)) (w ∷ []) none q ≡ formTaken x none q (parse cstype x key (w ∷ []))
+  unfolding parse
+  type-one q w Rational e = rw (h, e) refl
+  type-one q w BasisMatrix e = rw (h, e) refl
+  type-one q w Bezier e = rw (h, e) refl
+  type-one q w Bspline e = rw (h, e) refl
+  type-one q w Cardinal e = rw (h, e) refl
+  type-one q w Taylor e = rw (h, e) refl
+  type-one q w DirectionU e = rw (h, e) refl
+  type-one q w DirectionV e = rw (h, e) refl
+  type-one q w Off e = rw (h, e) refl
+  type-one q w Other e = rw (h, e) refl
+
+  type-rational : (q : ℕ) (w v : Word) (a : Argument) → argumentOf (w .bytes) ≡ Rational → argumentOf (v .bytes) ≡ a → typeWords (formIn (x .form)) (w ∷ v ∷ []) none q ≡ formTaken x none q (parse cstype x key (w ∷ v ∷ []))
+  unfolding parse
+  type-rational q w v Rational e k = rw (h, e, k) refl
+  type-rational q w v BasisMatrix e k = rw (h, e, k) refl
+  type-rational q w v Bezier e k = rw (h, e, k) refl
+  type-rational q w v Bspline e k = rw (h, e, k) refl
+  type-rational q w v Cardinal e k = rw (h, e, k) refl
+  type-rational q w v Taylor e k = rw (h, e, k) refl
+  type-rational q w v DirectionU e k = rw (h, e, k) refl
+  type-rational q w v DirectionV e k = rw (h, e, k) refl
+  type-rational q w v Off e k = rw (h, e, k) refl
+  type-rational q w v Other e k = rw (h, e, k) refl
+
+  type-two : (q : ℕ) (w v : Word) (a : Argument) → argumentOf (w .bytes) ≡ a → typeWords (formIn (x .form)) (w ∷ v ∷ []) none q ≡ formTaken x none q (parse cstype x key (w ∷ v ∷ []))
+  unfolding parse
+  type-two q w v Rational e = type-rational q w v (argumentOf (v .bytes)) e refl
+  type-two q w v BasisMatrix e = rw (h, e) refl
+  type-two q w v Bezier e = rw (h, e) refl
+  type-two q w v Bspline e = rw (h, e) refl
+  type-two q w v Cardinal e = rw (h, e) refl
+  type-two q w v Taylor e = rw (h, e) refl
+  type-two q w v DirectionU e = rw (h, e) refl
+  type-two q w v DirectionV e = rw (h, e) refl
+  type-two q w v Off e = rw (h, e) refl
+  type-two q w v Other e = rw (h, e) refl
+
+  type-words : (b : Option ℕ) (q : ℕ) (ws : List Word) → typeWords (formIn (x .form)) ws b q ≡ formTaken x b q (parse cstype x key ws)
+  unfolding parse
+  type-words b q [] = rw h (given-up x b q 5 key)
+  type-words none q (w ∷ []) = type-one q w (argumentOf (w .bytes)) refl
+  type-words (some c) q (w ∷ []) = either (isRational (argumentOf (w .bytes)))
+  type-words none q (w ∷ v ∷ []) = type-two q w v (argumentOf (w .bytes)) refl
+  type-words (some c) q (w ∷ v ∷ []) = either (isRational (argumentOf (w .bytes)))
+  type-words b q (w ∷ v ∷ u ∷ ws) = rw (h, two-most (length ws)) (either (isRational (argumentOf (w .bytes))) ∙ given-up x b q 5 key)
+
+  pub type-parse : (r : Rest) → typeTaken (formIn (x .form)) r ≡ formTaken x (r .bad) (r .next) (parse cstype x key (r .words))
+  type-parse r = type-words (r .bad) (r .next) (r .words)
+
+  -- ---- g
+  group-named : (b : Option ℕ) (q : ℕ) (ws : List Word) → all isName ws ≡ true → groupTaken (namesIn (x .names)) (record { words = ws; bad = b; next = q }) ≡ namesTaken x b q (parse g x key ws)
+  unfolding parse
+  group-named none q ws e = rw (h, e, names-fine (seenIn x) 0 ws e, names-back ws) refl
+  group-named (some c) q ws e = rw e refl
+
+  group-unnamed : (b : Option ℕ) (q : ℕ) (ws : List Word) → all isName ws ≡ false → groupTaken (namesIn (x .names)) (record { words = ws; bad = b; next = q }) ≡ namesTaken x b q (parse g x key ws)
+  unfolding parse
+  group-unnamed b q ws e =
+      let k = names-fault (seenIn x) 0 ws e in
+      rw (h, e, k .is) (names-given-up x b q (k .number) (k .place))
+
+  pub group-parse : (r : Rest) → groupTaken (namesIn (x .names)) r ≡ namesTaken x (r .bad) (r .next) (parse g x key (r .words))
+  group-parse r =
+      ⊎-elim (λ e. group-named (r .bad) (r .next) (r .words) e) (λ e. group-unnamed (r .bad) (r .next) (r .words) e) (test (all isName (r .words)))
+
+-- ---- read back: what was taken is the statement done; where the code rejects, the parser gives no statement
+pub record FormTaken (x : model.State) (b : Option ℕ) (q : ℕ) (y : Parsed statements.Statement) (f : Form) (n : ℕ) : Type 0 where
+  pub statement : statements.Statement
+  pub parsed : y ≡ fine statement
+  pub allowed : b ≡ none
+  pub next : n ≡ q
+  pub form : f ≡ formIn ((statements.apply statement x) .form)
+
+pub form-taken : (x : model.State) (b : Option ℕ) (q : ℕ) (y : Parsed statements.Statement) (f : Form) (n : ℕ) → form.Accepted f n ≡ formTaken x b q y → FormTaken x b q y f n
+form-taken x none q (fine t) f n e = record { statement = t; parsed = refl; allowed = refl; next = cc; form = cc }
+form-taken x none q (fault m p) f n e = absurd (let z : _≡_ {A = ℕ} 0 1 = cc in omega arith)
+form-taken x (some c) q y f n e = absurd (let z : _≡_ {A = ℕ} 0 1 = cc in omega arith)
+
+pub form-gave-up : (x : model.State) (q : ℕ) (y : Parsed statements.Statement) (t : statements.Statement) → form.Rejected ≡ formTaken x none q y → y ≡ fine t → ⊥
+form-gave-up x q (fine u) t e k = let z : _≡_ {A = ℕ} 0 1 = cc in omega arith
+form-gave-up x q (fault n p) t e k = let z : _≡_ {A = ℕ} 0 1 = cc in omega arith
+
+pub record NamesTaken (x : model.State) (b : Option ℕ) (q : ℕ) (y : Parsed statements.Statement) (f : Names) (n : ℕ) : Type 0 where
+  pub statement : statements.Statement
+  pub parsed : y ≡ fine statement
+  pub allowed : b ≡ none
+  pub next : n ≡ q
+  pub names : f ≡ namesIn ((statements.apply statement x) .names)
+
+pub names-taken : (x : model.State) (b : Option ℕ) (q : ℕ) (y : Parsed statements.Statement) (f : Names) (n : ℕ) → names.Accepted f n ≡ namesTaken x b q y → NamesTaken x b q y f n
+names-taken x none q (fine t) f n e = record { statement = t; parsed = refl; allowed = refl; next = cc; names = cc }
+names-taken x none q (fault m p) f n e = absurd (let z : _≡_ {A = ℕ} 0 1 = cc in omega arith)
+names-taken x (some c) q y f n e = absurd (let z : _≡_ {A = ℕ} 0 1 = cc in omega arith)
+
+pub names-gave-up : (x : model.State) (q : ℕ) (y : Parsed statements.Statement) (t : statements.Statement) → names.Rejected ≡ namesTaken x none q y → y ≡ fine t → ⊥
+names-gave-up x q (fine u) t e k = let z : _≡_ {A = ℕ} 0 1 = cc in omega arith
+names-gave-up x q (fault n p) t e k = let z : _≡_ {A = ℕ} 0 1 = cc in omega arith

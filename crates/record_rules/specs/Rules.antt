@@ -1,0 +1,43 @@
+-- Refusal 15: "its records (names aside) or a vertex they name break a rule above or pass the used or lent entries".
+use Prim.Native.Nat.{ℕ, zero, suc, _+_, _*_}
+use mathlib.Core.List.{List}
+use mathlib.Core.Bool.{Bool, cond, _&&_}
+use lib.ListN.{length}
+use lib.Dec.{leb, eqb}
+use Rattle.tables.specs.Tables.{Tables}
+use Rattle.tables.specs.Records.{elementAt, numberAt, elementWidth, faceKind, curve2Kind, surfaceKind}
+use Rattle.tables.specs.declared.Element.{Element}
+use Rattle.tables.specs.declared.Body.{Body}
+use Rattle.tables.specs.declared.Used.{Used}
+use Rattle.record_rules.specs.Corners.{cornersObey}
+use Rattle.record_rules.specs.Bodies.{bodyObeys, recordObeys}
+
+-- "Smoothing: off (0) or 1 to 5 digits, at most 65,535"; p, l and f have no body
+unfoldable pub elementObeys : Used → Tables → ℕ → Element → Bool
+elementObeys used t curves e =
+    leb 1 (e .kind)
+    && leb (e .kind) surfaceKind
+    && leb (e .smoothing) 65535
+    && cornersObey used t (e .kind) (e .first) (e .count)
+    && cond (leb (e .kind) faceKind) (eqb (e .body) 0) (bodyObeys used t curves (e .kind) (e .count) (e .body))
+
+-- the element at index i obeys every rule; `curves` is the number of curv2 elements before it. That i is used is 17's to ask.
+unfoldable pub obeys : Used → Tables → ℕ → ℕ → Bool
+obeys used t curves i = leb (elementWidth * i + elementWidth) (length (t .elements)) && elementObeys used t curves (elementAt t i)
+
+-- "k means the k-th of its kind so far": the curv2 elements at indices below i
+abbrev pub curvesAmong : List ℕ → ℕ → ℕ
+curvesAmong elements zero = zero
+curvesAmong elements (suc i) = curvesAmong elements i + cond (eqb (numberAt elementWidth elements i 0) curve2Kind) 1 0
+
+abbrev pub curvesBefore : Tables → ℕ → ℕ
+curvesBefore t i = curvesAmong (t .elements) i
+
+-- an element with its body at hand, after `curves` curv2 elements
+unfoldable pub recordsObey : Used → Tables → ℕ → Element → Body → Bool
+recordsObey used t curves e b =
+    leb 1 (e .kind)
+    && leb (e .kind) surfaceKind
+    && leb (e .smoothing) 65535
+    && cornersObey used t (e .kind) (e .first) (e .count)
+    && cond (leb (e .kind) faceKind) (eqb (e .body) 0) (recordObeys used t curves (e .kind) (e .count) b)

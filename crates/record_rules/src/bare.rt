@@ -1,0 +1,62 @@
+// Corners that name vertices alone: one walk with the fewest tests.
+ghost use mathlib.Core.Path.{_≡_};
+ghost use mathlib.Core.Bool.{_&&_};
+ghost use Prim.Native.Nat.{_+_, _*_, _≤_};
+ghost use lib.Dec.{eqb};
+ghost use lib.ListN.{length};
+ghost use Rattle.tables.specs.Records.{cornersEnd, vWidth};
+ghost use Rattle.record_rules.specs.Bare.{Reach, reachedObeys, eachBare};
+use crate::numbers::four_in_range;
+
+// How many vertices are both used and lent.
+fn reach(values: &[i32], used: u32) -> usize
+    ensures { λ r. ⌜ Reach (length (now (values .entry))) used r ⌝ }
+{
+    let lent = values.len() / 4;
+    let used = used as usize;
+    if used < lent {
+        return used;
+    }
+    lent
+}
+
+fn reached(values: &[i32], reach: usize, number: usize) -> bool
+    requires { ⌜ vWidth * reach ≤ length (now values) ⌝ }
+    ensures { λ r. ⌜ r ≡ reachedObeys (now (values .entry)) reach number ⌝ }
+{
+    if number < 1 {
+        return false;
+    }
+    if reach < number {
+        return false;
+    }
+    let at = 4 * (number - 1);
+    four_in_range(values[at], values[at + 1], values[at + 2], values[at + 3])
+}
+
+fn bare_corner(values: &[i32], reach: usize, v: u32, vt: u32, vn: u32) -> bool
+    requires { ⌜ vWidth * reach ≤ length (now values) ⌝ }
+    ensures { λ r. ⌜ r ≡ (reachedObeys (now (values .entry)) reach v && eqb vt 0 && eqb vn 0) ⌝ }
+{
+    if !reached(values, reach, v as usize) {
+        return false;
+    }
+    (vt == 0) & (vn == 0)
+}
+
+pub fn each_bare(values: &[i32], used: u32, corners: &[u32], first: u32, count: usize) -> bool
+    requires { ⌜ cornersEnd first count ≤ length (now corners) ⌝ }
+    ensures { λ r. ⌜ r ≡ eachBare (now (values .entry)) used (now (corners .entry)) first count ⌝ }
+{
+    let reach = reach(values, used);
+    let first = first as usize;
+    let mut k = 0;
+    while k < count {
+        let at = first + 3 * k;
+        if !bare_corner(values, reach, corners[at], corners[at + 1], corners[at + 2]) {
+            return false;
+        }
+        k += 1;
+    }
+    true
+}

@@ -1,9 +1,0 @@
--- What is promised of every sweep that is not refused: every point, run and polyline is kept too.
-use Rattle.swept.specs.Samples.{EverySweep}
-use Rattle.swept.proofs.SameShown.{same-shown}
-use Rattle.swept.proofs.SweptObeys.{swept-obeys}
-use Rattle.swept.proofs.Sampled.{sampled}
-use Rattle.swept.proofs.Every.{every-sweep-from}
-
-pub every-sweep : EverySweep
-every-sweep = every-sweep-from (sampled same-shown swept-obeys)

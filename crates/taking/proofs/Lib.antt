@@ -1,2 +1,0 @@
-pub mod Blamed
-pub mod Sorted

@@ -1,0 +1,25 @@
+-- The space, and the word.
+use denote.Ref.{now}
+use Rattle.references.specs.Written.{writtenCorner}
+use Rattle.tidy_words.proofs.Emissions.{space-then}
+use borrow.Author.Needs.{needs}
+use Rattle.tidy_words.proofs.emit_spaced_corner.Statement.{statement}
+use Rattle.tidy_words.proofs.emit_spaced_corner.Tie as tie
+
+emit-byte-requires : tie.Need-emit-byte-requires
+emit-byte-requires c κs = search needs
+
+emit-corner-requires : tie.Need-emit-corner-requires
+emit-corner-requires c κs = search needs
+
+same-length : tie.Need-same-length
+same-length c = search needs
+
+returns : tie.Need-returns
+returns c =
+    let s = c .before .before .before .before .before .before .before .before .before in
+    space-then (s .args .at) (writtenCorner (record { v = s .args .v; vt = s .args .vt; vn = s .args .vn })) (now (s .args .out)) (c .before .before .before .before .before .before .emit-byte .ensures) (c .before .before .emit-corner .ensures)
+
+pub emit-spaced-corner-spec : {M : Type 1} → statement M
+emit-spaced-corner-spec =
+    tie.close (tie.spec emit-byte-requires emit-corner-requires same-length returns)

@@ -1,0 +1,49 @@
+-- Written where it ends within the buffer and the longest text; else nothing is.
+use native.Mathlib.Omega.{arith}
+use denote.Ref.{now}
+use Rattle.references.specs.Written.{writtenWhole}
+use Rattle.tidy_words.proofs.Emissions.{whole-room, whole-roomless}
+use borrow.Author.Needs.{needs}
+use Rattle.tidy_words.proofs.emit_whole.Statement.{statement}
+use Rattle.tidy_words.proofs.emit_whole.Tie as tie
+
+whole-length-requires : tie.Need-whole-length-requires
+whole-length-requires c κs = search needs
+
+place-after-requires : tie.Need-place-after-requires
+place-after-requires c κs = search needs
+
+room-in-requires : tie.Need-room-in-requires
+room-in-requires c κs = search needs
+
+write-whole-requires : tie.Need-write-whole-requires
+write-whole-requires c κs = search needs
+
+same-length : tie.Need-same-length
+same-length c = search needs
+
+returns : tie.Need-returns
+returns c =
+    let s = c .before .before .before .before .before .before .before .before .before in
+    let e = c .before .before .before .before .before .before .place-after in
+    let n = c .before .before .before .before .before .before .before .whole-length in
+    let w = c .before .before .write-whole in
+    whole-room (s .args .at) (writtenWhole (s .args .n)) (now (s .args .out)) (n .result) (e .result) (n .ensures) (e .ensures) (omega arith) (w .last .0) (w .result) (w .ensures)
+
+returns-2 : tie.Need-returns-2
+returns-2 c =
+    let s = c .before .before .before .before .before in
+    let e = c .before .before .place-after in
+    whole-roomless (s .args .at) (writtenWhole (s .args .n)) (now (s .args .out)) (c .before .before .before .whole-length .result) (e .result) (c .before .before .before .whole-length .ensures) (e .ensures) (omega arith)
+
+pub emit-whole-spec : {M : Type 1} → statement M
+emit-whole-spec =
+    tie.close
+    (tie.spec
+    whole-length-requires
+    place-after-requires
+    room-in-requires
+    write-whole-requires
+    same-length
+    returns
+    returns-2)

@@ -1,0 +1,3 @@
+pub mod NamedLines
+pub mod Turns
+pub mod ElementTurns

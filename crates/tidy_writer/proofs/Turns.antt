@@ -1,0 +1,226 @@
+-- One turn of each loop that emits rows: the first row left, and then the others. By the rows' definitions, a read behind `drop` being a read further on.
+use Prim.Native.Nat.{ℕ, zero, suc, _+_, _-_, _^_, _≤_, _<_, min}
+use mathlib.Core.Path.{_≡_, refl, sym, ap, ap₂, _∙_}
+use mathlib.Core.List.{List, [], _∷_, _++_, map, append-nil}
+use mathlib.Core.Bool.{Bool, true, false, cond}
+use mathlib.Core.Logic.{⊎-elim}
+use native.Mathlib.Omega.{arith}
+use borrow.Author.Tests.{ne-eqb, eq-eqb}
+use lib.ListN.{length, getD, take, drop}
+use lib.Seq.{take-nil, drop-nil, drop-cons, drop-drop, getD-drop}
+use lib.Dec.{eqb}
+use lib.IntN.{ℤ, pos, natAbs}
+use lib.Signed.{mag}
+use mir.Syntax.{w32}
+use mir.Val.{toZ, ofZ}
+use mir.Facts.{toZ-ofZ}
+use Rattle.tables.specs.Records.{cornerIn, cornersEnd}
+use Rattle.tables.specs.declared.Corner.{Corner}
+use Rattle.tables.proofs.Flat.{flat-append}
+use Rattle.text.specs.Written.{writtenLine, writtenLines}
+use Rattle.references.specs.Written.{writtenWhole, writtenNumber, writtenCorner}
+use Rattle.keywords.specs.Keywords.{keywordOf}
+use Rattle.statements.specs.declared.Carried.{Carried}
+use Rattle.statements.specs.declared.Carried.the-variants.{Smoothing}
+use Rattle.model.specs.Model.{parametric}
+use Rattle.tidy_form.specs.declared.Weights.{Weights}
+use Rattle.tidy_form.specs.Printed.{coordinates, degreeWords}
+use Rattle.tidy_words.specs.Emitting.{Emitted}
+use Rattle.tidy_words.specs.Emitting.{spaced}
+use Rattle.tidy_writer.specs.Rows.{rowNumbers, vertexRows, cornersFrom, partWords, goingOn, loopWords, begunLines, loopLines}
+use Rattle.tidy_words.specs.Naming.{sameBytes}
+use Rattle.tidy_writer.specs.TidyFrom.{changed, smoothed}
+use Rattle.tidy_words.proofs.Emissions.{emitted-then, emitted-is}
+use Rattle.tidy_writer.proofs.NamedLines.{written-spaced}
+
+-- ---- lines
+pub emitted-line : (k : List ℕ) (ws : List (List ℕ)) {at p q r : ℕ} {l m n o : List ℕ} → Emitted at k l m p → Emitted p (spaced ws) m n q → Emitted q (10 ∷ []) n o r
+    → Emitted at (writtenLine (k ∷ ws)) l o r
+emitted-line k ws a b c = emitted-is (sym (written-spaced k ws)) (emitted-then a (emitted-then b c))
+
+pub one-line : (ws : List (List ℕ)) → writtenLine ws ≡ writtenLines (ws ∷ [])
+one-line ws = sym (append-nil (writtenLine ws))
+
+pub lines-append : (a b : List (List (List ℕ))) → writtenLines a ++ writtenLines b ≡ writtenLines (a ++ b)
+lines-append a b = sym (flat-append writtenLine a b)
+
+pub spaced-append : (a b : List (List ℕ)) → spaced a ++ spaced b ≡ spaced (a ++ b)
+spaced-append a b = sym (flat-append (λ (w : List ℕ). 32 ∷ w) a b)
+
+pub two-lines : (a b : List (List ℕ)) → writtenLine a ++ writtenLine b ≡ writtenLines (a ∷ b ∷ [])
+two-lines a b = ap (λ (t : List ℕ). writtenLine a ++ t) (sym (append-nil (writtenLine b)))
+
+pub three-lines : (a b c : List (List (List ℕ))) → writtenLines a ++ (writtenLines b ++ writtenLines c) ≡ writtenLines (a ++ (b ++ c))
+three-lines a b c = ap (λ (t : List ℕ). writtenLines a ++ t) (lines-append b c) ∙ lines-append a (b ++ c)
+
+pub spaced-one : (w : List ℕ) → 32 ∷ w ≡ spaced (w ∷ [])
+spaced-one w = sym (append-nil (32 ∷ w))
+
+pub spaced-two : (v w : List ℕ) → (32 ∷ v) ++ (32 ∷ w) ≡ spaced (v ∷ w ∷ [])
+spaced-two v w = ap (λ (t : List ℕ). (32 ∷ v) ++ t) (spaced-one w)
+
+-- ---- lines that stand only where something changes
+pub changed-none : (k : Carried) (x y : List (List ℕ)) → sameBytes x y ≡ true → [] ≡ writtenLines (changed k x y)
+changed-none k x y e = ap (λ (t : Bool). writtenLines (cond t [] ((keywordOf k ∷ y) ∷ []))) (sym e)
+
+pub changed-line : (k : Carried) (x y : List (List ℕ)) → sameBytes x y ≡ false → writtenLine (keywordOf k ∷ y) ≡ writtenLines (changed k x y)
+changed-line k x y e = one-line (keywordOf k ∷ y) ∙ ap (λ (t : Bool). writtenLines (cond t [] ((keywordOf k ∷ y) ∷ []))) (sym e)
+
+pub smoothed-none : (m n : ℕ) → m ≡ n → [] ≡ writtenLines (smoothed m n)
+smoothed-none m n e = ap (λ (t : Bool). writtenLines (cond t [] ((keywordOf Smoothing ∷ writtenWhole n ∷ []) ∷ []))) (sym (eq-eqb m n e))
+
+pub smoothed-line : (m n : ℕ) → (m ≡ n → ⊥) → writtenLine (keywordOf Smoothing ∷ writtenWhole n ∷ []) ≡ writtenLines (smoothed m n)
+smoothed-line m n e =
+    one-line (keywordOf Smoothing ∷ writtenWhole n ∷ []) ∙ ap (λ (t : Bool). writtenLines (cond t [] ((keywordOf Smoothing ∷ writtenWhole n ∷ []) ∷ []))) (sym (ne-eqb m n e))
+
+-- ---- degrees
+pub degree-one : (m n : ℕ) → n ≡ 0 → writtenWhole m ∷ [] ≡ degreeWords m n
+degree-one m n e = ap (λ (k : ℕ). degreeWords m k) (sym e)
+
+pub degree-two : (m n : ℕ) → (n ≡ 0 → ⊥) → writtenWhole m ∷ writtenWhole n ∷ [] ≡ degreeWords m n
+degree-two m zero e = absurd (e refl)
+degree-two m (suc n) e = refl
+
+-- ---- numbers
+pub numbers-turn : (l : List ℤ) (i n : ℕ) → 0 < n → i < length l
+    → spaced (map writtenNumber (take n (drop i l))) ≡ (32 ∷ writtenNumber (getD l i (pos 0))) ++ spaced (map writtenNumber (take (n - 1) (drop (i + 1) l)))
+numbers-turn l i zero h k = absurd (omega arith)
+numbers-turn l i (suc n) h k =
+    ap (λ (t : List ℤ). spaced (map writtenNumber (take (suc n) t))) (drop-cons l i (pos 0) k)
+    ∙ ap₂ (λ (m j : ℕ). (32 ∷ writtenNumber (getD l i (pos 0))) ++ spaced (map writtenNumber (take m (drop j l)))) (let e : n ≡ suc n - 1 = omega arith in e) (let e : suc i ≡ i + 1 = omega arith in e)
+
+drop-past : {A : Type 0} (i : ℕ) (l : List A) → length l ≤ i → drop i l ≡ []
+drop-past i [] h = drop-nil i
+drop-past zero (x ∷ l) h = absurd (omega arith)
+drop-past (suc i) (x ∷ l) h = drop-past i l (omega arith)
+
+pub numbers-past : (l : List ℤ) (i n : ℕ) → length l ≤ i → spaced (map writtenNumber (take n (drop i l))) ≡ []
+numbers-past l i n h = ap (λ (t : List ℤ). spaced (map writtenNumber (take n t))) (drop-past i l h) ∙ ap (λ (t : List ℤ). spaced (map writtenNumber t)) (take-nil n)
+
+pub numbers-none : (l : List ℤ) (i n : ℕ) → n ≤ 0 → spaced (map writtenNumber (take n (drop i l))) ≡ []
+numbers-none l i zero h = refl
+numbers-none l i (suc n) h = absurd (omega arith)
+
+-- ---- records of vertices
+take-both : {A : Type 0} (a b m : ℕ) (xs : List A) → m ≡ min a b → take a (take b xs) ≡ take m xs
+take-both zero b zero xs e = refl
+take-both zero b (suc m) xs e = absurd (omega arith)
+take-both (suc a) zero zero xs e = refl
+take-both (suc a) zero (suc m) xs e = absurd (omega arith)
+take-both (suc a) (suc b) zero xs e = absurd (omega arith)
+take-both (suc a) (suc b) (suc m) [] e = refl
+take-both {A} (suc a) (suc b) (suc m) (x ∷ xs) e = ap (λ (t : List A). x ∷ t) (take-both a b m xs (omega arith))
+
+counted-in : (c : Weights) (l : List ℤ) (w m : ℕ) → 1 ≤ w → m ≡ min (natAbs (getD l 0 (pos 0))) (w - 1) → coordinates c parametric (take w l) ≡ take m (drop 1 l)
+counted-in c [] w m h e = ap (coordinates c parametric) (take-nil w) ∙ sym (take-nil m)
+counted-in c (x ∷ l) zero m h e = absurd (omega arith)
+counted-in c (x ∷ l) (suc w) m h e = take-both (natAbs x) w m l (omega arith)
+
+-- a record that begins with how many of its numbers were given
+pub counted-row : (c : Weights) (l : List ℤ) (i w m : ℕ) → 1 ≤ w → m ≡ min (natAbs (getD l i (pos 0))) (w - 1) → take m (drop (i + 1) l) ≡ rowNumbers true c (take w (drop i l))
+counted-row c l i w m h e =
+    let k : i + 0 ≡ i = omega arith in
+    let g : getD (drop i l) 0 (pos 0) ≡ getD l i (pos 0) = getD-drop i l 0 (pos 0) ∙ ap (λ (j : ℕ). getD l j (pos 0)) k in
+    let f : m ≡ min (natAbs (getD (drop i l) 0 (pos 0))) (w - 1) = e ∙ ap (λ (z : ℤ). min (natAbs z) (w - 1)) (sym g) in
+    ap (λ (t : List ℤ). take m t) (sym (drop-drop 1 i l)) ∙ sym (counted-in c (drop i l) w m h f)
+
+pub rows-turn : (k : Carried) (c : Bool) (a : Weights) (w : ℕ) (l : List ℤ) (i n : ℕ) → 0 < n
+    → writtenLines (vertexRows k c a w n (drop i l))
+    ≡ writtenLine (keywordOf k ∷ map writtenNumber (rowNumbers c a (take w (drop i l)))) ++ writtenLines (vertexRows k c a w (n - 1) (drop (i + w) l))
+rows-turn k c a w l i zero h = absurd (omega arith)
+rows-turn k c a w l i (suc n) h =
+    ap₂ (λ (m : ℕ) (t : List ℤ). writtenLine (keywordOf k ∷ map writtenNumber (rowNumbers c a (take w (drop i l)))) ++ writtenLines (vertexRows k c a w m t))
+    (let e : n ≡ suc n - 1 = omega arith in e) (drop-drop w i l)
+
+pub rows-none : (k : Carried) (c : Bool) (a : Weights) (w : ℕ) (l : List ℤ) (n : ℕ) → n ≤ 0 → writtenLines (vertexRows k c a w n l) ≡ []
+rows-none k c a w l zero h = refl
+rows-none k c a w l (suc n) h = absurd (omega arith)
+
+-- ---- corners
+pub first-read : (l : List ℕ) (i : ℕ) → getD (drop i l) 0 0 ≡ getD l i 0
+first-read l i = getD-drop i l 0 0 ∙ ap (λ (j : ℕ). getD l j 0) (let k : i + 0 ≡ i = omega arith in k)
+
+corners-turn : (l : List ℕ) (i n : ℕ) → 0 < n
+    → spaced (map writtenCorner (cornersFrom n (drop i l)))
+    ≡ (32 ∷ writtenCorner (record { v = getD l i 0; vt = getD l (i + 1) 0; vn = getD l (i + 2) 0 })) ++ spaced (map writtenCorner (cornersFrom (n - 1) (drop (i + 3) l)))
+corners-turn l i zero h = absurd (omega arith)
+corners-turn l i (suc n) h =
+    ap₂ (λ (x y : ℕ). row x y (getD (drop i l) 2 0) n (drop 3 (drop i l))) (first-read l i) (getD-drop i l 1 0)
+    ∙ ap₂ (λ (z : ℕ) (t : List ℕ). row (getD l i 0) (getD l (i + 1) 0) z n t) (getD-drop i l 2 0) (drop-drop 3 i l)
+    ∙ ap (λ (m : ℕ). row (getD l i 0) (getD l (i + 1) 0) (getD l (i + 2) 0) m (drop (i + 3) l)) (let e : n ≡ suc n - 1 = omega arith in e)
+  where
+    row : ℕ → ℕ → ℕ → ℕ → List ℕ → List ℕ
+    row x y z m t = (32 ∷ writtenCorner (record { v = x; vt = y; vn = z })) ++ spaced (map writtenCorner (cornersFrom m t))
+
+-- corner k of those that begin at `first`
+pub corner-turn : (l : List ℕ) (first k n : ℕ) (c : Corner) → 0 < n → c ≡ cornerIn l (cornersEnd first k)
+    → spaced (map writtenCorner (cornersFrom n (drop (cornersEnd first k) l)))
+    ≡ (32 ∷ writtenCorner (record { v = c .v; vt = c .vt; vn = c .vn })) ++ spaced (map writtenCorner (cornersFrom (n - 1) (drop (cornersEnd first (k + 1)) l)))
+corner-turn l first k n c h e =
+    corners-turn l (cornersEnd first k) n h
+    ∙ ap₂ (λ (x : Corner) (i : ℕ). (32 ∷ writtenCorner (record { v = x .v; vt = x .vt; vn = x .vn })) ++ spaced (map writtenCorner (cornersFrom (n - 1) (drop i l)))) (sym e)
+    (let d : cornersEnd first k + 3 ≡ cornersEnd first (k + 1) = omega arith in d)
+
+pub corners-none : (l : List ℕ) (n : ℕ) → n ≤ 0 → spaced (map writtenCorner (cornersFrom n l)) ≡ []
+corners-none l zero h = refl
+corners-none l (suc n) h = absurd (omega arith)
+
+-- ---- loops
+pub part-words : (l : List ℕ) (z : List ℤ) (i : ℕ) → (32 ∷ writtenNumber (getD z i (pos 0))) ++ ((32 ∷ writtenNumber (getD z (i + 1) (pos 0))) ++ (32 ∷ writtenWhole (getD l (i + 1) 0)))
+    ≡ spaced (partWords (drop i l) (drop i z))
+part-words l z i =
+    let a : getD z i (pos 0) ≡ getD (drop i z) 0 (pos 0) = sym (getD-drop i z 0 (pos 0) ∙ ap (λ (j : ℕ). getD z j (pos 0)) (let k : i + 0 ≡ i = omega arith in k)) in
+    ap₂ (λ (x y : ℤ). (32 ∷ writtenNumber x) ++ ((32 ∷ writtenNumber y) ++ (32 ∷ writtenWhole (getD l (i + 1) 0)))) a (sym (getD-drop i z 1 (pos 0)))
+    ∙ ap (λ (n : ℕ). (32 ∷ writtenNumber (getD (drop i z) 0 (pos 0))) ++ ((32 ∷ writtenNumber (getD (drop i z) 1 (pos 0))) ++ (32 ∷ writtenWhole n))) (sym (getD-drop i l 1 0))
+    ∙ ap (λ (t : List ℕ). (32 ∷ writtenNumber (getD (drop i z) 0 (pos 0))) ++ ((32 ∷ writtenNumber (getD (drop i z) 1 (pos 0))) ++ t)) (sym (append-nil (32 ∷ writtenWhole (getD (drop i l) 1 0))))
+
+pub loop-words : (l : List ℕ) (z : List ℤ) (i n : ℕ)
+    → spaced (partWords (drop i l) (drop i z)) ++ spaced (goingOn n (drop (i + 2) l) (drop (i + 2) z))
+    ≡ spaced (partWords (drop i l) (drop i z) ++ goingOn n (drop 2 (drop i l)) (drop 2 (drop i z)))
+loop-words l z i n =
+    ap₂ (λ (a : List ℕ) (b : List ℤ). spaced (partWords (drop i l) (drop i z)) ++ spaced (goingOn n a b)) (sym (drop-drop 2 i l)) (sym (drop-drop 2 i z))
+    ∙ spaced-append (partWords (drop i l) (drop i z)) (goingOn n (drop 2 (drop i l)) (drop 2 (drop i z)))
+
+pub going-turn : (l : List ℕ) (z : List ℤ) (i n : ℕ) → 0 < n → getD l i 0 ≡ 0
+    → spaced (goingOn n (drop i l) (drop i z)) ≡ spaced (partWords (drop i l) (drop i z)) ++ spaced (goingOn (n - 1) (drop (i + 2) l) (drop (i + 2) z))
+going-turn l z i zero h e = absurd (omega arith)
+going-turn l z i (suc n) h e =
+    ap (λ (k : ℕ). spaced (cond (eqb k 0) (partWords (drop i l) (drop i z) ++ goingOn n (drop 2 (drop i l)) (drop 2 (drop i z))) [])) (first-read l i ∙ e)
+    ∙ sym (spaced-append (partWords (drop i l) (drop i z)) (goingOn n (drop 2 (drop i l)) (drop 2 (drop i z))))
+    ∙ ap₂ (λ (a : List ℕ) (b : List ℤ). spaced (partWords (drop i l) (drop i z)) ++ spaced (goingOn n a b)) (drop-drop 2 i l) (drop-drop 2 i z)
+    ∙ ap (λ (m : ℕ). spaced (partWords (drop i l) (drop i z)) ++ spaced (goingOn m (drop (i + 2) l) (drop (i + 2) z))) (let q : n ≡ suc n - 1 = omega arith in q)
+
+pub going-stops : (l : List ℕ) (z : List ℤ) (i n : ℕ) → 0 < getD l i 0 → spaced (goingOn n (drop i l) (drop i z)) ≡ []
+going-stops l z i zero e = refl
+going-stops l z i (suc n) e =
+    let f = first-read l i in
+    ap (λ (t : Bool). spaced (cond t (partWords (drop i l) (drop i z) ++ goingOn n (drop 2 (drop i l)) (drop 2 (drop i z))) []))
+    (ne-eqb (getD (drop i l) 0 0) 0 (λ (h : getD (drop i l) 0 0 ≡ 0). omega arith))
+
+pub going-none : (l : List ℕ) (z : List ℤ) (n : ℕ) → n ≤ 0 → spaced (goingOn n l z) ≡ []
+going-none l z zero h = refl
+going-none l z (suc n) h = absurd (omega arith)
+
+pub begun-none : (n : ℕ) (l : List ℕ) (z : List ℤ) (i : ℕ) → getD l i 0 ≡ 0 → [] ≡ writtenLines (begunLines n (drop i l) (drop i z))
+begun-none n l z i e = ap (λ (k : ℕ). writtenLines (cond (eqb k 0) [] (loopWords n (drop i l) (drop i z) ∷ []))) (sym (first-read l i ∙ e))
+
+pub begun-line : (n : ℕ) (l : List ℕ) (z : List ℤ) (i : ℕ) → (getD l i 0 ≡ 0 → ⊥)
+    → writtenLine (loopWords n (drop i l) (drop i z)) ≡ writtenLines (begunLines n (drop i l) (drop i z))
+begun-line n l z i e =
+    let f = first-read l i in
+    one-line (loopWords n (drop i l) (drop i z))
+    ∙ ap (λ (t : Bool). writtenLines (cond t [] (loopWords n (drop i l) (drop i z) ∷ [])))
+    (sym (ne-eqb (getD (drop i l) 0 0) 0 (λ (h : getD (drop i l) 0 0 ≡ 0). e (sym f ∙ h))))
+
+pub loops-turn : (l : List ℕ) (z : List ℤ) (i n : ℕ) → 0 < n
+    → writtenLines (loopLines n (drop i l) (drop i z))
+    ≡ writtenLines (begunLines (n - 1) (drop i l) (drop i z)) ++ writtenLines (loopLines (n - 1) (drop (i + 2) l) (drop (i + 2) z))
+loops-turn l z i zero h = absurd (omega arith)
+loops-turn l z i (suc n) h =
+    sym (lines-append (begunLines n (drop i l) (drop i z)) (loopLines n (drop 2 (drop i l)) (drop 2 (drop i z))))
+    ∙ ap₂ (λ (a : List ℕ) (b : List ℤ). writtenLines (begunLines n (drop i l) (drop i z)) ++ writtenLines (loopLines n a b)) (drop-drop 2 i l) (drop-drop 2 i z)
+    ∙ ap (λ (m : ℕ). writtenLines (begunLines m (drop i l) (drop i z)) ++ writtenLines (loopLines m (drop (i + 2) l) (drop (i + 2) z))) (let q : n ≡ suc n - 1 = omega arith in q)
+
+pub loops-none : (l : List ℕ) (z : List ℤ) (n : ℕ) → n ≤ 0 → writtenLines (loopLines n l z) ≡ []
+loops-none l z zero h = refl
+loops-none l z (suc n) h = absurd (omega arith)

@@ -1,0 +1,82 @@
+-- What is left of the corners comes to all of them.
+use borrow.Author.Needs.{needs}
+use Prim.Native.Nat.{ℕ, _+_, _*_, _<_, _≤_}
+use mathlib.Core.Path.{_≡_, sym, subst}
+use mathlib.Core.List.{map}
+use native.Mathlib.Omega.{arith}
+use denote.Ref.{now}
+use lib.ListN.{drop}
+use Rattle.references.specs.Written.{writtenCorner}
+use Rattle.tables.specs.Records.{cornersEnd}
+use Rattle.tidy_words.specs.Emitting.{spaced}
+use Rattle.tidy_writer.specs.Rows.{cornersFrom}
+use Rattle.tidy_words.proofs.Emissions.{Left, left-start, left-turn, left-ends, emitted-spaced}
+use Rattle.tidy_writer.proofs.Turns.{corner-turn, corners-none}
+use Rattle.tidy_writer.proofs.element.emit_corners.Statement.{statement}
+use Rattle.tidy_writer.proofs.element.emit_corners.Tie as tie
+
+abbrev Inv-loop : tie.InvT-loop
+Inv-loop corners first count out₀ at k₀ left₀ end₀ out k left end =
+    Left at (spaced (map writtenCorner (cornersFrom count (drop first corners)))) out₀ end (spaced (map writtenCorner (cornersFrom left (drop (cornersEnd first k) corners)))) out
+    × (k + left ≡ count)
+
+abbrev μ-loop : tie.MeasureT-loop
+μ-loop corners first count out₀ at k₀ left₀ end₀ out k left end = left
+
+loop-holds : tie.Need-loop-holds Inv-loop μ-loop
+loop-holds c =
+    let a = c .before .before .args in
+    let l = now (a .corners) in
+    let w = spaced (map writtenCorner (cornersFrom (a .count) (drop (a .first) l))) in
+    let z : a .first ≡ cornersEnd (a .first) 0 = omega arith in (
+      subst (λ (n : ℕ). Left (a .at) w (now (a .out)) (a .at) (spaced (map writtenCorner (cornersFrom (a .count) (drop n l)))) (now (a .out))) z (left-start (a .at) w (now (a .out)) (c .before .before .pre)),
+      omega arith,
+    )
+
+corner-at-requires : tie.Need-corner-at-requires Inv-loop μ-loop
+corner-at-requires c κs = search needs
+
+emit-spaced-corner-requires : tie.Need-emit-spaced-corner-requires Inv-loop μ-loop
+emit-spaced-corner-requires c κs = search needs
+
+add-k : tie.Need-add-k Inv-loop μ-loop
+add-k c = omega arith
+
+sub-left : tie.Need-sub-left Inv-loop μ-loop
+sub-left c = omega arith
+
+loop-less : tie.Need-loop-less Inv-loop μ-loop
+loop-less c = omega arith
+
+loop-again : tie.Need-loop-again Inv-loop μ-loop
+loop-again c =
+    let a = c .before .before .before .before .before .before .before .before .before .args in
+    let l = c .before .before .before .before .before .before .loop in
+    let h : 0 < l .left = omega arith in
+    let r = c .before .before .before .before .corner-at in
+    (left-turn (l .inv .0) (corner-turn (now (a .corners)) (a .first) (l .k) (l .left) (r .result) h (r .ensures)) (emitted-spaced (c .before .before .emit-spaced-corner .ensures)), omega arith)
+
+same-length : tie.Need-same-length Inv-loop μ-loop
+same-length c = c .before .loop .inv .0 .same
+
+returns : tie.Need-returns Inv-loop μ-loop
+returns c =
+    let l = c .before .loop in
+    let a = c .before .before .before .before .args in
+    left-ends (l .inv .0) (corners-none (drop (cornersEnd (a .first) (l .k)) (now (a .corners))) (l .left) (omega arith))
+
+pub emit-corners-spec : {M : Type 1} → statement M
+emit-corners-spec =
+    tie.close
+    (tie.spec
+    Inv-loop
+    μ-loop
+    loop-holds
+    corner-at-requires
+    emit-spaced-corner-requires
+    add-k
+    sub-left
+    loop-less
+    loop-again
+    same-length
+    returns)

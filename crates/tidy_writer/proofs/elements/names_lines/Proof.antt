@@ -1,0 +1,39 @@
+-- The three lines, one after the other.
+use denote.Ref.{now}
+use Rattle.statements.specs.declared.Carried.the-variants.{Group, Material}
+use Rattle.tidy_form.specs.Agree.{wordsAt}
+use Rattle.tidy_writer.specs.TidyFrom.{changed, smoothed}
+use Rattle.tidy_words.proofs.Emissions.{emitted-then, emitted-is}
+use Rattle.tidy_writer.proofs.Turns.{three-lines}
+use borrow.Author.Needs.{needs}
+use Rattle.tidy_writer.proofs.elements.names_lines.Statement.{statement}
+use Rattle.tidy_writer.proofs.elements.names_lines.Tie as tie
+
+name-line-requires : tie.Need-name-line-requires
+name-line-requires c κs = search needs
+
+smoothing-line-requires : tie.Need-smoothing-line-requires
+smoothing-line-requires c κs = search needs
+
+name-line-requires-2 : tie.Need-name-line-requires-2
+name-line-requires-2 c κs = search needs
+
+same-length : tie.Need-same-length
+same-length c = search needs
+
+returns : tie.Need-returns
+returns c =
+    let a = c .before .before .before .before .before .before .before .before .before .before .before .before .before .before .args in
+    let t = now (a .text) in
+    let p = a .before in
+    let e = a .element in
+    emitted-is
+    (three-lines (changed Group (wordsAt t (p .«group_place») (p .«group_length»)) (wordsAt t (e .«group_place») (e .«group_length»)))
+    (smoothed (p .smoothing) (e .smoothing))
+    (changed Material (wordsAt t (p .«material_place») (p .«material_length»)) (wordsAt t (e .«material_place») (e .«material_length»))))
+    (emitted-then (c .before .before .before .before .before .before .before .before .before .before .name-line .ensures) (emitted-then (c .before .before .before .before .before .before .smoothing-line .ensures) (c .before .before .name-line2 .ensures)))
+
+pub names-lines-spec : {M : Type 1} → statement M
+names-lines-spec =
+    tie.close
+    (tie.spec name-line-requires smoothing-line-requires name-line-requires-2 same-length returns)

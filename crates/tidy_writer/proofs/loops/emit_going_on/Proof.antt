@@ -1,0 +1,84 @@
+-- What is left of the parts that go on comes to all of them.
+use borrow.Author.Needs.{needs}
+use Prim.Native.Nat.{_+_, _*_, _<_, _≤_}
+use mathlib.Core.Path.{_≡_}
+use native.Mathlib.Omega.{arith}
+use denote.Ref.{now}
+use lib.ListN.{getD, drop}
+use Rattle.tidy_words.specs.Emitting.{spaced}
+use Rattle.tidy_writer.specs.Rows.{goingOn}
+use Rattle.tidy_words.proofs.Emissions.{Left, left-start, left-turn, left-ends}
+use Rattle.tidy_writer.proofs.Turns.{going-turn, going-stops, going-none}
+use Rattle.tidy_writer.proofs.loops.emit_going_on.Statement.{statement}
+use Rattle.tidy_writer.proofs.loops.emit_going_on.Tie as tie
+
+abbrev Inv-loop : tie.InvT-loop
+Inv-loop loops spans first count out₀ at i₀ left₀ end₀ out i left end =
+    Left at (spaced (goingOn count (drop first loops) (drop first spans))) out₀ end (spaced (goingOn left (drop i loops) (drop i spans))) out
+    × (i + 2 * left ≤ first + 2 * count)
+
+abbrev μ-loop : tie.MeasureT-loop
+μ-loop loops spans first count out₀ at i₀ left₀ end₀ out i left end = left
+
+loop-holds : tie.Need-loop-holds Inv-loop μ-loop
+loop-holds c = let a = c .before .before .args in (left-start (a .at) (spaced (goingOn (a .count) (drop (a .first) (now (a .loops))) (drop (a .first) (now (a .spans))))) (now (a .out)) (c .before .before .pre .0), omega arith)
+
+number-in-requires : tie.Need-number-in-requires Inv-loop μ-loop
+number-in-requires c κs = search needs
+
+same-length : tie.Need-same-length Inv-loop μ-loop
+same-length c = c .before .before .before .loop .inv .0 .same
+
+returns : tie.Need-returns Inv-loop μ-loop
+returns c =
+    let a = c .before .before .before .before .before .before .args in
+    let l = c .before .before .before .loop in
+    let h : 0 < getD (now (a .loops)) (l .i) 0 = omega (arith, c .before .number-in .ensures) in
+    left-ends (l .inv .0) (going-stops (now (a .loops)) (now (a .spans)) (l .i) (l .left) h)
+
+emit-part-requires : tie.Need-emit-part-requires Inv-loop μ-loop
+emit-part-requires c κs = omega arith
+
+add-i : tie.Need-add-i Inv-loop μ-loop
+add-i c = omega arith
+
+sub-left : tie.Need-sub-left Inv-loop μ-loop
+sub-left c = omega arith
+
+loop-less : tie.Need-loop-less Inv-loop μ-loop
+loop-less c = omega arith
+
+loop-again : tie.Need-loop-again Inv-loop μ-loop
+loop-again c =
+    let a = c .before .before .before .before .before .before .before .before .before .before .args in
+    let l = c .before .before .before .before .before .before .before .loop in
+    let h : 0 < l .left = omega arith in
+    let z : getD (now (a .loops)) (l .i) 0 ≡ 0 = omega (arith, c .before .before .before .before .before .number-in .ensures) in
+    (left-turn (l .inv .0) (going-turn (now (a .loops)) (now (a .spans)) (l .i) (l .left) h z) (c .before .before .emit-part .ensures), omega arith)
+
+same-length-2 : tie.Need-same-length-2 Inv-loop μ-loop
+same-length-2 c = c .before .loop .inv .0 .same
+
+returns-2 : tie.Need-returns-2 Inv-loop μ-loop
+returns-2 c =
+    let a = c .before .before .before .before .args in
+    let l = c .before .loop in
+    left-ends (l .inv .0) (going-none (drop (l .i) (now (a .loops))) (drop (l .i) (now (a .spans))) (l .left) (omega arith))
+
+pub emit-going-on-spec : {M : Type 1} → statement M
+emit-going-on-spec =
+    tie.close
+    (tie.spec
+    Inv-loop
+    μ-loop
+    loop-holds
+    number-in-requires
+    same-length
+    returns
+    emit-part-requires
+    add-i
+    sub-left
+    loop-less
+    loop-again
+    same-length-2
+    returns-2)

@@ -1,0 +1,86 @@
+-- Each word and each line's end takes bytes off what is left.
+use Prim.Native.Nat.{_-_, _≤_}
+use mathlib.Core.Path.{_≡_}
+use native.Mathlib.Omega.{arith}
+use borrow.Author.Needs.{needs}
+use denote.Ref.{now}
+use lib.ListN.{length}
+use Rattle.text.specs.Rest.{afterBlanksIs}
+use Rattle.text.specs.declared.AfterBlanks.the-variants.{Start, End}
+use Rattle.word_cases.proofs.show.Statement.{statement}
+use Rattle.word_cases.proofs.show.Tie as tie
+
+abbrev Inv-loop : tie.InvT-loop
+Inv-loop text form₀ i₀ form i = i ≤ length text
+
+abbrev μ-loop : tie.MeasureT-loop
+μ-loop text form₀ i₀ form i = length text - i
+
+loop-holds : tie.Need-loop-holds Inv-loop μ-loop
+loop-holds c = omega arith
+
+skip-blanks-requires : tie.Need-skip-blanks-requires Inv-loop μ-loop
+skip-blanks-requires c κs = search needs
+
+enum-known-p : tie.Need-enum-known-p Inv-loop μ-loop
+enum-known-p c = search needs
+
+word-end-requires : tie.Need-word-end-requires Inv-loop μ-loop
+word-end-requires c κs =
+    let met : afterBlanksIs (now (c .before .before .before .before .before .before .before .args .text)) (c .before .before .before .before .before .loop .i) (Start (c .before .p .given .0 .0)) = rw (c .before .p .given .1) at (c .before .before .before .skip-blanks .ensures) in
+    omega (arith, met .more, met .to)
+
+put-word-requires : tie.Need-put-word-requires Inv-loop μ-loop
+put-word-requires c κs =
+    let met : afterBlanksIs (now (c .before .before .before .before .before .before .before .before .args .text)) (c .before .before .before .before .before .before .loop .i) (Start (c .before .before .p .given .0 .0)) = rw (c .before .before .p .given .1) at (c .before .before .before .before .skip-blanks .ensures) in
+    (omega (arith, met .more, c .word-end .ensures .0), c .word-end .ensures .1)
+
+loop-less : tie.Need-loop-less Inv-loop μ-loop
+loop-less c =
+    let met : afterBlanksIs (now (c .before .before .before .before .before .before .before .before .before .args .text)) (c .before .before .before .before .before .before .before .loop .i) (Start (c .before .before .before .p .given .0 .0)) = rw (c .before .before .before .p .given .1) at (c .before .before .before .before .before .skip-blanks .ensures) in
+    omega (arith, met .from, met .more, met .to, c .before .word-end .ensures .0)
+
+loop-again : tie.Need-loop-again Inv-loop μ-loop
+loop-again c = c .before .word-end .ensures .1
+
+enum-known-q : tie.Need-enum-known-q Inv-loop μ-loop
+enum-known-q c = search needs
+
+loop-less-2 : tie.Need-loop-less-2 Inv-loop μ-loop
+loop-less-2 c =
+    let met : afterBlanksIs (now (c .before .before .before .before .before .before .before .args .text)) (c .before .before .before .before .before .loop .i) (End (c .before .q .given .0 .0)) = rw (c .before .q .given .1) at (c .before .before .before .skip-blanks .ensures) in
+    omega (arith, met .ahead (c .before .before .before .before .loop-test .taken), met .to)
+
+loop-again-2 : tie.Need-loop-again-2 Inv-loop μ-loop
+loop-again-2 c =
+    let met : afterBlanksIs (now (c .before .before .before .before .before .before .before .args .text)) (c .before .before .before .before .before .loop .i) (End (c .before .q .given .0 .0)) = rw (c .before .q .given .1) at (c .before .before .before .skip-blanks .ensures) in
+    met .to
+
+enum-told : tie.Need-enum-told Inv-loop μ-loop
+enum-told c = search needs
+
+returns : tie.Need-returns Inv-loop μ-loop
+returns c = search needs
+
+returns-2 : tie.Need-returns-2 Inv-loop μ-loop
+returns-2 c = search needs
+
+pub show-spec : {M : Type 1} → statement M
+show-spec =
+    tie.close
+    (tie.spec
+    Inv-loop
+    μ-loop
+    loop-holds
+    skip-blanks-requires
+    enum-known-p
+    word-end-requires
+    put-word-requires
+    loop-less
+    loop-again
+    enum-known-q
+    loop-less-2
+    loop-again-2
+    enum-told
+    returns
+    returns-2)
