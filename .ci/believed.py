@@ -2,10 +2,12 @@
 
     python3 .ci/believed.py             each file of specs/ with definitions that are reached: how many lines they have, and of how many
     python3 .ci/believed.py --rest      in those files, what no promise reaches
+    python3 .ci/believed.py --mark      writes MARK on top of each of them, and takes it from every other file
 
 A promise is the `ensures` of an entry point (docs/PROMISES.md lists them: "No entry point has a `requires`"; and what C links) or the
 statement of a theorem of THEOREMS. From the names that it uses the definitions are followed through the `use` lines of specs/.
 A definition's lines are its signature, its clauses, its fields or cases, and the comment above it.
+A file whose first line is MARK holds such definitions alone, and every one of them stands in such a file (.ci/papers.py sees to it).
 """
 
 import re
@@ -15,6 +17,16 @@ from pathlib import Path
 ROOT = Path(__file__).resolve().parent.parent
 CRATES = ROOT / "crates"
 HEAD = re.compile(r"^(?:(?:abbrev|unfoldable|opaque|pub)\s+)*(?:(record|data|module)\s+)?(«[^»]+»|[^\s(){}:,;]+)")
+MARK = "-- Must be believed: a promise reaches every definition of this file."
+# Files that still hold other definitions beside them: they have no mark.
+MIXED = {
+    "keywords: Arguments",
+    "keywords: Keywords",
+    "spellings: Rows",
+    "point_rows: Places",
+    "sampler: Answers",
+    "statements: Rules",
+}
 # Entry points that the table of demand 1 does not list.
 FUNCTIONS = {
     "tidy_output/src/lib.rt": "tidy_output",
@@ -29,10 +41,10 @@ THEOREMS = {
     "read_rooms/proofs/Words.antt": "few-words",
     "polyline/proofs/Demanded.antt": "polylines-on-curves",
     "polyline/proofs/Every.antt": "every-chord",
-    "polyline/proofs/Middle.antt": "middle-floored",
+    "point_chords/proofs/Middle.antt": "middle-floored",
     "polyline/proofs/Granted.antt": "samplers-fifteen",
     "point_cubics/proofs/Stepped.antt": "points-in-steps two-paths",
-    "point_cubics/proofs/Sums.antt": "row-sums segment-ends",
+    "point_weights/proofs/Sums.antt": "row-sums segment-ends",
     "point_bounds/proofs/Inside.antt": "curves-inside runs-inside polylines-inside surfaces-inside",
     "point_bounds/proofs/Files.antt": "files-inside",
     "swept_files/proofs/Kept.antt": "every-sweep",
@@ -192,11 +204,39 @@ def counted():
         yield file, sum(len(set(here.lines[name])) for name in kept), [name for name in here.order if name not in kept]
 
 
+def named(file):
+    return f"{file.relative_to(CRATES).parts[0]}: {file.stem}"
+
+
+def marked(file):
+    return file.read_text(encoding="utf-8").startswith(MARK + "\n")
+
+
+def wrongly_marked():
+    """Each file of specs/ that lacks the mark, has it without being reached, or has it and holds more than what is reached."""
+    reached = {file: rest for file, _, rest in counted()}
+    for file in sorted(CRATES.glob("*/specs/**/*.antt")):
+        wanted = file in reached and named(file) not in MIXED
+        if marked(file) != wanted:
+            yield file, "has the mark of what must be believed, and no promise reaches it" if marked(file) else "lacks the mark of what must be believed"
+        elif bool(reached.get(file)) != (named(file) in MIXED):
+            yield file, f"no promise reaches {', '.join(reached[file])}" if reached.get(file) else "no longer holds more than what must be believed"
+
+
+def mark():
+    reached = {file for file, _, rest in counted() if named(file) not in MIXED}
+    for file in sorted(CRATES.glob("*/specs/**/*.antt")):
+        text = file.read_text(encoding="utf-8").removeprefix(MARK + "\n")
+        file.write_text(f"{MARK}\n{text}" if file in reached else text, encoding="utf-8")
+
+
 def main():
+    if "--mark" in sys.argv:
+        return mark()
     total = files = 0
     for file, lines, rest in counted():
         total, files = total + lines, files + 1
-        where = f"{file.parts[file.parts.index('crates') + 1]}: {file.stem}"
+        where = named(file)
         if "--rest" not in sys.argv:
             print(f"{lines:5} of {len(module(file).text.splitlines()):4}  {where}")
         elif rest:

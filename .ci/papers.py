@@ -5,7 +5,7 @@
 
 Checked: paths; definitions, theorems and functions cited beside a file; must-fail edits; cases; crates in the
 tables of crates; entry points, which have no `requires`; functions listed twice; numbers of decisions; counted
-lines; docs/KEYWORDS.md, which is printed from the code. docs/LANDINGS.md speaks of what was, and is left out.
+lines; that what must be believed stands in files that say so, and alone; docs/KEYWORDS.md, which is printed from the code. docs/LANDINGS.md speaks of what was, and is left out.
 """
 
 import re
@@ -28,7 +28,7 @@ def crates_of(text):
 
 CRATES = crates_of((ROOT / "crates.txt").read_text())
 BELIEVED = {
-    f"{file.relative_to(ROOT / 'crates').parts[0]}: {file.stem}": (lines, len(file.read_text(encoding="utf-8").splitlines()))
+    believed.named(file): (lines, len(file.read_text(encoding="utf-8").splitlines()))
     for file, lines, _ in believed.counted()
 }
 
@@ -303,6 +303,7 @@ def main():
     check_crate_tables(texts, faults.append)
     check_twice(texts["docs/PROMISES.md"].split("## Functions")[1].split("## Theorems")[0], faults.append)
     check_believed(texts["docs/PROMISES.md"], faults.append)
+    faults += [f"{file.relative_to(ROOT)}: {fault}" for file, fault in believed.wrongly_marked()]
     if texts["docs/KEYWORDS.md"] != keywords.page():
         faults.append("docs/KEYWORDS.md is not what .ci/keywords.py prints")
     for paper, text in texts.items():

@@ -1,4 +1,4 @@
-//! The boundary as the archive has it: `src/lib.rt` of `crates/kuhlabires`, `crates/c_records`, `crates/read_advice` and `crates/read_rooms`, and `include/kuhlabires.h`, say the same. A slice is a pointer, then a length.
+//! The boundary as the archive has it: `src/lib.rt` of `crates/kuhlabires`, `crates/c_records`, `crates/c_tables`, `crates/keyword_rules`, `crates/read_advice` and `crates/read_rooms`, and `include/kuhlabires.h`, say the same. A slice is a pointer, then a length.
 use crate::{Advice, Corner, Dropped, Rooms, RuleRow, Tables, Used};
 
 #[repr(C)]

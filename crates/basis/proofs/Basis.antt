@@ -11,7 +11,7 @@ use lib.Dec.{leb, eqb}
 use lib.ListN.{length, getD}
 use lib.IntN.{ℤ, pos}
 use Rattle.lists.proofs.Tests.{test, and-left, and-right}
-use Rattle.tables.specs.Bodies.{Basis, bezier, bspline, cardinal, taylor, enough, controls, low, high, curveCount, surfaceCount, basisOf}
+use Rattle.tables.specs.Bodies.{Basis, bezier, cardinal, taylor, enough, controls, low, high, curveCount, surfaceCount, basisOf}
 
 -- what holds of the other three holds of a type that is no bspline
 pub not-bspline : (P : Basis → Type 0) → P bezier → P cardinal → P taylor → (type : ℕ) → (type ≡ 2 → ⊥) → P (basisOf type)

@@ -13,10 +13,10 @@ use lib.IntN.{ℤ, pos}
 use lib.Signed.{ltZ, leZ}
 use Rattle.lists.proofs.Tests.{test, and-left, and-right, and-first, and-second}
 use Rattle.tables.specs.Bodies.{steady, multiplicity, seldom, eachSeldom}
-use Rattle.basis.specs.declared.stepping.Requirement.{Requirement}
-use Rattle.basis.specs.declared.stepping.Order.{Order}
-use Rattle.basis.specs.Stepping.{fresh, tooOften, followed, mayFollow, stepOf, walked}
-use Rattle.basis.proofs.Order.{le-refl, le-trans, le-same, lt-le, le-no-lt, lt-no-le, no-lt-le, lt-le-lt, not-either}
+use Rattle.parameter_order.specs.declared.Requirement.{Requirement}
+use Rattle.parameter_order.specs.declared.Order.{Order}
+use Rattle.parameter_order.specs.Stepping.{fresh, tooOften, followed, mayFollow, stepOf, walked}
+use Rattle.parameter_order.proofs.Comparing.{le-refl, le-trans, le-same, lt-le, le-no-lt, lt-no-le, no-lt-le, lt-le-lt, not-either}
 use Rattle.basis.proofs.Trail.{at-first, at-next, trail, fine-trail, first-free}
 
 steady-from : (a : ℤ) (x : List ℤ) (i : ℕ) → steady (a ∷ x) ≡ true → i < length x → leZ a (getD x i (pos 0)) ≡ true

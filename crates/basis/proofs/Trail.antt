@@ -12,9 +12,9 @@ use lib.IntN.{ℤ, pos}
 use lib.Signed.{ltZ}
 use Rattle.lists.proofs.Tests.{test}
 use Rattle.tables.specs.Bodies.{rising}
-use Rattle.basis.specs.declared.stepping.Requirement.{Requirement}
-use Rattle.basis.specs.declared.stepping.Order.{Order}
-use Rattle.basis.specs.Stepping.{fresh, tooOften, followed, mayFollow, stepOf, walkFrom}
+use Rattle.parameter_order.specs.declared.Requirement.{Requirement}
+use Rattle.parameter_order.specs.declared.Order.{Order}
+use Rattle.parameter_order.specs.Stepping.{fresh, tooOften, followed, mayFollow, stepOf, walkFrom}
 
 -- ---- the ends of the widest range: the value at index k, or the last so far
 abbrev pub reached : ℕ → ℕ → ℤ → List ℤ → ℤ

@@ -1,7 +1,6 @@
 -- The walk over the parameters of a direction gives 13's verdict, and the two ends of the widest range.
-use Prim.Native.Nat.{ℕ, _+_, _*_, _-_, _≤_, _<_}
+use Prim.Native.Nat.{ℕ, _+_, _*_, _-_, _≤_}
 use native.Mathlib.Nat.{sub-zero}
-use native.Mathlib.Numerals.{add-one}
 use native.Mathlib.Omega.{arith}
 use mathlib.Core.Path.{_≡_, sym, ap, ap₂, _∙_, subst}
 use mathlib.Core.List.{List, [], _∷_}
@@ -9,15 +8,12 @@ use mathlib.Core.Bool.{Bool, true, false, cond, _&&_, and-true}
 use mathlib.Core.Logic.{⊎-elim}
 use borrow.Author.Tests.{ne-eqb, eqb-true, eqb-false}
 use lib.Dec.{eqb}
-use lib.ListN.{length, getD, drop, drop-of-length-le}
-use lib.Seq.{drop-cons}
+use lib.ListN.{length, getD}
 use lib.IntN.{ℤ, pos}
 use lib.Signed.{ltZ, leZ}
 use Rattle.lists.proofs.Tests.{test}
 use Rattle.tables.specs.Bodies.{basisOf, enough, rising, ordered, low, high, continuous, inOrder}
-use Rattle.basis.specs.declared.stepping.Requirement.{Requirement}
-use Rattle.basis.specs.declared.stepping.Order.{Order}
-use Rattle.basis.specs.Stepping.{requirementOf, fresh, stepOf, walkFrom, walked, holdsIn}
+use Rattle.parameter_order.specs.Stepping.{requirementOf, fresh, stepOf, walked, holdsIn}
 use Rattle.basis.proofs.Basis.{not-bspline, low-other, high-other, knots-enough}
 use Rattle.basis.proofs.Trail.{reached, low-reached, high-reached, reached-at, fine-trail, first-free, trail-rises}
 use Rattle.basis.proofs.Multiplicities.{knots, knots-fine}
@@ -68,11 +64,3 @@ unfolding holdsIn inOrder
 walk-holds type n x start end h g =
     let w = walk-is type n x h g in
     ap₂ (λ (p q : Bool). p && q) (w .0) (ap₂ (λ (l r : ℤ). leZ l start && ltZ start end && leZ end r) (w .1) (w .2))
-
--- ---- the walk over a table, from index i on
-module _ (a : Requirement) (x : List ℤ) (i : ℕ) (o : Order) (w : walkFrom a i o (drop i x) ≡ walked a x) where
-  pub walk-on : i < length x → {p : Order} → p ≡ stepOf a i o (getD x i (pos 0)) → walkFrom a (i + 1) p (drop (i + 1) x) ≡ walked a x
-  walk-on h {p} e = rw (add-one, e) (sym (ap (walkFrom a i o) (drop-cons x i (pos 0) h)) ∙ w)
-
-  pub walk-over : length x ≤ i → o ≡ walked a x
-  walk-over h = sym (ap (walkFrom a i o) (drop-of-length-le x h)) ∙ w

@@ -1,3 +1,4 @@
+-- Must be believed: a promise reaches every definition of this file.
 -- 01, "Bodies": a curv2's range.
 use Prim.Native.Nat.{ℕ}
 use mathlib.Core.List.{List}

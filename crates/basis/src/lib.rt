@@ -1,9 +1,8 @@
 // What a type asks along one direction of a body: how many controls, in what order its parameters stand, and which range they allow.
-pub mod stepping;
-
-use crate::stepping::holds;
-use crate::stepping::requirement_of;
-use crate::stepping::walk;
+use parameter_order::holds;
+use parameter_order::requirement_of;
+use parameter_order::walk;
+use tables::bases;
 ghost use mathlib.Core.Path.{_≡_};
 ghost use mathlib.Core.Bool.{true};
 ghost use Prim.Native.Nat.{_+_, _*_, _≤_};
@@ -16,7 +15,7 @@ ghost use Rattle.basis.specs.Widest.{widest};
 fn enough(basis: u32, n: u32, p: u32) -> bool
     ensures { λ r. ⌜ r ≡ enough (basisOf basis) n p ⌝ }
 {
-    if basis != 2 {
+    if basis != bases::BSPLINE {
         return true;
     }
     2 * n as usize + 2 <= p as usize
@@ -28,13 +27,13 @@ fn controls(basis: u32, n: u32, p: u32) -> usize
 {
     let n = n as usize;
     let p = p as usize;
-    if basis == 1 {
+    if basis == bases::BEZIER {
         return n * (p - 1) + 1;
     }
-    if basis == 2 {
+    if basis == bases::BSPLINE {
         return p - n - 1;
     }
-    if basis == 3 {
+    if basis == bases::CARDINAL {
         return p + 2;
     }
     (n + 1) * (p - 1)
@@ -88,7 +87,7 @@ fn low(basis: u32, n: u32, x: &[i32]) -> i32
     requires { ⌜ (2 ≤ length (now x)) × (enough (basisOf basis) n (length (now x)) ≡ true) ⌝ }
     ensures { λ r. ⌜ r ≡ low (basisOf basis) n (now (x .entry)) ⌝ }
 {
-    if basis == 2 {
+    if basis == bases::BSPLINE {
         return x[n as usize];
     }
     x[0]
@@ -98,7 +97,7 @@ fn high(basis: u32, n: u32, x: &[i32]) -> i32
     requires { ⌜ (2 ≤ length (now x)) × (enough (basisOf basis) n (length (now x)) ≡ true) ⌝ }
     ensures { λ r. ⌜ r ≡ high (basisOf basis) n (now (x .entry)) ⌝ }
 {
-    if basis == 2 {
+    if basis == bases::BSPLINE {
         return x[x.len() - n as usize - 1];
     }
     x[x.len() - 1]

@@ -1,7 +1,5 @@
-pub mod Parts
 pub mod Points
 pub mod Polylines
 pub mod Readings
 pub mod Tidyings
 pub mod Sweeps
-pub mod CurveNumbers

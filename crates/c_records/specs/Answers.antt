@@ -1,12 +1,10 @@
+-- Must be believed: a promise reaches every definition of this file.
 -- What each answer is as the record of numbers that another language gets: made of its outcome, the number of refusal and the values that 01 gives to its case; the number is 0 where nothing is refused.
-use Prim.Native.Nat.{ℕ, _+_}
-use mathlib.Core.List.{List}
+use Prim.Native.Nat.{ℕ}
 use mathlib.Core.Bool.{cond}
-use lib.Dec.{leb, eqb}
-use lib.ListN.{length, getD, take, drop}
+use lib.Dec.{eqb}
+use lib.ListN.{length, getD}
 use lib.IntN.{pos}
-use Rattle.tables.specs.Asking.{askedElement}
-use Rattle.tables.specs.declared.Used.{Used}
 use Rattle.reader.specs.Reading.{ReadOutcome}
 use Rattle.tidy_form.specs.declared.Weights.{Weights}
 use Rattle.tidy_form.specs.declared.Weights.the-variants.{WhenNeeded, Always}
@@ -20,7 +18,6 @@ use Rattle.c_records.specs.declared.Point.{Point}
 use Rattle.c_records.specs.declared.Run.{Run}
 use Rattle.c_records.specs.declared.PolylinePoints.{PolylinePoints}
 use Rattle.c_records.specs.declared.SweepCounts.{SweepCounts}
-use Rattle.c_records.specs.declared.Part.{Part}
 
 abbrev pub readIn : ReadOutcome → ReadRecord
 readIn o = record { refusal = o .number; place = o .place; used = o .used }
@@ -51,24 +48,3 @@ polylineIn o = record { refusal = o .number; points = o .points }
 
 abbrev pub sweepIn : SweepOutcome → SweepCounts
 sweepIn o = record { refusal = o .number; used = o .used; dropped = o .dropped }
-
-abbrev pub part : ℕ → ℕ → Part
-part place count = record { place = place; length = count }
-
--- where that part of the caller's own text stands; "a run past the text's end, gives an empty part"
-unfoldable pub partIn : List ℕ → ℕ → ℕ → Part
-partIn text place count = cond (leb (place + count) (length text)) (part place count) (part 0 0)
-
-unfoldable pub groupIn : List ℕ → Used → List ℕ → ℕ → Part
-groupIn text used elements number =
-    let e = askedElement used elements number in
-    partIn text (e .«group_place») (e .«group_length»)
-
-unfoldable pub materialIn : List ℕ → Used → List ℕ → ℕ → Part
-materialIn text used elements number =
-    let e = askedElement used elements number in
-    partIn text (e .«material_place») (e .«material_length»)
-
--- the bytes of the text that a part names
-abbrev pub bytesIn : List ℕ → Part → List ℕ
-bytesIn text p = take (p .length) (drop (p .place) text)

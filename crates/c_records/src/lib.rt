@@ -6,7 +6,7 @@ ghost use Rattle.tidier.specs.Tidying.{tidyOutcome};
 ghost use Rattle.sampler.specs.Answers.{pointOutcome, runOutcome};
 ghost use Rattle.polyline.specs.Answers.{polylineOutcome};
 ghost use Rattle.sweep.specs.Swept.{noneDropped, sweepOutcome};
-ghost use Rattle.c_records.specs.Answers.{readIn, tidyIn, weightsIn, pointIn, runIn, polylineIn, sweepIn, partIn};
+ghost use Rattle.c_records.specs.Answers.{readIn, tidyIn, weightsIn, pointIn, runIn, polylineIn, sweepIn};
 use polyline::PolylineResult;
 use reader::ReadResult;
 use sampler::PointResult;
@@ -16,9 +16,6 @@ use sweep::SweepResult;
 use tables::Used;
 use tidier::TidyResult;
 use tidy_form::Weights;
-
-pub mod curve_numbers;
-pub mod records;
 
 // What reading comes to: the used counts, or a refusal at a place where `refusal` is not 0.
 #[repr(C)]
@@ -68,13 +65,6 @@ pub struct SweepCounts {
     pub refusal: u32,
     pub used: Used,
     pub dropped: Dropped,
-}
-
-// A part of the caller's text; its length is 0 for none.
-#[repr(C)]
-pub struct Part {
-    pub place: usize,
-    pub length: usize,
 }
 
 fn nothing_used() -> Used
@@ -231,22 +221,5 @@ pub fn sweep_of(answer: SweepResult) -> SweepCounts
             used: nothing_used(),
             dropped: nothing_dropped(),
         },
-    }
-}
-
-pub fn part_of(text: &[u8], place: u32, count: u32) -> Part
-    ensures { λ r. ⌜ r ≡ partIn (now (text .entry)) place count ⌝ }
-{
-    let from = place as usize;
-    let many = count as usize;
-    if from + many <= text.len() {
-        return Part {
-            place: from,
-            length: many,
-        };
-    }
-    Part {
-        place: 0,
-        length: 0,
     }
 }

@@ -7,13 +7,13 @@ use mathlib.Core.Bool.{Bool, true, false, _&&_}
 use lib.Dec.{eqb}
 use lib.ListN.{length}
 use lib.IntN.{ℤ, pos, negsuc, _-ℤ_}
-use Rattle.keywords.specs.Rows.{bytes}
+use Rattle.spellings.specs.Rows.{bytes}
 use Rattle.digits.specs.Said.{Said, says, wrong}
 use Rattle.decimals.specs.Number.{numberOf}
 use Rattle.references.specs.Reference.{referenceOf}
 use Rattle.model.specs.Room.{Rooms}
 use Rattle.model.specs.Read.{Answer, read, refused, readOf}
-use Rattle.point_exact.specs.Directions.{PointBasis, bezier, bspline, Direction, at}
+use Rattle.point_exact.specs.Directions.{PointBasis, bezier, bspline, at}
 use Rattle.point_exact.specs.Sampled.{curveSampled}
 use Rattle.references.specs.Examples.{sameInt, sameSaid}
 

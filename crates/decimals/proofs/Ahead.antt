@@ -10,7 +10,8 @@ use native.Mathlib.Nat.{mul-lt-mul-of-pos-right, pow-le-pow-right}
 use Rattle.lists.proofs.Laws.{all-append}
 use Rattle.text.specs.Words.{wordOf}
 use Rattle.text.specs.Rest.{endOf}
-use Rattle.digits.specs.Said.{says, wrong, ended}
+use Rattle.digits.specs.Said.{says, wrong}
+use Rattle.digits.specs.Answers.{ended}
 use Rattle.digits.specs.Digits.{isDigit, natOf}
 use Rattle.digits.specs.Straight.{first, run, cap, WholeRead}
 use Rattle.digits.proofs.Rows.{run-digits, natOf-append, natOf-high, ten-pos}

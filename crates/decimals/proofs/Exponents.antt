@@ -13,7 +13,8 @@ use native.Mathlib.Nat.{mul-one, pow-le-pow-right}
 use Rattle.lists.proofs.Tests.{and-left, and-right, test}
 use Rattle.text.specs.Words.{wordOf}
 use Rattle.text.specs.Rest.{endOf}
-use Rattle.digits.specs.Said.{says, wrong, ended}
+use Rattle.digits.specs.Said.{says, wrong}
+use Rattle.digits.specs.Answers.{ended}
 use Rattle.digits.specs.Digits.{digits, natOf, whole, negative}
 use Rattle.digits.specs.Straight.{first, run, cap, rowOf}
 use Rattle.digits.proofs.Rows.{natOf-append, natOf-high, cap-natOf, ten-pos}
@@ -22,7 +23,7 @@ use Rattle.digits.proofs.Saids.{said, ended-says, ended-wrong, must-says}
 use Rattle.decimals.specs.Number.{isSign, exponent, after, unsigned}
 use Rattle.decimals.specs.Straight.{exponentOf, takenOf, MantissaRead}
 use Rattle.decimals.proofs.Shifts.{cap-times}
-use Rattle.decimals.proofs.Numbers.{signs, unsigned-is, ends}
+use Rattle.decimals.proofs.Signed.{signs, unsigned-is, ends}
 
 -- ---- exponent_at
 module _ (s : List ℕ) (at b n : ℕ) (h : at ≤ length s) (e : b ≡ first (drop at s)) (k : n ≡ cond (isSign b) 1 0) where

@@ -1,10 +1,7 @@
 pub mod Mantissas
 pub mod Shifts
-pub mod Rounding
-pub mod Decimals
-pub mod Numbers
-pub mod Signs
-pub mod Exact
+pub mod Points
+pub mod Signed
 pub mod Exponents
 pub mod Scaled
 pub mod Ahead

@@ -12,7 +12,8 @@ use Rattle.lists.proofs.Tests.{and-first, and-second, and-both, test, never}
 use Rattle.lists.proofs.Laws.{all-append}
 use Rattle.text.specs.Words.{wordOf}
 use Rattle.text.specs.Rest.{endOf}
-use Rattle.digits.specs.Said.{says, wrong, ended}
+use Rattle.digits.specs.Said.{says, wrong}
+use Rattle.digits.specs.Answers.{ended}
 use Rattle.digits.specs.Digits.{isDigit, digits, natOf, whole, negative}
 use Rattle.digits.specs.Straight.{first, over, run, past, cap}
 use Rattle.digits.proofs.Rows.{run-short, run-digits}
@@ -22,7 +23,7 @@ use Rattle.decimals.specs.Number.{isE, mantissa, exponent, before, after
 use Rattle.decimals.specs.Straight.{magnitudeOf, exponentOf, hasExponent, shifted, scaledOf, placesOf, takenOf, MantissaRead}
 use Rattle.decimals.proofs.Mantissas.{e-word, decimal-plain, mantissa-digits, exponent-digits}
 use Rattle.decimals.proofs.Shifts.{shift-digits}
-use Rattle.decimals.proofs.Decimals.{before-point, after-point, before-none, after-none, before-other}
+use Rattle.decimals.proofs.Points.{before-point, after-point, before-none, after-none, before-other}
 use Rattle.decimals.proofs.Exponents.{exponent-true, exponent-false}
 
 -- ---- what stops the digits

@@ -1,6 +1,4 @@
 // Numbers that end in an exponent: the exponent moves the point, so that the ten-millionths are the digits before the place where it then stands.
-use crate::number::Magnitude;
-use crate::number::sign_length;
 use digits::byte_at;
 use digits::digits_end;
 use digits::first_digits;
@@ -8,16 +6,22 @@ use digits::whole::DigitRow;
 use digits::whole::row_at;
 ghost use mathlib.Core.Path.{_≡_};
 ghost use mathlib.Core.List.{_++_};
-ghost use mathlib.Core.Bool.{true};
+ghost use mathlib.Core.Bool.{true, cond};
 ghost use Prim.Native.Nat.{ℕ, _+_, _*_, _/_, _^_, _≤_, _<_};
 ghost use lib.ListN.{length, drop};
 ghost use Rattle.text.specs.Words.{wordOf};
 ghost use Rattle.text.specs.Rest.{endOf};
-ghost use Rattle.digits.specs.Said.{ended};
+ghost use Rattle.digits.specs.Answers.{ended};
 ghost use Rattle.digits.specs.Straight.{first, run, cap};
-ghost use Rattle.decimals.specs.Number.{isE};
+ghost use Rattle.decimals.specs.Number.{isSign, isE};
 ghost use Rattle.decimals.specs.Answers.{saidMagnitude, saidExponent};
 ghost use Rattle.decimals.specs.Straight.{exponentOf, scaledOf, placesOf, takenOf, movedOf, MantissaRead, MantissaAhead};
+
+// A number without its sign, in ten-millionths, and where its word ends.
+pub enum Magnitude {
+    Of { value: u64, end: usize },
+    Bad,
+}
 
 pub enum Exponent {
     Of { minus: bool, power: u64, end: usize },
@@ -25,6 +29,15 @@ pub enum Exponent {
 }
 
 const CAP: u64 = 20_000_000_005;
+
+pub fn sign_length(b: u8) -> usize
+    ensures { λ r. ⌜ r ≡ cond (isSign b) 1 0 ⌝ }
+{
+    match b {
+        43 | 45 => 1,
+        _ => 0,
+    }
+}
 
 // What stands after e or E: an optional sign and one to three digits.
 pub fn exponent_at(text: &[u8], at: usize) -> Exponent

@@ -1,2 +1,1 @@
 pub mod exponent;
-pub mod number;

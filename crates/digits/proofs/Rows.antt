@@ -1,18 +1,18 @@
 -- Rows of digits: by the list, a digit at a time.
-use Prim.Native.Nat.{ℕ, zero, suc, _+_, _-_, _*_, _/_, _%_, _^_, _≤_, _<_, min}
+use Prim.Native.Nat.{ℕ, zero, suc, _+_, _-_, _*_, _/_, _^_, _≤_, _<_}
 use mathlib.Core.Path.{_≡_, refl, sym, ap, _∙_}
 use mathlib.Core.List.{List, [], _∷_, _++_}
-use mathlib.Core.Bool.{Bool, true, false}
+use mathlib.Core.Bool.{true, false}
 use mathlib.Core.Logic.{⊎-elim}
 use lib.ListN.{length, take, drop, length-take, length-append}
-use lib.Dec.{leb, eqb}
+use lib.Dec.{leb}
 use borrow.Author.Tests.{leb-true, lt-leb, le-leb}
 use native.Mathlib.Omega.{arith}
 use native.Mathlib.Nat.{mul-le-mul-right, mul-le-mul-left, mul-assoc, mul-comm, add-mul, mul-one, pow-suc, pow-zero, pow-le-pow-right, mul-lt-mul-of-pos-right, div-eq-of-lt-le}
 use lib.Pow.{pow-add}
 use Rattle.lists.proofs.Tests.{and-left, and-right, and-both, test}
 use Rattle.digits.specs.Digits.{isDigit, digits, natOf}
-use Rattle.digits.specs.Straight.{digitOf, cap, run, past}
+use Rattle.digits.specs.Straight.{cap, run}
 
 pub digit-le : (b : ℕ) → isDigit b ≡ true → b - 48 ≤ 9
 digit-le b h = omega (arith, leb-true b 57 (and-right (leb 48 b) (leb b 57) h))

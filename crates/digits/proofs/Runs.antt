@@ -1,8 +1,8 @@
 -- A turn of each loop over digits: what is left to read comes to what all of it comes to.
 use Prim.Native.Nat.{ℕ, zero, suc, _+_, _-_, _*_, _^_, _≤_, _<_}
-use mathlib.Core.Path.{_≡_, refl, sym, ap, _∙_, subst}
+use mathlib.Core.Path.{_≡_, refl, sym, ap, _∙_}
 use mathlib.Core.List.{List, [], _∷_}
-use mathlib.Core.Bool.{Bool, true, false}
+use mathlib.Core.Bool.{true, false}
 use lib.ListN.{length, take, drop, getD, drop-of-length-le, length-take, length-drop}
 use lib.Seq.{drop-cons, drop-drop, take-nil, take-all}
 use lib.Dec.{leb}
@@ -13,7 +13,7 @@ use native.Mathlib.Numerals.{add-one}
 use mathlib.Core.Logic.{⊎-elim}
 use borrow.Author.Tests.{leb-true, leb-false}
 use Rattle.lists.proofs.Tests.{test, never}
-use Rattle.digits.specs.Digits.{isDigit, digits, natOf}
+use Rattle.digits.specs.Digits.{isDigit, natOf}
 use Rattle.digits.specs.Straight.{first, digitOf, cap, run, WholeRead, UptoRead}
 use Rattle.digits.proofs.Rows.{low-digit, high-digit, mid-digit, cap-natOf, natOf-ge, few-small, run-short}
 use Rattle.digits.proofs.Lengths.{ten-digits}

@@ -1,9 +1,10 @@
 -- What an answer with an end says of the word: by the two kinds of answer.
 use Prim.Native.Nat.{ℕ}
-use mathlib.Core.Path.{_≡_, refl, sym, ap, ap₂, _∙_}
+use mathlib.Core.Path.{_≡_, refl, sym, ap}
 use mathlib.Core.Bool.{Bool, true, false}
 use native.Mathlib.Omega.{arith}
-use Rattle.digits.specs.Said.{Said, says, wrong, must, ended}
+use Rattle.digits.specs.Said.{Said, says, wrong, must}
+use Rattle.digits.specs.Answers.{ended}
 
 module _ {A : Type 0} where
   pub said : (x : Said A) (a : A) (e b : ℕ) → x ≡ says a → b ≡ e → says (a, b) ≡ ended x e

@@ -1,27 +1,26 @@
 -- The ways out of `row_at`, `degree_at`, `smoothing_at` and `name_at`: the form of the word first, then its value.
-use Prim.Native.Nat.{ℕ, zero, suc, _+_, _-_, _≤_, _<_}
-use mathlib.Core.Path.{_≡_, refl, sym, ap, ap₂, _∙_}
-use mathlib.Core.List.{List, [], _∷_}
-use mathlib.Core.Bool.{Bool, true, false, cond, _&&_, not}
+use Prim.Native.Nat.{ℕ, _+_, _-_, _≤_, _<_}
+use mathlib.Core.Path.{_≡_, refl, sym, ap, _∙_}
+use mathlib.Core.List.{List}
+use mathlib.Core.Bool.{Bool, true, false, _&&_}
 use mathlib.Core.Logic.{⊎-elim}
 use lib.ListN.{length, drop}
-use lib.Seq.{drop-drop}
-use lib.Dec.{leb, eqb}
-use borrow.Author.Tests.{le-leb, lt-leb, ne-eqb, eq-eqb}
+use lib.Dec.{leb}
+use borrow.Author.Tests.{le-leb, lt-leb}
 use native.Mathlib.Omega.{arith}
 use Rattle.lists.specs.Lists.{same}
-use Rattle.lists.proofs.Tests.{and-first, and-second, and-both, test, never}
-use Rattle.lists.proofs.Laws.{same-eq}
+use Rattle.lists.proofs.Tests.{and-first, and-second, and-both, test}
 use Rattle.text.specs.Bytes.{isWord}
 use Rattle.text.specs.Words.{wordOf}
 use Rattle.text.specs.Rest.{endOf}
 use Rattle.keywords.specs.declared.Argument.the-variants.{Off}
 use Rattle.keywords.specs.Arguments.{argumentBytes}
-use Rattle.digits.specs.Said.{Said, says, wrong, must, ended}
+use Rattle.digits.specs.Said.{says, wrong, must}
+use Rattle.digits.specs.Answers.{ended}
 use Rattle.digits.specs.Digits.{natOf, whole}
 use Rattle.digits.specs.Degree.{degreeOf, smoothingOf, nameOf}
-use Rattle.digits.specs.Straight.{first, over, run, past, cap, front, WholeRead, rowOf}
-use Rattle.digits.proofs.Fronts.{word-front, word-all, digit-word, past-at, byte-in}
+use Rattle.digits.specs.Straight.{over, run, past, front, WholeRead, rowOf}
+use Rattle.digits.proofs.Fronts.{word-front, word-all, digit-word, past-at}
 use Rattle.digits.proofs.Lengths.{whole-yes, whole-not, whole-bad, ten-digits}
 use Rattle.digits.proofs.Saids.{said, unsaid, ended-says, ended-wrong}
 

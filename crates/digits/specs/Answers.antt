@@ -24,3 +24,8 @@ saidRow row.Malformed = wrong 6
 abbrev pub saidName : List ℕ → Name → Said (List ℕ × ℕ)
 saidName w (name.Of e) = says (w, e)
 saidName w name.Malformed = wrong 6
+
+-- the value, and where its word ends
+abbrev pub ended : {A : Type 0} → Said A → ℕ → Said (A × ℕ)
+ended (says a) e = says (a, e)
+ended (wrong n) e = wrong n

@@ -1,14 +1,15 @@
+-- Must be believed: a promise reaches every definition of this file.
 -- 01: "Name: 1 to 255 bytes. Degree: 1 to 3 digits, 1 to 20, else 7. Smoothing: off (0) or 1 to 5 digits, at most 65,535, else 7. A word without its
 -- form, a name too long included, is 6."
 use Prim.Native.Nat.{ℕ}
 use mathlib.Core.List.{List}
-use mathlib.Core.Bool.{Bool, cond, _&&_}
+use mathlib.Core.Bool.{cond, _&&_}
 use lib.ListN.{length}
 use lib.Dec.{leb}
 use Rattle.lists.specs.Lists.{same}
 use Rattle.keywords.specs.declared.Argument.the-variants.{Off}
 use Rattle.keywords.specs.Arguments.{argumentBytes}
-use Rattle.digits.specs.Said.{Said, says, wrong, must}
+use Rattle.digits.specs.Said.{Said, says, must}
 use Rattle.digits.specs.Digits.{natOf, whole}
 
 -- "Degree: 1 to 3 digits, 1 to 20, else 7"

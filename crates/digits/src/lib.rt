@@ -3,7 +3,7 @@ pub mod whole; // degrees and smoothing numbers
 pub mod name;
 
 ghost use mathlib.Core.Path.{_≡_};
-ghost use Prim.Native.Nat.{ℕ, _+_, _*_, _^_, _≤_, _<_};
+ghost use Prim.Native.Nat.{_+_, _*_, _^_, _≤_, _<_};
 ghost use lib.ListN.{length, take, drop};
 ghost use Rattle.text.specs.Words.{wordOf};
 ghost use Rattle.digits.specs.Digits.{natOf};

@@ -3,9 +3,8 @@ ghost use Prim.Native.Nat.{_≤_};
 ghost use lib.ListN.{length, drop};
 ghost use Rattle.text.specs.Words.{wordOf};
 ghost use Rattle.text.specs.Rest.{endOf};
-ghost use Rattle.digits.specs.Said.{ended};
 ghost use Rattle.digits.specs.Degree.{nameOf};
-ghost use Rattle.digits.specs.Answers.{saidName};
+ghost use Rattle.digits.specs.Answers.{saidName, ended};
 
 pub enum Name {
     Of { end: usize },

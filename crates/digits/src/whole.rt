@@ -1,14 +1,13 @@
 use crate::whole_run;
 use crate::word_ends;
 ghost use mathlib.Core.Path.{_≡_};
-ghost use Prim.Native.Nat.{ℕ, _+_, _≤_, _<_};
+ghost use Prim.Native.Nat.{_≤_, _<_};
 ghost use lib.ListN.{length, drop};
 ghost use Rattle.keywords.specs.Arguments.{argumentTable};
 ghost use Rattle.text.specs.Words.{wordOf};
 ghost use Rattle.text.specs.Rest.{endOf};
-ghost use Rattle.digits.specs.Said.{ended};
 ghost use Rattle.digits.specs.Degree.{degreeOf, smoothingOf};
-ghost use Rattle.digits.specs.Answers.{saidWhole, saidRow};
+ghost use Rattle.digits.specs.Answers.{saidWhole, saidRow, ended};
 ghost use Rattle.digits.specs.Straight.{rowOf};
 
 pub enum Whole {

@@ -12,7 +12,8 @@ use lib.Ieee.{Float, binary64, round, ofInt, add, sub, mul, fits}
 use lib.Ieee.Fits.{add-fits, round-fits}
 use lib.Ieee.Exact.{HasValue}
 use lib.Ieee.Back.{round-whole, whole-unique}
-use Rattle.rounding.specs.Round.{InRange, between}
+use Rattle.rounding.specs.Round.{between}
+use Rattle.rounding.specs.Range.{InRange}
 use Rattle.rounding.proofs.IntLaws.{abs-neg, abs-+}
 use Rattle.rounding.proofs.Ring.{ring, _⊕_, _⊝_, _⊗_, _≐_}
 use Rattle.rounding.proofs.Rounding.{distance, between-unique}

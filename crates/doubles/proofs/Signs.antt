@@ -13,7 +13,7 @@ use lib.Ieee.Fits.{down-pos, and-l, and-r}
 use lib.Ieee.Exact.{HasValue}
 use lib.Ieee.Back.{round-whole}
 use lib.Ieee.Scale.{round-same}
-use Rattle.rounding.specs.Round.{signed}
+use Rattle.lists.specs.Signs.{withSign}
 use Rattle.rounding.proofs.IntLaws.{abs-neg, abs-*, neg-*ℤ}
 use Rattle.rounding.proofs.Bits.{abs-signed}
 use Rattle.rounding.proofs.FracLaws.{cancel}
@@ -22,21 +22,21 @@ use Rattle.rounding.proofs.Rounding.{distance}
 use Rattle.doubles.proofs.Near.{Halfway, Rounds, round-near}
 
 -- ---- signs
-signed-times : (s : Bool) (m n : ℕ) → signed s (m * n) ≡ signed s m *ℤ pos n
+signed-times : (s : Bool) (m n : ℕ) → withSign s (m * n) ≡ withSign s m *ℤ pos n
 signed-times true m n = sym (neg-*ℤ (pos m) (pos n))
 signed-times false m n = refl
 
-signed-not : (s : Bool) (m : ℕ) → signed (not s) m ≡ negℤ (signed s m)
+signed-not : (s : Bool) (m : ℕ) → withSign (not s) m ≡ negℤ (withSign s m)
 signed-not true m = sym (negℤ-negℤ (pos m))
 signed-not false m = refl
 
-signed-unlike : (s t : Bool) (m n : ℕ) → signed (unlike s t) (m * n) ≡ signed s m *ℤ signed t n
+signed-unlike : (s t : Bool) (m n : ℕ) → withSign (unlike s t) (m * n) ≡ withSign s m *ℤ withSign t n
 signed-unlike true true m n = ring (pos m ∷ pos n ∷ []) (λ m n. m ⊗ n ≐ ⊖ m ⊗ ⊖ n) tt
 signed-unlike true false m n = ring (pos m ∷ pos n ∷ []) (λ m n. ⊖ (m ⊗ n) ≐ ⊖ m ⊗ n) tt
 signed-unlike false true m n = ring (pos m ∷ pos n ∷ []) (λ m n. ⊖ (m ⊗ n) ≐ m ⊗ ⊖ n) tt
 signed-unlike false false m n = refl
 
-apart : (s : Bool) (x y : ℕ) → natAbs (signed s x -ℤ signed s y) ≡ natAbs (pos x -ℤ pos y)
+apart : (s : Bool) (x y : ℕ) → natAbs (withSign s x -ℤ withSign s y) ≡ natAbs (pos x -ℤ pos y)
 apart true x y = ap natAbs (ring (pos x ∷ pos y ∷ []) (λ x y. ⊖ x ⊝ ⊖ y ≐ ⊖ (x ⊝ y)) tt) ∙ abs-neg (pos x -ℤ pos y)
 apart false x y = refl
 
@@ -44,20 +44,20 @@ apart false x y = refl
 abbrev pub At : Float → ℤ → ℕ → Type 0
 At nan z c = ⊥
 At (inf s) z c = ⊥
-At (fin s m e) z c = signed s (m * up e) *ℤ pos c ≡ z *ℤ pos (down e)
+At (fin s m e) z c = withSign s (m * up e) *ℤ pos c ≡ z *ℤ pos (down e)
 
-pub at-value : (x : Float) (s : Bool) (a c : ℕ) → HasValue x s a c → At x (signed s a) c
+pub at-value : (x : Float) (s : Bool) (a c : ℕ) → HasValue x s a c → At x (withSign s a) c
 at-value nan s a c v = v
 at-value (inf t) s a c v = v
 at-value (fin t m e) s a c v =
-    ap (λ (b : Bool). signed b (m * up e) *ℤ pos c) (v .0) ∙ sym (signed-times s (m * up e) c) ∙ ap (λ (n : ℕ). signed s n) (v .1) ∙ signed-times s a (down e)
+    ap (λ (b : Bool). withSign b (m * up e) *ℤ pos c) (v .0) ∙ sym (signed-times s (m * up e) c) ∙ ap (λ (n : ℕ). withSign s n) (v .1) ∙ signed-times s a (down e)
 
 -- the same fraction over another whole
 pub at-same : (x : Float) (y z : ℤ) (c d : ℕ) → 0 < c → y *ℤ pos d ≡ z *ℤ pos c → At x y c → At x z d
 at-same nan y z c d C e v = v
 at-same (inf s) y z c d C e v = v
 at-same (fin s m k) y z c d C e v =
-    let X = signed s (m * up k) in
+    let X = withSign s (m * up k) in
     cancel c (X *ℤ pos d) (z *ℤ pos (down k)) C
     (ring (X ∷ pos c ∷ pos d ∷ []) (λ x c d. c ⊗ (x ⊗ d) ≐ x ⊗ c ⊗ d) tt
     ∙ ap (λ t. t *ℤ pos d) v
@@ -71,14 +71,14 @@ at-neg nan z c v = v
 at-neg (inf s) z c v = v
 at-neg (fin s m e) z c v =
     ap (λ t. t *ℤ pos c) (signed-not s (m * up e))
-    ∙ neg-*ℤ (signed s (m * up e)) (pos c) ∙ ap negℤ v ∙ sym (neg-*ℤ z (pos (down e)))
+    ∙ neg-*ℤ (withSign s (m * up e)) (pos c) ∙ ap negℤ v ∙ sym (neg-*ℤ z (pos (down e)))
 
 -- ---- x is z / c, rounded
 pub record Rounded (f : Format) (x : Float) (z : ℤ) (c : ℕ) : Type 0 where
   pub sign : Bool
   pub size : ℕ
   pub is : x ≡ round f sign size c
-  pub same : signed sign size ≡ z
+  pub same : withSign sign size ≡ z
 
 pub rounded-same : (f : Format) (x : Float) (y z : ℤ) (c d : ℕ) → 0 < c → 0 < d → y *ℤ pos d ≡ z *ℤ pos c → Rounded f x y c → Rounded f x z d
 rounded-same f x y z c d C D e r = record {
@@ -86,10 +86,10 @@ rounded-same f x y z c d C D e r = record {
   size = natAbs z;
   is = r .is ∙ round-same f (r .sign) (r .size) c (natAbs z) d C D sizes;
   same =
-      cancel c (signed (r .sign) (natAbs z)) z C
-      (ring (signed (r .sign) (natAbs z) ∷ pos c ∷ []) (λ z c. c ⊗ z ≐ z ⊗ c) tt
+      cancel c (withSign (r .sign) (natAbs z)) z C
+      (ring (withSign (r .sign) (natAbs z) ∷ pos c ∷ []) (λ z c. c ⊗ z ≐ z ⊗ c) tt
       ∙ sym (signed-times (r .sign) (natAbs z) c)
-      ∙ ap (λ (n : ℕ). signed (r .sign) n) (sym sizes)
+      ∙ ap (λ (n : ℕ). withSign (r .sign) n) (sym sizes)
       ∙ signed-times (r .sign) (r .size) d
       ∙ ap (λ t. t *ℤ pos d) (r .same)
       ∙ e
@@ -118,7 +118,7 @@ module _ (f : Format) (a b c : ℕ) where
   less-more true h k = record { sign = true; size = b - a; is = refl; same = minus-back b a (le-of-lt (h tt)) }
   less-more false h k = record { sign = false; size = a - b; is = refl; same = sym (minus a b (k tt)) }
 
-  either : (q : Bool) → b ≤ a → (T (not q) → a ≤ b) → signed q (a - b) ≡ negℤ (pos a) +ℤ pos b
+  either : (q : Bool) → b ≤ a → (T (not q) → a ≤ b) → withSign q (a - b) ≡ negℤ (pos a) +ℤ pos b
   either true h k = minus-back a b h ∙ turned a b
   either false h k = let e : a - b ≡ 0 = none (k tt) in ap pos e ∙ sym (ap (λ (n : ℕ). negℤ (pos n)) e) ∙ minus-back a b h ∙ turned a b
     where
@@ -129,7 +129,7 @@ module _ (f : Format) (a b c : ℕ) where
   more-less true h k = record { sign = false; size = b - a; is = refl; same = sym (minus b a (le-of-lt (h tt))) ∙ turned a b }
   more-less false h k = record { sign = ltb b a; size = a - b; is = refl; same = either (ltb b a) (k tt) (nltb→le b a) }
 
-sum-rounded : (f : Format) (s : Bool) (a : ℕ) (t : Bool) (b c : ℕ) → Rounded f (sum f s a t b c) (signed s a +ℤ signed t b) c
+sum-rounded : (f : Format) (s : Bool) (a : ℕ) (t : Bool) (b c : ℕ) → Rounded f (sum f s a t b c) (withSign s a +ℤ withSign t b) c
 unfolding sum
 sum-rounded f true a true b c = record { sign = true; size = a + b; is = refl; same = negℤ-+ℤ (pos a) (pos b) }
 sum-rounded f true a false b c = more-less f a b c (ltb a b) (ltb→lt a b) (nltb→le a b)
@@ -143,9 +143,9 @@ add-rounded f (inf s) y u v c C p q = absurd p
 add-rounded f (fin s m e) nan u v c C p q = absurd q
 add-rounded f (fin s m e) (inf t) u v c C p q = absurd q
 add-rounded f (fin s m e) (fin t n d) u v c C p q =
-    let X = signed s (m * up e) in
-    let Y = signed t (n * up d) in
-    rounded-same f (sum f s (m * up e * down d) t (n * up d * down e) (down e * down d)) (signed s (m * up e * down d) +ℤ signed t (n * up d * down e)) (u +ℤ v) (down e * down d) c
+    let X = withSign s (m * up e) in
+    let Y = withSign t (n * up d) in
+    rounded-same f (sum f s (m * up e * down d) t (n * up d * down e) (down e * down d)) (withSign s (m * up e * down d) +ℤ withSign t (n * up d * down e)) (u +ℤ v) (down e * down d) c
     (mul-pos (down-pos e) (down-pos d)) C
     (ap₂ (λ a b. (a +ℤ b) *ℤ pos c) (signed-times s (m * up e) (down d)) (signed-times t (n * up d) (down e))
     ∙ ring (X ∷ Y ∷ pos (down e) ∷ pos (down d) ∷ pos c ∷ []) (λ x y e d c. (x ⊗ d ⊕ y ⊗ e) ⊗ c ≐ x ⊗ c ⊗ d ⊕ y ⊗ c ⊗ e) tt
@@ -165,8 +165,8 @@ mul-rounded f (inf s) y u v c d C D p q = absurd p
 mul-rounded f (fin s m e) nan u v c d C D p q = absurd q
 mul-rounded f (fin s m e) (inf t) u v c d C D p q = absurd q
 mul-rounded f (fin s m e) (fin t n g) u v c d C D p q =
-    let X = signed s (m * up e) in
-    let Y = signed t (n * up g) in
+    let X = withSign s (m * up e) in
+    let Y = withSign t (n * up g) in
     rounded-same f (round f (unlike s t) (m * up e * (n * up g)) (down e * down g)) (X *ℤ Y) (u *ℤ v) (down e * down g) (c * d)
     (mul-pos (down-pos e) (down-pos g)) (mul-pos C D)
     (ring (X ∷ Y ∷ pos c ∷ pos d ∷ []) (λ x y c d. x ⊗ y ⊗ (c ⊗ d) ≐ x ⊗ c ⊗ (y ⊗ d)) tt
@@ -187,19 +187,19 @@ module _ (f : Format) (x : Float) (z : ℤ) (c j : ℕ) (C : 0 < c) (fine : prec
   rounds : Rounds f (r .sign) (r .size) c j
   rounds = round-near f (r .sign) (r .size) c j C fine (subst (λ (n : ℕ). n * 2 ^ low f < 2 ^ (prec f + j) * c) sizes h)
 
-  close : (s : Bool) (n m u k : ℕ) → Halfway (c * n) (m * u) k → 2 * natAbs (signed s n *ℤ pos c -ℤ signed s m *ℤ pos u) ≤ k
+  close : (s : Bool) (n m u k : ℕ) → Halfway (c * n) (m * u) k → 2 * natAbs (withSign s n *ℤ pos c -ℤ withSign s m *ℤ pos u) ≤ k
   close s n m u k g =
-      let e : natAbs (signed s n *ℤ pos c -ℤ signed s m *ℤ pos u) ≡ natAbs (pos (n * c) -ℤ pos (m * u)) = ap₂ (λ y z. natAbs (y -ℤ z)) (sym (signed-times s n c)) (sym (signed-times s m u)) ∙ apart s (n * c) (m * u) in
+      let e : natAbs (withSign s n *ℤ pos c -ℤ withSign s m *ℤ pos u) ≡ natAbs (pos (n * c) -ℤ pos (m * u)) = ap₂ (λ y z. natAbs (y -ℤ z)) (sym (signed-times s n c)) (sym (signed-times s m u)) ∙ apart s (n * c) (m * u) in
       subst (λ (t : ℕ). 2 * t ≤ k) (sym e) (distance (n * c) (m * u) k (omega (arith, g .above)) (omega (arith, g .below)))
 
   pub nearby : Nearby f x z c j
   nearby = record {
-    number = signed (r .sign) (rounds .size);
+    number = withSign (r .sign) (rounds .size);
     value =
-        subst (λ (y : Float). At y (signed (r .sign) (rounds .size)) (2 ^ low f)) (sym (r .is))
+        subst (λ (y : Float). At y (withSign (r .sign) (rounds .size)) (2 ^ low f)) (sym (r .is))
         (at-value (round f (r .sign) (r .size) c) (r .sign) (rounds .size) (2 ^ low f) (rounds .value));
     near =
-        subst (λ (y : ℤ). 2 * natAbs (signed (r .sign) (rounds .size) *ℤ pos c -ℤ y *ℤ pos (2 ^ low f)) ≤ c * 2 ^ j) (r .same)
+        subst (λ (y : ℤ). 2 * natAbs (withSign (r .sign) (rounds .size) *ℤ pos c -ℤ y *ℤ pos (2 ^ low f)) ≤ c * 2 ^ j) (r .same)
         (close (r .sign) (rounds .size) (r .size) (2 ^ low f) (c * 2 ^ j) (rounds .half));
   }
 
@@ -224,13 +224,13 @@ pub at-whole : (f : Format) (x : Float) (z : ℤ) → natAbs z ≤ 2 ^ prec f �
 at-whole f x z h r =
     let l : r .size ≤ 2 ^ prec f = subst (λ (n : ℕ). n ≤ 2 ^ prec f) (ap natAbs (sym (r .same)) ∙ abs-signed (r .sign) (r .size)) h in
     subst (λ (y : ℤ). At x y 1) (r .same)
-    (subst (λ (y : Float). At y (signed (r .sign) (r .size)) 1) (sym (r .is)) (at-value (round f (r .sign) (r .size) 1) (r .sign) (r .size) 1 (round-whole f (r .sign) (r .size) l)))
+    (subst (λ (y : Float). At y (withSign (r .sign) (r .size)) 1) (sym (r .is)) (at-value (round f (r .sign) (r .size) 1) (r .sign) (r .size) 1 (round-whole f (r .sign) (r .size) l)))
 
 -- a fraction above 0 is rounded with the sign of 0
 pub upright : (f : Format) (x : Float) (n c : ℕ) → 0 < n → Rounded f x (pos n) c → x ≡ round f false n c
 upright f x n c N r = r .is ∙ go (r .sign) (r .size) (r .same)
   where
-    go : (s : Bool) (m : ℕ) → signed s m ≡ pos n → round f s m c ≡ round f false n c
+    go : (s : Bool) (m : ℕ) → withSign s m ≡ pos n → round f s m c ≡ round f false n c
     go true zero e = absurd (lt-irrefl 0 (subst (λ (k : ℕ). 0 < k) (sym (ap natAbs e)) N))
     go true (suc m) e = absurd (pos-ne-negsuc n m (sym e))
     go false m e = ap (λ (k : ℕ). round f false k c) (ap natAbs e)
@@ -261,11 +261,11 @@ div-round f (fin false m e) (fin false n d) a b B p q = go (eqb n 0) (eqb→eq n
     go false h = round-same f false (m * up e * down d) (n * up d * down e) a b (mul-pos some (down-pos e)) B (ratio (m * up e) (n * up d) (down e) (down d) (p .1) (q .1))
 
 -- ---- equal doubles are equal numbers
-levelled : (s t : Bool) (m n : ℕ) → T (level s m t n) → signed s m ≡ signed t n
+levelled : (s t : Bool) (m n : ℕ) → T (level s m t n) → withSign s m ≡ withSign t n
 levelled s t m n h = go s t (eqb→eq m n (and-l (eqb m n) (Bool·beq s t || eqb m 0) h)) (eqb→eq m 0) (and-r (eqb m n) (Bool·beq s t || eqb m 0) h)
   where
-    go : (s t : Bool) → m ≡ n → (T (eqb m 0) → m ≡ 0) → T (Bool·beq s t || eqb m 0) → signed s m ≡ signed t n
-    go true true e z k = ap (λ (i : ℕ). signed true i) e
+    go : (s t : Bool) → m ≡ n → (T (eqb m 0) → m ≡ 0) → T (Bool·beq s t || eqb m 0) → withSign s m ≡ withSign t n
+    go true true e z k = ap (λ (i : ℕ). withSign true i) e
     go true false e z k = ap (λ (i : ℕ). negℤ (pos i)) (z k) ∙ sym (ap pos (sym e ∙ z k))
     go false true e z k = ap pos (z k) ∙ sym (ap (λ (i : ℕ). negℤ (pos i)) (sym e ∙ z k))
     go false false e z k = ap pos e
@@ -277,8 +277,8 @@ eq-at (inf s) y u v c p q e = absurd p
 eq-at (fin s m k) nan u v c p q e = absurd q
 eq-at (fin s m k) (inf t) u v c p q e = absurd q
 eq-at (fin s m k) (fin t n d) u v c p q e =
-    let X = signed s (m * up k) in
-    let Y = signed t (n * up d) in
+    let X = withSign s (m * up k) in
+    let Y = withSign t (n * up d) in
     let l : X *ℤ pos (down d) ≡ Y *ℤ pos (down k) = sym (signed-times s (m * up k) (down d)) ∙ levelled s t (m * up k * down d) (n * up d * down k) (subst T (sym e) tt) ∙ signed-times t (n * up d) (down k) in
     cancel (down k * down d) u v (mul-pos (down-pos k) (down-pos d))
     (ring (u ∷ pos (down k) ∷ pos (down d) ∷ []) (λ u k d. k ⊗ d ⊗ u ≐ u ⊗ k ⊗ d) tt

@@ -14,7 +14,7 @@ use lib.Ieee.Fits.{down-pos, ofInt-fits}
 use lib.Ieee.Exact.{HasValue}
 use lib.Ieee.Back.{round-whole, positive-back, negative-back}
 use lib.Ieee.Scale.{round-same}
-use Rattle.rounding.specs.Round.{InRange}
+use Rattle.rounding.specs.Range.{InRange}
 use Rattle.rounding.proofs.IntLaws.{abs-+, abs-neg}
 use Rattle.rounding.proofs.Order.{Up, up-abs}
 use Rattle.rounding.proofs.Ring.{ring, _⊕_, _⊝_, _≐_}

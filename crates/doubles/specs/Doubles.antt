@@ -4,7 +4,7 @@ use mathlib.Core.Bool.{Bool, true, false}
 use Prim.Native.Nat.{ℕ}
 use lib.IntN.{ℤ, pos, negsuc, _+ℤ_}
 use lib.Ieee.{Float, fin, binary64, add, sub, mul, div, eq, ofInt, toSigned}
-use Rattle.rounding.specs.Round.{InRange}
+use Rattle.rounding.specs.Range.{InRange}
 
 -- 2^52 + 2^51: doubles from 2^52 to 2^53 lie 1 apart, so a sum that ends there is rounded to a whole number
 abbrev pub anchor : ℕ

@@ -2,7 +2,7 @@
 ghost use mathlib.Core.Path.{_≡_};
 ghost use lib.IntN.{natAbs, _-ℤ_};
 ghost use lib.Signed.{_≤ℤ_, _<ℤ_};
-ghost use Rattle.rounding.specs.Round.{InRange};
+ghost use Rattle.rounding.specs.Range.{InRange};
 ghost use Rattle.doubles.specs.Doubles.{Encoding, encode, decode, weightOf, blend};
 
 // z beside the anchor, from which on doubles lie 1 apart.

@@ -1,5 +1,5 @@
 -- Each cheat is stopped: by a text or two, or by one straight line between two controls, at both of its ends.
-use Prim.Native.Nat.{ℕ, _+_, _*_}
+use Prim.Native.Nat.{ℕ}
 use mathlib.Core.Path.{_≡_, refl, sym, ap, _∙_, subst}
 use mathlib.Core.Bool.{true}
 use mathlib.Core.Logic.{inl}
@@ -11,7 +11,7 @@ use Rattle.rounding.specs.Fractions.{Frac, whole, _+ᶠ_, _-ᶠ_, _*ᶠ_, power
 use Rattle.rounding.proofs.IntLaws.{sub-eq}
 use Rattle.rounding.proofs.FracLaws.{no-size}
 use Rattle.rounding.proofs.Order.{yes-le}
-use Rattle.keywords.specs.Rows.{bytes}
+use Rattle.spellings.specs.Rows.{bytes}
 use Rattle.keywords.specs.Keywords.{statementOf, keywords}
 use Rattle.text.specs.Lines.{linesOf}
 use Rattle.digits.specs.Digits as digits
@@ -20,11 +20,11 @@ use Rattle.tables.specs.Tables.{Tables}
 use Rattle.tables.specs.Asking.{held, bodyHeld}
 use Rattle.tables.specs.Bodies.{inOrder, curveCount}
 use Rattle.tables.specs.declared.Used.{Used}
-use Rattle.model.specs.Model.{Model}
+use Rattle.model.specs.Model.{Model, start}
 use Rattle.model.specs.Room.{fits}
 use Rattle.model.specs.Parse.{parse}
 use Rattle.model.specs.Read.{read, readOf, statement}
-use Rattle.model.specs.Layout.{tablesOf, usedOf, nothing}
+use Rattle.model.specs.Layout.{tablesOf, usedOf}
 use Rattle.read_lines.specs.declared.ReadResult.the-variants as reading
 use Rattle.reader.specs.Reading.{roomsOf}
 use Rattle.tidy_form.specs.declared.Weights.{Weights}
@@ -41,7 +41,6 @@ use Rattle.record_rules.specs.Vertices.{vertexObeys}
 use Rattle.record_rules.specs.Corners.{leastCorners, withNormal, withTexture, attributeObeys, pointObeys, cornerObeys, eachCorner, cornersObey}
 use Rattle.record_rules.specs.Directions.{degreeObeys, typeObeys, parametersObey}
 use Rattle.record_rules.specs.Bodies.{flatObeys, curveObeys, recordObeys, bodyObeys}
-use Rattle.sampler.specs.declared.PointResult.the-variants as sampled
 use Rattle.sampler.specs.Points.{directionU, controlOf}
 use Rattle.sampler.specs.Answers.{elementOf, bodyOf, PointOutcome, pointOutcome}
 use Rattle.sampler.specs.Demand3.{sampling, Curve}
@@ -68,11 +67,11 @@ zero-text = bytes "v 0 0 0\n"
 abbrev one-text : List ℕ
 one-text = bytes "v 1 0 0\n"
 
-none-read : readOf (roomsOf lent) [] ≡ read nothing
+none-read : readOf (roomsOf lent) [] ≡ read (start .model)
 unfolding readOf linesOf
 none-read = refl
 
-line-read : readOf (roomsOf lent) (10 ∷ []) ≡ read nothing
+line-read : readOf (roomsOf lent) (10 ∷ []) ≡ read (start .model)
 unfolding readOf linesOf
 line-read = refl
 
@@ -88,7 +87,7 @@ one-read = refl
 turns-all-down : (reads : Reader) (tidies : Tidier) → TurnsAllDown reads → Demand2 reads tidies → ⊥
 turns-all-down reads tidies h d =
     let r = h [] lent in
-    let e : reading.Refused (r .0) (r .1) ≡ reading.Read (usedOf nothing) = sym (r .2) ∙ d .accepts [] lent nothing none-read .answer in
+    let e : reading.Refused (r .0) (r .1) ≡ reading.Read (usedOf (start .model)) = sym (r .2) ∙ d .accepts [] lent (start .model) none-read .answer in
     let z : _≡_ {A = ℕ} 0 1 = cc in
     omega arith
 
@@ -110,7 +109,7 @@ touches-no-table reads tidies h d = fixed-tables reads tidies (λ s t S. h s S �
 fixed-counts : (reads : Reader) (tidies : Tidier) → FixedCounts reads → Demand2 reads tidies → ⊥
 unfolding usedOf
 fixed-counts reads tidies h d =
-    let e = h [] zero-text lent (usedOf nothing) (usedOf (at (pos 0))) (d .accepts [] lent nothing none-read .answer) (d .accepts zero-text lent (at (pos 0)) zero-read .answer) in
+    let e = h [] zero-text lent (usedOf (start .model)) (usedOf (at (pos 0))) (d .accepts [] lent (start .model) none-read .answer) (d .accepts zero-text lent (at (pos 0)) zero-read .answer) in
     let z : _≡_ {A = ℕ} 0 1 = ap (λ (w : Used). w .v) e in
     omega arith
 
@@ -118,15 +117,15 @@ fixed-counts reads tidies h d =
 copies-its-input : (c : Weights) (reads : Reader) (tidies : Tidier) → CopiesItsInput c tidies → Demand2 reads tidies → ⊥
 unfolding tidyText tidied
 copies-its-input c reads tidies h d =
-    let w = d .writes c (10 ∷ []) lent [] nothing line-read (omega arith) (omega arith) in
-    let z : _≡_ {A = ℕ} 0 1 = ap length (h (10 ∷ []) lent [] 0 (usedOf nothing) w) in
+    let w = d .writes c (10 ∷ []) lent [] (start .model) line-read (omega arith) (omega arith) in
+    let z : _≡_ {A = ℕ} 0 1 = ap length (h (10 ∷ []) lent [] 0 (usedOf (start .model)) w) in
     omega arith
 
 turns-all-away : (c : Weights) (reads : Reader) (tidies : Tidier) → TurnsAllAway c tidies → Demand2 reads tidies → ⊥
 unfolding tidyText tidied
 turns-all-away c reads tidies h d =
     let r = h [] lent [] in
-    let e : TooLong (r .0) (r .1) ≡ Written 0 (usedOf nothing) = sym (r .2) ∙ d .writes c [] lent [] nothing none-read (omega arith) (omega arith) in
+    let e : TooLong (r .0) (r .1) ≡ Written 0 (usedOf (start .model)) = sym (r .2) ∙ d .writes c [] lent [] (start .model) none-read (omega arith) (omega arith) in
     let z : _≡_ {A = ℕ} 0 1 = cc in
     omega arith
 

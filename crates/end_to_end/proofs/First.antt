@@ -1,12 +1,10 @@
 -- Demand 1: by what the text is read as, and by the tests of the sampler.
 use Prim.Native.Nat.{ℕ}
 use mathlib.Core.Path.{_≡_, refl, sym, ap, _∙_}
-use mathlib.Core.Bool.{Bool, true, false, cond}
-use mathlib.Core.List.{List, _++_}
-use lib.ListN.{length, drop}
+use mathlib.Core.Bool.{Bool, true, false}
+use mathlib.Core.List.{List}
 use Rattle.tables.specs.Tables.{Tables}
 use Rattle.tables.specs.declared.Used.{Used}
-use Rattle.model.specs.Room.{Rooms}
 use Rattle.model.specs.Read.{Answer, read, refused, readOf}
 use Rattle.model.specs.Layout.{tablesOf, usedOf}
 use Rattle.read_lines.specs.declared.ReadResult.the-variants as reading
@@ -18,17 +16,17 @@ use Rattle.tidier.specs.Tidying.{tidyOutcome, TidyAnswer, hasRoom, written, ans
 use Rattle.sampler.specs.Demand3.{sampling}
 use Rattle.end_to_end.specs.Demand1.{Outcomes, Demand1}
 use Rattle.end_to_end.proofs.Numbers.{refusal-number}
-use Rattle.end_to_end.proofs.Inside.{nothing-zeros, read-is, turned-down, tidy-is, long-file, refused-file}
+use Rattle.end_to_end.proofs.Inside.{read-is, turned-down, tidy-is, long-file, refused-file}
 use Rattle.end_to_end.proofs.Samples.{curve-sound, surface-sound, run-sound}
 
 -- ---- each answer with its number and values
-read-outcome : (R : Rooms) (x : Answer) → reader.answered R x .outcome ≡ readOutcome (reader.answered R x .answer)
-read-outcome R (read m) = refl
-read-outcome R (refused n p) = refl
+read-outcome : (S : Tables) (x : Answer) → reader.answered S x .outcome ≡ readOutcome (reader.answered S x .answer)
+read-outcome S (read m) = refl
+read-outcome S (refused n p) = refl
 
-tidy-outcome : (c : Weights) (R : Rooms) (x : Answer) (a : List ℕ) → answered c R x a .outcome ≡ tidyOutcome (answered c R x a .answer)
-tidy-outcome c R (refused n p) a = refl
-tidy-outcome c R (read m) a = go (tidyText c m) (usedOf m) (tablesOf R m) (hasRoom (tidyText c m) a) refl
+tidy-outcome : (c : Weights) (S : Tables) (x : Answer) (a : List ℕ) → answered c S x a .outcome ≡ tidyOutcome (answered c S x a .answer)
+tidy-outcome c S (refused n p) a = refl
+tidy-outcome c S (read m) a = go (tidyText c m) (usedOf m) (tablesOf (roomsOf S) m) (hasRoom (tidyText c m) a) refl
   where
     go : (w : List ℕ) (u : Used) (t : Tables) (b : Bool) → hasRoom w a ≡ b → written w u t a .outcome ≡ tidyOutcome (written w u t a .answer)
     go w u t true e = rw e refl
@@ -38,8 +36,8 @@ outcomes : Outcomes readInto tidyInto sampling
 unfolding readInto tidyInto
 outcomes =
     record {
-      reading = λ s S. read-outcome (roomsOf S) (readOf (roomsOf S) s);
-      tidying = λ c s S a. tidy-outcome c (roomsOf S) (readOf (roomsOf S) s) a;
+      reading = λ s S. read-outcome S (readOf (roomsOf S) s);
+      tidying = λ c s S a. tidy-outcome c S (readOf (roomsOf S) s) a;
       curve = λ u t number p. curve-sound u t number p .outcome;
       surface = λ u t number p q. surface-sound u t number p q .outcome;
       run = λ u t number steps at points. run-sound u t number steps at points .outcome;
@@ -53,7 +51,7 @@ first =
           let e = read-is s S (refused n p) (turned-down s S n p h) in
           record {
             number = refusal-number (roomsOf S) s n p (turned-down s S n p h);
-            tables = ap (λ (r : ReadAnswer). r .tables) e ∙ nothing-zeros S;
+            tables = ap (λ (r : ReadAnswer). r .tables) e;
             counts = ap (λ (r : ReadAnswer). r .outcome .used) e;
           };
       refuses = λ c s S a n p h. ap (λ (r : TidyAnswer). r .answer) (tidy-is c s S a (refused n p) (turned-down s S n p h));
@@ -62,7 +60,7 @@ first =
           let e = tidy-is c s S a (refused n p) (d .is-refused) in
           record {
             read = ap (λ (r : ReadAnswer). r .answer) (read-is s S (refused n p) (d .is-refused));
-            tables = d .tables ∙ nothing-zeros S;
+            tables = d .tables;
             counts = ap (λ (r : TidyAnswer). r .outcome .used) e;
             out = d .kept;
           };

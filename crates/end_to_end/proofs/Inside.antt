@@ -3,7 +3,6 @@ use Prim.Native.Nat.{ℕ, _≤_}
 use mathlib.Core.Path.{_≡_, refl, sym, ap, _∙_}
 use mathlib.Core.Bool.{Bool, true, false, cond}
 use mathlib.Core.List.{List, _++_}
-use native.Mathlib.Nat.{sub-zero}
 use native.Mathlib.Omega.{arith}
 use borrow.Author.Tests.{leb-true}
 use lib.Dec.{leb}
@@ -15,7 +14,7 @@ use Rattle.tables.specs.declared.Used.{Used}
 use Rattle.model.specs.Model.{Model}
 use Rattle.model.specs.Room.{Rooms}
 use Rattle.model.specs.Read.{Answer, read, refused, readOf}
-use Rattle.model.specs.Layout.{tablesOf, usedOf, nothing}
+use Rattle.model.specs.Layout.{tablesOf, usedOf}
 use Rattle.read_lines.specs.declared.ReadResult.the-variants as reading
 use Rattle.reader.specs.Reading.{roomsOf, ReadAnswer, readInto}
 use Rattle.reader.specs.Reading as reader
@@ -38,11 +37,6 @@ apart-refused n u k p e = absurd (let z : _≡_ {A = ℕ} 0 1 = cc in omega arit
 apart-long : {A : Type 0} (j : ℕ) (u : Used) (k p : ℕ) → Refused k p ≡ TooLong j u → A
 apart-long j u k p e = absurd (let z : _≡_ {A = ℕ} 0 1 = cc in omega arith)
 
--- ---- a refusal's tables
-pub nothing-zeros : (S : Tables) → tablesOf (roomsOf S) nothing ≡ zeros S
-unfolding tablesOf
-nothing-zeros S = simp sub-zero
-
 -- ---- reading
 pub record Accepted (s : List ℕ) (S : Tables) (u : Used) : Type 0 where
   pub model : Model
@@ -53,9 +47,9 @@ module _ (s : List ℕ) (S : Tables) where
   abbrev R : Rooms
   R = roomsOf S
 
-  pub read-is : (x : Answer) → readOf R s ≡ x → readInto s S ≡ reader.answered R x
+  pub read-is : (x : Answer) → readOf R s ≡ x → readInto s S ≡ reader.answered S x
   unfolding readInto
-  read-is x e = ap (reader.answered R) e
+  read-is x e = ap (reader.answered S) e
 
   pub accepted : (u : Used) → readInto s S .answer ≡ reading.Read u → Accepted s S u
   accepted u h = go (readOf R s) refl
@@ -143,18 +137,18 @@ pub record Long (c : Weights) (s : List ℕ) (S : Tables) (a : List ℕ) (u : Us
 
 pub record Down (c : Weights) (s : List ℕ) (S : Tables) (a : List ℕ) (n p : ℕ) : Type 0 where
   pub is-refused : readOf (roomsOf S) s ≡ refused n p
-  pub tables : tidyInto c s S a .tables ≡ tablesOf (roomsOf S) nothing
+  pub tables : tidyInto c s S a .tables ≡ zeros S
   pub kept : tidyInto c s S a .out ≡ a
 
 module _ (c : Weights) (s : List ℕ) (S : Tables) (a : List ℕ) where
-  pub tidy-is : (x : Answer) → readOf (roomsOf S) s ≡ x → tidyInto c s S a ≡ answered c (roomsOf S) x a
+  pub tidy-is : (x : Answer) → readOf (roomsOf S) s ≡ x → tidyInto c s S a ≡ answered c S x a
   unfolding tidyInto
-  tidy-is x e = ap (λ (y : Answer). answered c (roomsOf S) y a) e
+  tidy-is x e = ap (λ (y : Answer). answered c S y a) e
 
   abbrev of : Model → TidyAnswer
   of m = written (tidyText c m) (usedOf m) (tablesOf (roomsOf S) m) a
 
-  told : (x : Answer) → readOf (roomsOf S) s ≡ x → (d : TidyResult) → tidyInto c s S a .answer ≡ d → answered c (roomsOf S) x a .answer ≡ d
+  told : (x : Answer) → readOf (roomsOf S) s ≡ x → (d : TidyResult) → tidyInto c s S a .answer ≡ d → answered c S x a .answer ≡ d
   told x e d h = sym (ap (λ (r : TidyAnswer). r .answer) (tidy-is x e)) ∙ h
 
   its-tables : (m : Model) → readOf (roomsOf S) s ≡ read m → tidyInto c s S a .tables ≡ tablesOf (roomsOf S) m

@@ -16,7 +16,8 @@ use Rattle.digits.specs.Said.{Said, says, wrong}
 use Rattle.digits.specs.Said as said
 use Rattle.digits.specs.Degree.{degreeOf, smoothingOf, nameOf}
 use Rattle.digits.specs.Digits.{natOf, whole, negative}
-use Rattle.decimals.specs.Number.{unsigned, mantissa, exponent, isExponent, decimal, withSign, valueOf, numberOf}
+use Rattle.lists.specs.Signs.{withSign}
+use Rattle.decimals.specs.Number.{unsigned, mantissa, exponent, isExponent, decimal, valueOf, numberOf}
 use Rattle.references.specs.Reference.{isReference, refer, referenceOf}
 use Rattle.references.specs.Corner.{Corner, Counts, Parts, split, formed, patterned, cornerOf}
 use Rattle.keywords.specs.Keywords.{statementOf}
@@ -25,7 +26,6 @@ use Rattle.statements.specs.declared.Statement.{Statement}
 use Rattle.statements.specs.declared.Statement.the-variants as keyword
 use Rattle.keywords.specs.declared.Argument.{Argument}
 use Rattle.keywords.specs.declared.Argument.the-variants as argument
-use Rattle.tables.specs.Bodies.{Basis}
 use Rattle.model.specs.Model.{Free, ParmDirection, Model, Open, State, start}
 use Rattle.model.specs.Statements.{apply}
 use Rattle.model.specs.Statements as statements

@@ -22,7 +22,7 @@ use Rattle.tidy_form.specs.Agree.{TablesAgree}
 use Rattle.tidy_form.proofs.TidyTables.{tidy-tables, same-tidy-tables}
 use Rattle.tidier.specs.declared.TidyResult.the-variants.{Written, TooLong}
 use Rattle.tidier.specs.Tidying.{TidyAnswer, hasRoom, neededFor, tidyInto}
-use Rattle.end_to_end.specs.Demand2.{ReadBack, WrittenTidying, Demand2}
+use Rattle.end_to_end.specs.Demand2.{ReadBack, Demand2}
 use Rattle.end_to_end.proofs.Inside.{read-is, tidy-is, Tidy, tidied-file}
 
 -- the file m, read

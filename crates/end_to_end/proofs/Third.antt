@@ -6,7 +6,6 @@ use mathlib.Core.Logic.{_⊎_}
 use mathlib.Core.List.{List}
 use native.Mathlib.Omega.{arith}
 use lib.ListN.{take}
-use lib.IntN.{ℤ}
 use Rattle.tables.specs.Tables.{Tables}
 use Rattle.tables.specs.Records.{curveKind, curve2Kind, surfaceKind}
 use Rattle.tables.specs.declared.Used.{Used}

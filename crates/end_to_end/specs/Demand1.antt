@@ -1,3 +1,4 @@
+-- Must be believed: a promise reaches every definition of this file.
 -- Demand 1: "either read or refused with a number and a place"; "A refused file leaves every lent table all zeros; a refused tidying or sampling call changes nothing in the buffer it would have filled."
 use Prim.Native.Nat.{ℕ, _≤_}
 use mathlib.Core.Path.{_≡_}
@@ -13,7 +14,7 @@ use Rattle.tidier.specs.declared.TidyResult.the-variants as tidying
 use Rattle.tidier.specs.Tidying.{tidyOutcome, TidyAnswer}
 use Rattle.sampler.specs.declared.PointResult.the-variants as sampled
 use Rattle.sampler.specs.declared.RunResult.the-variants as ran
-use Rattle.sampler.specs.Answers.{pointOutcome, runOutcome, PointAnswer, RunAnswer}
+use Rattle.sampler.specs.Answers.{pointOutcome, runOutcome, RunAnswer}
 use Rattle.end_to_end.specs.EntryPoints.{Reader, Tidier, Sampler}
 
 -- "Any answer that is an enum has a definition that gives this paper's number and values for each of the enum's cases": each answer with those of its case

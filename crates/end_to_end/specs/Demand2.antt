@@ -1,3 +1,4 @@
+-- Must be believed: a promise reaches every definition of this file.
 -- Demand 2: a file is accepted exactly when it obeys the rules and its records find room; its tables are what the rules say; its tidy text is one fixed form, read back to tables that agree, and the same for two files exactly when their tables agree.
 use Prim.Native.Nat.{ℕ, _≤_, _<_, min}
 use mathlib.Core.Path.{_≡_}

@@ -1,3 +1,4 @@
+-- Must be believed: a promise reaches every definition of this file.
 -- Demand 3: of any tables that obey the rules, and of the tables that reading fills, which obey them.
 use Prim.Native.Nat.{ℕ, _+_, _*_, _≤_}
 use mathlib.Core.Path.{_≡_}

@@ -1,3 +1,4 @@
+-- Must be believed: a promise reaches every definition of this file.
 -- A reader and a tidier: the answer, the tables and the buffer that each leaves for every text and all that is lent; a tidier for each choice of weights. A `Sampler` is the same for points and runs.
 use Prim.Native.Nat.{ℕ}
 use mathlib.Core.List.{List}

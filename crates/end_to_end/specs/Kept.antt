@@ -1,3 +1,4 @@
+-- Must be believed: a promise reaches every definition of this file.
 -- All the demands, of whatever is equal to the definitions that the entry points promise to be equal to.
 use Prim.Native.Nat.{ℕ}
 use mathlib.Core.Path.{_≡_}

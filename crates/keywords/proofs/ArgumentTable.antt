@@ -7,11 +7,11 @@ use native.Mathlib.Omega.{arith}
 use lib.ListN.{length}
 use lib.Dec.{leb, eqb}
 use Rattle.lists.proofs.Tests.{never}
-use Rattle.keywords.specs.Rows.{Row, rowOf, spellingAt, Finds}
+use Rattle.spellings.specs.Rows.{Row, rowOf, spellingAt, Finds}
 use Rattle.keywords.specs.Arguments.{signOf, arguments, argumentOf, argumentBytes}
 use Rattle.keywords.specs.declared.Argument.{Argument}
 use Rattle.keywords.specs.declared.Argument.the-variants.{Rational, BasisMatrix, Bezier, Bspline, Cardinal, Taylor, DirectionU, DirectionV, Off, Other}
-use Rattle.keywords.proofs.Spellings.{distinct, isToken, tokens, rowsWith, finds-exactly, no-two}
+use Rattle.spellings.proofs.Spellings.{distinct, isToken, tokens, rowsWith, finds-exactly, no-two}
 
 pub all-distinct : distinct arguments ≡ true
 unfolding arguments

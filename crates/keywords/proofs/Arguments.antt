@@ -12,13 +12,13 @@ use Rattle.lists.proofs.Tests.{test}
 use Rattle.lists.proofs.Laws.{same-eq}
 use Rattle.text.specs.Words.{wordOf}
 use Rattle.text.specs.Rest.{endOf}
-use Rattle.keywords.specs.Rows.{kindAt, foundBy, letteredIn}
+use Rattle.spellings.specs.Rows.{kindAt, foundBy, letteredIn}
 use Rattle.keywords.specs.Arguments.{signOf, ofSign, arguments, argumentTable, argumentOf, argumentAt, argumentBytes}
-use Rattle.keywords.specs.declared.Found.{Found}
+use Rattle.spellings.specs.declared.Found.{Found}
 use Rattle.keywords.specs.declared.Argument.{Argument}
 use Rattle.keywords.specs.declared.Argument.the-variants.{Rational, BasisMatrix, Bezier, Bspline, Cardinal, Taylor, DirectionU, DirectionV, Off, Other}
-use Rattle.keywords.proofs.Compare.{compareOf}
-use Rattle.keywords.proofs.Rows.{Laid}
+use Rattle.spellings.proofs.Compare.{compareOf}
+use Rattle.spellings.proofs.Rows.{Laid}
 use Rattle.keywords.proofs.ArgumentTable.{all-distinct}
 
 -- a kind is told by its letter

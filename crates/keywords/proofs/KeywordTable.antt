@@ -7,7 +7,7 @@ use native.Mathlib.Omega.{arith}
 use lib.ListN.{length}
 use lib.Dec.{leb, eqb}
 use Rattle.lists.proofs.Tests.{never}
-use Rattle.keywords.specs.Rows.{Row, rowOf, spellingAt, Finds}
+use Rattle.spellings.specs.Rows.{Row, rowOf, spellingAt, Finds}
 use Rattle.keywords.specs.Keywords.{letterOf, keywords, statementOf, keywordOf}
 use Rattle.statements.specs.declared.VertexKind.the-variants.{Geometric, Texture, Normal, Parametric}
 use Rattle.statements.specs.declared.Shape.the-variants.{Point, Line, Face}
@@ -16,7 +16,7 @@ use Rattle.statements.specs.declared.Carried.the-variants.{Vertex, Element, Bod
 use Rattle.statements.specs.declared.Carried as carried
 use Rattle.statements.specs.declared.Statement.{Statement}
 use Rattle.statements.specs.declared.Statement.the-variants.{Carried, Refused, Unknown}
-use Rattle.keywords.proofs.Spellings.{distinct, isToken, tokens, rowsWith, finds-exactly, no-two}
+use Rattle.spellings.proofs.Spellings.{distinct, isToken, tokens, rowsWith, finds-exactly, no-two}
 
 pub all-distinct : distinct keywords ≡ true
 unfolding keywords

@@ -8,9 +8,9 @@ use lib.ListN.{length, drop, getD}
 use lib.Dec.{eqb}
 use Rattle.text.specs.Words.{wordOf}
 use Rattle.text.specs.Rest.{endOf}
-use Rattle.keywords.specs.Rows.{rowOf, kindAt, foundBy, letteredIn}
+use Rattle.spellings.specs.Rows.{rowOf, kindAt, foundBy, letteredIn}
 use Rattle.keywords.specs.Keywords.{letterOf, ofLetter, keywords, keywordTable, statementOf, keywordAt, keywordOf}
-use Rattle.keywords.specs.declared.Found.{Found}
+use Rattle.spellings.specs.declared.Found.{Found}
 use Rattle.keywords.specs.declared.Keyword.{Keyword}
 use Rattle.statements.specs.declared.VertexKind.the-variants.{Geometric, Texture, Normal, Parametric}
 use Rattle.statements.specs.declared.Shape.the-variants.{Point, Line, Face}
@@ -19,7 +19,7 @@ use Rattle.statements.specs.declared.Carried.the-variants.{Vertex, Element, Bod
 use Rattle.statements.specs.declared.Carried as carried
 use Rattle.statements.specs.declared.Statement.{Statement}
 use Rattle.statements.specs.declared.Statement.the-variants.{Carried, Refused, Unknown}
-use Rattle.keywords.proofs.Rows.{Laid, marked, found-end}
+use Rattle.spellings.proofs.Rows.{Laid, marked, found-end}
 use Rattle.keywords.proofs.KeywordTable.{all-distinct}
 
 all-marked : marked letterOf keywords ≡ true

@@ -1,9 +1,4 @@
-pub mod Compare
-pub mod Walk
-pub mod Rows
-pub mod Spellings
 pub mod Keywords
 pub mod Arguments
 pub mod KeywordTable
 pub mod ArgumentTable
-pub mod Write

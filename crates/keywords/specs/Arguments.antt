@@ -7,7 +7,7 @@ use lib.ListN.{drop}
 use lib.Dec.{eqb}
 use Rattle.lists.specs.Lists.{flat}
 use Rattle.text.specs.Words.{wordOf}
-use Rattle.keywords.specs.Rows.{Row, rowOf, kindAt, kindBy, spellingOf, line}
+use Rattle.spellings.specs.Rows.{Row, rowOf, kindAt, kindBy, spellingOf, line}
 use Rattle.keywords.specs.declared.Argument.{Argument}
 use Rattle.keywords.specs.declared.Argument.the-variants.{Rational, BasisMatrix, Bezier, Bspline, Cardinal, Taylor, DirectionU, DirectionV, Off, Other}
 

@@ -2,7 +2,7 @@
 ghost use mathlib.Core.Path.{_≡_};
 ghost use lib.ListN.{length};
 ghost use lib.Seq.{sets};
-ghost use Rattle.keywords.specs.Rows.{spellingAt, fitting};
+ghost use Rattle.spellings.specs.Rows.{spellingAt, fitting};
 ghost use Rattle.keywords.specs.Keywords.{keywords, statementOf};
 ghost use Rattle.keywords.specs.Arguments.{arguments};
 ghost use Rattle.tables.specs.Tables.{tables};
@@ -16,21 +16,22 @@ ghost use Rattle.tidier.specs.Tidying.{tidyInto};
 ghost use Rattle.sweep.specs.Swept.{sweepInto};
 ghost use Rattle.text.specs.Words.{wordOf};
 ghost use Rattle.read_advice.specs.Advice.{adviceIs};
-ghost use Rattle.read_advice.specs.Asked.{carriedOf, rowOf};
-ghost use Rattle.c_records.specs.Answers.{readIn, tidyIn, weightsIn, pointIn, runIn, polylineIn, sweepIn, groupIn, materialIn, bytesIn};
-ghost use Rattle.c_records.specs.CurveNumbers.{curveOf};
-ghost use Rattle.c_records.specs.Records.{elementRecord, bodyRecord};
-use c_records::Part;
+ghost use Rattle.keyword_rules.specs.Asked.{carriedOf, rowOf};
+ghost use Rattle.c_records.specs.Answers.{readIn, tidyIn, weightsIn, pointIn, runIn, polylineIn, sweepIn};
+ghost use Rattle.c_tables.specs.Parts.{groupIn, materialIn, bytesIn};
+ghost use Rattle.c_tables.specs.CurveNumbers.{curveOf};
+ghost use Rattle.c_tables.specs.Records.{elementRecord, bodyRecord};
 use c_records::Point;
 use c_records::PolylinePoints;
 use c_records::ReadRecord;
 use c_records::Run;
 use c_records::SweepCounts;
 use c_records::TidyRecord;
-use c_records::records::BodyRecord;
-use c_records::records::ElementRecord;
+use c_tables::Part;
+use c_tables::records::BodyRecord;
+use c_tables::records::ElementRecord;
+use keyword_rules::RuleRow;
 use read_advice::Advice;
-use read_advice::asked::RuleRow;
 use read_rooms::Rooms;
 use tables::Corner;
 use tables::Used;
@@ -156,7 +157,7 @@ pub extern "C" fn kuhlabires_sweep(
 pub extern "C" fn kuhlabires_element_of(used: Used, elements: &[u32], element: u32) -> ElementRecord
     ensures { λ r. ⌜ r ≡ elementRecord (askedElement used (now (elements .entry)) element) ⌝ }
 {
-    c_records::records::element_record(tables::element_of(used, elements, element))
+    c_tables::records::element_record(table_asking::element_of(used, elements, element))
 }
 
 // The body of that number, counted from 1, with its range; all zeros for no such body.
@@ -169,7 +170,7 @@ pub extern "C" fn kuhlabires_body_of(
 ) -> BodyRecord
     ensures { λ r. ⌜ r ≡ bodyRecord (askedBody used (now (bodies .entry)) (now (ranges .entry)) body) ⌝ }
 {
-    c_records::records::body_record(tables::body_of(used, bodies, ranges, body))
+    c_tables::records::body_record(table_asking::body_of(used, bodies, ranges, body))
 }
 
 // The number of the element that is the curv2 of that number, counted from 1 over the curv2 alone; 0 for none.
@@ -177,7 +178,7 @@ pub extern "C" fn kuhlabires_body_of(
 pub extern "C" fn kuhlabires_curv2_element(used: Used, elements: &[u32], curve: u32) -> u32
     ensures { λ r. ⌜ r ≡ curveOf used (now (elements .entry)) curve ⌝ }
 {
-    c_records::curve_numbers::curve_of(used, elements, curve)
+    c_tables::curve_numbers::curve_of(used, elements, curve)
 }
 
 // Corner `k`, counted from 0, of the element of that number, counted from 1; three zeros for no such corner.
@@ -191,7 +192,7 @@ pub extern "C" fn kuhlabires_corner_of(
 ) -> Corner
     ensures { λ r. ⌜ r ≡ askedCorner used (now (elements .entry)) (now (corners .entry)) element k ⌝ }
 {
-    tables::corner_of(used, elements, corners, element, k)
+    table_asking::corner_of(used, elements, corners, element, k)
 }
 
 // The run of group names of the element of that number, counted from 1.
@@ -204,8 +205,8 @@ pub extern "C" fn kuhlabires_group_of(
 ) -> Part
     ensures { λ r. ⌜ (r ≡ groupIn (now (text .entry)) used (now (elements .entry)) element) × (bytesIn (now (text .entry)) r ≡ askedGroup (now (text .entry)) used (now (elements .entry)) element) ⌝ }
 {
-    let e = tables::element_of(used, elements, element);
-    c_records::part_of(text, e.group_place, e.group_length)
+    let e = table_asking::element_of(used, elements, element);
+    c_tables::part_of(text, e.group_place, e.group_length)
 }
 
 // The same of its material's name.
@@ -218,8 +219,8 @@ pub extern "C" fn kuhlabires_material_of(
 ) -> Part
     ensures { λ r. ⌜ (r ≡ materialIn (now (text .entry)) used (now (elements .entry)) element) × (bytesIn (now (text .entry)) r ≡ askedMaterial (now (text .entry)) used (now (elements .entry)) element) ⌝ }
 {
-    let e = tables::element_of(used, elements, element);
-    c_records::part_of(text, e.material_place, e.material_length)
+    let e = table_asking::element_of(used, elements, element);
+    c_tables::part_of(text, e.material_place, e.material_length)
 }
 
 // The point at t of the curv or curv2 of that number, counted from 1 over all elements.
@@ -453,5 +454,5 @@ pub extern "C" fn kuhlabires_explain(text: &[u8], place: usize) -> Advice
 pub extern "C" fn kuhlabires_rules(keyword: &[u8], words: usize, index: usize) -> RuleRow
     ensures { λ r. ⌜ r ≡ rowOf (carriedOf (statementOf (wordOf (now (keyword .entry))))) words index ⌝ }
 {
-    read_advice::asked::rules_of_keyword(keyword, words, index)
+    keyword_rules::rules_of_keyword(keyword, words, index)
 }

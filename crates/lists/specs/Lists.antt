@@ -1,5 +1,6 @@
+-- Must be believed: a promise reaches every definition of this file.
 -- Words on lists that the rules of every crate use.
-use Prim.Native.Nat.{ℕ, zero, suc, _-_}
+use Prim.Native.Nat.{ℕ, _-_}
 use mathlib.Core.List.{List, [], _∷_, _++_}
 use mathlib.Core.Bool.{Bool, true, false, _&&_}
 use lib.ListN.{length, replicate}

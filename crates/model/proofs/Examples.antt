@@ -1,12 +1,11 @@
 -- Closed examples: texts read by the definition.
 use Prim.Native.Nat.{ℕ}
-use Prim.Native.String.{String}
 use mathlib.Core.Path.{_≡_, refl}
 use mathlib.Core.List.{List, [], _∷_, _++_}
 use mathlib.Core.Bool.{Bool, true, false}
 use lib.IntN.{ℤ, pos}
 use lib.ListN.{length}
-use Rattle.keywords.specs.Rows.{bytes}
+use Rattle.spellings.specs.Rows.{bytes}
 use Rattle.text.specs.Lines.{linesOf}
 use Rattle.decimals.specs.Number.{numberOf, decimal, numerator, denominator, nearest}
 use Rattle.digits.specs.Digits.{whole}
@@ -16,13 +15,14 @@ use Rattle.digits.specs.Degree.{degreeOf, smoothingOf, nameOf}
 use Rattle.keywords.specs.Keywords.{statementOf, keywords}
 use Rattle.keywords.specs.Arguments.{argumentOf, arguments, argumentBytes}
 use Rattle.tables.specs.Bodies.{inOrder, curveCount, surfaceCount}
+use Rattle.model.specs.Model.{start}
 use Rattle.model.specs.Room.{Rooms, fits}
 use Rattle.model.specs.Parse.{parse}
 use Rattle.model.specs.Read.{Answer, read, refused, readOf, statement}
-use Rattle.model.specs.Layout.{tablesOf, usedOf, nothing}
+use Rattle.model.specs.Layout.{tablesOf, usedOf}
 use Rattle.model.specs.In.{begunIn, modelIn}
 use Rattle.tables.specs.Tables.{Tables}
-use Rattle.tables.specs.Records as records
+use Rattle.tables.specs.declared.parts.LoopPart.{LoopPart}
 use Rattle.tables.specs.Asking.{partOf}
 
 many : Rooms
@@ -37,7 +37,7 @@ small = record { v = 8; vt = 3; vn = 0; vp = 0; corners = 12; elements = 18; bod
 
 tab : Answer → Tables
 tab (read m) = tablesOf small m
-tab (refused n p) = tablesOf small nothing
+tab (refused n p) = tablesOf small (start .model)
 
 ex2 : tab (readOf small (bytes "cstype bezier\ndeg 1\nv 0 0 0\nv 1.5 0 0\ng top side\ncurv 0 1 -2 -1\nparm u 0 1\nend\n")) .elements ≡ 4 ∷ 0 ∷ 2 ∷ 1 ∷ 0 ∷ 40 ∷ 8 ∷ 0 ∷ 0 ∷ 0 ∷ 0 ∷ 0 ∷ 0 ∷ 0 ∷ 0 ∷ 0 ∷ 0 ∷ 0 ∷ []
 unfolding tab tablesOf readOf linesOf numberOf decimal numerator denominator nearest whole isReference refer referenceOf cornerOf degreeOf smoothingOf nameOf statementOf keywords argumentOf arguments argumentBytes inOrder curveCount surfaceCount fits parse statement small
@@ -65,7 +65,7 @@ unfolding again said modelIn usedOf partOf tablesOf readOf linesOf numberOf deci
 ex5 = refl
 
 -- of parts that no reading stored, those before the first that begins a loop are in none
-part : ℕ → ℕ → records.PartRecord
+part : ℕ → ℕ → LoopPart
 part n c = record { begins = n; curve = c; from = pos 0; to = pos 1 }
 
 ex6 : begunIn (part 0 1 ∷ part 2 2 ∷ part 0 3 ∷ part 1 4 ∷ []) .loops

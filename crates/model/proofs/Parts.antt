@@ -10,7 +10,7 @@ use lib.IntN.{ℤ, pos}
 use Rattle.lists.specs.Lists.{flat}
 use Rattle.tables.specs.Tables.{Tables}
 use Rattle.tables.specs.Records.{loopWidth, spanWidth, partAt, numberAt, valueAt}
-use Rattle.tables.specs.Records as records
+use Rattle.tables.specs.declared.parts.LoopPart.{LoopPart}
 use Rattle.tables.proofs.Flat.{flat-append}
 use Rattle.model.specs.Model.{Part, Loop}
 use Rattle.model.specs.Room.{summed}
@@ -20,23 +20,23 @@ use Rattle.model.proofs.Stands.{Stands, stands-at, stands-record, Among
 use Rattle.model.proofs.Placed.{Parted}
 
 -- ---- parts as their records: 1 a trim, 2 a hole, 0 nothing begins
-abbrev pub laidPart : ℕ → Part → records.PartRecord
+abbrev pub laidPart : ℕ → Part → LoopPart
 laidPart n p = record { begins = n; curve = p .curve; from = p .from; to = p .to }
 
-abbrev pub begunParts : ℕ → List Part → List records.PartRecord
+abbrev pub begunParts : ℕ → List Part → List LoopPart
 begunParts n [] = []
 begunParts n (p ∷ ps) = laidPart n p ∷ map (laidPart 0) ps
 
-abbrev pub laidLoop : Loop → List records.PartRecord
+abbrev pub laidLoop : Loop → List LoopPart
 laidLoop l = begunParts (beginning (l .hole)) (l .parts)
 
-abbrev pub laidParts : List Loop → List records.PartRecord
+abbrev pub laidParts : List Loop → List LoopPart
 laidParts ls = flat laidLoop ls
 
-abbrev pub rowOf : records.PartRecord → List ℕ
+abbrev pub rowOf : LoopPart → List ℕ
 rowOf q = q .begins ∷ q .curve ∷ []
 
-abbrev pub spanOf : records.PartRecord → List ℤ
+abbrev pub spanOf : LoopPart → List ℤ
 spanOf q = q .from ∷ q .to ∷ []
 
 on-rows : (ps : List Part) → flat (partRow 0) ps ≡ flat rowOf (map (laidPart 0) ps)
@@ -78,7 +78,7 @@ parts-count (l ∷ ls) =
     omega arith
 
 -- ---- read back by index
-pub part-among : (t : Tables) (l : ℕ) (qs : List records.PartRecord) → Stands (t .loops) (loopWidth * l) (flat rowOf qs) → Stands (t .spans) (spanWidth * l) (flat spanOf qs)
+pub part-among : (t : Tables) (l : ℕ) (qs : List LoopPart) → Stands (t .loops) (loopWidth * l) (flat rowOf qs) → Stands (t .spans) (spanWidth * l) (flat spanOf qs)
     → (k : ℕ) (a : Among qs k) → partAt t (l + k) ≡ a .one
 part-among t l qs s r k a =
     let q = a .one in
@@ -91,11 +91,11 @@ part-among t l qs s r k a =
     rw (n 0 (omega arith), n 1 (omega arith), z 0 (omega arith), z 1 (omega arith)) refl
 
 -- ---- cut into loops again
-on-cut : (ps : List Part) (qs : List records.PartRecord) → begunIn (map (laidPart 0) ps ++ qs) ≡ record { on = ps ++ begunIn qs .on; loops = begunIn qs .loops }
+on-cut : (ps : List Part) (qs : List LoopPart) → begunIn (map (laidPart 0) ps ++ qs) ≡ record { on = ps ++ begunIn qs .on; loops = begunIn qs .loops }
 on-cut [] qs = refl
 on-cut (p ∷ ps) qs = ap (begunWith (laidPart 0 p)) (on-cut ps qs)
 
-after : (ps : List Part) (qs : List records.PartRecord) (ls : List Loop) → begunIn qs ≡ record { on = []; loops = ls } → begunIn (map (laidPart 0) ps ++ qs) ≡ record { on = ps; loops = ls }
+after : (ps : List Part) (qs : List LoopPart) (ls : List Loop) → begunIn qs ≡ record { on = []; loops = ls } → begunIn (map (laidPart 0) ps ++ qs) ≡ record { on = ps; loops = ls }
 after ps qs ls e =
     on-cut ps qs ∙ ap (λ (r : Begun). record { on = ps ++ r .on; loops = r .loops }) e ∙ ap (λ (x : List Part). record { on = x; loops = ls }) (append-nil ps)
 
@@ -122,4 +122,4 @@ loops-back t l ls s r g k e =
     let n : k ≡ length (laidParts ls) = e ∙ sym (parts-count ls) in
     let b : each (partAt t) k (firstPart l k) ≡ laidParts ls =
     each-first (partAt t) k l ∙ ap (λ (i : ℕ). each (partAt t) i l) n ∙ each-is (partAt t) (laidParts ls) l (part-among t l (laidParts ls) s' r') in
-    ap (λ (qs : List records.PartRecord). begunIn qs .loops) b ∙ ap (λ (q : Begun). q .loops) (loops-cut ls g)
+    ap (λ (qs : List LoopPart). begunIn qs .loops) b ∙ ap (λ (q : Begun). q .loops) (loops-cut ls g)

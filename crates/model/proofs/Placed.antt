@@ -10,8 +10,7 @@ use Rattle.lists.specs.Lists.{flat}
 use Rattle.text.specs.Words.{Word}
 use Rattle.tables.specs.Records.{vWidth, vtWidth, vnWidth, vpWidth}
 use Rattle.model.specs.Model.{Vertices, Names, Loop, Kind, plain, free, Element, Model}
-use Rattle.model.specs.Layout.{runOf, listed, itself}
-use Rattle.model.specs.In.{wordsIn}
+use Rattle.model.specs.Layout.{runOf, listed, itself, wordsIn}
 use Rattle.model.proofs.Stands.{Stands, stands-is, stands-flat, Among}
 
 -- ---- of each element of a list, and so of those before one of them and of that one

@@ -1,5 +1,5 @@
 -- The values of a line are as many as its words, no kind of them is more, and numbers and corners are told back.
-use Prim.Native.Nat.{ℕ, zero, suc, _+_, _*_, _≤_, _<_}
+use Prim.Native.Nat.{ℕ, suc, _≤_}
 use mathlib.Core.Path.{_≡_, refl, sym, ap, _∙_}
 use mathlib.Core.List.{List, [], _∷_, _++_, map}
 use native.Mathlib.Omega.{arith}
@@ -7,7 +7,7 @@ use lib.ListN.{length, drop}
 use lib.IntN.{ℤ}
 use Rattle.text.specs.Words.{Word}
 use Rattle.references.specs.Corner.{Corner}
-use Rattle.model.specs.Parse.{Parsed, fine, fault, then, placed, WordForm, Value, number, corner, whole, direction, basis, name, nothing, Seen, saidOf, valuesOf, numbersOf, cornersOf, wholesOf, namesOf, partsOf}
+use Rattle.model.specs.Parse.{fine, placed, WordForm, Value, number, corner, whole, direction, basis, name, nothing, Seen, saidOf, valuesOf, numbersOf, cornersOf, wholesOf, partsOf}
 use Rattle.model.proofs.Parsed.{then-fine, fine-is}
 
 pub values-length : (n : Seen) (f : ℕ → WordForm) (i : ℕ) (ws : List Word) (xs : List Value) → valuesOf n f i ws ≡ fine xs → length xs ≡ length ws

@@ -6,17 +6,18 @@ use mathlib.Core.Option.{Option, none, some}
 use lib.ListN.{take, drop}
 use lib.Dec.{eqb, leb}
 use lib.IntN.{ℤ}
-use Rattle.text.specs.Words.{Word, wordsOf}
+use Rattle.text.specs.Words.{Word}
 use Rattle.references.specs.Corner.{Corner}
 use Rattle.tables.specs.Tables.{Tables}
 use Rattle.tables.specs.Bodies.{basisOf}
 use Rattle.tables.specs.Records.{vWidth, vtWidth, vnWidth, vpWidth, elementAt, cornerAt, bodyAt, parametersU, parametersV, partAt, pointKind, lineKind, curveKind, curve2Kind}
-use Rattle.tables.specs.Records as records
+use Rattle.tables.specs.declared.parts.LoopPart.{LoopPart}
 use Rattle.tables.specs.Asking.{partOf}
 use Rattle.tables.specs.declared.Used.{Used}
 use Rattle.tables.specs.declared.Element as records-element
 use Rattle.tables.specs.declared.Corner as records-corner
 use Rattle.tables.specs.declared.Body as records-body
+use Rattle.model.specs.Layout.{wordsIn}
 use Rattle.model.specs.Model.{Vertices, Names, Shape, point, line, face, Free, curve, curve2, surface, Part, Loop, Body, Kind, plain, free, Element, Model}
 
 -- n records, from index i on
@@ -38,9 +39,6 @@ verticesFrom u t =
     }
 
 -- ---- names: "the place and length of its group run and material in the text", as words where they stand
-abbrev pub wordsIn : List ℕ → ℕ → ℕ → List Word
-wordsIn s place count = wordsOf (record { place = place; bytes = partOf s place count })
-
 abbrev pub firstOf : List Word → Option Word
 firstOf [] = none
 firstOf (w ∷ ws) = some w
@@ -61,7 +59,7 @@ abbrev pub cornersFrom : Tables → records-element.Element → List Corner
 cornersFrom t e = each (λ k. cornerFrom (cornerAt t (e .first) k)) (e .count) 0
 
 -- ---- loops: what begins with a part is 1 a trim, 2 a hole, 0 nothing; a part before the first that begins a loop belongs to none
-abbrev pub partFrom : records.PartRecord → Part
+abbrev pub partFrom : LoopPart → Part
 partFrom p = record { from = p .from; to = p .to; curve = p .curve }
 
 -- parts in their order: those that go on with a loop begun before them, and the loops that begin after those
@@ -75,10 +73,10 @@ goesOn p r = record { on = p ∷ r .on; loops = r .loops }
 abbrev pub begins : Bool → Part → Begun → Begun
 begins hole p r = record { on = []; loops = record { hole = hole; parts = p ∷ r .on } ∷ r .loops }
 
-abbrev pub begunWith : records.PartRecord → Begun → Begun
+abbrev pub begunWith : LoopPart → Begun → Begun
 begunWith p r = cond (eqb (p .begins) 0) (goesOn (partFrom p) r) (begins (eqb (p .begins) 2) (partFrom p) r)
 
-abbrev pub begunIn : List records.PartRecord → Begun
+abbrev pub begunIn : List LoopPart → Begun
 begunIn [] = record { on = []; loops = [] }
 begunIn (p ∷ ps) = begunWith p (begunIn ps)
 

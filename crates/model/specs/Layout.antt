@@ -1,3 +1,4 @@
+-- Must be believed: a promise reaches every definition of this file.
 -- The tables of a file: its records, one after the other, as docs/RECORDS.md lays them out. "Entries after the used ones are 0."
 use Prim.Native.Nat.{ℕ, suc, _+_, _*_, _-_}
 use mathlib.Core.List.{List, [], _∷_, _++_}
@@ -6,13 +7,14 @@ use mathlib.Core.Option.{Option, none, some}
 use lib.ListN.{length}
 use lib.IntN.{ℤ, pos}
 use Rattle.lists.specs.Lists.{flat, filled}
-use Rattle.text.specs.Words.{Word}
+use Rattle.text.specs.Words.{Word, wordsOf}
 use Rattle.references.specs.Corner.{Corner}
 use Rattle.tables.specs.Tables.{Tables}
 use Rattle.tables.specs.Bodies.{basisNumber}
 use Rattle.tables.specs.Records.{cornerWidth, pointKind, lineKind, faceKind, curveKind, curve2Kind, surfaceKind}
+use Rattle.tables.specs.Asking.{partOf}
 use Rattle.tables.specs.declared.Used.{Used}
-use Rattle.model.specs.Model.{Names, Shape, point, line, face, Free, curve, curve2, surface, Part, Loop, Body, Kind, plain, free, Element, Model, State}
+use Rattle.model.specs.Model.{Shape, point, line, face, Free, curve, curve2, surface, Part, Loop, Body, Kind, plain, free, Element, Model}
 use Rattle.model.specs.Room.{Rooms, summed, ofKind, partCount}
 
 -- ---- names: "the place and length of its group run and material in the text", "from the first name to the last"; "0 where none is set and after a bare `g`"
@@ -31,6 +33,10 @@ runOf (w ∷ ws) = record { place = w .place; length = lastEnd w ws - w .place }
 abbrev pub listed : Option Word → List Word
 listed none = []
 listed (some w) = w ∷ []
+
+-- the words that a run shows in the text s, where they stand
+abbrev pub wordsIn : List ℕ → ℕ → ℕ → List Word
+wordsIn s place count = wordsOf (record { place = place; bytes = partOf s place count })
 
 -- ---- corners
 abbrev pub cornerRow : Corner → List ℕ
@@ -162,7 +168,3 @@ usedOf m =
       parameters = summed (λ b. length (b .us) + length (b .vs)) (bodiesOf (m .elements));
       loops = summed partCount (bodiesOf (m .elements));
     }
-
--- "A refusal zeroes every lent table and every count."
-abbrev pub nothing : Model
-nothing = record { vertices = record { v = []; vt = []; vn = []; vp = [] }; elements = [] }

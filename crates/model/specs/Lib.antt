@@ -2,6 +2,7 @@ pub mod Model
 pub mod Statements
 pub mod Words
 pub mod Parse
+pub mod Standing
 pub mod Room
 pub mod Read
 pub mod Layout

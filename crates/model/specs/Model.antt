@@ -1,10 +1,11 @@
+-- Must be believed: a promise reaches every definition of this file.
 -- What a file says, as lists of records: 01, "Records" and "Bodies". No word of how the lent tables lay it out.
-use Prim.Native.Nat.{ℕ, zero, suc, _+_}
-use mathlib.Core.List.{List, [], _∷_, _++_}
+use Prim.Native.Nat.{ℕ, suc}
+use mathlib.Core.List.{List, [], _∷_}
 use mathlib.Core.Bool.{Bool, true, false}
-use mathlib.Core.Option.{Option, none, some}
+use mathlib.Core.Option.{Option, none}
 use lib.ListN.{length}
-use lib.IntN.{ℤ, pos}
+use lib.IntN.{ℤ}
 use Rattle.text.specs.Words.{Word}
 use Rattle.references.specs.Corner.{Corner, Counts}
 use Rattle.tables.specs.Bodies.{Basis}

@@ -1,19 +1,18 @@
+-- Must be believed: a promise reaches every definition of this file.
 -- What a line of words says: a statement, or a refusal with its number and place. Parsing does all the refusing, in the order of 01's table.
-use Prim.Native.Nat.{ℕ, zero, suc, _+_, _-_, _%_}
+use Prim.Native.Nat.{ℕ, _-_}
 use mathlib.Core.List.{List, [], _∷_, _++_}
-use mathlib.Core.Bool.{Bool, true, false, cond, _&&_, _||_, not}
+use mathlib.Core.Bool.{Bool, true, false, cond, _&&_}
 use mathlib.Core.Option.{Option, none, some}
 use lib.ListN.{length, getD, drop}
-use lib.Dec.{leb, ltb, eqb}
+use lib.Dec.{leb, eqb}
 use lib.IntN.{ℤ, pos, natAbs}
-use lib.Signed.{ltZ}
 use Rattle.text.specs.Words.{Word}
 use Rattle.references.specs.Corner.{Corner, alike}
 use Rattle.tables.specs.Bodies.{Basis, bezier, bspline, cardinal, taylor, low, high, inOrder, curveCount, surfaceCount}
-use Rattle.model.specs.Model.{VertexKind, geometric, texture, normal, parametric, Vertices, Shape, point, line, face, Free, curve, curve2, surface, ParmDirection, along-u, along-v, Part, Loop, Body, Element, Model, Form, Open, State, curves, countsOf}
+use Rattle.model.specs.Model.{VertexKind, geometric, texture, normal, parametric, Vertices, Free, curve, curve2, surface, Part, Body, Form, Open, State, curves, countsOf}
 use Rattle.model.specs.Statements.{Statement, vertex, element, group, smoothing, material, type, degree, body, parameters, loop, end, passed}
 use Rattle.statements.specs.Rules as rules
-use Rattle.statements.specs.declared.rules.Rules.{Rules}
 use Rattle.statements.specs.declared.rules.Held.{Held}
 use Rattle.statements.specs.declared.rules.Held.the-variants as held
 pub use Rattle.statements.specs.Rules.{isSurface, fewest, rangeWords, fewestControls, parts, controlForm, rulesOf}
@@ -28,12 +27,6 @@ pub use Rattle.model.specs.Words.{Parsed, fine, fault, then, must, unles
 abbrev pub openFree : Option Open → Option Free
 openFree none = none
 openFree (some o) = some (o .body .free)
-
-abbrev pub insideBody : Option Open → (Free → Bool) → Bool
-insideBody o f = rules.inBody (openFree o) f
-
-abbrev pub outsideBody : Option Open → Bool
-outsideBody o = rules.outside (openFree o)
 
 abbrev pub allowed : Keyword → Option Open → List Word → Bool
 allowed k o ws = rules.allowedBy (rulesOf k .standing) (openFree o) (saysV ws)

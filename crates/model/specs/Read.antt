@@ -1,7 +1,8 @@
+-- Must be believed: a promise reaches every definition of this file.
 -- Reading a text: 01, "Numbers of refusal". A fold over its joined lines; room is asked between parsing and applying.
 use Prim.Native.Nat.{ℕ}
 use mathlib.Core.List.{List, [], _∷_}
-use mathlib.Core.Bool.{Bool, true, false, cond}
+use mathlib.Core.Bool.{cond}
 use mathlib.Core.Option.{Option, none, some}
 use lib.ListN.{length}
 use lib.Dec.{leb}

@@ -1,12 +1,13 @@
+-- Must be believed: a promise reaches every definition of this file.
 -- 14, "a lent table lacks room": "Room for parm is checked at end, all other room at its own line; 14 is given exactly when the entries needed pass the lent length."
-use Prim.Native.Nat.{ℕ, suc, _+_, _*_}
+use Prim.Native.Nat.{ℕ, _+_, _*_}
 use mathlib.Core.List.{List, [], _∷_}
-use mathlib.Core.Bool.{Bool, true, false, _&&_}
+use mathlib.Core.Bool.{Bool, _&&_}
 use mathlib.Core.Option.{Option, none, some}
 use lib.ListN.{length}
 use lib.Dec.{leb}
 use Rattle.tables.specs.Records.{vWidth, vtWidth, vnWidth, vpWidth, cornerWidth, elementWidth, bodyWidth, rangeWidth, loopWidth, spanWidth}
-use Rattle.model.specs.Model.{Part, Loop, Body, Kind, plain, free, Element, Open, State}
+use Rattle.model.specs.Model.{Body, Kind, plain, free, Open, State}
 
 -- how many entries each table has, or how many are needed
 pub record Rooms : Type 0 where

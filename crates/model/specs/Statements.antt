@@ -1,14 +1,14 @@
+-- Must be believed: a promise reaches every definition of this file.
 -- The statements of a file, their references resolved and their defaults filled in, and what each one does. Applying never refuses.
 use Prim.Native.Nat.{ℕ}
 use mathlib.Core.List.{List, [], _∷_, _++_}
-use mathlib.Core.Bool.{Bool, true, false}
+use mathlib.Core.Bool.{Bool}
 use mathlib.Core.Option.{Option, none, some}
-use lib.ListN.{length}
-use lib.IntN.{ℤ, pos}
+use lib.IntN.{ℤ}
 use Rattle.text.specs.Words.{Word}
 use Rattle.references.specs.Corner.{Corner}
-use Rattle.tables.specs.Bodies.{Basis, bezier, low, high}
-use Rattle.model.specs.Model.{VertexKind, geometric, texture, normal, parametric, Vertices, Names, Shape, Free, curve, curve2, surface, ParmDirection, along-u, along-v, Part, Loop, Body, Kind, plain, free, Element, Model, Form, Open, State}
+use Rattle.tables.specs.Bodies.{Basis, low, high}
+use Rattle.model.specs.Model.{VertexKind, geometric, texture, normal, parametric, Vertices, Names, Shape, Free, curve, curve2, surface, ParmDirection, along-u, along-v, Loop, Body, plain, free, Element, Model, Form, Open, State}
 
 pub data Statement : Type 0 where
   vertex : VertexKind → List ℤ → Statement
@@ -53,16 +53,18 @@ onOpen f s = record { model = s .model; names = s .names; form = s .form; open-b
 abbrev pub withBody : (Body → Body) → Open → Open
 withBody f o = record { body = f (o .body); controls = o .controls; names = o .names }
 
+-- the body with these parameters and loops
+abbrev pub bodyWith : List ℤ → List ℤ → List Loop → Body → Body
+bodyWith us vs loops b =
+    record { free = b .free; basis = b .basis; rational = b .rational; degree-u = b .degree-u; degree-v = b .degree-v; start-u = b .start-u; end-u = b .end-u; start-v = b .start-v; end-v = b .end-v; us = us; vs = vs; loops = loops }
+
 -- "A later parm of the same direction replaces the earlier."
 abbrev pub withParameters : ParmDirection → List ℤ → Body → Body
-withParameters along-u z b =
-    record { free = b .free; basis = b .basis; rational = b .rational; degree-u = b .degree-u; degree-v = b .degree-v; start-u = b .start-u; end-u = b .end-u; start-v = b .start-v; end-v = b .end-v; us = z; vs = b .vs; loops = b .loops }
-withParameters along-v z b =
-    record { free = b .free; basis = b .basis; rational = b .rational; degree-u = b .degree-u; degree-v = b .degree-v; start-u = b .start-u; end-u = b .end-u; start-v = b .start-v; end-v = b .end-v; us = b .us; vs = z; loops = b .loops }
+withParameters along-u z b = bodyWith z (b .vs) (b .loops) b
+withParameters along-v z b = bodyWith (b .us) z (b .loops) b
 
 abbrev pub withLoop : Loop → Body → Body
-withLoop l b =
-    record { free = b .free; basis = b .basis; rational = b .rational; degree-u = b .degree-u; degree-v = b .degree-v; start-u = b .start-u; end-u = b .end-u; start-v = b .start-v; end-v = b .end-v; us = b .us; vs = b .vs; loops = b .loops ++ l ∷ [] }
+withLoop l b = bodyWith (b .us) (b .vs) (b .loops ++ l ∷ []) b
 
 abbrev pub withRange : ℤ → ℤ → Body → Body
 withRange s e b =

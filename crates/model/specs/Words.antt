@@ -1,3 +1,4 @@
+-- Must be believed: a promise reaches every definition of this file.
 -- The words of a line: what each is by its form, or what is wrong with it; 01, "Words after the keyword" and "Numbers of refusal".
 use Prim.Native.Nat.{ℕ, suc}
 use mathlib.Core.List.{List, [], _∷_}

@@ -1,16 +1,15 @@
 -- Q-8: each coordinate is the rounded rule's, which keeps to the controls that it starts from; these are some of the element's.
 use mathlib.Core.Path.{_≡_, sym, subst, _∙_}
-use Prim.Native.Nat.{ℕ, suc, _+_, _*_, _-_, _≤_, _<_}
+use Prim.Native.Nat.{ℕ, _+_, _*_, _-_, _≤_, _<_}
 use native.Mathlib.Nat.{mul-le-mul-right}
 use native.Mathlib.Omega.{arith}
 use lib.ListN.{getD}
 use lib.IntN.{ℤ, pos}
 use lib.Signed.{_≤ℤ_}
 use Rattle.tables.specs.Tables.{Tables}
-use Rattle.tables.specs.declared.Body.{Body}
 use Rattle.tables.specs.declared.Used.{Used}
-use Rattle.tables.specs.declared.Element.{Element}
-use Rattle.point_exact.specs.Directions.{Direction, Rules}
+use Rattle.point_exact.specs.Directions.{Direction}
+use Rattle.point_exact.specs.Rules.{Rules}
 use Rattle.point_exact.specs.Sampled.{firstControl, curveSampled, surfaceSampled}
 use Rattle.point_exact.specs.Outline.{Within}
 use Rattle.point_exact.proofs.Samplers.{controls-there}
@@ -18,7 +17,7 @@ use Rattle.point_exact.proofs.Within.{curve-above, curve-below, surface-above, 
 use Rattle.point_exact.proofs.Outline.{least-le, greatest-ge, curve-within, surface-within, curve-ends, surface-ends}
 use Rattle.point_runs.specs.Runs.{parameterAt}
 use Rattle.point_runs.proofs.Steps.{parameter-from, parameter-upto}
-use Rattle.sampler.specs.Points.{directionU, directionV, controlOf, gridOf, axesOf, curveAt, surfaceAt}
+use Rattle.sampler.specs.Points.{directionU, directionV, controlOf, gridOf, curveAt, surfaceAt}
 use Rattle.sampler.specs.Answers.{elementOf, bodyOf}
 use Rattle.sampler.specs.Demand3.{sampling, Curve, Surface}
 use Rattle.sampler.proofs.Demanded.{curve-facts, curve-rules, ordered, curve-coordinate, run-coordinate}

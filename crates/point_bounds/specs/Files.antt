@@ -1,3 +1,4 @@
+-- Must be believed: a promise reaches every definition of this file.
 -- Q-8 from a text on: the tables are those that reading fills, and no table stands between the file and its points.
 use Prim.Native.Nat.{ℕ, _+_, _*_, _≤_, _<_}
 use mathlib.Core.Path.{_≡_}

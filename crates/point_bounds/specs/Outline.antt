@@ -1,3 +1,4 @@
+-- Must be believed: a promise reaches every definition of this file.
 -- Q-8, "The head must stay inside the block", of the lent tables: every coordinate of a point, alone, in a run or of a polyline, on a curve or a surface.
 use mathlib.Core.Path.{_≡_}
 use mathlib.Core.List.{List}
@@ -10,7 +11,7 @@ use Rattle.tables.specs.declared.Used.{Used}
 use Rattle.point_exact.specs.Outline.{Within, WithinGrid, startingRow, startingGrid, AtParameter}
 use Rattle.point_runs.specs.Runs.{parameterAt}
 use Rattle.sampler.specs.Points.{directionU, directionV, controlOf, gridOf, axesOf}
-use Rattle.sampler.specs.Answers.{elementOf, bodyOf, PointAnswer, RunAnswer}
+use Rattle.sampler.specs.Answers.{elementOf, bodyOf}
 use Rattle.sampler.specs.Demand3.{Sampler, Curve, Surface}
 use Rattle.polyline.specs.Answers.{parametersOf, polylineInto}
 

@@ -2,7 +2,7 @@
 use mathlib.Core.Path.{_≡_, refl, sym, ap, ap₂, _∙_, subst}
 use mathlib.Core.Bool.{Bool, true, false, cond, _&&_}
 use mathlib.Core.List.{List}
-use Prim.Native.Nat.{ℕ, suc, _+_, _*_, _-_, _≤_, _<_}
+use Prim.Native.Nat.{ℕ, _+_, _*_, _-_, _≤_, _<_}
 use native.Mathlib.Omega.{arith}
 use borrow.Author.Tests.{ne-eqb, leb-true, eqb-true}
 use lib.Dec.{leb, eqb}
@@ -10,13 +10,14 @@ use lib.ListN.{length}
 use lib.IntN.{ℤ, pos, _*ℤ_}
 use lib.Signed.{_≤ℤ_, ≤ℤ-refl}
 use Rattle.lists.proofs.Tests.{and-left, and-right}
-use Rattle.rounding.specs.Round.{InRange}
+use Rattle.rounding.specs.Range.{InRange}
 use Rattle.tables.specs.Tables.{Tables}
 use Rattle.tables.specs.Records.{parametersU}
 use Rattle.tables.specs.declared.Body.{Body}
 use Rattle.tables.specs.declared.Used.{Used}
 use Rattle.tables.specs.declared.Element.{Element}
-use Rattle.point_exact.specs.Directions.{at, BezierRules}
+use Rattle.point_exact.specs.Directions.{at}
+use Rattle.point_exact.specs.Rules.{BezierRules}
 use Rattle.point_rows.specs.Controls.{controlAt, ControlsLent}
 use Rattle.point_rows.specs.declared.BodyDirection.{BodyDirection}
 use Rattle.point_rows.proofs.Places.{bezierOnly}
@@ -27,9 +28,10 @@ use Rattle.sampler.specs.declared.PointResult.the-variants as sampled
 use Rattle.sampler.specs.Sampling.{Curved}
 use Rattle.sampler.proofs.Refusals.{Missed, Looked}
 use Rattle.sampler.proofs.Entries.{curve-tables, space-eq, plane-control, space-control}
-use Rattle.point_cubics.specs.Weights.{cubicSampled}
+use Rattle.point_weights.specs.Weights.{cubicSampled}
 use Rattle.point_cubics.specs.Answers.{cubic, parameter64, reached, cubicPoint, cubicAt}
-use Rattle.point_cubics.specs.Inner.{axisBy, pointBy, stepAnswer}
+use Rattle.point_weights.specs.Inner.{axisBy}
+use Rattle.point_cubics.specs.Inner.{pointBy, stepAnswer}
 
 -- ---- the points
 same-controls : (g j : ℕ) (c d : ℕ → ℤ) → ((i : ℕ) → c i ≡ d i) → cubicSampled g j c ≡ cubicSampled g j d

@@ -1,29 +1,29 @@
 -- The exact value at j/64 of a segment, as Bernstein's parts: near what is handed out, and the other path's exact value where the step is a whole millionth.
 use mathlib.Core.Path.{_≡_, refl, sym, ap, _∙_, subst}
-use mathlib.Core.Bool.{Bool, true, false}
 use mathlib.Core.Logic.{_⊎_, inl, inr, ⊎-elim}
 use mathlib.Core.List.{List, [], _∷_}
-use Prim.Native.Nat.{ℕ, zero, suc, _+_, _*_, _-_, _^_, _≤_, _<_}
-use native.Mathlib.Nat.{mul-one, mul-le-mul-right, mul-pos, zero-lt-suc, eq-or-lt-of-le, le-of-mul-le-mul-left, add-suc, add-zero}
+use Prim.Native.Nat.{ℕ, zero, suc, _+_, _*_, _-_, _≤_, _<_}
+use native.Mathlib.Nat.{mul-one, mul-le-mul-right, eq-or-lt-of-le, le-of-mul-le-mul-left, add-suc, add-zero}
 use native.Mathlib.Decide.{decLe}
 use native.Mathlib.Omega.{arith}
 use lib.ListN.{length}
 use lib.IntN.{ℤ, pos, negsuc, natAbs, _+ℤ_, _-ℤ_, _*ℤ_}
-use lib.Signed.{_≤ℤ_, _<ℤ_, leZ, clashℤ, <ℤ-≤ℤ-trans}
+use lib.Signed.{_<ℤ_, leZ, clashℤ, <ℤ-≤ℤ-trans}
 use Rattle.lists.proofs.Tests.{never}
 use Rattle.rounding.specs.Fractions.{Frac, whole, _*ᶠ_, over, sumTo, _≈_, Close}
 use Rattle.rounding.proofs.Ring.{ring, K, _⊕_, _⊝_, _⊗_, ⊖, _≐_}
-use Rattle.rounding.proofs.Order.{Up, up, up-le, up-abs, up-part, lt→up, le-yes, ≤ℤ-trans, <ℤ→≤ℤ}
+use Rattle.rounding.proofs.Order.{up, up-le, up-abs, up-part, lt→up, le-yes, ≤ℤ-trans, <ℤ→≤ℤ}
 use Rattle.rounding.proofs.FracLaws.{Is, is-conv, is-over, is-same, sum, cancel, close-to}
-use Rattle.point_exact.specs.Directions.{Direction, bezier, at, segment, chosen, BezierRules}
+use Rattle.point_exact.specs.Directions.{Direction, bezier, at, segment, chosen}
+use Rattle.point_exact.specs.Rules.{BezierRules}
 use Rattle.point_exact.specs.Exact.{choose, along, segmentWeight, bezierWeight, weightAt, curveExact, segmentExact}
 use Rattle.point_exact.proofs.Scheme.{weigh}
 use Rattle.point_exact.proofs.Bernstein.{share}
 use Rattle.point_exact.proofs.Chosen.{Last, Holds, last-found, segment-holds}
 use Rattle.point_exact.proofs.Samplers.{segment-is, along-is, D-above}
-use Rattle.point_cubics.specs.Weights.{cubicSampled}
+use Rattle.point_weights.specs.Weights.{cubicSampled}
 use Rattle.point_cubics.specs.Answers.{parameter64}
-use Rattle.point_cubics.proofs.Sums.{sampled-near}
+use Rattle.point_weights.proofs.Sums.{sampled-near}
 
 -- the exact value at q of segment g, with k controls
 abbrev exactAt : (k g : ℕ) (q : Frac) → (ℕ → ℤ) → Frac

@@ -2,7 +2,7 @@
 use mathlib.Core.Path.{_≡_, refl, sym, ap, _∙_, subst}
 use mathlib.Core.Bool.{Bool, true, false}
 use mathlib.Core.List.{List, [], _∷_}
-use Prim.Native.Nat.{ℕ, suc, _+_, _*_, _-_, _≤_, _<_}
+use Prim.Native.Nat.{ℕ, suc, _+_, _*_, _≤_, _<_}
 use native.Mathlib.Nat.{mul-pos, mul-le-mul-left, le-of-mul-le-mul-left}
 use native.Mathlib.Omega.{arith}
 use borrow.Author.Tests.{le-leb}
@@ -31,9 +31,9 @@ use Rattle.sampler.specs.Demand3.{sampling}
 use Rattle.sampler.specs.Sampling.{Curved}
 use Rattle.sampler.proofs.Obeyed.{granted, curved}
 use Rattle.sampler.proofs.Demanded.{curve-given, listed-at, points-on-curves}
-use Rattle.point_cubics.specs.Weights.{cubicSampled}
+use Rattle.point_weights.specs.Weights.{cubicSampled}
 use Rattle.point_cubics.specs.Answers.{cubic, parameter64, reached, cubicPoint, cubicAt}
-use Rattle.point_cubics.specs.Near.{Step, StepClaim, PointsInSteps, PathsAgree, TwoPaths}
+use Rattle.point_cubics.specs.Near.{Step, PointsInSteps, TwoPaths}
 use Rattle.point_cubics.proofs.Segments.{cubic-close, same-exact, from-zero}
 use Rattle.point_cubics.proofs.Answers.{handed-out, rules, controls-there, found}
 

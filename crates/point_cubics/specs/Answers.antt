@@ -1,3 +1,4 @@
+-- Must be believed: a promise reaches every definition of this file.
 -- 02, Q-14: a point at j/64 of a segment, or its refusal. "the sampler's, in its order, with 18 also for another type or degree,
 -- 19 for j over 64, no such segment, or j/64 outside start..end."
 use mathlib.Core.Bool.{Bool, false, cond, _&&_}
@@ -13,7 +14,7 @@ use Rattle.tables.specs.declared.Used.{Used}
 use Rattle.point_exact.specs.Directions.{at}
 use Rattle.sampler.specs.Points.{controlOf}
 use Rattle.sampler.specs.Answers.{PointAnswer, elementOf, bodyOf, refusalOf, inside, refusedPoint, spacePoint, planePoint}
-use Rattle.point_cubics.specs.Weights.{cubicSampled}
+use Rattle.point_weights.specs.Weights.{cubicSampled}
 
 -- 18: the body is a bezier, type 1, of degree 3
 abbrev pub cubic : (type degree : ℕ) → Bool

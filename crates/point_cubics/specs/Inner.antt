@@ -1,35 +1,19 @@
--- What the functions below the entry point promise: three numbers, and a point from the parts that are lent.
+-- What the functions below the entry point promise: a point from the parts that are lent.
 use mathlib.Core.Bool.{cond}
-use mathlib.Core.Path.{_≡_}
 use mathlib.Core.List.{List}
 use Prim.Native.Nat.{ℕ}
 use lib.Dec.{eqb}
+use lib.ListN.{length}
 use lib.IntN.{ℤ}
-use Rattle.rounding.specs.Round.{InRange}
 use Rattle.tables.specs.Tables.{Tables}
 use Rattle.tables.specs.Records.{parametersU}
 use Rattle.tables.specs.declared.Element.{Element}
 use Rattle.tables.specs.declared.Body.{Body}
-use Rattle.point_rows.specs.Controls.{controlAt}
 use Rattle.sampler.specs.Answers.{PointAnswer, refusedPoint}
 use Rattle.sampler.specs.declared.PointResult.{PointResult}
 use Rattle.sampler.specs.declared.PointResult.the-variants as sampled
-use Rattle.point_cubics.specs.Weights.{cubicSampled}
+use Rattle.point_weights.specs.Inner.{axisBy}
 use Rattle.point_cubics.specs.Answers.{cubic, reached, cubicPoint}
-use Rattle.point_cubics.specs.declared.Triple.{Triple}
-
--- three numbers, each of them in range
-pub record Has (p : Triple) (x y z : ℤ) : Type 0 where
-  pub x-is : p .x ≡ x
-  pub y-is : p .y ≡ y
-  pub z-is : p .z ≡ z
-  pub x-small : InRange (p .x)
-  pub y-small : InRange (p .y)
-  pub z-small : InRange (p .z)
-
--- one coordinate, from number `entry` of each vertex that is named
-abbrev pub axisBy : List ℤ → List ℕ → (first g j entry : ℕ) → ℤ
-axisBy values corners first g j entry = cubicSampled g j (controlAt values corners first entry)
 
 unfoldable pub pointBy : (kind : ℕ) → List ℤ → List ℤ → List ℕ → (first g j : ℕ) → PointResult
 pointBy kind v vp corners first g j =

@@ -1,4 +1,3 @@
-pub mod Weights
 pub mod Answers
 pub mod Inner
 pub mod Near

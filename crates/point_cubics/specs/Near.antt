@@ -1,3 +1,4 @@
+-- Must be believed: a promise reaches every definition of this file.
 -- 02, Q-14: "Each coordinate is within half a millionth of the exact value at j/64", and "the two paths never differ by more than two millionths
 -- where j/64 falls on a whole millionth of the parameter".
 use mathlib.Core.Path.{_≡_}
@@ -14,15 +15,6 @@ use Rattle.sampler.specs.Points.{directionU, controlOf, axesOf}
 use Rattle.sampler.specs.Answers.{PointAnswer, elementOf, bodyOf}
 use Rattle.sampler.specs.Demand3.{Sampler, Curve}
 use Rattle.point_cubics.specs.Answers.{parameter64}
-use Rattle.point_cubics.specs.Weights.{weight, cubicSampled}
-
--- "so each row sums to 262,144"
-abbrev pub RowSums : Type 0
-RowSums = (j : ℕ) → j ≤ 64 → weight j 0 + weight j 1 + weight j 2 + weight j 3 ≡ 262144
-
--- the ends of a segment are its first and its last control, so that j = 64 of a segment and j = 0 of the next are one point
-abbrev pub SegmentEnds : Type 0
-SegmentEnds = (g : ℕ) (c : ℕ → ℤ) → (cubicSampled g 0 c ≡ c (g * 3)) × (cubicSampled g 64 c ≡ c (g * 3 + 3))
 
 -- a cubic Bezier curve in tables that obey the rules, and a step of one of its segments inside the stated range: nothing refuses
 pub record Step (used : Used) (t : Tables) (number g j : ℕ) : Type 0 where

@@ -18,14 +18,6 @@ use tables::Used;
 
 mod points;
 mod steps;
-mod weights;
-
-// Three numbers of a vertex, or of a point.
-pub struct Triple {
-    pub x: i32,
-    pub y: i32,
-    pub z: i32,
-}
 
 // The same of an element that was looked up.
 fn step_at(

@@ -2,15 +2,16 @@ ghost use mathlib.Core.Path.{_≡_};
 ghost use Prim.Native.Nat.{ℕ, _≤_, _<_};
 ghost use lib.ListN.{length};
 ghost use lib.IntN.{pos, natAbs, _+ℤ_, _-ℤ_, _*ℤ_};
-ghost use Rattle.rounding.specs.Round.{InRange};
+ghost use Rattle.rounding.specs.Range.{InRange};
 ghost use Rattle.point_exact.specs.Directions.{at};
 ghost use Rattle.point_cubics.specs.Answers.{cubic, reached};
 use rounding::weighted;
+use tables::bases;
 
 pub fn is_cubic(basis: u32, degree: u32) -> bool
     ensures { λ r. ⌜ r ≡ cubic basis degree ⌝ }
 {
-    if basis != 1 {
+    if basis != bases::BEZIER {
         return false;
     }
     degree == 3

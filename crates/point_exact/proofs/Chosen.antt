@@ -1,11 +1,10 @@
 -- The chosen segment or span exists, lies in bounds, is not empty and holds t: where the test fails everywhere the parameters never pass t.
 use mathlib.Core.Path.{_≡_, refl, sym, ap, _∙_, subst}
-use mathlib.Core.Bool.{Bool, true, false, cond, _&&_, not}
+use mathlib.Core.Bool.{Bool, true, false, cond, _&&_}
 use mathlib.Core.Logic.{_⊎_, inl, inr, ⊎-elim}
 use mathlib.Core.List.{List}
 use Prim.Native.Nat.{ℕ, zero, suc, _+_, _-_, _≤_, _<_}
 use native.Mathlib.Nat.{not-suc-le-zero, le-refl, le-of-suc-le-suc, eq-or-lt-of-le, add-zero, add-suc}
-use native.Mathlib.Decide.{decLe}
 use native.Mathlib.Omega.{arith}
 use borrow.Author.Tests.{leb-true, le-leb}
 use lib.Dec.{leb}
@@ -14,7 +13,8 @@ use lib.IntN.{ℤ}
 use lib.Signed.{_≤ℤ_, _<ℤ_, leZ, ltZ, ≤ℤ-refl, clashℤ}
 use Rattle.rounding.proofs.Order.{yes-le, yes-lt, le-yes, lt-yes, lt-or-le, ≤ℤ-trans, ≤ℤ-<ℤ-trans, <ℤ→≤ℤ, not-upto}
 use Rattle.lists.proofs.Tests.{and-left, and-right, and-both, test, never}
-use Rattle.point_exact.specs.Directions.{PointBasis, bezier, bspline, Direction, at, lastWhere, segment, starts, span, chosen, BezierRules, SplineRules, Rules}
+use Rattle.point_exact.specs.Directions.{at, lastWhere, segment, starts, span}
+use Rattle.point_exact.specs.Rules.{BezierRules, SplineRules}
 
 -- ---- the last that passes a test
 pub record Last (f : ℕ → Bool) (m g : ℕ) : Type 0 where

@@ -11,7 +11,8 @@ use lib.Signed.{_<ℤ_, leZ-yes, ltZ-yes}
 use Rattle.rounding.specs.Round.{rounded, between}
 use Rattle.rounding.specs.Fractions.{Frac, whole, _+ᶠ_, _-ᶠ_, _*ᶠ_, power, over, sumTo}
 use Rattle.lists.specs.Lists.{all}
-use Rattle.point_exact.specs.Directions.{PointBasis, bezier, bspline, Direction, Rules, at, lastWhere, segment, span, chosen}
+use Rattle.point_exact.specs.Directions.{PointBasis, bezier, bspline, Direction, at, lastWhere, segment, span, chosen}
+use Rattle.point_exact.specs.Rules.{Rules}
 use Rattle.point_exact.specs.Exact.{choose, along, bernstein, segmentWeight, bezierWeight, splineWeight, weightAt, curveExact, surfaceExact}
 use Rattle.point_exact.specs.Sampled.{pyramid, lowAt, highAt, partAt, gapAt, firstControl, curveSampled, surfaceSampled}
 

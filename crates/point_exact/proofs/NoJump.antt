@@ -1,7 +1,7 @@
 -- Why 02, Q-5 asks that an inner knot stands at most n times: there the span before it and the one after it give the same exact value, so the curve does not jump.
 use mathlib.Core.Path.{_≡_, refl, sym, _∙_, ap, ap₂, subst, subst₂}
 use mathlib.Core.List.{[], _∷_}
-use mathlib.Core.Bool.{Bool, true, false}
+use mathlib.Core.Bool.{true, false}
 use mathlib.Core.Logic.{⊎-elim}
 use Prim.Native.Nat.{ℕ, zero, suc, _+_, _*_, _-_, _≤_, _<_}
 use native.Mathlib.Nat.{mul-pos, mul-comm, zero-lt-suc, not-suc-le-zero}
@@ -12,7 +12,7 @@ use lib.IntN.{ℤ, pos, negsuc, _+ℤ_, _-ℤ_, _*ℤ_}
 use lib.Signed.{_<ℤ_}
 use Rattle.lists.proofs.Tests.{test}
 use Rattle.rounding.specs.Fractions.{Frac, whole, _+ᶠ_, _*ᶠ_, over, sumTo, _≈_}
-use Rattle.rounding.proofs.Order.{Up, lt→up, lt-up}
+use Rattle.rounding.proofs.Order.{lt→up, lt-up}
 use Rattle.rounding.proofs.Ring.{ring, K, _⊕_, _⊝_, _⊗_, _≐_}
 use Rattle.rounding.proofs.FracLaws.{Is, is-conv, is-whole, is-plus, is-times, over-above, is-zero-times, is-plus-zero, is-zero-plus, is-same}
 use Rattle.point_exact.specs.Exact.{splineWeight}

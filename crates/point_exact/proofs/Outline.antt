@@ -1,7 +1,7 @@
 -- Q-8: no step leaves the range of the two numbers that it is made from; at either end of a segment each step keeps one of them.
 use mathlib.Core.Path.{_≡_, refl, sym, ap, _∙_, subst}
 use mathlib.Core.Bool.{Bool, true, false, cond}
-use mathlib.Core.Logic.{_⊎_, inl, inr, ⊎-elim}
+use mathlib.Core.Logic.{_⊎_, inl, inr}
 use mathlib.Core.List.{List, [], _∷_}
 use Prim.Native.Nat.{ℕ, zero, suc, _+_, _*_, _-_, _≤_, _<_}
 use native.Mathlib.Nat.{eq-or-lt-of-le, le-of-suc-le-suc, add-zero}
@@ -15,12 +15,13 @@ use Rattle.rounding.proofs.Order.{yes-le, not-upto, ≤ℤ-trans, ≤ℤ-<ℤ-t
 use Rattle.rounding.proofs.Ring.{ring, K, _⊝_, _≐_}
 use Rattle.rounding.proofs.Rounding.{between-start, between-end}
 use Rattle.lists.proofs.Tests.{never}
-use Rattle.point_exact.specs.Directions.{PointBasis, bezier, bspline, by, Direction, at, segment, chosen, BezierRules, Rules}
+use Rattle.point_exact.specs.Directions.{PointBasis, bezier, bspline, by, Direction, at, segment, chosen}
+use Rattle.point_exact.specs.Rules.{BezierRules, Rules}
 use Rattle.point_exact.specs.Sampled.{pyramid, lowAt, highAt, partAt, gapAt, firstControl, curveSampled, surfaceSampled}
-use Rattle.point_exact.specs.Outline.{extreme, least, greatest, startingRow, startingGrid, CurveWithin, SurfaceWithin, AtParameter, CurveEnds, SurfaceEnds}
+use Rattle.point_exact.specs.Outline.{extreme, least, greatest, startingRow, startingGrid, AtParameter}
+use Rattle.point_exact.specs.Near.{CurveWithin, SurfaceWithin, CurveEnds, SurfaceEnds}
 use Rattle.point_exact.proofs.Chosen.{Holds, segment-below, segment-holds}
 use Rattle.point_exact.proofs.Samplers.{D-above}
-use Rattle.point_exact.proofs.Pyramid.{sampled-cong}
 use Rattle.point_exact.proofs.Within.{curve-above, curve-below, surface-above, surface-below}
 
 -- ---- the least and the greatest: of an order R that a test decides, the extreme is before every other

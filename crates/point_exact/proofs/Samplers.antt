@@ -13,7 +13,8 @@ use Rattle.rounding.specs.Fractions.{Frac, whole, _*ᶠ_, over, sumTo}
 use Rattle.rounding.proofs.Order.{up, up-refl, up-trans, up-abs, up-wide, up-part}
 use Rattle.rounding.proofs.FracLaws.{Is, is-conv, is-whole, is-over}
 use Rattle.lists.proofs.Tests.{and-second}
-use Rattle.point_exact.specs.Directions.{PointBasis, bezier, bspline, Direction, at, segment, span, chosen, BezierRules, SplineRules, Rules}
+use Rattle.point_exact.specs.Directions.{PointBasis, bezier, bspline, Direction, at, segment, span, chosen}
+use Rattle.point_exact.specs.Rules.{BezierRules, SplineRules, Rules}
 use Rattle.point_exact.specs.Exact.{along, segmentWeight, bezierWeight, splineWeight, weightAt}
 use Rattle.point_exact.specs.Sampled.{pyramid, lowAt, highAt, partAt, gapAt, firstControl, curveSampled}
 use Rattle.point_exact.proofs.Chosen.{Holds, segment-below, segment-holds, span-below, span-from, span-holds}

@@ -7,7 +7,8 @@ use lib.Signed.{_≤ℤ_}
 use Rattle.rounding.specs.Fractions.{whole, _≈_, sumTo}
 use Rattle.rounding.proofs.Ring.{ring, K, _⊗_, _≐_}
 use Rattle.rounding.proofs.FracLaws.{is-conv, is-same, is-whole, is-from-zero}
-use Rattle.point_exact.specs.Directions.{Direction, Rules}
+use Rattle.point_exact.specs.Directions.{Direction}
+use Rattle.point_exact.specs.Rules.{Rules}
 use Rattle.point_exact.specs.Exact.{weightAt}
 use Rattle.point_exact.proofs.Samplers.{sampler}
 use Rattle.point_exact.proofs.Weights.{weights-are}

@@ -5,7 +5,8 @@ use lib.IntN.{ℤ}
 use lib.Signed.{_≤ℤ_}
 use Rattle.rounding.specs.Round.{between}
 use Rattle.rounding.proofs.Rounding.{between-above, between-below}
-use Rattle.point_exact.specs.Directions.{Direction, Rules}
+use Rattle.point_exact.specs.Directions.{Direction}
+use Rattle.point_exact.specs.Rules.{Rules}
 use Rattle.point_exact.specs.Sampled.{pyramid, partAt, gapAt, firstControl, curveSampled, surfaceSampled}
 use Rattle.point_exact.proofs.Samplers.{step-parts}
 

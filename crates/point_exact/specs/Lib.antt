@@ -1,5 +1,6 @@
 pub mod Directions
+pub mod Rules
 pub mod Exact
 pub mod Sampled
-pub mod Near
 pub mod Outline
+pub mod Near

@@ -1,12 +1,13 @@
+-- Must be believed: a promise reaches every definition of this file.
 -- Q-8, "The head must stay inside the block": the outline of controls on one axis, and what the rounded rule keeps of it.
 use mathlib.Core.Bool.{Bool, cond}
 use mathlib.Core.Path.{_≡_}
-use Prim.Native.Nat.{ℕ, zero, suc, _+_, _*_, _<_}
+use Prim.Native.Nat.{ℕ, zero, suc, _+_, _<_}
 use lib.ListN.{length}
 use lib.IntN.{ℤ}
 use lib.Signed.{_≤ℤ_, leZ}
-use Rattle.point_exact.specs.Directions.{bezier, Direction, at, Rules}
-use Rattle.point_exact.specs.Sampled.{firstControl, curveSampled, surfaceSampled}
+use Rattle.point_exact.specs.Directions.{bezier, Direction, at}
+use Rattle.point_exact.specs.Sampled.{firstControl}
 
 -- of f 0 .. f n the one that stands before all the others
 unfoldable pub extreme : (before : ℤ → ℤ → Bool) (n : ℕ) → (ℕ → ℤ) → ℤ
@@ -37,27 +38,8 @@ startingRow d t c j = c (firstControl d t + j)
 abbrev pub startingGrid : (u v : Direction) (s t : ℤ) → (ℕ → ℕ → ℤ) → ℕ → ℕ → ℤ
 startingGrid u v s t c i j = c (firstControl u s + i) (firstControl v t + j)
 
--- "each coordinate lies between the least and the greatest value on that axis among the controls that its de Casteljau or de Boor starts from"
-abbrev pub CurveWithin : Type 0
-CurveWithin = (d : Direction) (t : ℤ) → Rules d t → (c : ℕ → ℤ) → Within (d .degree) (startingRow d t c) (curveSampled d t c)
-
-abbrev pub SurfaceWithin : Type 0
-SurfaceWithin =
-    (u v : Direction) (s t : ℤ) → Rules u s → Rules v t → (c : ℕ → ℕ → ℤ)
-    → WithinGrid (u .degree) (v .degree) (startingGrid u v s t c) (surfaceSampled u v s t c)
-
 -- "at the start or end of a Bezier segment": t is parameter g, where segment g starts and the one before it ends
 pub record AtParameter (d : Direction) (t : ℤ) (g : ℕ) : Type 0 where
   pub type : d .basis ≡ bezier
   pub some : g < length (d .parameters)
   pub there : t ≡ at (d .parameters) g
-
--- ".. gives that control point exactly": "segment g .. has controls gn to gn+n"
-abbrev pub CurveEnds : Type 0
-CurveEnds = (d : Direction) (t : ℤ) → Rules d t → (g : ℕ) → AtParameter d t g → (c : ℕ → ℤ) → curveSampled d t c ≡ c (g * d .degree)
-
--- "on a surface, both parameters"
-abbrev pub SurfaceEnds : Type 0
-SurfaceEnds =
-    (u v : Direction) (s t : ℤ) → Rules u s → Rules v t → (g h : ℕ) → AtParameter u s g → AtParameter v t h → (c : ℕ → ℕ → ℤ)
-    → surfaceSampled u v s t c ≡ c (g * u .degree) (h * v .degree)

@@ -1,3 +1,4 @@
+-- Must be believed: a promise reaches every definition of this file.
 -- 01, "How a point is made": the rounded rule, by which a point is handed out. Every number is `between` two others, rounded at each step.
 use Prim.Native.Nat.{ℕ, zero, suc, _+_, _*_, _-_}
 use lib.IntN.{ℤ, natAbs, _-ℤ_}

@@ -1,14 +1,15 @@
 -- A place is made of two: by the rounding rule, or guessed where both slacks end at one double on each axis.
 use mathlib.Core.Path.{_≡_, refl, sym, ap, ap₂, _∙_}
 use mathlib.Core.Bool.{true, _&&_}
-use Prim.Native.Nat.{ℕ, _≤_, _<_}
+use Prim.Native.Nat.{ℕ, _≤_}
 use native.Mathlib.Omega.{arith}
 use lib.IntN.{ℤ, negℤ, natAbs, _-ℤ_}
 use lib.Ieee.{Float, binary64, eq, neg, ofBits}
 use mir.Syntax.{w32}
 use mir.Val.{toZ, ofZ}
 use Rattle.lists.proofs.Tests.{and-left, and-right}
-use Rattle.rounding.specs.Round.{InRange, between}
+use Rattle.rounding.specs.Round.{between}
+use Rattle.rounding.specs.Range.{InRange}
 use Rattle.rounding.proofs.Bits.{read-back-small}
 use Rattle.rounding.proofs.IntLaws.{abs-neg, abs-+}
 use Rattle.rounding.proofs.Rounding.{between-small}

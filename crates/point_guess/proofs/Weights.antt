@@ -3,17 +3,18 @@ use mathlib.Core.Path.{_≡_, sym, ap, ap₂, _∙_, subst₂}
 use mathlib.Core.Bool.{false}
 use mathlib.Core.List.{List, [], _∷_}
 use mathlib.Core.Logic.{⊎-elim}
-use Prim.Native.Nat.{ℕ, suc, _+_, _-_, _≤_, _<_}
+use Prim.Native.Nat.{ℕ, _+_, _≤_, _<_}
 use native.Mathlib.Omega.{arith}
 use lib.Dec.{eqb}
 use lib.IntN.{ℤ, pos, natAbs, _+ℤ_, _-ℤ_}
 use lib.Signed.{_≤ℤ_, _<ℤ_}
 use lib.Ieee.{Float}
-use Rattle.rounding.specs.Round.{InRange}
+use Rattle.rounding.specs.Range.{InRange}
 use Rattle.rounding.proofs.Order.{up, up-le, up-abs, up-trans, lt-or-le}
 use Rattle.rounding.proofs.Ring.{ring, _⊕_, _⊝_, _≐_}
 use Rattle.doubles.specs.Doubles.{weightOf}
-use Rattle.point_exact.specs.Directions.{PointBasis, bezier, bspline, by, Direction, at, span, chosen, Rules}
+use Rattle.point_exact.specs.Directions.{PointBasis, bezier, bspline, by, Direction, at, span, chosen}
+use Rattle.point_exact.specs.Rules.{Rules}
 use Rattle.point_exact.specs.Sampled.{lowAt, highAt, partAt, gapAt}
 use Rattle.point_exact.proofs.Chosen.{segment-holds}
 use Rattle.point_exact.proofs.Samplers.{span-on, step-parts}

@@ -6,7 +6,8 @@ use Prim.Native.Nat.{ℕ, _≤_, _<_}
 use lib.Dec.{eqb}
 use lib.IntN.{ℤ, natAbs, _-ℤ_}
 use lib.Ieee.{Float}
-use Rattle.rounding.specs.Round.{InRange, between}
+use Rattle.rounding.specs.Round.{between}
+use Rattle.rounding.specs.Range.{InRange}
 use Rattle.doubles.specs.Doubles.{Encoding, decode, weightOf, blend}
 use Rattle.point_exact.specs.Directions.{Direction}
 use Rattle.point_exact.specs.Sampled.{lowAt, highAt}

@@ -18,6 +18,7 @@ use point_rows::high;
 use point_rows::low;
 use rounding::between;
 use rounding::distance;
+use tables::bases;
 
 // A place of the row: a whole number on each of three axes, as doubles.
 pub struct Place {
@@ -65,7 +66,7 @@ pub fn first_interval(x: &[i32], along: BodyDirection, chosen: usize, t: i32) ->
     requires { ⌜ On along (now x) t chosen ⌝ }
     ensures { λ g. ⌜ First along (now (x .entry)) t g ⌝ }
 {
-    if along.basis == 2 {
+    if along.basis == bases::BSPLINE {
         return Interval {
             low: 0,
             high: 0,
@@ -95,7 +96,7 @@ pub fn interval_of(
     requires { ⌜ On along (now x) t chosen × (r < along .degree) × (j ≤ r) × First along (now x) t first ⌝ }
     ensures { λ g. ⌜ Parted (direction along (now (x .entry))) t r j g ⌝ }
 {
-    if along.basis == 2 {
+    if along.basis == bases::BSPLINE {
         return interval_at(x, along, chosen, t, r, j);
     }
     first

@@ -10,12 +10,14 @@ use lib.ListN.{length, getD}
 use lib.IntN.{ℤ, pos}
 use mir.Syntax.{w32}
 use mir.Val.{toZ, ofZ}
-use Rattle.rounding.specs.Round.{InRange}
+use Rattle.rounding.specs.Range.{InRange}
 use Rattle.rounding.proofs.Bits.{read-back-small}
-use Rattle.point_exact.specs.Directions.{Direction, at, chosen, Rules}
+use Rattle.point_exact.specs.Directions.{Direction, at, chosen}
+use Rattle.point_exact.specs.Rules.{Rules}
 use Rattle.point_exact.specs.Sampled.{pyramid, partAt, gapAt, firstControl, curveSampled, surfaceSampled}
 use Rattle.point_exact.proofs.Samplers.{controls-there}
 use Rattle.point_exact.proofs.Pyramid.{sampled-cong}
+use Rattle.tables.specs.Records.{valueAt, vWidth}
 use Rattle.point_rows.specs.Places.{direction, Sound, On}
 use Rattle.point_rows.specs.Controls.{vertexOf, controlAt, ControlsLent, Reached}
 use Rattle.point_rows.specs.declared.BodyDirection.{BodyDirection}
@@ -61,12 +63,12 @@ pub held-row : {values : List ℤ} {corners : List ℕ} {first : ℕ} (h l j : �
 held-row h l j d b = held-part (j * h) (j * h + h) d (omega arith) (omega (arith, mul-le-mul-right h b, mul-comm h l))
 
 -- number `axis` of the vertex r that control i names, read by its bits
-pub control-read : (values : List ℤ) (corners : List ℕ) (first axis i r : ℕ) → r ≡ vertexOf corners first i → InRange (controlAt values corners first axis i)
-    → let z = toZ w32 (ofZ w32 (getD values (4 * (r - 1) + axis) (pos 0))) in (z ≡ controlAt values corners first axis i) × InRange z
+pub control-read : (values : List ℤ) (corners : List ℕ) (first axis i r : ℕ) {y : ℤ} → y ≡ valueAt vWidth values (r - 1) axis → r ≡ vertexOf corners first i
+    → InRange (controlAt values corners first axis i) → let z = toZ w32 (ofZ w32 y) in (z ≡ controlAt values corners first axis i) × InRange z
 unfolding controlAt
-control-read values corners first axis i r e s =
+control-read values corners first axis i r h e s =
     let z : InRange (getD values (4 * (r - 1) + axis) (pos 0)) = rw e s in
-    rw (read-back-small (getD values (4 * (r - 1) + axis) (pos 0)) z) (ap (λ (q : ℕ). getD values (4 * (q - 1) + axis) (pos 0)) e, z)
+    rw (h, read-back-small (getD values (4 * (r - 1) + axis) (pos 0)) z) (ap (λ (q : ℕ). getD values (4 * (q - 1) + axis) (pos 0)) e, z)
 
 -- a curve's controls are those from the first on
 pub from-first : (d : Direction) (t : ℤ) (values : List ℤ) (corners : List ℕ) (first axis : ℕ)

@@ -8,8 +8,9 @@ use native.Mathlib.Omega.{arith}
 use lib.Dec.{eqb}
 use lib.ListN.{length}
 use lib.IntN.{ℤ, natAbs, _-ℤ_}
-use Rattle.rounding.specs.Round.{InRange}
-use Rattle.point_exact.specs.Directions.{PointBasis, bezier, bspline, by, Direction, at, segment, span, chosen, BezierRules, SplineRules, Rules}
+use Rattle.rounding.specs.Range.{InRange}
+use Rattle.point_exact.specs.Directions.{PointBasis, bezier, bspline, by, Direction, at, segment, span, chosen}
+use Rattle.point_exact.specs.Rules.{BezierRules, SplineRules, Rules}
 use Rattle.point_exact.specs.Sampled.{lowAt, highAt, partAt, gapAt, firstControl}
 use Rattle.point_exact.proofs.Chosen.{span-below, span-from, segment-below}
 use Rattle.point_rows.specs.Places.{direction, Sound, On}

@@ -14,7 +14,8 @@ use lib.IntN.{ℤ}
 use lib.Signed.{_≤ℤ_, _<ℤ_, leZ, ltZ, ≤ℤ-refl, clashℤ}
 use Rattle.rounding.proofs.Order.{yes-le, yes-lt, le-yes, lt-yes, lt-or-le, ≤ℤ-trans, <ℤ→≤ℤ}
 use Rattle.lists.proofs.Tests.{and-left, and-right, and-both, and-first, and-second, test, never}
-use Rattle.point_exact.specs.Directions.{PointBasis, bezier, bspline, Direction, at, lastWhere, segment, starts, span, chosen, Rules}
+use Rattle.point_exact.specs.Directions.{PointBasis, bezier, bspline, Direction, at, lastWhere, segment, starts, span, chosen}
+use Rattle.point_exact.specs.Rules.{Rules}
 use Rattle.point_exact.proofs.Chosen.{Holds, segment-below, segment-holds, span-last, span-below, span-from}
 use Rattle.point_rows.specs.Places.{direction, passes, limit, lead, Sound, On, Hint}
 use Rattle.point_rows.specs.declared.BodyDirection.{BodyDirection}

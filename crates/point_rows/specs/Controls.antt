@@ -6,7 +6,7 @@ use Prim.Native.Nat.{ℕ, _+_, _*_, _-_, _≤_, _<_}
 use lib.Dec.{eqb}
 use lib.ListN.{length}
 use lib.IntN.{ℤ}
-use Rattle.rounding.specs.Round.{InRange}
+use Rattle.rounding.specs.Range.{InRange}
 use Rattle.tables.specs.Records.{valueAt, vWidth, cornersEnd, cornerIn}
 use Rattle.point_rows.specs.declared.BodyDirection.{BodyDirection}
 

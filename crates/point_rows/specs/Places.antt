@@ -7,8 +7,9 @@ use lib.Dec.{leb, eqb}
 use lib.ListN.{length}
 use lib.IntN.{ℤ}
 use lib.Signed.{leZ}
-use Rattle.rounding.specs.Round.{InRange}
-use Rattle.point_exact.specs.Directions.{PointBasis, bezier, bspline, by, Direction, at, lastWhere, starts, chosen, Rules}
+use Rattle.rounding.specs.Range.{InRange}
+use Rattle.point_exact.specs.Directions.{PointBasis, bezier, bspline, by, Direction, at, lastWhere, starts, chosen}
+use Rattle.point_exact.specs.Rules.{Rules}
 use Rattle.point_rows.specs.declared.BodyDirection.{BodyDirection}
 
 -- type 2 is bspline; of the types that are sampled the other is bezier

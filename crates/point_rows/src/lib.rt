@@ -1,14 +1,15 @@
 // What a point's working row is made from: the segment or span found, its parameters and its controls.
 ghost use mathlib.Core.Path.{_≡_};
 ghost use Prim.Native.Nat.{_≤_, _<_};
-ghost use Rattle.rounding.specs.Round.{InRange};
+ghost use Rattle.rounding.specs.Range.{InRange};
 ghost use Rattle.point_exact.specs.Sampled.{lowAt, highAt};
 ghost use Rattle.point_rows.specs.Places.{direction, On};
+use tables::bases;
 
 pub mod controls;
 pub mod search;
 
-// A direction but for its parameters: type 1 is bezier, 2 bspline.
+// A direction but for its parameters.
 pub struct BodyDirection {
     pub basis: u32,
     pub degree: usize,
@@ -20,7 +21,7 @@ pub fn low(x: &[i32], along: BodyDirection, t: i32, chosen: usize, r: usize, j: 
     requires { ⌜ On along (now x) t chosen × (r < along .degree) × (j ≤ r) ⌝ }
     ensures { λ z. ⌜ (z ≡ lowAt (direction along (now (x .entry))) t r j) × InRange z ⌝ }
 {
-    if along.basis == 2 {
+    if along.basis == bases::BSPLINE {
         return x[chosen + j - r];
     }
     x[chosen]
@@ -30,7 +31,7 @@ pub fn high(x: &[i32], along: BodyDirection, t: i32, chosen: usize, r: usize, j:
     requires { ⌜ On along (now x) t chosen × (r < along .degree) × (j ≤ r) ⌝ }
     ensures { λ z. ⌜ (z ≡ highAt (direction along (now (x .entry))) t r j) × InRange z ⌝ }
 {
-    if along.basis == 2 {
+    if along.basis == bases::BSPLINE {
         return x[chosen + j + 1];
     }
     x[chosen + 1]

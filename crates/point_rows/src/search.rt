@@ -6,13 +6,14 @@ ghost use lib.Signed.{ltZ};
 ghost use Rattle.point_exact.specs.Directions.{at};
 ghost use Rattle.point_rows.specs.Places.{direction, limit, Sound, On, Hint};
 use crate::BodyDirection;
+use tables::bases;
 
 // One past the last segment or span that may be chosen.
 fn limit(x: &[i32], along: BodyDirection) -> usize
     requires { ⌜ 0 < length (now x) ⌝ }
     ensures { λ r. ⌜ r ≡ limit (direction along (now (x .entry))) ⌝ }
 {
-    if along.basis == 2 {
+    if along.basis == bases::BSPLINE {
         return along.controls;
     }
     x.len() - 1
@@ -51,7 +52,7 @@ pub fn find(x: &[i32], along: BodyDirection, t: i32) -> usize
     requires { ⌜ Sound along (now x) t ⌝ }
     ensures { λ g. ⌜ On along (now (x .entry)) t g ⌝ }
 {
-    if along.basis == 2 {
+    if along.basis == bases::BSPLINE {
         return search(x, along, t, 0, along.degree);
     }
     search(x, along, t, 0, 0)

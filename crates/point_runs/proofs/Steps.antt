@@ -7,13 +7,14 @@ use native.Mathlib.Omega.{arith}
 use lib.Dec.{T, leb→le}
 use lib.IntN.{ℤ, pos, negsuc, natAbs, _+ℤ_, _-ℤ_, +ℤ-idr}
 use lib.Signed.{_≤ℤ_, leZ}
-use Rattle.rounding.specs.Round.{InRange}
+use Rattle.rounding.specs.Range.{InRange}
 use Rattle.rounding.proofs.Order.{up, up-le, up-abs}
 use Rattle.rounding.proofs.Ring.{ring, _⊕_, _⊝_, _≐_}
 use Rattle.point_rows.specs.Places.{Sound, On, Hint}
 use Rattle.point_rows.specs.declared.BodyDirection.{BodyDirection}
 use Rattle.point_rows.proofs.Searched.{followed}
-use Rattle.point_runs.specs.Runs.{parameterAt, Ranged}
+use Rattle.point_runs.specs.Runs.{parameterAt}
+use Rattle.point_runs.specs.Inner.{Ranged}
 
 pub part-within : (j w n : ℕ) → j ≤ n → j * w / n ≤ w
 part-within j w n h = div-le-of-le-mul n (mul-le-mul-right w h)

@@ -10,12 +10,13 @@ use borrow.Rule.Slice.PartMut.{putMid}
 use lib.IntN.{ℤ, pos}
 use mir.Syntax.{w32}
 use mir.Val.{toZ, ofZ}
-use Rattle.rounding.specs.Round.{InRange}
+use Rattle.rounding.specs.Range.{InRange}
 use Rattle.rounding.proofs.Bits.{read-back-small}
 use Rattle.point_exact.specs.Sampled.{curveSampled}
 use Rattle.point_rows.specs.Places.{direction}
 use Rattle.point_rows.specs.Controls.{controlAt}
-use Rattle.point_runs.specs.Runs.{joined, listed, coordinateOf, pointAt}
+use Rattle.point_runs.specs.Runs.{joined, listed}
+use Rattle.point_runs.specs.Inner.{coordinateOf, pointAt}
 use Rattle.point_rows.specs.declared.BodyDirection.{BodyDirection}
 use Rattle.point_single.specs.Points.{curveNumber, CurvePoint}
 use Rattle.point_single.specs.declared.Point.{Point}

@@ -6,9 +6,11 @@ ghost use Prim.Native.Nat.{_+_, _*_, _≤_, _<_};
 ghost use lib.Dec.{eqb};
 ghost use lib.ListN.{length, drop};
 ghost use lib.Signed.{_≤ℤ_};
-ghost use Rattle.rounding.specs.Round.{InRange};
+ghost use Rattle.rounding.specs.Range.{InRange};
+ghost use Rattle.tables.specs.Records.{curve2Kind};
 ghost use Rattle.point_rows.specs.Controls.{ControlsLent};
-ghost use Rattle.point_runs.specs.Runs.{parameterAt, listed, coordinateOf, pointsUpto, Ranged, runBy, axesBy};
+ghost use Rattle.point_runs.specs.Runs.{parameterAt, listed};
+ghost use Rattle.point_runs.specs.Inner.{coordinateOf, pointsUpto, Ranged, runBy, axesBy};
 use point_guess::certain;
 use point_guess::exact_at;
 use point_guess::first_interval;
@@ -22,6 +24,9 @@ use point_rows::search::search;
 use point_single::gather_span;
 use point_single::point_at;
 use rounding::distance;
+use tables::kinds;
+use tables::vertices::V_START;
+use tables::vertices::VP_START;
 
 // The parameter of point j of a run: at most 65,536 times 4,000,000,000 is multiplied out.
 fn parameter_at(start: i32, end: i32, steps: u32, j: u32) -> i32
@@ -135,7 +140,7 @@ pub fn write_points(
     }
 }
 
-// The points of a run on a curv, or on a curv2 where the kind is 5.
+// The points of a run on a curv, or on a curv2 by the kind.
 pub fn write_run(
     points: &mut [i32],
     kind: u32,
@@ -149,16 +154,16 @@ pub fn write_run(
     end: i32,
     steps: u32,
 )
-    requires { ⌜ ControlsLent (cond (eqb kind 5) (now vp) (now v)) (now corners) first 0 (along .controls) × Ranged along (now x) start end × (0 < steps) × (steps ≤ 65536) × (axesBy kind * (steps + 1) ≤ length (now points)) ⌝ }
+    requires { ⌜ ControlsLent (cond (eqb kind curve2Kind) (now vp) (now v)) (now corners) first 0 (along .controls) × Ranged along (now x) start end × (0 < steps) × (steps ≤ 65536) × (axesBy kind * (steps + 1) ≤ length (now points)) ⌝ }
     ensures { λ r. ⌜ now (points .exit) ≡ runBy kind (now (v .entry)) (now (vp .entry)) (now (corners .entry)) first along (now (x .entry)) start end steps ++ drop (axesBy kind * (steps + 1)) (now (points .entry)) ⌝ }
 {
-    if kind == 5 {
+    if kind == kinds::CURVE2 {
         write_points(
             points,
             vp,
             corners,
             first,
-            1,
+            VP_START,
             2,
             x,
             along,
@@ -167,6 +172,18 @@ pub fn write_run(
             steps,
         );
     } else {
-        write_points(points, v, corners, first, 0, 3, x, along, start, end, steps);
+        write_points(
+            points,
+            v,
+            corners,
+            first,
+            V_START,
+            3,
+            x,
+            along,
+            start,
+            end,
+            steps,
+        );
     }
 }

@@ -4,7 +4,7 @@ use mathlib.Core.List.{List}
 use Prim.Native.Nat.{ℕ, _+_, _*_, _≤_, _<_}
 use lib.ListN.{length}
 use lib.IntN.{ℤ}
-use Rattle.rounding.specs.Round.{InRange}
+use Rattle.rounding.specs.Range.{InRange}
 use Rattle.point_exact.specs.Directions.{Direction}
 use Rattle.point_exact.specs.Sampled.{curveSampled, surfaceSampled}
 use Rattle.point_rows.specs.Controls.{controlAt, firstOf, Reached}

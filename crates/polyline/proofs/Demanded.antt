@@ -23,11 +23,11 @@ use Rattle.sampler.specs.Answers.{wanted, elementOf, bodyOf, refusalOf}
 use Rattle.sampler.specs.Demand3.{Curve, OnCurve}
 use Rattle.sampler.proofs.Obeyed.{granted, curve-kinds}
 use Rattle.sampler.proofs.Demanded.{all-passed, points-on-curves}
-use Rattle.polyline.specs.Chords.{middle, chord, ends, numbers}
+use Rattle.point_chords.specs.Chords.{middle, chord, ends, numbers}
 use Rattle.polyline.specs.Answers.{PolylineAnswer, polylineAnswer, pointAt, parametersOf, numbersOf, polylineInto}
 use Rattle.polyline.specs.Promises.{Chords, PolylinesOnCurves}
 use Rattle.polyline.specs.declared.PolylineResult.the-variants as result
-use Rattle.polyline.proofs.Middle.{middle-from, middle-upto}
+use Rattle.point_chords.proofs.Middle.{middle-from, middle-upto}
 use Rattle.polyline.proofs.Halves.{ends-few}
 use Rattle.polyline.proofs.Every.{every-chord}
 use Rattle.polyline.proofs.Granted as grants

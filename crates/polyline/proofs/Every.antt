@@ -8,9 +8,9 @@ use native.Mathlib.Omega.{arith}
 use lib.IntN.{ℤ}
 use lib.Signed.{_<ℤ_}
 use Rattle.lists.proofs.Tests.{never}
-use Rattle.polyline.specs.Chords.{middle, straight, short, chord, ends}
+use Rattle.point_chords.specs.Chords.{middle, straight, short, chord, ends}
 use Rattle.polyline.specs.Promises.{Linked, lastFrom, Piece, all, first, second, Chord, EveryChord}
-use Rattle.polyline.proofs.Middle.{middle-after, middle-before}
+use Rattle.point_chords.proofs.Middle.{middle-after, middle-before}
 
 last-joined : (a : ℤ) (x y : List ℤ) → lastFrom a (x ++ y) ≡ lastFrom (lastFrom a x) y
 last-joined a [] y = refl

@@ -23,12 +23,12 @@ use Rattle.sampler.specs.Sampling.{Curved, answerOnCurve}
 use Rattle.sampler.proofs.Obeyed.{granted, curved}
 use Rattle.sampler.proofs.Refusals.{Missed, Looked}
 use Rattle.sampler.proofs.Entries.{curve-tables, curve-answered}
-use Rattle.polyline.specs.Chords.{middle, chord, ends, numbers, parameters}
+use Rattle.point_chords.specs.Chords.{middle, chord, ends, numbers, parameters}
 use Rattle.polyline.specs.Answers.{PolylineAnswer, polylineOutcome, pointAt, parametersOf, numbersOf, polylineAnswer, refusedPolyline, filledPolyline, polylineInto}
 use Rattle.polyline.specs.Inner.{coordinatesOf, polylineOver, polylineBy}
 use Rattle.polyline.specs.Promises.{SamplersFifteen}
 use Rattle.polyline.specs.declared.PolylineResult.the-variants as result
-use Rattle.polyline.proofs.Middle.{middle-from, middle-upto}
+use Rattle.point_chords.proofs.Middle.{middle-from, middle-upto}
 use Rattle.polyline.proofs.Halves.{numbers-joined}
 
 by-kind : (t : Tables) (e : Element) (b : Body) (p : ℤ) (q : Bool) → eqb (e .kind) 5 ≡ q → (length (curvePoint t e b p .outcome .coordinates) ≡ axesOf e) × (curvePoint t e b p .outcome .number ≡ 0)

@@ -13,7 +13,7 @@ use Rattle.lists.proofs.Tests.{never}
 use Rattle.sampler.specs.Answers.{PointAnswer, pointOutcome}
 use Rattle.sampler.specs.declared.PointResult.{PointResult}
 use Rattle.sampler.specs.declared.PointResult.the-variants as sampled
-use Rattle.polyline.specs.Chords.{middle, straight, short, chord, ends, numbers}
+use Rattle.point_chords.specs.Chords.{middle, straight, short, chord, ends, numbers}
 use Rattle.polyline.specs.Inner.{PieceEnds, splitOf}
 use Rattle.polyline.specs.declared.Split.{Split}
 use Rattle.polyline.specs.declared.Split.the-variants as split

@@ -1,7 +1,5 @@
-pub mod Middle
 mod Tests
 mod Halves
 pub mod Granted
 pub mod Every
 pub mod Demanded
-mod Examples

@@ -1,3 +1,4 @@
+-- Must be believed: a promise reaches every definition of this file.
 -- Q-3: the polyline of a curve of the tables, its refusals and the point table after it.
 use mathlib.Core.Bool.{false, cond}
 use mathlib.Core.List.{List, _++_}
@@ -10,7 +11,7 @@ use Rattle.tables.specs.Tables.{Tables}
 use Rattle.tables.specs.declared.Used.{Used}
 use Rattle.sampler.specs.Points.{axesOf}
 use Rattle.sampler.specs.Answers.{elementOf, bodyOf, refusalOf, pointOnCurve}
-use Rattle.polyline.specs.Chords.{parameters, numbers}
+use Rattle.point_chords.specs.Chords.{parameters, numbers}
 use Rattle.polyline.specs.declared.PolylineResult.{PolylineResult}
 use Rattle.polyline.specs.declared.PolylineResult.the-variants as result
 

@@ -14,7 +14,7 @@ use Rattle.sampler.specs.Points.{axesOf}
 use Rattle.sampler.specs.Answers.{PointAnswer, pointOutcome}
 use Rattle.sampler.specs.Sampling.{answerOnCurve}
 use Rattle.sampler.specs.declared.PointResult.{PointResult}
-use Rattle.polyline.specs.Chords.{middle, chord, parameters, numbers}
+use Rattle.point_chords.specs.Chords.{middle, chord, parameters, numbers}
 use Rattle.polyline.specs.Answers.{PolylineAnswer, refusedPolyline, filledPolyline}
 use Rattle.polyline.specs.declared.chords.Space.{Space}
 use Rattle.polyline.specs.declared.Split.{Split}

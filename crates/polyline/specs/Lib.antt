@@ -1,4 +1,3 @@
-pub mod Chords
 pub mod Answers
 pub mod Inner
 pub mod Promises

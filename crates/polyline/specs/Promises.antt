@@ -1,3 +1,4 @@
+-- Must be believed: a promise reaches every definition of this file.
 -- What the shop relies on: the parameters of a polyline, why each chord is handed out, and demand 3 at every point.
 use mathlib.Core.Path.{_≡_}
 use mathlib.Core.Bool.{true, false}
@@ -5,24 +6,16 @@ use mathlib.Core.Logic.{_⊎_}
 use mathlib.Core.List.{List, [], _∷_}
 use Prim.Native.Nat.{ℕ, suc, _+_, _*_, _≤_, _<_}
 use lib.ListN.{length, getD, drop}
-use lib.IntN.{ℤ, pos, _+ℤ_, _*ℤ_}
+use lib.IntN.{ℤ, pos}
 use lib.Signed.{_≤ℤ_, _<ℤ_}
 use Rattle.tables.specs.Tables.{Tables}
 use Rattle.tables.specs.declared.Used.{Used}
 use Rattle.sampler.specs.Points.{axesOf}
 use Rattle.sampler.specs.Answers.{elementOf, bodyOf, refusalOf}
 use Rattle.sampler.specs.Demand3.{Curve, OnCurve}
-use Rattle.polyline.specs.Chords.{middle, straight, short, ends}
+use Rattle.point_chords.specs.Chords.{middle, straight, short, ends}
 use Rattle.polyline.specs.Answers.{pointAt, parametersOf, polylineInto}
 use Rattle.polyline.specs.declared.PolylineResult.the-variants as result
-
--- "the middle, rounded down", whatever the two numbers
-pub record Floored (a b m : ℤ) : Type 0 where
-  pub most : (pos 2 *ℤ m) ≤ℤ (a +ℤ b)
-  pub least : (a +ℤ b) <ℤ (pos 2 *ℤ m +ℤ pos 2)
-
-abbrev pub MiddleFloored : Type 0
-MiddleFloored = (a b : ℤ) → Floored a b (middle a b)
 
 -- each number from a on and the next are so related
 abbrev pub Linked : (ℤ → ℤ → Type 0) → ℤ → List ℤ → Type 0

@@ -1,38 +1,13 @@
-// A chord's tests, and a point's numbers.
+// A chord's test on every axis, and a point's numbers.
 ghost use mathlib.Core.Path.{_≡_};
 ghost use Prim.Native.Nat.{_+_, _≤_};
 ghost use lib.ListN.{length};
 ghost use lib.Seq.{sets};
 ghost use Rattle.sampler.specs.Answers.{pointOutcome};
-ghost use Rattle.polyline.specs.Chords.{middle, near, straight, short};
+ghost use Rattle.point_chords.specs.Chords.{straight};
 ghost use Rattle.polyline.specs.Inner.{spaceOf};
+use point_chords::is_near;
 use sampler::PointResult;
-
-// The middle, rounded down: `/` rounds towards zero, so what it halves is raised above zero first.
-pub fn middle_of(a: i32, b: i32) -> i32
-    ensures { λ m. ⌜ m ≡ middle a b ⌝ }
-{
-    let raised = a as i64 + b as i64 + 4294967296;
-    (raised / 2 - 2147483648) as i32
-}
-
-pub fn is_short(a: i32, b: i32) -> bool
-    ensures { λ r. ⌜ r ≡ short a b ⌝ }
-{
-    b as i64 - a as i64 <= 1
-}
-
-// Whether twice m is within twice the tolerance of p and q together; their doubles pass 32 bits.
-pub fn is_near(tolerance: i32, p: i32, m: i32, q: i32) -> bool
-    ensures { λ r. ⌜ r ≡ near tolerance p m q ⌝ }
-{
-    let room = 2 * tolerance as i64;
-    let off = 2 * m as i64 - (p as i64 + q as i64);
-    if 0 - room <= off {
-        return off <= room;
-    }
-    false
-}
 
 // A point's coordinates, 0 for each that it lacks.
 pub struct Space {

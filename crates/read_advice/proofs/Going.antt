@@ -10,9 +10,9 @@ use borrow.Author.Tests.{le-leb, lt-leb, leb-true, leb-false, lt-ltb, le-ltb}
 use lib.ListN.{length}
 use lib.Dec.{leb, ltb}
 use Rattle.lists.proofs.Tests.{test}
-use Rattle.text.specs.Lines.{Line as JoinedLine, linesAt}
+use Rattle.text.specs.Lines.{Line as JoinedLine}
 use Rattle.text.specs.Words.{Word}
-use Rattle.text.specs.Rest.{Rest, restAt, WordMet, EndMet, BadMet, scanOf}
+use Rattle.text.specs.Rest.{Rest, restAt, WordMet, EndMet, BadMet, scanOf, linesAt}
 use Rattle.text.specs.declared.Scan.{Scan}
 use Rattle.text.specs.declared.Scan.the-variants.{Good, Bad as Fault}
 use Rattle.text.proofs.LineByLine.{lines-start, lines-on, lines-end, line-words, line-bad, next-ahead, next-to}
@@ -24,8 +24,9 @@ use Rattle.statements.specs.declared.VertexKind.the-variants.{Geometric, Textur
 use Rattle.statements.specs.declared.Carried.{Carried}
 use Rattle.statements.specs.declared.Carried.the-variants.{Vertex, Element, Body, Parameters, Trim, Hole, End, BodyType, Degree, Group, Smoothing, Material, PassedOver}
 use Rattle.read_advice.specs.declared.lines_before.Tally.{Tally}
-use Rattle.read_advice.specs.Asked.{carriedOf}
-use Rattle.read_advice.specs.Tally.{startTally, vertexTotal, ending, afterVertex, afterLine, afterWords, tallyUpTo, startOf, tallyFrom, tallyOf}
+use Rattle.keyword_rules.specs.Asked.{carriedOf}
+use Rattle.read_advice.specs.Tally.{startTally, ending, afterVertex, afterLine, afterWords, tallyUpTo, startOf, tallyFrom, tallyOf}
+use Rattle.read_advice.specs.Inner.{vertexTotal}
 
 -- ---- a line adds one at most
 one-more : (b : Bool) (n : ℕ) → cond b (n + 1) n ≤ n + 1

@@ -1,3 +1,3 @@
-pub mod Asked
 pub mod Tally
 pub mod Advice
+pub mod Inner

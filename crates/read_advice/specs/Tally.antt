@@ -1,3 +1,4 @@
+-- Must be believed: a promise reaches every definition of this file.
 -- What the lines before the one that holds a place come to: how many there are of each kind that a word may refer to, and which body is open since where.
 use Prim.Native.Nat.{ℕ, _+_}
 use mathlib.Core.List.{List, [], _∷_}
@@ -13,15 +14,11 @@ use Rattle.statements.specs.declared.VertexKind.the-variants.{Geometric, Textur
 use Rattle.statements.specs.declared.Carried.{Carried}
 use Rattle.statements.specs.declared.Carried.the-variants.{Vertex, Element, Body, Parameters, Trim, Hole, End, BodyType, Degree, Group, Smoothing, Material, PassedOver}
 use Rattle.model.specs.Layout.{freeNumber}
-use Rattle.read_advice.specs.Asked.{carriedOf}
+use Rattle.keyword_rules.specs.Asked.{carriedOf}
 use Rattle.read_advice.specs.declared.lines_before.Tally.{Tally}
 
 abbrev pub startTally : Tally
 startTally = record { v = 0; vt = 0; vn = 0; vp = 0; curves = 0; kind = 0; «opened» = 0 }
-
--- all that a word may refer to
-abbrev pub vertexTotal : Tally → ℕ
-vertexTotal t = t .v + t .vt + t .vn + t .vp + t .curves
 
 -- ---- a line: "k means the k-th of its kind so far"
 abbrev pub withCounts : Tally → ℕ → ℕ → ℕ → ℕ → Tally

@@ -1,10 +1,10 @@
 // The parameters along one direction of the open body, and what its type asks of them.
 use basis::curve_count;
-use basis::stepping::Order;
-use basis::stepping::holds;
-use basis::stepping::no_order;
-use basis::stepping::requirement_of;
-use basis::stepping::step;
+use parameter_order::Order;
+use parameter_order::holds;
+use parameter_order::no_order;
+use parameter_order::requirement_of;
+use parameter_order::step;
 use read_bodies::numbers::Counted;
 use read_bodies::numbers::Step;
 use read_bodies::numbers::count_numbers;

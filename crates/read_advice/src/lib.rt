@@ -1,5 +1,4 @@
 // What is told of a refusal besides its number and place: how many there are so far, the open body and what it asks; and what a keyword's rules ask.
-pub mod asked; // a keyword's rules, as numbers
 pub mod lines_before; // what the lines before a place say
 pub mod along; // the parameters along one direction of the open body
 
@@ -8,17 +7,18 @@ use crate::along::along_direction;
 use crate::along::less;
 use crate::along::no_parameters;
 use crate::along::range_from;
-use crate::asked::words_of_range;
 use crate::lines_before::Tally;
 use crate::lines_before::said_before;
 use crate::lines_before::start_tally;
+use keyword_rules::words_of_range;
 use text::AfterBlanks;
 use text::Scan;
 ghost use mathlib.Core.Path.{_≡_};
 ghost use Prim.Native.Nat.{_≤_};
 ghost use lib.ListN.{length};
 ghost use Rattle.keywords.specs.Keywords.{keywordTable};
-ghost use Rattle.read_advice.specs.Advice.{adviceIs, NothingTold};
+ghost use Rattle.read_advice.specs.Advice.{adviceIs};
+ghost use Rattle.read_advice.specs.Inner.{NothingTold};
 
 // The keyword of the line that holds the place, and how many words follow it; what the lines before say; of the open body the type and degrees in force, its
 // controls, and its parameters along u and v.

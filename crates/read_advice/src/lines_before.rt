@@ -1,5 +1,5 @@
 // What the lines before the one that holds a place say, each of which reading took.
-use crate::asked::carried_of;
+use keyword_rules::carried_of;
 use read_bodies::parm::Parm;
 use read_bodies::parm::take_parm;
 use read_settings::TakenForm;
@@ -18,7 +18,8 @@ ghost use Rattle.text.specs.Rest.{restAt};
 ghost use Rattle.keywords.specs.Keywords.{keywordTable};
 ghost use Rattle.keywords.specs.Arguments.{argumentTable};
 ghost use Rattle.model.specs.Layout.{freeNumber};
-ghost use Rattle.read_advice.specs.Tally.{startTally, vertexTotal, withCounts, opening, ending, afterVertex, afterLine, afterWords, tallyOf};
+ghost use Rattle.read_advice.specs.Tally.{startTally, withCounts, opening, ending, afterVertex, afterLine, afterWords, tallyOf};
+ghost use Rattle.read_advice.specs.Inner.{vertexTotal};
 
 // How many there are so far of what a word may refer to, a curv2 from its end on; the kind of the open body's element, 0 where none is open, and the place of
 // its keyword.

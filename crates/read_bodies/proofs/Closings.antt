@@ -14,9 +14,9 @@ use lib.IntN.{ℤ}
 use Rattle.lists.proofs.Tests.{and-left, and-right, and-first, test, never}
 use Rattle.lists.proofs.Laws.{sets-append}
 use Rattle.tables.specs.Bodies.{enough, low, high, inOrder, curveCount, surfaceCount, basisOf}
-use Rattle.basis.specs.declared.stepping.Requirement.{Requirement}
-use Rattle.basis.specs.declared.stepping.Order.{Order}
-use Rattle.basis.specs.Stepping.{requirementOf, fresh, stepOf, walkFrom, walked, holdsIn}
+use Rattle.parameter_order.specs.declared.Requirement.{Requirement}
+use Rattle.parameter_order.specs.declared.Order.{Order}
+use Rattle.parameter_order.specs.Stepping.{requirementOf, fresh, stepOf, walkFrom, walked, holdsIn}
 use Rattle.basis.proofs.Basis.{curve-enough, surface-enough-u, surface-enough-v}
 use Rattle.basis.proofs.Walks.{walk-is, walk-holds}
 use Rattle.model.specs.Model.{Free, curve, curve2, surface, Body}

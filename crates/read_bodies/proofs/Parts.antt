@@ -8,7 +8,8 @@ use lib.ListN.{length, drop}
 use lib.IntN.{ℤ}
 use Rattle.text.specs.Words.{Word, wordOf}
 use Rattle.text.specs.Rest.{Rest, restAt, push, wordAt, endOf, WordMet, EndMet}
-use Rattle.digits.specs.Said.{Said, says, wrong, ended}
+use Rattle.digits.specs.Said.{Said, says, wrong}
+use Rattle.digits.specs.Answers.{ended}
 use Rattle.decimals.specs.Number.{numberOf}
 use Rattle.references.specs.Reference.{referenceOf}
 use Rattle.references.specs.Answers.{saidReference}

@@ -18,7 +18,8 @@ use Rattle.references.specs.Reference.{referenceOf}
 use Rattle.keywords.specs.Arguments.{argumentOf}
 use Rattle.model.specs.Model.{ParmDirection, Part, Open, State, curves}
 use Rattle.model.specs.Statements.{Statement, parameters, loop}
-use Rattle.model.specs.Parse.{Parsed, fine, fault, then, must, Keyword, parm, trim, hole, isSurface, isV, directionOf, saysV, insideBody, allowed, counted, WordForm, a-number, a-curve, formOf, Value, number, whole, direction, onSaid, directionSaid, Seen, placed, valuesOf, numbersOf, wholesOf, partsOf, checked, seenIn, parse}
+use Rattle.model.specs.Parse.{Parsed, fine, fault, then, must, Keyword, parm, trim, hole, isSurface, isV, directionOf, saysV, allowed, counted, WordForm, a-number, a-curve, formOf, Value, number, whole, direction, onSaid, directionSaid, Seen, placed, valuesOf, numbersOf, wholesOf, partsOf, checked, seenIn, parse}
+use Rattle.model.specs.Standing.{insideBody}
 use Rattle.read_bodies.specs.Numbers.{before, leading}
 use Rattle.read_bodies.specs.Parm.{ParmLine}
 use Rattle.read_bodies.specs.Loops.{loopWord, onPart, parts, LoopLine}

@@ -12,11 +12,12 @@ use Rattle.text.specs.declared.AfterBlanks.{AfterBlanks}
 use Rattle.text.specs.declared.AfterBlanks.the-variants as met
 use Rattle.text.proofs.LineByLine.{next-to}
 use Rattle.text.proofs.Tokens.{few}
-use Rattle.digits.specs.Said.{Said, says, wrong, ended}
+use Rattle.digits.specs.Said.{Said, says, wrong}
+use Rattle.digits.specs.Answers.{ended}
 use Rattle.decimals.specs.Number.{numberOf}
-use Rattle.decimals.specs.Answers.{saidNumber}
-use Rattle.decimals.specs.declared.number.Number.{Number}
-use Rattle.decimals.specs.declared.number.Number.the-variants as number
+use Rattle.word_numbers.specs.Answers.{saidNumber}
+use Rattle.word_numbers.specs.declared.Number.{Number}
+use Rattle.word_numbers.specs.declared.Number.the-variants as number
 use Rattle.read_bodies.specs.Numbers.{before, leading, numbersAt, NumberMet, NoNumber, stepIs, AllNumbers, NotAll, countedIs}
 use Rattle.read_bodies.specs.declared.numbers.Step.{Step}
 use Rattle.read_bodies.specs.declared.numbers.Step.the-variants as step

@@ -8,8 +8,8 @@ use lib.Dec.{eqb}
 use lib.Seq.{sets}
 use lib.IntN.{ℤ, pos}
 use Rattle.tables.specs.Bodies.{curveCount, surfaceCount, basisOf}
-use Rattle.basis.specs.declared.stepping.Order.{Order}
-use Rattle.basis.specs.Stepping.{holdsIn}
+use Rattle.parameter_order.specs.declared.Order.{Order}
+use Rattle.parameter_order.specs.Stepping.{holdsIn}
 use Rattle.tables.specs.declared.Used.{Used}
 use Rattle.model.specs.Model.{Body}
 use Rattle.model.specs.Statements.{settled}

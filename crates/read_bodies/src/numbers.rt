@@ -1,10 +1,10 @@
 // The numbers of a line, gone through without storing them: those of a parm are wanted at the body's end only.
-use decimals::number::Number;
-use decimals::number::number_at;
 use read_vertices::Numbers;
 use read_vertices::numbers_into;
 use text::AfterBlanks;
 use text::skip_blanks;
+use word_numbers::Number;
+use word_numbers::number_at;
 ghost use mathlib.Core.Path.{_≡_};
 ghost use Prim.Native.Nat.{_≤_};
 ghost use lib.ListN.{length};

@@ -34,7 +34,8 @@ use Rattle.read_body_lines.proofs.Loops.{used-loops, loop-next, loop-ro
 use lib.Dec.{eqb, leb}
 use Rattle.lists.proofs.Tests.{and-both, never}
 use Rattle.text.specs.Rest.{restAt}
-use Rattle.model.specs.Parse.{fine, Keyword, parm, isSurface, insideBody, allowed}
+use Rattle.model.specs.Parse.{fine, Keyword, parm, isSurface, allowed}
+use Rattle.model.specs.Standing.{insideBody}
 use Rattle.read_state.specs.Changed.{state, loopsStored}
 use Rattle.read_state.proofs.Rooms.{last}
 use Rattle.read_vertex_lines.specs.Stepping.{Began, Left, quietStep, loopStep}

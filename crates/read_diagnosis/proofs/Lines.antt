@@ -1,11 +1,11 @@
 -- The theorem of `diagnose`: by the statement, its row of the rules against the parser's words.
-use Prim.Native.Nat.{ℕ, _+_, _-_, _%_, _≤_, _<_}
+use Prim.Native.Nat.{ℕ, _+_, _-_, _≤_, _<_}
 use mathlib.Core.Path.{_≡_, refl, sym, ap, _∙_}
 use mathlib.Core.List.{List, [], _∷_}
-use mathlib.Core.Bool.{Bool, true, false, cond, _&&_, _||_, not}
+use mathlib.Core.Bool.{Bool, true, false, cond}
 use mathlib.Core.Option.{Option, none}
 use lib.ListN.{length, drop}
-use lib.Dec.{ltb, eqb}
+use lib.Dec.{ltb}
 use lib.IntN.{ℤ}
 use native.Mathlib.Omega.{arith}
 use borrow.Author.Tests.{le-ltb, lt-ltb}
@@ -18,9 +18,9 @@ use Rattle.references.specs.Corner.{Corner}
 use Rattle.keywords.specs.Keywords.{statementOf}
 use Rattle.statements.specs.declared.Statement.{Statement}
 use Rattle.statements.specs.declared.Statement.the-variants.{Carried, Refused as Unrecorded, Unknown}
-use Rattle.statements.specs.Rules.{freeNumbered, allowedBy, countedBy, rulesOf}
+use Rattle.statements.specs.Rules.{allowedBy, countedBy, rulesOf}
 use Rattle.model.specs.Model as model
-use Rattle.model.specs.Model.{geometric, texture, normal, parametric, point, line, face, Free, curve, curve2, surface}
+use Rattle.model.specs.Model.{point, line, face, Free, curve, curve2, surface}
 use Rattle.model.specs.Statements as statements
 use Rattle.model.specs.Parse as parse
 use Rattle.model.specs.Parse.{fine, then, must, unless, Keyword, a-vertex, an-element, a-body, parm, trim, hole, ends, cstype, deg, g, s, usemtl, over, valuesOf, Value, cornersOf, unlike}
@@ -29,7 +29,6 @@ use Rattle.read_state.specs.State.{formIn, openIs, StateIs}
 use Rattle.read_state.specs.declared.Open.{Open}
 use Rattle.read_state.specs.declared.State.{State}
 use Rattle.read_state.specs.declared.Form.{Form}
-use Rattle.read_word_checks.specs.declared.word.Seen.{Seen}
 use Rattle.read_word_checks.specs.declared.tests.Test.the-variants.{Wide}
 use Rattle.read_word_checks.specs.declared.tests.Tests.the-variants.{All}
 use Rattle.read_word_checks.specs.declared.Refusal.{Refusal}

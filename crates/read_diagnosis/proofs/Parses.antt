@@ -2,10 +2,10 @@
 use Prim.Native.Nat.{ℕ, suc, _+_, _-_, _≤_, _<_}
 use mathlib.Core.Path.{_≡_, refl, sym, ap, _∙_}
 use mathlib.Core.List.{List, [], _∷_}
-use mathlib.Core.Bool.{Bool, true, false, cond, _&&_, _||_, not}
+use mathlib.Core.Bool.{Bool, true, false, cond, _&&_}
 use mathlib.Core.Option.{Option, none, some}
 use lib.ListN.{length}
-use lib.Dec.{leb, eqb}
+use lib.Dec.{leb}
 use lib.IntN.{ℤ, natAbs}
 use native.Mathlib.Omega.{arith}
 use borrow.Author.Tests.{ne-eqb, leb-true}
@@ -27,7 +27,7 @@ use Rattle.statements.specs.declared.rules.Forms.{Forms}
 use Rattle.statements.specs.Rules.{freeNumbered, formBy}
 use Rattle.read_word_checks.specs.declared.tests.Tests.the-variants.{Each}
 use Rattle.read_word_checks.specs.declared.Refusal.{Refusal}
-use Rattle.read_word_checks.specs.Faults.{checkOf, onCheck, saidBy, givenBy, faultIn, inForceBy, owed, orElse}
+use Rattle.read_word_checks.specs.Faults.{checkOf, onCheck, givenBy, faultIn, inForceBy, owed, orElse}
 use Rattle.read_diagnosis.specs.Diagnosis.{diagnosisOf, GivenIn}
 use Rattle.read_diagnosis.proofs.Values.{diagnosisAt}
 

@@ -1,13 +1,12 @@
 -- The steps of a line and of its statement put together: what each answer says of the definition in its order.
 use Prim.Native.Nat.{ℕ}
-use mathlib.Core.Path.{_≡_, refl, sym, ap, _∙_}
+use mathlib.Core.Path.{_≡_, sym, ap, _∙_}
 use mathlib.Core.List.{List}
 use mathlib.Core.Bool.{Bool, true, false}
-use lib.ListN.{drop}
 use lib.IntN.{ℤ}
-use Rattle.text.specs.Words.{Word, wordOf}
+use Rattle.text.specs.Words.{Word}
 use Rattle.text.specs.Rest.{restAt, endOf}
-use Rattle.keywords.specs.Keywords.{statementOf, keywordAt}
+use Rattle.keywords.specs.Keywords.{keywordAt}
 use Rattle.keywords.specs.declared.Keyword.{Keyword}
 use Rattle.statements.specs.declared.Carried as carried
 use Rattle.statements.specs.declared.Statement.{Statement}

@@ -1,15 +1,15 @@
 -- The line at a place, by what stands first in it: its end, a byte that is not allowed, or a keyword, whose statement decides.
-use Prim.Native.Nat.{ℕ, _+_, _-_, _≤_, _<_}
+use Prim.Native.Nat.{ℕ, _+_, _-_, _≤_}
 use mathlib.Core.Path.{_≡_, refl, sym, ap, _∙_, subst}
 use mathlib.Core.Logic.{_⊎_, inl, inr, ⊎-elim}
-use mathlib.Core.List.{List, []}
+use mathlib.Core.List.{List}
 use mathlib.Core.Bool.{Bool, true, false, cond}
-use mathlib.Core.Option.{Option, none, some}
+use mathlib.Core.Option.{Option}
 use native.Mathlib.Omega.{arith}
 use lib.ListN.{length, drop}
 use lib.Dec.{eqb}
 use Rattle.text.specs.Words.{Word, wordOf}
-use Rattle.text.specs.Rest.{Rest, restAt, push, wordAt, endOf, WordMet, EndMet, BadMet}
+use Rattle.text.specs.Rest.{Rest, restAt, wordAt, endOf, WordMet, EndMet, BadMet}
 use Rattle.tables.specs.Tables.{Tables}
 use Rattle.keywords.specs.Keywords.{statementOf, letterOf, keywordAt}
 use Rattle.keywords.specs.declared.Keyword as spelled
@@ -21,7 +21,6 @@ use Rattle.statements.specs.declared.Carried.the-variants.{Vertex, Element, Bod
 use Rattle.statements.specs.declared.Statement.{Statement}
 use Rattle.statements.specs.declared.Statement.the-variants.{Carried, Refused, Unknown}
 use Rattle.model.specs.Model as model
-use Rattle.model.specs.Parse as parse
 use Rattle.model.specs.Parse.{fine, fault, unless, Keyword}
 use Rattle.model.specs.Room.{Rooms}
 use Rattle.model.specs.Read.{keywordOf, step}
@@ -31,13 +30,15 @@ use Rattle.read_word_checks.specs.declared.Refusal.{Refusal}
 use Rattle.read_word_checks.specs.declared.Refusal.the-variants as refusal
 use Rattle.read_diagnosis.specs.Diagnosis.{DiagnosisIs}
 use Rattle.read_dispatch.specs.declared.families.Family.{Family}
+use Rattle.read_dispatch.specs.declared.keys.Key as keys
+use Rattle.read_dispatch.specs.declared.keys.Key.the-variants as found
 use Rattle.read_dispatch.specs.declared.LineResult as lines
 use Rattle.read_dispatch.specs.declared.LineResult.the-variants.{Next, Stopped}
 use Rattle.read_vertex_lines.specs.declared.Step.{Step}
 use Rattle.read_vertex_lines.specs.declared.Step.the-variants.{Accepted, Refuses, Rejected}
-use Rattle.read_vertex_lines.specs.Holding.{Holds, NextLine, lineSays, WithinLimit}
+use Rattle.read_vertex_lines.specs.Holding.{Holds, WithinLimit}
 use Rattle.read_vertex_lines.specs.Stepping.{Began, stepIs}
-use Rattle.read_dispatch.specs.Taking.{lineIs, familyIn, familyOf, familyIs, stoppedBy}
+use Rattle.read_dispatch.specs.Taking.{keyIs, lineIs, familyIn, familyOf, familyIs, stoppedBy}
 use Rattle.read_vertex_lines.proofs.Given.{given-in}
 use Rattle.read_dispatch.proofs.Diagnosed.{stops, diagnosed, unknown-diagnosed}
 
@@ -102,6 +103,17 @@ module _ (s : List ℕ) (at : ℕ) (c : State) (t u : Tables) (r : Step) (key : 
 module _ (s : List ℕ) (at : ℕ) (c : State) (r : Step) where
   pub family-step : (t u : Tables) {f g : Family} → f ≡ g → familyIs g s at c t u r → familyIs f s at c t u r
   family-step t u e h = subst (λ (f : Family). familyIs f s at c t u r) (sym e) h
+
+-- ---- what a line's key says, by its case
+module _ (s : List ℕ) (at : ℕ) (k : keys.Key) (is : keyIs s at k) where
+  pub key-word : {p : ℕ} {w : spelled.Keyword} → k ≡ found.Word p w → WordMet s at p × (w ≡ keywordAt s p)
+  key-word e = subst (keyIs s at) e is
+
+  pub key-end : {q : ℕ} → k ≡ found.End q → EndMet s at q
+  key-end e = subst (keyIs s at) e is
+
+  pub key-bad : {p : ℕ} → k ≡ found.Bad p → BadMet s at p
+  key-bad e = subst (keyIs s at) e is
 
 -- ---- no keyword
 module _ (s : List ℕ) (p : ℕ) (c : State) (t : Tables) where

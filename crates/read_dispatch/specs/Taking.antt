@@ -1,14 +1,15 @@
 -- What is asked of the functions that find a line's statement and hand the tables on.
 use Prim.Native.Nat.{ℕ}
 use mathlib.Core.Path.{_≡_}
-use mathlib.Core.Bool.{Bool, true, false}
+use mathlib.Core.Bool.{true, false}
 use mathlib.Core.List.{List}
-use Rattle.text.specs.Rest.{restAt}
+use Rattle.text.specs.Rest.{restAt, WordMet, EndMet, BadMet}
 use Rattle.tables.specs.Tables.{Tables}
 use Rattle.statements.specs.declared.Statement.{Statement}
 use Rattle.statements.specs.declared.Statement.the-variants.{Carried, Refused, Unknown}
 use Rattle.statements.specs.declared.Carried as carried
 use Rattle.statements.specs.declared.Carried.the-variants as carrying
+use Rattle.keywords.specs.Keywords.{keywordAt}
 use Rattle.model.specs.Parse.{fault, a-vertex, an-element, a-body, parm, ends}
 use Rattle.model.specs.Model as model
 use Rattle.model.specs.Room.{Rooms}
@@ -20,6 +21,8 @@ use Rattle.read_element_lines.specs.declared.setting_lines.Setting.the-variants
 use Rattle.read_element_lines.specs.InForce.{settingOf}
 use Rattle.read_dispatch.specs.declared.families.Family.{Family}
 use Rattle.read_dispatch.specs.declared.families.Family.the-variants.{Vertex, Element, Body, Parameters, Loop, End, Set, Other}
+use Rattle.read_dispatch.specs.declared.keys.Key as keys
+use Rattle.read_dispatch.specs.declared.keys.Key.the-variants as key
 use Rattle.read_dispatch.specs.declared.LineResult as lines
 use Rattle.read_dispatch.specs.declared.LineResult.the-variants.{Next, Stopped}
 use Rattle.read_vertex_lines.specs.declared.Step.{Step}
@@ -58,6 +61,12 @@ familyIs (Loop hole) s at c t u r = stepIs s at (loopWord hole) c t u r
 familyIs End s at c t u r = stepIs s at ends c t u r
 familyIs (Set k) s at c t u r = stepIs s at (settingOf k) c t u r
 familyIs Other s at c t u r = (r ≡ Rejected) × (u ≡ t)
+
+-- ---- what stands first in the line at `at`
+abbrev pub keyIs : List ℕ → ℕ → keys.Key → Type 0
+keyIs s at (key.Word p k) = WordMet s at p × (k ≡ keywordAt s p)
+keyIs s at (key.End q) = EndMet s at q
+keyIs s at (key.Bad p) = BadMet s at p
 
 -- ---- a line
 -- what the code finds in the line at `at`, after n bytes were read, in the state c with the tables t, which it leaves as u

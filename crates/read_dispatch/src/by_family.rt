@@ -13,7 +13,7 @@ ghost use mathlib.Core.Path.{_≡_};
 ghost use Prim.Native.Nat.{_≤_};
 ghost use lib.ListN.{length};
 ghost use Rattle.keywords.specs.Arguments.{argumentTable};
-ghost use Rattle.tables.specs.Tables.{Tables, tables};
+ghost use Rattle.tables.specs.Tables.{tables};
 ghost use Rattle.read_dispatch.specs.Taking.{familyIs};
 
 // A line from just after its keyword on.

@@ -1,12 +1,11 @@
 -- No count of a line that has begun passes 32 bits: each is within the bytes before it, and after it within the text.
-use Prim.Native.Nat.{ℕ, _+_, _-_, _≤_}
+use Prim.Native.Nat.{ℕ, _≤_}
 use mathlib.Core.Path.{_≡_, ap}
 use mathlib.Core.List.{List}
 use mathlib.Core.Bool.{true, _&&_}
 use native.Mathlib.Omega.{arith}
 use borrow.Author.Tests.{le-leb, leb-true}
 use lib.Dec.{leb}
-use lib.ListN.{length}
 use Rattle.lists.proofs.Tests.{and-both, and-left, and-right}
 use Rattle.text.specs.Words.{Word}
 use Rattle.text.specs.Rest.{restAt}

@@ -2,20 +2,19 @@
 use Prim.Native.Nat.{ℕ, suc}
 use mathlib.Core.Path.{_≡_, refl, sym, ap, _∙_, subst}
 use mathlib.Core.List.{List, [], _∷_}
-use mathlib.Core.Bool.{Bool, true, false}
+use mathlib.Core.Bool.{true, false}
 use mathlib.Core.Option.{Option, none, some}
-use lib.ListN.{length}
 use native.Mathlib.Omega.{arith}
 use Rattle.text.specs.Words.{Word}
-use Rattle.text.specs.Rest.{Rest, restAt, push, scanOf}
-use Rattle.text.specs.declared.Scan.{Scan}
+use Rattle.text.specs.Rest.{Rest, restAt, scanOf}
 use Rattle.text.specs.declared.Scan.the-variants as scan
 use Rattle.text.proofs.Scans.{scan-good, scan-fault}
 use Rattle.tables.specs.Tables.{Tables}
 use Rattle.model.specs.Model as model
 use Rattle.model.specs.Statements.{Statement, passed}
 use Rattle.model.specs.Parse as parse
-use Rattle.model.specs.Parse.{Parsed, fine, fault, then, must, Keyword, outsideBody, anything, allowed, counted, formOf, valuesOf, Value, seenIn}
+use Rattle.model.specs.Parse.{fine, Keyword, anything, allowed, valuesOf, Value, seenIn}
+use Rattle.model.specs.Standing.{outsideBody}
 use Rattle.model.specs.Room.{Rooms}
 use Rattle.read_state.specs.declared.State.{State}
 use Rattle.read_state.specs.declared.Form.{Form}
@@ -29,11 +28,11 @@ use Rattle.read_settings.specs.declared.TakenNames.{TakenNames}
 use Rattle.read_settings.specs.declared.TakenNames.the-variants as names
 use Rattle.read_settings.proofs.Parses.{type-parse, degree-parse, smoothing-parse, material-parse, group-parse, form-gave-up, names-gave-up}
 use Rattle.read_vertex_lines.specs.declared.Step.{Step}
-use Rattle.read_vertex_lines.specs.declared.Step.the-variants.{Accepted, Refuses, Rejected}
+use Rattle.read_vertex_lines.specs.declared.Step.the-variants.{Accepted, Rejected}
 use Rattle.read_element_lines.specs.declared.setting_lines.Setting.{Setting}
 use Rattle.read_element_lines.specs.declared.setting_lines.Setting.the-variants.{BodyType, Degree, Group, Smoothing, Material, PassedOver}
-use Rattle.read_vertex_lines.specs.Holding.{Holds, NextLine}
-use Rattle.read_vertex_lines.specs.Stepping.{Began, Left, stepIs, quietStep}
+use Rattle.read_vertex_lines.specs.Holding.{NextLine}
+use Rattle.read_vertex_lines.specs.Stepping.{Began, quietStep}
 use Rattle.read_element_lines.specs.InForce.{withForm, withNames, formStep, namesStep, settingOf}
 use Rattle.read_vertex_lines.proofs.Opened.{isEnd, no-body, before-parse, left-in-body}
 use Rattle.read_vertex_lines.proofs.Given.{given-in}

@@ -2,8 +2,8 @@
 use Prim.Native.Nat.{ℕ, _+_, _-_}
 use mathlib.Core.Path.{_≡_, refl, sym, ap, _∙_, subst}
 use mathlib.Core.List.{List, [], _∷_}
-use mathlib.Core.Bool.{Bool, true, false}
-use mathlib.Core.Option.{Option, none, some}
+use mathlib.Core.Bool.{true}
+use mathlib.Core.Option.{Option, none}
 use Rattle.text.specs.Words.{Word}
 use Rattle.text.specs.Rest.{Rest, restAt, push}
 use Rattle.tables.specs.Tables.{Tables}
@@ -11,7 +11,7 @@ use Rattle.keywords.specs.Keywords.{statementOf}
 use Rattle.model.specs.Model as model
 use Rattle.model.specs.Model.{Model, Open}
 use Rattle.model.specs.Statements.{Statement, vertex, element, group, smoothing, material, type, degree, body, parameters, loop, end, passed, apply}
-use Rattle.model.specs.Parse.{Parsed, fine, fault, Keyword, cstype, deg, g, s, usemtl, over, namesOf, materialOf, parse}
+use Rattle.model.specs.Parse.{fine, Keyword, cstype, deg, g, s, usemtl, over, namesOf, materialOf, parse}
 use Rattle.model.specs.Room.{Rooms, fits}
 use Rattle.model.specs.Read.{keywordOf}
 use Rattle.model.proofs.Parsed.{fine-is}

@@ -1,11 +1,10 @@
 -- From what `take_element` answers to the step of its line: laws over plain variables, one for each way out.
-use Prim.Native.Nat.{ℕ, _≤_, _<_}
+use Prim.Native.Nat.{ℕ, _<_}
 use mathlib.Core.Path.{_≡_, refl, sym, _∙_, subst}
 use mathlib.Core.List.{List}
 use mathlib.Core.Bool.{false}
 use mathlib.Core.Option.{Option, none, some}
 use native.Mathlib.Omega.{arith}
-use lib.ListN.{length}
 use Rattle.lists.proofs.Tests.{never}
 use Rattle.text.specs.Words.{Word}
 use Rattle.text.specs.Rest.{restAt}

@@ -15,7 +15,8 @@ use Rattle.tables.specs.declared.Used.{Used}
 use Rattle.read_state.specs.State.{usedIn}
 use Rattle.model.specs.Model.{Shape, point, line, face, State}
 use Rattle.model.specs.Statements.{Statement, element}
-use Rattle.model.specs.Parse.{Parsed, fine, fault, then, must, unless, an-element, a-corner, parts, outsideBody, fewest, Value, corner, formOf, valuesOf, cornersOf, unlike, seenIn, parse}
+use Rattle.model.specs.Parse.{Parsed, fine, fault, then, must, unless, an-element, a-corner, parts, fewest, Value, corner, formOf, valuesOf, cornersOf, unlike, seenIn, parse}
+use Rattle.model.specs.Standing.{outsideBody}
 use Rattle.model.proofs.Parsed.{fine-is, must-fine, unless-fine, then-fine}
 use Rattle.read_elements.specs.Corners.{cornerSaid, cornersWalk}
 use Rattle.read_elements.specs.Elements.{ruleOf, elementSaid}

@@ -20,7 +20,8 @@ use Rattle.read_state.specs.State.{usedIn, formIn}
 use Rattle.read_state.specs.Numbers.{numbersWalk}
 use Rattle.model.specs.Model.{Free, curve, curve2, surface, State}
 use Rattle.model.specs.Statements.{Statement, body}
-use Rattle.model.specs.Parse.{Parsed, fine, fault, then, must, unless, a-body, WordForm, a-number, controlForm, outsideBody, rangeWords, fewestControls, Value, number, corner, onSaid, saidOf, valuesOf, cornersOf, numbersOf, unlike, inForce, narrowIn, openedBody, seenIn, parse}
+use Rattle.model.specs.Parse.{Parsed, fine, fault, then, must, unless, a-body, WordForm, a-number, controlForm, rangeWords, fewestControls, Value, number, corner, onSaid, saidOf, valuesOf, cornersOf, numbersOf, unlike, inForce, narrowIn, openedBody, seenIn, parse}
+use Rattle.model.specs.Standing.{outsideBody}
 use Rattle.model.proofs.Pieces.{opened}
 use Rattle.read_elements.specs.Corners.{control, cornerSaid, cornersFrom, cornersWalk}
 use Rattle.read_elements.specs.Elements.{elementSaid}

@@ -12,7 +12,8 @@ use native.Mathlib.Omega.{arith}
 use Rattle.lists.specs.Lists.{flat}
 use Rattle.text.specs.Words.{Word, wordOf}
 use Rattle.text.specs.Rest.{Rest, restAt, push, wordAt, endOf, WordMet, EndMet, BadMet}
-use Rattle.digits.specs.Said.{Said, says, wrong, ended}
+use Rattle.digits.specs.Said.{Said, says, wrong}
+use Rattle.digits.specs.Answers.{ended}
 use Rattle.references.specs.Corner.{Corner}
 use Rattle.references.specs.Answers.{saidCorner, saidReference}
 use Rattle.references.specs.declared.corner.CornerWord.{CornerWord}

@@ -10,6 +10,7 @@ use statements::Free;
 use statements::rules::fewest_controls;
 use statements::rules::range_words;
 use tables::Used;
+use tables::vertices::given_at;
 ghost use mathlib.Core.Path.{_≡_};
 ghost use mathlib.Core.Bool.{_&&_};
 ghost use Prim.Native.Nat.{_+_, _*_, _≤_, _<_};
@@ -79,12 +80,7 @@ fn is_wide(vp: &[i32], number: u32) -> bool
     if number == 0 {
         return false;
     }
-    let at = 4 * (number as usize - 1);
-    if vp.len() <= at {
-        return false;
-    }
-    let given = vp[at];
-    !(given < 2)
+    !(given_at(vp, number - 1) < 2)
 }
 
 fn all_wide(vp: &[i32], corners: &[u32], first: usize, count: u32) -> bool

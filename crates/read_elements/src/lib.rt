@@ -17,7 +17,7 @@ ghost use lib.ListN.{length, drop};
 ghost use lib.Seq.{sets};
 ghost use Rattle.text.specs.Words.{wordOf};
 ghost use Rattle.text.specs.Rest.{endOf};
-ghost use Rattle.digits.specs.Said.{ended};
+ghost use Rattle.digits.specs.Answers.{ended};
 ghost use Rattle.references.specs.Reference.{referenceOf};
 ghost use Rattle.references.specs.Answers.{saidCorner};
 ghost use Rattle.model.specs.Parse.{onSaid};

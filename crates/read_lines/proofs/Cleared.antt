@@ -8,8 +8,10 @@ use Rattle.tables.specs.Tables.{Tables, zeros}
 use Rattle.tables.specs.declared.Used.{Used}
 use Rattle.tables.proofs.Filled.{replicate-filled}
 use Rattle.table_store.proofs.Clearing.{tables-eq}
+use Rattle.model.specs.Model.{start}
 use Rattle.model.specs.Room.{Rooms}
-use Rattle.model.specs.Layout.{tablesOf, nothing}
+use Rattle.model.specs.Read.{Answer, read, refused}
+use Rattle.model.specs.Layout.{tablesOf, usedOf}
 use Rattle.read_lines.specs.declared.ReadResult.{ReadResult}
 use Rattle.read_lines.specs.declared.ReadResult.the-variants.{Read, Refused}
 use Rattle.read_lines.specs.Answered.{readAnswer, roomsOf, answered}
@@ -18,7 +20,7 @@ use Rattle.read_lines.proofs.Loop.{rooms-eq}
 
 -- ---- cleared tables
 module _ (t : Tables) where
-  pub zeros-nothing : zeros t ≡ tablesOf (roomsOf t) nothing
+  pub zeros-nothing : zeros t ≡ tablesOf (roomsOf t) (start .model)
   unfolding tablesOf
   zeros-nothing =
       tables-eq (replicate-filled (length (t .v)) (pos 0)) (replicate-filled (length (t .vt)) (pos 0)) (replicate-filled (length (t .vn)) (pos 0)) (replicate-filled (length (t .vp)) (pos 0))
@@ -32,14 +34,20 @@ module _ (t : Tables) where
       (length-replicate (length (t .ranges)) (pos 0)) (length-replicate (length (t .parameters)) (pos 0)) (length-replicate (length (t .loops)) 0) (length-replicate (length (t .spans)) (pos 0))
 
   pub cleared-blank : (u : Tables) → u ≡ zeros t → Blank u
-  cleared-blank u e = e ∙ zeros-nothing ∙ ap (λ (R : Rooms). tablesOf R nothing) (sym (ap roomsOf e ∙ zeros-rooms))
+  cleared-blank u e = e ∙ zeros-nothing ∙ ap (λ (R : Rooms). tablesOf R (start .model)) (sym (ap roomsOf e ∙ zeros-rooms))
+
+-- ---- tables of the same lengths: the same is left in them
+pub zeros-same : (t u : Tables) → roomsOf t ≡ roomsOf u → zeros t ≡ zeros u
+zeros-same t u e = zeros-nothing t ∙ ap (λ (R : Rooms). tablesOf R (start .model)) e ∙ sym (zeros-nothing u)
+
+pub answered-same : (t u : Tables) → roomsOf t ≡ roomsOf u → (x : Answer) → answered t x ≡ answered u x
+answered-same t u e (read m) = ap (λ (R : Rooms). readAnswer (Read (usedOf m)) (tablesOf R m)) e
+answered-same t u e (refused n p) = ap (readAnswer (Refused n p)) (zeros-same t u e)
 
 -- ---- the answer
-module _ (s : List ℕ) (t y : Tables) (a : ReadResult) (is : linesIs s (roomsOf t) y a) where
-  pub all-read : (n : Used) → a ≡ Read n → readAnswer (Read n) y ≡ linesRead s (roomsOf t)
-  all-read n k = subst (linesIs s (roomsOf t) y) k is
+module _ (s : List ℕ) (t y : Tables) (a : ReadResult) (is : linesIs s t y a) where
+  pub all-read : (n : Used) → a ≡ Read n → readAnswer (Read n) y ≡ linesRead s t
+  all-read n k = subst (linesIs s t y) k is
 
-  pub all-refused : (n p : ℕ) → a ≡ Refused n p → (z : Tables) → z ≡ zeros y → roomsOf y ≡ roomsOf t → readAnswer (Refused n p) z ≡ linesRead s (roomsOf t)
-  all-refused n p k z f l =
-      ap (λ (w : Tables). readAnswer (Refused n p) w) (f ∙ zeros-nothing y ∙ ap (λ (R : Rooms). tablesOf R nothing) l)
-      ∙ ap (answered (roomsOf t)) (sym (subst (linesIs s (roomsOf t) y) k is))
+  pub all-refused : (n p : ℕ) → a ≡ Refused n p → (z : Tables) → z ≡ zeros y → roomsOf y ≡ roomsOf t → readAnswer (Refused n p) z ≡ linesRead s t
+  all-refused n p k z f l = ap (readAnswer (Refused n p)) (f ∙ zeros-same y t l) ∙ ap (answered t) (sym (subst (linesIs s t y) k is))

@@ -1,46 +1,37 @@
 -- The loop over lines: what is left of the text comes, from the state so far, to what all of it comes to.
-use Prim.Native.Nat.{ℕ, zero, suc, _+_, _*_, _-_, _≤_, _<_}
+use Prim.Native.Nat.{ℕ, _+_, _*_, _-_, _≤_, _<_}
 use mathlib.Core.Path.{_≡_, refl, sym, ap, ap₂, _∙_, subst}
-use mathlib.Core.List.{List, [], _∷_, _++_, append-nil}
-use mathlib.Core.Bool.{Bool, true, false, cond}
+use mathlib.Core.List.{List, append-nil}
 use mathlib.Core.Option.{Option, none}
 use native.Mathlib.Omega.{arith}
 use borrow.Author.Tests.{le-leb, lt-leb}
 use lib.ListN.{length}
-use lib.IntN.{ℤ, pos}
-use Rattle.lists.specs.Lists.{flat, filled}
-use Rattle.text.specs.Lines.{linesOf, linesAt, lineOf}
-use Rattle.text.specs.Lines as lines
-use Rattle.text.specs.Words.{wordsOf, badOf}
-use Rattle.text.specs.Rest.{restAt}
+use Rattle.lists.specs.Lists.{flat}
+use Rattle.text.specs.Rest.{restAt, linesAt}
 use Rattle.text.proofs.LineByLine.{lines-start, lines-on, lines-end, line-words, line-bad, next-ahead, next-to}
 use Rattle.tables.specs.Tables.{Tables}
 use Rattle.tables.specs.declared.Used.{Used}
 use Rattle.model.specs.Model as model
 use Rattle.model.specs.Model.{Element, start}
-use Rattle.model.specs.Parse.{Parsed, fine, fault, unless}
-use Rattle.model.specs.Room.{Rooms, summed, ofKind, partCount, fits}
-use Rattle.model.specs.Read.{Answer, read, refused, step, finish, onParsed, readLines, readOf}
-use Rattle.model.specs.Layout.{tablesOf, usedOf, nothing, bodiesOf}
+use Rattle.model.specs.Parse.{unless}
+use Rattle.model.specs.Room.{Rooms, summed, ofKind, partCount}
+use Rattle.model.specs.Read.{read, refused, step, finish, onParsed, readLines, readOf}
+use Rattle.model.specs.Layout.{tablesOf, usedOf, bodiesOf}
 use Rattle.read_state.specs.declared.State.{State}
-use Rattle.read_state.specs.State.{StateIs, usedIn, namesIn, formIn}
+use Rattle.read_state.specs.State.{usedIn}
 use Rattle.read_state.specs.Image.{imageOf}
 use Rattle.model.proofs.Rows.{bodies-length, bodies-summed}
-use Rattle.read_state.specs.Changed.{Wide}
-use Rattle.read_state.specs.Bounds.{Bounded}
-use Rattle.read_state.proofs.Rooms.{Within, parts-fit}
-use Rattle.read_lines.specs.Answered.{ReadAnswer, readAnswer, roomsOf, answered}
-use Rattle.read_vertex_lines.specs.Holding.{Opened, opened, Holds, lineSays, WithinLimit, NextLine}
+use Rattle.read_state.proofs.Rooms.{parts-fit}
+use Rattle.read_lines.specs.Answered.{readAnswer, roomsOf, answered}
+use Rattle.read_vertex_lines.specs.Holding.{Holds, lineSays, WithinLimit}
 use Rattle.read_vertex_lines.proofs.Opened.{no-body, some-body}
-use Rattle.read_lines.specs.declared.ReadResult.{ReadResult}
-use Rattle.read_lines.specs.declared.ReadResult.the-variants.{Read, Refused}
+use Rattle.read_lines.specs.declared.ReadResult.the-variants.{Read}
 use Rattle.read_dispatch.specs.Taking.{lineIs}
 use Rattle.read_lines.specs.Lines.{begin}
-use Rattle.read_dispatch.specs.declared.LineResult.{LineResult}
 use Rattle.read_dispatch.specs.declared.LineResult.the-variants.{Next, Stopped}
 
 -- ---- at the start
-pub begins : (R : Rooms) (s : List ℕ) → Holds R s start begin (tablesOf R nothing) 0
+pub begins : (R : Rooms) (s : List ℕ) → Holds R s start begin (tablesOf R (start .model)) 0
 unfolding imageOf tablesOf
 begins R s =
     record {
@@ -66,7 +57,7 @@ pub record Going (R : Rooms) (s : List ℕ) (c : State) (t : Tables) (at : ℕ) 
   pub holds : Holds R s now c t at
   pub same : readLines R (length s) (linesAt s 0) start ≡ readLines R (length s) (linesAt s at) now
 
-pub going-start : (R : Rooms) (s : List ℕ) → length s ≤ 16777216 → Going R s begin (tablesOf R nothing) 0
+pub going-start : (R : Rooms) (s : List ℕ) → length s ≤ 16777216 → Going R s begin (tablesOf R (start .model)) 0
 going-start R s l = record { limit = l; to = omega arith; now = start; holds = begins R s; same = refl }
 
 -- the line at `at` is the first of those left
@@ -122,19 +113,22 @@ image-is R x e =
     let es : List Element = x .model .elements in
     rw (e, append-nil es, append-nil (bodiesOf es)) refl
 
-module _ (R : Rooms) (s : List ℕ) (c : State) (t : Tables) (at : ℕ) (go : Going R s c t at) (h : length s ≤ at) where
+module _ (T : Tables) (s : List ℕ) (c : State) (t : Tables) (at : ℕ) (go : Going (roomsOf T) s c t at) (h : length s ≤ at) where
+  abbrev R : Rooms
+  R = roomsOf T
+
   done : readLines R (length s) (linesAt s 0) start ≡ finish (length s) (go .now .open-body) (go .now .model)
   done = go .same ∙ ap (λ l. readLines R (length s) l (go .now)) (lines-end s at h)
 
   pub going-open : (c .«open» .kind ≡ 0 → ⊥) → readLines R (length s) (linesAt s 0) start ≡ refused 10 (length s)
   going-open f = done ∙ ap (λ (o : Option model.Open). finish (length s) o (go .now .model)) (some-body s (c .«open») (go .now .open-body) (go .holds .state .open-body) f .1)
 
-  pub going-read : c .«open» .kind ≡ 0 → readAnswer (Read (c .used)) t ≡ answered R (readLines R (length s) (linesAt s 0) start)
+  pub going-read : c .«open» .kind ≡ 0 → readAnswer (Read (c .used)) t ≡ answered T (readLines R (length s) (linesAt s 0) start)
   going-read z =
       let o : go .now .open-body ≡ none = no-body s (c .«open») (go .now .open-body) (go .holds .state .open-body) z in
       let a : readLines R (length s) (linesAt s 0) start ≡ read (go .now .model) = done ∙ ap (λ o. finish (length s) o (go .now .model)) o in
       ap₂ (λ (u : Used) (t : Tables). readAnswer (Read u) t) (go .holds .state .used ∙ used-is (go .now) o) (go .holds .image ∙ image-is R (go .now) o)
-      ∙ ap (answered R) (sym a)
+      ∙ ap (answered T) (sym a)
 
 -- ---- the whole
 pub read-short : (R : Rooms) (s : List ℕ) → length s ≤ 16777216 → readOf R s ≡ readLines R (length s) (linesAt s 0) start

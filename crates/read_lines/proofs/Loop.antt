@@ -35,15 +35,15 @@ module _ (s : List ℕ) (t u : Tables) (c : State) (at : ℕ) (r : Reached s t u
           (let z : length s - q < length s - at = omega arith in z),
         )
 
-    pub reached-stop : (n p : ℕ) → a ≡ Stopped n p → linesIs s (roomsOf t) y (Refused n p)
+    pub reached-stop : (n p : ℕ) → a ≡ Stopped n p → linesIs s t y (Refused n p)
     reached-stop n p e = going-stops (roomsOf t) s c u at (r .going) h y n p (subst (lineIs s at c u y) e is)
 
   module _ (h : length s ≤ at) where
-    pub reached-open : (c .«open» .kind ≡ 0 → ⊥) → linesIs s (roomsOf t) u (Refused 10 (length s))
-    reached-open f = going-open (roomsOf t) s c u at (r .going) h f
+    pub reached-open : (c .«open» .kind ≡ 0 → ⊥) → linesIs s t u (Refused 10 (length s))
+    reached-open f = going-open t s c u at (r .going) h f
 
-    pub reached-end : c .«open» .kind ≡ 0 → linesIs s (roomsOf t) u (Read (c .used))
-    reached-end z = going-read (roomsOf t) s c u at (r .going) h z
+    pub reached-end : c .«open» .kind ≡ 0 → linesIs s t u (Read (c .used))
+    reached-end z = going-read t s c u at (r .going) h z
 
 pub rooms-eq : {v v′ vt vt′ vn vn′ vp vp′ corners corners′ elements elements′ bodies bodies′ ranges ranges′ parameters parameters′ loops loops′ spans spans′ : ℕ}
     → v ≡ v′ → vt ≡ vt′ → vn ≡ vn′ → vp ≡ vp′ → corners ≡ corners′ → elements ≡ elements′ → bodies ≡ bodies′ → ranges ≡ ranges′ → parameters ≡ parameters′ → loops ≡ loops′ → spans ≡ spans′

@@ -1,11 +1,12 @@
+-- Must be believed: a promise reaches every definition of this file.
 -- An answer and what every lent table holds with it.
 use Prim.Native.Nat.{ℕ}
 use lib.ListN.{length}
-use Rattle.tables.specs.Tables.{Tables}
+use Rattle.tables.specs.Tables.{Tables, zeros}
 use Rattle.tables.specs.declared.Used.{Used}
 use Rattle.model.specs.Room.{Rooms}
 use Rattle.model.specs.Read.{Answer, read, refused}
-use Rattle.model.specs.Layout.{tablesOf, usedOf, noneUsed, nothing}
+use Rattle.model.specs.Layout.{tablesOf, usedOf, noneUsed}
 use Rattle.read_lines.specs.declared.ReadResult.{ReadResult}
 use Rattle.read_lines.specs.declared.ReadResult.the-variants.{Read, Refused}
 
@@ -47,6 +48,6 @@ abbrev pub readAnswer : ReadResult → Tables → ReadAnswer
 readAnswer r t = record { answer = r; outcome = readOutcome r; tables = t }
 
 -- "Then the tables hold what those rules say"; "A refusal zeroes every lent table and every count."
-abbrev pub answered : Rooms → Answer → ReadAnswer
-answered R (read m) = record { answer = Read (usedOf m); outcome = record { number = 0; place = 0; used = usedOf m }; tables = tablesOf R m }
-answered R (refused n p) = record { answer = Refused n p; outcome = record { number = n; place = p; used = noneUsed }; tables = tablesOf R nothing }
+abbrev pub answered : Tables → Answer → ReadAnswer
+answered t (read m) = record { answer = Read (usedOf m); outcome = record { number = 0; place = 0; used = usedOf m }; tables = tablesOf (roomsOf t) m }
+answered t (refused n p) = record { answer = Refused n p; outcome = record { number = n; place = p; used = noneUsed }; tables = zeros t }

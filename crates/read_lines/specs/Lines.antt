@@ -3,12 +3,11 @@ use Prim.Native.Nat.{ℕ}
 use mathlib.Core.Path.{_≡_}
 use mathlib.Core.List.{List}
 use lib.ListN.{length}
-use Rattle.text.specs.Lines.{linesAt}
+use Rattle.text.specs.Rest.{linesAt}
 use Rattle.tables.specs.Tables.{Tables}
 use Rattle.model.specs.Model.{start}
-use Rattle.model.specs.Room.{Rooms}
 use Rattle.model.specs.Read.{refused, readLines}
-use Rattle.model.specs.Layout.{tablesOf, nothing}
+use Rattle.model.specs.Layout.{tablesOf}
 use Rattle.read_state.specs.declared.State.{State}
 use Rattle.read_lines.specs.declared.ReadResult.{ReadResult}
 use Rattle.read_lines.specs.declared.ReadResult.the-variants.{Read, Refused}
@@ -26,13 +25,13 @@ begin =
 
 -- tables that hold nothing
 abbrev pub Blank : Tables → Type 0
-Blank t = t ≡ tablesOf (roomsOf t) nothing
+Blank t = t ≡ tablesOf (roomsOf t) (start .model)
 
--- what all lines of the text come to, with the tables cleared on a refusal
-abbrev pub linesRead : List ℕ → Rooms → ReadAnswer
-linesRead s R = answered R (readLines R (length s) (linesAt s 0) start)
+-- what all lines of the text come to with the tables t lent, which a refusal clears
+abbrev pub linesRead : List ℕ → Tables → ReadAnswer
+linesRead s t = answered t (readLines (roomsOf t) (length s) (linesAt s 0) start)
 
 -- the same before they are cleared: they held nothing and then hold u
-abbrev pub linesIs : List ℕ → Rooms → Tables → ReadResult → Type 0
-linesIs s R u (Read n) = readAnswer (Read n) u ≡ linesRead s R
-linesIs s R u (Refused n p) = readLines R (length s) (linesAt s 0) start ≡ refused n p
+abbrev pub linesIs : List ℕ → Tables → Tables → ReadResult → Type 0
+linesIs s t u (Read n) = readAnswer (Read n) u ≡ linesRead s t
+linesIs s t u (Refused n p) = readLines (roomsOf t) (length s) (linesAt s 0) start ≡ refused n p

@@ -13,7 +13,7 @@ ghost use lib.ListN.{length};
 ghost use Rattle.keywords.specs.Keywords.{keywordTable};
 ghost use Rattle.keywords.specs.Arguments.{argumentTable};
 ghost use Rattle.tables.specs.Tables.{tables};
-ghost use Rattle.read_lines.specs.Answered.{roomsOf, readAnswer};
+ghost use Rattle.read_lines.specs.Answered.{readAnswer};
 ghost use Rattle.read_lines.specs.Lines.{begin, Blank, linesRead, linesIs};
 
 // What a text comes to: how many records of each kind were read, or a refusal.
@@ -82,7 +82,7 @@ fn store_lines(
     requires { ⌜ Blank (tables (now v) (now vt) (now vn) (now vp) (now corners) (now elements) (now bodies) (now ranges) (now parameters) (now loops) (now spans)) ⌝ }
     requires { ⌜ now «keyword_table» ≡ keywordTable ⌝ }
     requires { ⌜ now «argument_table» ≡ argumentTable ⌝ }
-    ensures { λ r. ⌜ linesIs (now (text .entry)) (roomsOf (tables (now (v .entry)) (now (vt .entry)) (now (vn .entry)) (now (vp .entry)) (now (corners .entry)) (now (elements .entry)) (now (bodies .entry)) (now (ranges .entry)) (now (parameters .entry)) (now (loops .entry)) (now (spans .entry)))) (tables (now (v .exit)) (now (vt .exit)) (now (vn .exit)) (now (vp .exit)) (now (corners .exit)) (now (elements .exit)) (now (bodies .exit)) (now (ranges .exit)) (now (parameters .exit)) (now (loops .exit)) (now (spans .exit))) r ⌝ }
+    ensures { λ r. ⌜ linesIs (now (text .entry)) (tables (now (v .entry)) (now (vt .entry)) (now (vn .entry)) (now (vp .entry)) (now (corners .entry)) (now (elements .entry)) (now (bodies .entry)) (now (ranges .entry)) (now (parameters .entry)) (now (loops .entry)) (now (spans .entry))) (tables (now (v .exit)) (now (vt .exit)) (now (vn .exit)) (now (vp .exit)) (now (corners .exit)) (now (elements .exit)) (now (bodies .exit)) (now (ranges .exit)) (now (parameters .exit)) (now (loops .exit)) (now (spans .exit))) r ⌝ }
 {
     let mut state = begin();
     let mut at: usize = 0;
@@ -149,7 +149,7 @@ pub fn lines_of(
     requires { ⌜ Blank (tables (now v) (now vt) (now vn) (now vp) (now corners) (now elements) (now bodies) (now ranges) (now parameters) (now loops) (now spans)) ⌝ }
     requires { ⌜ now «keyword_table» ≡ keywordTable ⌝ }
     requires { ⌜ now «argument_table» ≡ argumentTable ⌝ }
-    ensures { λ r. ⌜ readAnswer r (tables (now (v .exit)) (now (vt .exit)) (now (vn .exit)) (now (vp .exit)) (now (corners .exit)) (now (elements .exit)) (now (bodies .exit)) (now (ranges .exit)) (now (parameters .exit)) (now (loops .exit)) (now (spans .exit))) ≡ linesRead (now (text .entry)) (roomsOf (tables (now (v .entry)) (now (vt .entry)) (now (vn .entry)) (now (vp .entry)) (now (corners .entry)) (now (elements .entry)) (now (bodies .entry)) (now (ranges .entry)) (now (parameters .entry)) (now (loops .entry)) (now (spans .entry)))) ⌝ }
+    ensures { λ r. ⌜ readAnswer r (tables (now (v .exit)) (now (vt .exit)) (now (vn .exit)) (now (vp .exit)) (now (corners .exit)) (now (elements .exit)) (now (bodies .exit)) (now (ranges .exit)) (now (parameters .exit)) (now (loops .exit)) (now (spans .exit))) ≡ linesRead (now (text .entry)) (tables (now (v .entry)) (now (vt .entry)) (now (vn .entry)) (now (vp .entry)) (now (corners .entry)) (now (elements .entry)) (now (bodies .entry)) (now (ranges .entry)) (now (parameters .entry)) (now (loops .entry)) (now (spans .entry))) ⌝ }
 {
     match store_lines(
         text,

@@ -1,6 +1,5 @@
 -- No line needs more than 22 entries for each of its words: a curv, curv2 or surf takes that many for its keyword alone, any other word at most three.
 use Prim.Native.Nat.{ℕ, suc, _+_, _*_, _≤_}
-use mathlib.Core.Path.{_≡_}
 use mathlib.Core.List.{List, [], _∷_}
 use mathlib.Core.Bool.{Bool, true, false, cond}
 use mathlib.Core.Option.{Option, none, some}

@@ -1,21 +1,19 @@
 -- The loop over lines: what was counted and what is left come to the rooms of the whole text, which are few, so no sum wraps.
 use Prim.Native.Nat.{ℕ, _+_, _*_, _-_, _≤_, _<_}
 use mathlib.Core.Path.{_≡_, refl, sym, ap, ap₂, _∙_}
-use mathlib.Core.List.{List, []}
+use mathlib.Core.List.{List}
 use mathlib.Core.Option.{Option, none, some}
 use native.Mathlib.Omega.{arith}
 use borrow.Author.Tests.{le-leb, lt-leb}
 use lib.ListN.{length}
-use Rattle.text.specs.Lines.{Line as JoinedLine, linesOf, linesAt}
+use Rattle.text.specs.Lines.{Line as JoinedLine}
 use Rattle.text.specs.Words.{Word, wordOf}
-use Rattle.text.specs.Rest.{Rest, restAt, wordAt, endOf, push, WordMet, EndMet, BadMet, scanOf}
-use Rattle.text.specs.declared.Scan.{Scan}
+use Rattle.text.specs.Rest.{Rest, restAt, wordAt, endOf, push, WordMet, EndMet, BadMet, scanOf, linesAt}
 use Rattle.text.specs.declared.Scan.the-variants.{Good, Bad as Fault}
 use Rattle.text.proofs.LineByLine.{lines-start, lines-on, lines-end, line-words, line-bad, next-ahead, next-to}
 use Rattle.text.proofs.Scans.{scan-good, scan-fault}
 use Rattle.keywords.specs.Keywords.{keywordAt}
 use Rattle.keywords.specs.declared.Keyword.{Keyword}
-use Rattle.statements.specs.declared.Statement.{Statement}
 use Rattle.read_rooms.specs.declared.Rooms.{Rooms}
 use Rattle.read_rooms.specs.declared.Line.{Line}
 use Rattle.read_rooms.specs.declared.Line.the-variants.{Counted, Stopped}

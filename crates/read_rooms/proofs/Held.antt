@@ -1,16 +1,14 @@
 -- What a state holds is at most the room counted for the lines before it: a statement adds no more than its line's room. By the statement.
-use Prim.Native.Nat.{ℕ, zero, suc, _+_, _*_, _-_, _/_, _≤_, _<_}
-use mathlib.Core.Path.{_≡_, refl, sym, ap, _∙_, subst}
+use Prim.Native.Nat.{ℕ, _+_, _*_, _≤_}
+use mathlib.Core.Path.{_≡_, ap, _∙_}
 use mathlib.Core.List.{List, [], _∷_, _++_}
-use mathlib.Core.Bool.{Bool, true, false, cond}
 use mathlib.Core.Option.{Option, none, some}
 use native.Mathlib.Omega.{arith}
 use lib.ListN.{length, length-append}
-use lib.IntN.{ℤ}
 use Rattle.references.specs.Corner.{Corner}
-use Rattle.model.specs.Model.{VertexKind, geometric, texture, normal, parametric, Names, along-u, along-v, Body, Kind, plain, free, Element, Model, Form, Open, State, start}
+use Rattle.model.specs.Model.{geometric, texture, normal, parametric, Names, along-u, along-v, Body, plain, Element, Model, Form, Open, State, start}
 use Rattle.model.specs.Statements.{Statement, vertex, element, group, smoothing, material, type, degree, body, parameters, loop, end, passed, apply, settled, closed, withLoop}
-use Rattle.model.specs.Room.{summed, ofKind, ofOpen, partCount, cornerCount, elementCount, bodyCount, parameterCount, loopPartCount}
+use Rattle.model.specs.Room.{summed, ofKind, partCount, cornerCount, elementCount, bodyCount, parameterCount, loopPartCount}
 use Rattle.model.proofs.Rows.{summed-append}
 use Rattle.read_state.specs.Bounds.{waiting}
 use Rattle.read_state.proofs.Ends.{settled-us, settled-vs, settled-loops}

@@ -1,8 +1,8 @@
 -- Reading in its rooms: what a state holds and what the lines left can need are together within what is lent. By the lines.
-use Prim.Native.Nat.{ℕ, _+_, _*_, _≤_}
-use mathlib.Core.Path.{_≡_, refl, sym, ap, _∙_, subst}
+use Prim.Native.Nat.{ℕ}
+use mathlib.Core.Path.{_≡_, refl, sym, _∙_, subst}
 use mathlib.Core.List.{List, [], _∷_}
-use mathlib.Core.Bool.{Bool, true, false, cond}
+use mathlib.Core.Bool.{Bool, true, false}
 use mathlib.Core.Option.{Option, none, some}
 use mathlib.Core.Logic.{⊎-elim}
 use native.Mathlib.Omega.{arith}
@@ -15,20 +15,20 @@ use Rattle.text.specs.Words.{Word, wordsOf, badOf}
 use Rattle.keywords.specs.Keywords.{statementOf}
 use Rattle.tables.specs.Tables.{Tables}
 use Rattle.model.specs.Model.{Open, Model, State, start}
-use Rattle.model.specs.Statements.{Statement, apply}
-use Rattle.model.specs.Parse.{Parsed, fine, fault, then, must, unless, Keyword, parse}
+use Rattle.model.specs.Statements.{apply}
+use Rattle.model.specs.Parse.{Parsed, fine, fault, then, unless, parse}
 use Rattle.model.specs.Room as lent
-use Rattle.model.specs.Room.{needed, within, fits}
+use Rattle.model.specs.Room.{needed, fits}
 use Rattle.model.specs.Read.{keywordOf, statement, step, Answer, read, refused, finish, onParsed, readLines, readOf}
 use Rattle.read_state.proofs.Rooms.{Within, within-parts, parts-fit}
-use Rattle.read_lines.specs.declared.ReadResult.the-variants.{Read, Refused}
+use Rattle.read_lines.specs.declared.ReadResult.the-variants.{Refused}
 use Rattle.reader.specs.Reading.{roomsOf, answered, readInto}
 use Rattle.read_rooms.specs.declared.Rooms.{Rooms}
 use Rattle.read_rooms.specs.Rooms.{noRoom, both, roomFor, roomOfWords, upTo, roomsOfLines, roomsOfText}
 use Rattle.read_rooms.specs.Claims.{lengthsOf, NeverLacksRoom}
 use Rattle.read_rooms.proofs.Sums.{none-both, both-both}
 use Rattle.read_rooms.proofs.Refusals.{lacking, parse-said, keyword-said}
-use Rattle.read_rooms.proofs.Held.{Held, held-start, takes, held-after}
+use Rattle.read_rooms.proofs.Held.{Held, held-start, held-after}
 use Rattle.read_rooms.proofs.Taken.{line-takes}
 
 -- answered with 14
@@ -69,9 +69,9 @@ module _ (R : lent.Rooms) where
     never-short [] x r h w = finish-short n (x .open-body) (x .model)
     never-short (l ∷ ls) x r h w = by-line ls x r h (never-short ls) (badOf l) (wordsOf l) w
 
-never-answered : (R : lent.Rooms) (a : Answer) (p : ℕ) → short a ≡ false → answered R a .answer ≡ Refused 14 p → ⊥
-never-answered R (read m) p h e = let z : _≡_ {A = ℕ} 0 1 = cc in omega arith
-never-answered R (refused n q) p h e = let z : n ≡ 14 = cc in never (sym (sym (eq-eqb n 14 z) ∙ h))
+never-answered : (t : Tables) (a : Answer) (p : ℕ) → short a ≡ false → answered t a .answer ≡ Refused 14 p → ⊥
+never-answered t (read m) p h e = let z : _≡_ {A = ℕ} 0 1 = cc in omega arith
+never-answered t (refused n q) p h e = let z : n ≡ 14 = cc in never (sym (sym (eq-eqb n 14 z) ∙ h))
 
 never-read : (R : lent.Rooms) (s : List ℕ) → Within (lengthsOf (roomsOfText s)) R → short (readOf R s) ≡ false
 unfolding readOf roomsOfText
@@ -83,4 +83,4 @@ never-read R s w =
 
 pub never-lacks-room : NeverLacksRoom
 unfolding readInto
-never-lacks-room s t h p e = never-answered (roomsOf t) (readOf (roomsOf t) s) p (never-read (roomsOf t) s (within-parts (lengthsOf (roomsOfText s)) (roomsOf t) h)) e
+never-lacks-room s t h p e = never-answered t (readOf (roomsOf t) s) p (never-read (roomsOf t) s (within-parts (lengthsOf (roomsOfText s)) (roomsOf t) h)) e

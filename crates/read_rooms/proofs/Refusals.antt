@@ -1,27 +1,27 @@
 -- Parsing a line never refuses it with 14.
-use Prim.Native.Nat.{ℕ, zero, suc}
-use mathlib.Core.Path.{_≡_, refl, sym, ap, _∙_}
+use Prim.Native.Nat.{ℕ, suc}
+use mathlib.Core.Path.{_≡_, refl}
 use mathlib.Core.List.{List, [], _∷_}
 use mathlib.Core.Bool.{Bool, true, false, cond, _&&_}
 use mathlib.Core.Option.{Option, none, some}
 use lib.Dec.{eqb, leb}
 use lib.ListN.{length, drop}
-use lib.IntN.{ℤ}
 use Rattle.text.specs.Words.{Word}
 use Rattle.digits.specs.Said.{Said, says, wrong}
 use Rattle.digits.specs.Said as said
 use Rattle.lists.specs.Lists.{same}
 use Rattle.digits.specs.Digits.{natOf, whole, negative}
 use Rattle.digits.specs.Degree.{degreeOf, smoothingOf, nameOf}
-use Rattle.decimals.specs.Number.{unsigned, mantissa, exponent, isExponent, decimal, withSign, valueOf, numberOf}
+use Rattle.lists.specs.Signs.{withSign}
+use Rattle.decimals.specs.Number.{unsigned, mantissa, exponent, isExponent, decimal, valueOf, numberOf}
 use Rattle.references.specs.Reference.{isReference, refer, referenceOf}
-use Rattle.references.specs.Corner.{Corner, Counts, Parts, split, patterned, cornerOf}
+use Rattle.references.specs.Corner.{Counts, Parts, split, patterned, cornerOf}
 use Rattle.keywords.specs.declared.Argument.{Argument}
 use Rattle.keywords.specs.declared.Argument.the-variants.{Rational, BasisMatrix, Bezier, Bspline, Cardinal, Taylor, DirectionU, DirectionV, Off, Other}
 use Rattle.keywords.specs.Arguments.{argumentOf, argumentBytes}
 use Rattle.statements.specs.declared.Statement.{Statement}
 use Rattle.statements.specs.declared.Statement.the-variants.{Carried, Refused, Unknown}
-use Rattle.model.specs.Model.{ParmDirection, Open, State, curve, curve2, surface}
+use Rattle.model.specs.Model.{ParmDirection, Open, State}
 use Rattle.model.specs.Parse.{Parsed, fine, fault, then, must, unless, Keyword, a-vertex, an-element, a-body, parm, trim, hole, ends, cstype, deg, g, s, usemtl, over, allowed, counted, WordForm, a-number, a-corner, a-control, a-curve, a-direction, a-type, a-rational, a-degree, a-smoothing, a-name, anything, formOf, onSaid, typeSaid, rationalSaid, directionSaid, directionOf, Seen, saidOf, placed, valuesOf, Value, cornersOf, rangeWords, unlike, inForce, narrowIn, complete, countsAgree, rangeWithin, checked, seenIn, parse}
 use Rattle.model.proofs.Pieces.{finished}
 use Rattle.model.specs.Read.{keywordOf}

@@ -1,5 +1,5 @@
 -- Rooms added: field by field.
-use Prim.Native.Nat.{ℕ, _+_, _≤_}
+use Prim.Native.Nat.{ℕ, _+_}
 use mathlib.Core.Path.{_≡_}
 use native.Mathlib.Omega.{arith}
 use Rattle.read_rooms.specs.declared.Rooms.{Rooms}

@@ -1,8 +1,8 @@
 -- A statement that a line says takes no more than the line's room. By the keyword.
-use Prim.Native.Nat.{ℕ, zero, suc, _+_, _*_, _-_, _/_, _≤_, _<_}
-use mathlib.Core.Path.{_≡_, refl, sym, ap, _∙_, subst}
+use Prim.Native.Nat.{ℕ, _*_, _-_, _/_, _≤_}
+use mathlib.Core.Path.{_≡_, refl, sym, ap, subst}
 use mathlib.Core.List.{List, [], _∷_}
-use mathlib.Core.Bool.{Bool, true, false, cond}
+use mathlib.Core.Bool.{true}
 use mathlib.Core.Option.{Option, none, some}
 use native.Mathlib.Omega.{arith}
 use borrow.Author.Tests.{lt-ltb}
@@ -11,9 +11,9 @@ use lib.Dec.{ltb}
 use Rattle.text.specs.Words.{Word}
 use Rattle.statements.specs.declared.Statement as keywords
 use Rattle.statements.specs.declared.Statement.the-variants.{Carried, Refused, Unknown}
-use Rattle.model.specs.Model.{VertexKind, geometric, texture, normal, parametric, Shape, point, line, face, Free, curve, curve2, surface, Body, Open, State}
-use Rattle.model.specs.Statements.{Statement, vertex, element, body, parameters, loop, end}
-use Rattle.model.specs.Parse.{Parsed, fine, fault, then, must, unless, Keyword, a-vertex, an-element, a-body, parm, trim, hole, ends, cstype, deg, g, s, usemtl, over, allowed, counted, rangeWords, a-number, controlForm, formOf, valuesOf, Value, numbersOf, cornersOf, wholesOf, partsOf, unlike, inForce, narrowIn, complete, countsAgree, rangeWithin, openedBody, materialOf, namesOf, checked, seenIn, parse}
+use Rattle.model.specs.Model.{geometric, texture, normal, parametric, Shape, Free, curve, curve2, surface, Body, Open, State}
+use Rattle.model.specs.Statements.{Statement, element}
+use Rattle.model.specs.Parse.{fine, Keyword, a-vertex, an-element, a-body, parm, trim, hole, ends, cstype, deg, g, s, usemtl, over, allowed, counted, rangeWords, formOf, valuesOf, Value, numbersOf, cornersOf, wholesOf, partsOf, unlike, inForce, narrowIn, complete, countsAgree, rangeWithin, openedBody, materialOf, namesOf, checked, seenIn, parse}
 use Rattle.model.proofs.Pieces.{finished}
 use Rattle.model.specs.Read.{keywordOf}
 use Rattle.model.proofs.Parsed.{fine-fault, fine-is, must-fine, unless-fine, then-fine}
@@ -21,7 +21,7 @@ use Rattle.model.proofs.Values.{values-length, corners-few, parts-length}
 use Rattle.read_rooms.specs.declared.Rooms.{Rooms}
 use Rattle.read_rooms.specs.Rooms.{noRoom, elementRoom, bodyRoom, carriedRoom, roomFor}
 use Rattle.read_rooms.proofs.Values.{corners-after, numbers-after, thirds}
-use Rattle.read_rooms.proofs.Held.{ElementTakes, BodyTakes, takes}
+use Rattle.read_rooms.proofs.Held.{BodyTakes, takes}
 
 module _ (x : State) (key : ℕ) (ws : List Word) where
   -- the values that its words are

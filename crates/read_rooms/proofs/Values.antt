@@ -1,10 +1,10 @@
 -- Of the values of a line, how many are corners, numbers or wholes, by the forms of its words.
 use Prim.Native.Nat.{ℕ, zero, suc, _+_, _*_, _-_, _%_, _≤_, _<_}
-use mathlib.Core.Path.{_≡_, refl, sym, ap, _∙_}
+use mathlib.Core.Path.{_≡_, sym, ap, _∙_}
 use mathlib.Core.List.{List, [], _∷_}
-use mathlib.Core.Bool.{Bool, true, false, cond}
+use mathlib.Core.Bool.{true, false, cond}
 use mathlib.Core.Option.{Option, none, some}
-use mathlib.Core.Logic.{_⊎_, inl, inr, ⊎-elim}
+use mathlib.Core.Logic.{⊎-elim}
 use native.Mathlib.Omega.{arith}
 use borrow.Author.Tests.{eqb-true, eqb-false}
 use lib.ListN.{length}
@@ -13,7 +13,7 @@ use Rattle.lists.proofs.Tests.{test}
 use Rattle.text.specs.Words.{Word}
 use Rattle.digits.specs.Said.{Said, says, wrong}
 use Rattle.model.specs.Model.{ParmDirection}
-use Rattle.model.specs.Parse.{Parsed, fine, fault, then, placed, WordForm, a-number, a-curve, a-direction, Value, number, whole, direction, onSaid, directionSaid, directionOf, Seen, saidOf, valuesOf, numbersOf, cornersOf, wholesOf}
+use Rattle.model.specs.Parse.{fine, placed, WordForm, a-number, a-curve, a-direction, Value, number, whole, direction, onSaid, directionSaid, directionOf, Seen, saidOf, valuesOf, numbersOf, cornersOf, wholesOf}
 use Rattle.model.proofs.Parsed.{fine-fault, fine-is, then-fine}
 use Rattle.model.proofs.Values.{values-length, numbers-few, corners-few}
 

@@ -1,13 +1,13 @@
 -- A word starts after a byte that is in no word, or at the text's start: of n bytes, at most (n + 1) / 2 are starts.
-use Prim.Native.Nat.{ℕ, zero, suc, _+_, _*_, _-_, _≤_, _<_}
-use mathlib.Core.Path.{_≡_, refl, sym, ap, _∙_}
+use Prim.Native.Nat.{ℕ, zero, suc, _+_, _*_, _≤_, _<_}
+use mathlib.Core.Path.{_≡_, refl}
 use mathlib.Core.List.{List, [], _∷_}
 use mathlib.Core.Bool.{Bool, true, false, cond}
 use mathlib.Core.Logic.{_⊎_, inl, inr, ⊎-elim}
 use native.Mathlib.Omega.{arith}
 use lib.ListN.{length, take, drop, length-take, length-drop}
 use lib.Dec.{eqb}
-use Rattle.text.specs.Lines.{Mode, gap, word, comment, join, Look, goes, ends, refused, look, onward, extent, ending, lineOf, strideOf, Line, linesFrom, linesOf}
+use Rattle.text.specs.Lines.{Mode, gap, word, comment, join, Look, goes, ends, refused, look, onward, extent, ending, lineOf, strideOf, linesFrom, linesOf}
 use Rattle.text.specs.Words.{Word, wordOf, opens, words, wordsOf}
 use Rattle.text.specs.Rest.{restAt}
 use Rattle.model.specs.Room.{summed}

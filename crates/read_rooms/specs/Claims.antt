@@ -1,3 +1,4 @@
+-- Must be believed: a promise reaches every definition of this file.
 -- What the rooms of a text are good for, and that they are few.
 use Prim.Native.Nat.{ℕ, _+_, _*_, _≤_}
 use mathlib.Core.Path.{_≡_}

@@ -1,3 +1,4 @@
+-- Must be believed: a promise reaches every definition of this file.
 -- How many entries of each table a text can need: for each joined line, what its statement's records take. A line counts by its keyword and by how many
 -- words follow it, whether or not they have their forms; reading goes no further than the first line that is refused.
 use Prim.Native.Nat.{ℕ, _+_, _*_, _-_, _/_}
@@ -39,52 +40,37 @@ both a b =
       spans = a .spans + b .spans;
     }
 
--- ---- what a record takes, as docs/RECORDS.md lists them
--- numbers of v, vt, vn, vp
-abbrev pub vertexRoom : ℕ → ℕ → ℕ → ℕ → Rooms
-vertexRoom v vt vn vp =
-    record { v = v; vt = vt; vn = vn; vp = vp; corners = 0; elements = 0; bodies = 0; ranges = 0; parameters = 0; loops = 0; spans = 0 }
-
--- an element with so many bodies, one or none, and so many corners
-abbrev pub elementRoom : ℕ → ℕ → Rooms
-elementRoom bodies corners =
+-- ---- what so many records take, as docs/RECORDS.md lists them; a body has a range, a loop part a span
+abbrev pub room : (v vt vn vp corners elements bodies parameters parts : ℕ) → Rooms
+room v vt vn vp corners elements bodies parameters parts =
     record {
-      v = 0;
-      vt = 0;
-      vn = 0;
-      vp = 0;
+      v = vWidth * v;
+      vt = vtWidth * vt;
+      vn = vnWidth * vn;
+      vp = vpWidth * vp;
       corners = cornerWidth * corners;
-      elements = elementWidth;
+      elements = elementWidth * elements;
       bodies = bodyWidth * bodies;
       ranges = rangeWidth * bodies;
-      parameters = 0;
-      loops = 0;
-      spans = 0;
-    }
-
--- so many parameters, and so many loop parts, of a body that has its own room already
-abbrev pub bodyRoom : ℕ → ℕ → Rooms
-bodyRoom parameters parts =
-    record {
-      v = 0;
-      vt = 0;
-      vn = 0;
-      vp = 0;
-      corners = 0;
-      elements = 0;
-      bodies = 0;
-      ranges = 0;
       parameters = parameters;
       loops = loopWidth * parts;
       spans = spanWidth * parts;
     }
 
+-- an element with so many bodies, one or none, and so many corners
+abbrev pub elementRoom : ℕ → ℕ → Rooms
+elementRoom bodies corners = room 0 0 0 0 corners 1 bodies 0 0
+
+-- so many parameters, and so many loop parts, of a body that has its own room already
+abbrev pub bodyRoom : ℕ → ℕ → Rooms
+bodyRoom parameters parts = room 0 0 0 0 0 0 0 parameters parts
+
 -- ---- a line: n words follow its keyword. Of a curv two, of a surf four are its range; of a parm one is its direction; a part of a loop has three
 abbrev pub kindRoom : VertexKind → Rooms
-kindRoom Geometric = vertexRoom vWidth 0 0 0
-kindRoom Texture = vertexRoom 0 vtWidth 0 0
-kindRoom Normal = vertexRoom 0 0 vnWidth 0
-kindRoom Parametric = vertexRoom 0 0 0 vpWidth
+kindRoom Geometric = room 1 0 0 0 0 0 0 0 0
+kindRoom Texture = room 0 1 0 0 0 0 0 0 0
+kindRoom Normal = room 0 0 1 0 0 0 0 0 0
+kindRoom Parametric = room 0 0 0 1 0 0 0 0 0
 
 abbrev pub carriedRoom : carried.Carried → ℕ → Rooms
 carriedRoom (Vertex k) n = kindRoom k

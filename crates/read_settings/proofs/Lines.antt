@@ -11,9 +11,9 @@ use Rattle.text.specs.Rest.{Rest, restAt, push, wordAt, endOf, WordMet, EndMet,
 use Rattle.text.specs.declared.AfterBlanks.{AfterBlanks}
 use Rattle.text.specs.declared.AfterBlanks.the-variants.{Start, End, Bad}
 use Rattle.text.proofs.Found.{word-found, end-found, bad-found}
-use Rattle.digits.specs.Said.{Said, says, wrong, ended}
+use Rattle.digits.specs.Said.{Said, says, wrong}
 use Rattle.digits.specs.Degree.{degreeOf, smoothingOf, nameOf}
-use Rattle.digits.specs.Answers.{saidWhole, saidName}
+use Rattle.digits.specs.Answers.{saidWhole, saidName, ended}
 use Rattle.digits.specs.declared.whole.Whole.{Whole}
 use Rattle.digits.specs.declared.whole.Whole.the-variants as whole
 use Rattle.digits.specs.declared.name.Name.{Name}

@@ -21,7 +21,8 @@ use Rattle.keywords.specs.declared.Argument.the-variants.{Rational, BasisMatrix
 use Rattle.model.specs.Model as model
 use Rattle.model.specs.Statements as statements
 use Rattle.model.specs.Parse as parse
-use Rattle.model.specs.Parse.{Parsed, fine, fault, then, cstype, deg, g, s, usemtl, valuesOf, Value, Seen, a-name, placed, namesOf, parse, seenIn, outsideBody}
+use Rattle.model.specs.Parse.{Parsed, fine, fault, then, cstype, deg, g, s, usemtl, valuesOf, Value, Seen, a-name, placed, namesOf, parse, seenIn}
+use Rattle.model.specs.Standing.{outsideBody}
 use Rattle.statements.specs.declared.rules.Count.the-variants.{Within}
 use Rattle.statements.specs.Rules.{countedBy}
 use Rattle.read_state.specs.State.{formIn, namesIn}

@@ -1,22 +1,18 @@
 -- No count passes the bytes that were read: each line adds no more records than it has words. By the statement.
-use Prim.Native.Nat.{ℕ, zero, suc, _+_, _*_, _-_, _≤_, _<_}
-use mathlib.Core.Path.{_≡_, refl, sym, ap, ap₂, _∙_, subst}
+use Prim.Native.Nat.{ℕ, suc, _+_, _≤_}
+use mathlib.Core.Path.{_≡_, ap, _∙_}
 use mathlib.Core.List.{List, [], _∷_, _++_}
-use mathlib.Core.Bool.{Bool, true, false}
+use mathlib.Core.Bool.{Bool, true}
 use mathlib.Core.Option.{Option, none, some}
 use native.Mathlib.Omega.{arith}
 use lib.ListN.{length, length-append}
-use lib.IntN.{ℤ, pos}
 use Rattle.lists.proofs.Tests.{never}
-use Rattle.text.specs.Words.{Word}
-use Rattle.references.specs.Corner.{Corner}
-use Rattle.tables.specs.Bodies.{Basis}
-use Rattle.model.specs.Model.{VertexKind, geometric, texture, normal, parametric, Names, Shape, Free, curve, curve2, surface, ParmDirection, along-u, along-v, Part, Loop, Body, Kind, plain, free, Element, Model, Form, Open, State}
+use Rattle.model.specs.Model.{geometric, texture, normal, parametric, Names, along-u, along-v, Body, plain, Element, Model, Form, Open, State}
 use Rattle.model.specs.Statements.{Statement, vertex, element, group, smoothing, material, type, degree, body, parameters, loop, end, passed, apply, settled, closed}
-use Rattle.model.specs.Parse.{Parsed, fine, fault, outsideBody, insideBody}
-use Rattle.model.specs.Room.{Rooms, summed, ofKind, ofOpen, partCount, cornerCount, elementCount, bodyCount, parameterCount, loopPartCount}
+use Rattle.model.specs.Standing.{outsideBody, insideBody}
+use Rattle.model.specs.Room.{summed, ofKind, partCount}
 use Rattle.model.proofs.Rows.{summed-append}
-use Rattle.read_state.specs.Bounds.{waiting, Bounded}
+use Rattle.read_state.specs.Bounds.{Bounded}
 use Rattle.read_state.proofs.Ends.{settled-us, settled-vs, settled-loops}
 
 -- how many records a statement adds at the most, of any table

@@ -1,22 +1,21 @@
 -- What `end` does to the tables: the body's record, its parameters and, of a curv2, its range make the image of the state after it.
-use Prim.Native.Nat.{ℕ, zero, suc, _+_, _*_, _-_, _≤_, _<_}
-use mathlib.Core.Path.{_≡_, refl, sym, ap, ap₂, _∙_, subst}
-use mathlib.Core.List.{List, [], _∷_, _++_, append-assoc, append-nil}
-use mathlib.Core.Option.{Option, none, some}
-use native.Mathlib.Omega.{arith}
+use Prim.Native.Nat.{ℕ, suc, _+_, _*_, _≤_}
+use mathlib.Core.Path.{_≡_, refl, sym, ap, _∙_}
+use mathlib.Core.List.{List, [], _∷_, _++_, append-nil}
+use mathlib.Core.Option.{some}
 use lib.ListN.{length}
 use lib.Seq.{sets}
 use lib.IntN.{ℤ, pos}
 use Rattle.lists.specs.Lists.{flat, filled}
 use Rattle.tables.specs.Tables.{Tables}
 use Rattle.tables.proofs.Flat.{flat-append}
-use Rattle.model.specs.Model.{Names, Free, curve, curve2, surface, Kind, plain, free, Body, Element, Model, Form, Open, State}
-use Rattle.model.specs.Statements.{Statement, end, apply, settled, closed}
+use Rattle.model.specs.Model.{Names, Free, curve, curve2, surface, free, Body, Element, Model, Form, Open}
+use Rattle.model.specs.Statements.{end, apply, settled, closed}
 use Rattle.model.specs.Room.{Rooms, summed, ofKind, partCount}
-use Rattle.model.specs.Layout.{Run, runOf, listed, freeNumber, cornerRow, cornerRows, elementRow, elementRows, bodyRow, bodyRows, bodyOfKind, bodiesOf, rangeRow, parameterRow, loopRows, spanRows}
+use Rattle.model.specs.Layout.{runOf, listed, freeNumber, cornerRows, elementRow, elementRows, bodyRow, bodyOfKind, bodiesOf, rangeRow, parameterRow, loopRows, spanRows}
 use Rattle.read_state.specs.Image.{imageOf}
 use Rattle.model.proofs.Rows.{elementRows-append}
-use Rattle.read_state.proofs.Stored.{body-stored, range-stored, no-range-stored, parameters-stored}
+use Rattle.read_state.proofs.Stored.{body-stored, parameters-stored}
 use Rattle.read_state.specs.Changed.{state, bodyStored}
 
 -- settling a range changes nothing else

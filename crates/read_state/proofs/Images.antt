@@ -1,27 +1,24 @@
 -- What each statement does to the tables in mid-text: the rows it stores make the image of the state after it. Each table by `Stored`; the others are untouched.
-use Prim.Native.Nat.{ℕ, zero, suc, _+_, _*_, _-_, _≤_, _<_}
-use mathlib.Core.Path.{_≡_, refl, sym, ap, ap₂, _∙_, subst}
+use Prim.Native.Nat.{ℕ, suc, _+_, _*_, _≤_}
+use mathlib.Core.Path.{_≡_, refl, sym, ap, _∙_}
 use mathlib.Core.List.{List, [], _∷_, _++_, append-assoc, append-nil}
-use mathlib.Core.Bool.{Bool, true, false, cond}
-use mathlib.Core.Option.{Option, none, some}
+use mathlib.Core.Option.{none, some}
 use native.Mathlib.Omega.{arith}
-use lib.ListN.{length, getD, length-append}
+use lib.ListN.{length}
 use lib.Seq.{sets}
 use lib.IntN.{ℤ, pos}
 use Rattle.lists.specs.Lists.{flat, filled}
-use Rattle.text.specs.Words.{Word}
 use Rattle.tables.specs.Tables.{Tables}
-use Rattle.tables.specs.Bodies.{Basis}
 use Rattle.tables.proofs.Flat.{flat-append}
 use Rattle.references.specs.Corner.{Corner}
-use Rattle.model.specs.Model.{VertexKind, geometric, texture, normal, parametric, Vertices, Names, Shape, Free, curve, curve2, surface, ParmDirection, along-u, along-v, Kind, plain, free, Body, Loop, Element, Model, Form, Open, State}
-use Rattle.model.specs.Statements.{Statement, vertex, element, group, smoothing, material, type, degree, body, parameters, loop, end, passed, apply, settled, closed, withLoop, withParameters}
-use Rattle.model.specs.Room.{Rooms, summed, ofKind, partCount, cornerCount, elementCount, bodyCount, parameterCount, loopPartCount}
-use Rattle.model.specs.Layout.{Run, runOf, listed, freeNumber, beginning, itself, cornerRow, cornerRows, elementRow, elementRows, bodyRow, bodyRows, bodyOfKind, bodiesOf, rangeRow, parameterRow, loopRow, spanRow, loopRows, spanRows}
-use Rattle.read_state.specs.Changed.{rowStored, rowsOf, tableOf, widthOf, roomOf, Counted, AllCounted, Wide, state, elementStored, rangeStored, loopsStored, bodyStored}
-use Rattle.read_state.specs.Image.{openElement, openBody, elementsIn, bodiesIn, imageOf}
-use Rattle.model.proofs.Rows.{summed-append, elementRows-append, loopRows-length, spanRows-length, partRows-length, spans-length, bodyRows-append, bodies-append, bodies-length}
-use Rattle.read_state.proofs.Stored.{stored-at, vertex-stored, corners-stored, element-stored, body-stored, range-stored, half-range-stored, no-range-stored, parameters-stored}
+use Rattle.model.specs.Model.{VertexKind, geometric, texture, normal, parametric, Names, Shape, Free, ParmDirection, along-u, along-v, plain, free, Body, Loop, Element, Model, Form, Open, State}
+use Rattle.model.specs.Statements.{vertex, element, body, parameters, loop, apply, withLoop, withParameters}
+use Rattle.model.specs.Room.{Rooms, summed, ofKind, partCount}
+use Rattle.model.specs.Layout.{runOf, listed, freeNumber, beginning, cornerRow, cornerRows, elementRow, elementRows, bodyOfKind, bodiesOf, rangeRow, loopRow, spanRow, loopRows, spanRows}
+use Rattle.read_state.specs.Changed.{rowStored, rowsOf, tableOf, widthOf, roomOf, Wide, state, elementStored, rangeStored, loopsStored}
+use Rattle.read_state.specs.Image.{imageOf}
+use Rattle.model.proofs.Rows.{summed-append, elementRows-append, loopRows-length, spanRows-length, partRows-length, spans-length}
+use Rattle.read_state.proofs.Stored.{stored-at, vertex-stored, corners-stored, element-stored}
 
 module _ (R : Rooms) (x : State) where
   pub vertex-image : (k : VertexKind) (z : List ℤ) → Wide (x .model .vertices) → length z ≡ widthOf k

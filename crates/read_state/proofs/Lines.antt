@@ -1,18 +1,19 @@
 -- What a line adds, from its words alone: a statement that was parsed is no larger than its line, and stands where it may.
-use Prim.Native.Nat.{ℕ, zero, suc, _+_, _*_, _≤_, _<_}
-use mathlib.Core.Path.{_≡_, refl, sym, ap, _∙_, subst}
-use mathlib.Core.List.{List, [], _∷_, _++_}
-use mathlib.Core.Bool.{Bool, true, false, cond, _&&_, _||_, not}
+use Prim.Native.Nat.{ℕ, _≤_}
+use mathlib.Core.Path.{_≡_, refl, subst}
+use mathlib.Core.List.{List, [], _∷_}
+use mathlib.Core.Bool.{Bool, true}
 use mathlib.Core.Option.{Option, none, some}
 use native.Mathlib.Omega.{arith}
 use lib.ListN.{length, drop}
-use lib.IntN.{ℤ, pos}
+use lib.IntN.{ℤ}
 use Rattle.text.specs.Words.{Word}
 use Rattle.references.specs.Corner.{Corner}
-use Rattle.model.specs.Model.{VertexKind, Shape, Free, curve, curve2, surface, ParmDirection, Body, Form, Open, State}
-use Rattle.model.specs.Statements.{Statement, vertex, element, group, smoothing, material, type, degree, body, parameters, loop, end, passed}
-use Rattle.model.specs.Parse.{Parsed, fine, fault, then, must, unless, Keyword, a-vertex, an-element, a-body, parm, trim, hole, ends, cstype, deg, g, s, usemtl, over, isSurface, saysV, insideBody, outsideBody, allowed, counted, formOf, Value, numbersOf, cornersOf, wholesOf, namesOf, basisSaid, directionIn, partsOf, seenIn, valuesOf, unlike, inForce, narrowIn, complete, countsAgree, rangeWithin, openedBody, degreesOf, materialOf, vertexRecord, rangeWords, checked, parse}
-use Rattle.model.proofs.Pieces.{opened, finished}
+use Rattle.model.specs.Model.{Free, curve, curve2, surface, Form, Open, State}
+use Rattle.model.specs.Statements.{Statement}
+use Rattle.model.specs.Parse.{fine, Keyword, a-vertex, an-element, a-body, parm, trim, hole, ends, cstype, deg, g, s, usemtl, over, allowed, counted, formOf, Value, numbersOf, cornersOf, wholesOf, namesOf, partsOf, seenIn, valuesOf, unlike, inForce, narrowIn, complete, countsAgree, rangeWithin, openedBody, materialOf, rangeWords, checked, parse}
+use Rattle.model.specs.Standing.{insideBody, outsideBody}
+use Rattle.model.proofs.Pieces.{finished}
 use Rattle.model.proofs.Parsed.{fine-fault, fine-is, must-fine, unless-fine, then-fine}
 use Rattle.model.proofs.Values.{values-length, numbers-few, corners-few, wholes-few, parts-length}
 use Rattle.read_state.proofs.Bounds.{few, stands}

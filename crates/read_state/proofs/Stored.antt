@@ -1,8 +1,7 @@
 -- A row stored at the end of a table's used entries: each table by itself. What carries it is `sets-filled`, with the lengths of what is laid out.
-use Prim.Native.Nat.{ℕ, zero, suc, _+_, _*_, _-_, _≤_, _<_}
-use mathlib.Core.Path.{_≡_, refl, sym, ap, ap₂, _∙_}
+use Prim.Native.Nat.{ℕ, _+_, _*_, _-_, _≤_}
+use mathlib.Core.Path.{_≡_, sym, ap, ap₂, _∙_}
 use mathlib.Core.List.{List, [], _∷_, _++_, append-assoc, append-nil}
-use mathlib.Core.Bool.{Bool, true, false, cond}
 use native.Mathlib.Omega.{arith}
 use lib.ListN.{length, replicate, length-append, length-replicate, replicate-append-replicate}
 use lib.Seq.{sets}
@@ -10,11 +9,10 @@ use lib.IntN.{ℤ, pos}
 use Rattle.lists.specs.Lists.{flat, filled}
 use Rattle.tables.proofs.Filled.{sets-filled}
 use Rattle.tables.proofs.Flat.{flat-append}
-use Rattle.references.specs.Corner.{Corner}
-use Rattle.model.specs.Model.{Kind, plain, free, Body, Part, Loop, Element}
+use Rattle.model.specs.Model.{Body, Element}
 use Rattle.model.specs.Room.{summed, ofKind, partCount}
-use Rattle.model.specs.Layout.{itself, cornerRow, cornerRows, elementRow, elementRows, bodyRow, bodyRows, bodyOfKind, bodiesOf, rangeRow, parameterRow, loopRow, spanRow, loopRows, spanRows}
-use Rattle.model.proofs.Rows.{cornerRows-length, corners-length, elementRows-length, elementRows-append, bodyRows-length, bodyRows-append, rangeRows-length, parameterRows-length, loopRows-length, spanRows-length}
+use Rattle.model.specs.Layout.{itself, cornerRows, elementRow, elementRows, bodyRow, bodyRows, rangeRow, parameterRow}
+use Rattle.model.proofs.Rows.{cornerRows-length, corners-length, elementRows-length, elementRows-append, bodyRows-length, bodyRows-append, rangeRows-length, parameterRows-length}
 
 -- at a place that is the number of used entries
 module _ {A : Type 0} (n : ℕ) (z : A) where

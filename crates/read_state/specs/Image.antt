@@ -1,11 +1,10 @@
 -- What the tables hold in the middle of a text: the records so far, and of a body that has no end yet its element, controls, range and loops.
-use Prim.Native.Nat.{ℕ}
 use mathlib.Core.List.{List, [], _∷_, _++_}
 use mathlib.Core.Option.{Option, none, some}
-use lib.IntN.{ℤ, pos}
+use lib.IntN.{pos}
 use Rattle.lists.specs.Lists.{flat, filled}
 use Rattle.tables.specs.Tables.{Tables}
-use Rattle.model.specs.Model.{Kind, free, Body, Element, Open, State}
+use Rattle.model.specs.Model.{free, Body, Element, Open, State}
 use Rattle.model.specs.Room.{Rooms}
 use Rattle.model.specs.Layout.{itself, cornerRows, elementRows, bodyRows, bodiesOf, rangeRow, parameterRow, loopRows, spanRows}
 

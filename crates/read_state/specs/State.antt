@@ -1,25 +1,22 @@
 -- How the numbers of a State stand for what is in force.
-use Prim.Native.Nat.{ℕ, suc, _+_, _*_, _<_, _≤_}
+use Prim.Native.Nat.{ℕ, suc, _*_, _<_, _≤_}
 use mathlib.Core.Path.{_≡_}
-use mathlib.Core.List.{List, [], _∷_, _++_}
-use mathlib.Core.Bool.{Bool, true, false}
+use mathlib.Core.List.{List, []}
 use mathlib.Core.Option.{Option, none, some}
 use lib.ListN.{length}
 use lib.IntN.{ℤ}
-use Rattle.text.specs.Words.{Word}
-use Rattle.text.specs.Rest.{Rest, restAt}
+use Rattle.text.specs.Rest.{restAt}
 use Rattle.tables.specs.Bodies.{Basis, basisNumber}
 use Rattle.tables.specs.Records.{cornerWidth}
 use Rattle.tables.specs.declared.Used.{Used}
-use Rattle.model.specs.Model.{Element, Free}
 use Rattle.model.specs.Model as model
 use Rattle.model.specs.Room.{cornerCount, elementCount, bodyCount, parameterCount, loopPartCount, partCount}
-use Rattle.model.specs.Layout.{Run, runOf, listed, flag, freeNumber}
+use Rattle.model.specs.Layout.{runOf, listed, flag, freeNumber}
 use Rattle.read_state.specs.declared.Names.{Names}
 use Rattle.read_state.specs.declared.Form.{Form}
 use Rattle.read_state.specs.declared.Open.{Open}
 use Rattle.read_state.specs.declared.State.{State}
-use Rattle.read_state.specs.Numbers.{Walk, ended, numbersWalk}
+use Rattle.read_state.specs.Numbers.{ended, numbersWalk}
 
 abbrev pub namesIn : model.Names → Names
 namesIn n =

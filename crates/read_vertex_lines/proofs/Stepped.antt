@@ -11,7 +11,8 @@ use Rattle.tables.specs.Tables.{Tables}
 use Rattle.tables.specs.declared.Used.{Used}
 use Rattle.model.specs.Model as model
 use Rattle.model.specs.Model.{VertexKind, geometric, texture, normal, parametric}
-use Rattle.model.specs.Parse.{a-vertex, outsideBody}
+use Rattle.model.specs.Parse.{a-vertex}
+use Rattle.model.specs.Standing.{outsideBody}
 use Rattle.model.specs.Room.{Rooms}
 use Rattle.read_state.specs.declared.State.{State}
 use Rattle.read_state.specs.Bounds.{Bounded}

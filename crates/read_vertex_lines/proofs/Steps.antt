@@ -1,14 +1,13 @@
 -- One line: from what its statement parses to and whether there is room for it, to what the line comes to and what holds after it.
-use Prim.Native.Nat.{ℕ, zero, suc, _+_, _*_, _-_, _≤_, _<_}
-use mathlib.Core.Path.{_≡_, refl, sym, ap, ap₂, _∙_, subst}
-use mathlib.Core.List.{List, [], _∷_, _++_}
-use mathlib.Core.Bool.{Bool, true, false, cond}
-use mathlib.Core.Option.{Option, none, some}
+use Prim.Native.Nat.{ℕ, suc, _+_, _-_, _≤_}
+use mathlib.Core.Path.{_≡_, ap, ap₂, _∙_}
+use mathlib.Core.List.{List}
+use mathlib.Core.Bool.{Bool, true, false}
+use mathlib.Core.Option.{Option, none}
 use native.Mathlib.Omega.{arith}
 use lib.ListN.{length}
 use Rattle.text.specs.Words.{Word}
 use Rattle.text.specs.Rest.{Rest, restAt, push}
-use Rattle.tables.specs.Tables.{Tables}
 use Rattle.keywords.specs.Keywords.{statementOf}
 use Rattle.model.specs.Model as model
 use Rattle.model.specs.Statements.{Statement, apply}
@@ -17,7 +16,7 @@ use Rattle.model.specs.Room.{Rooms, fits}
 use Rattle.model.specs.Read.{keywordOf, statement, step}
 use Rattle.read_state.specs.Bounds.{Bounded}
 use Rattle.read_state.proofs.Bounds.{bounded-after}
-use Rattle.read_state.proofs.Lines.{Line, line-of, line-small}
+use Rattle.read_state.proofs.Lines.{line-of, line-small}
 use Rattle.read_vertex_lines.specs.Holding.{lineSays}
 use Rattle.read_bodies.proofs.Steps.{words-within}
 

@@ -1,19 +1,19 @@
 -- A line of v, vt, vn, vp: what `take_vertex` answers is what the line comes to, or shows that there is no room for it.
-use Prim.Native.Nat.{ℕ, zero, suc, _+_, _*_, _-_, _≤_, _<_}
+use Prim.Native.Nat.{ℕ, suc, _+_, _*_, _-_, _≤_, _<_}
 use mathlib.Core.Path.{_≡_, refl, sym, ap, ap₂, _∙_, subst}
 use mathlib.Core.List.{List, [], _∷_, _++_}
-use mathlib.Core.Bool.{Bool, true, false}
-use mathlib.Core.Option.{Option, none, some}
+use mathlib.Core.Bool.{true, false}
+use mathlib.Core.Option.{none}
 use mathlib.Core.Logic.{⊎-elim}
 use native.Mathlib.Omega.{arith}
 use native.Mathlib.Nat.{mul-suc}
 use lib.ListN.{length, length-append}
 use lib.Seq.{sets}
 use lib.IntN.{ℤ, pos}
-use Rattle.lists.specs.Lists.{flat, filled}
+use Rattle.lists.specs.Lists.{flat}
 use Rattle.lists.proofs.Tests.{test}
 use Rattle.text.specs.Words.{Word}
-use Rattle.text.specs.Rest.{Rest, restAt, push}
+use Rattle.text.specs.Rest.{restAt, push}
 use Rattle.tables.specs.Tables.{Tables}
 use Rattle.tables.specs.declared.Used.{Used}
 use Rattle.tables.proofs.Filled.{length-filled}
@@ -22,7 +22,8 @@ use Rattle.keywords.specs.Keywords.{statementOf}
 use Rattle.model.specs.Model as model
 use Rattle.model.specs.Model.{VertexKind, geometric, texture, normal, parametric, Vertices}
 use Rattle.model.specs.Statements.{Statement, vertex, withVertex, apply}
-use Rattle.model.specs.Parse.{Parsed, fine, fault, Keyword, a-vertex, outsideBody, vertexRecord, parse}
+use Rattle.model.specs.Parse.{fine, fault, a-vertex, vertexRecord, parse}
+use Rattle.model.specs.Standing.{outsideBody}
 use Rattle.model.specs.Room.{Rooms, fits}
 use Rattle.model.specs.Layout.{itself}
 use Rattle.model.specs.Read.{keywordOf}
@@ -32,7 +33,7 @@ use Rattle.read_state.specs.Image.{imageOf}
 use Rattle.read_state.specs.Changed.{rowStored, rowsOf, tableOf, widthOf, roomOf, Counted, AllCounted, Wide}
 use Rattle.read_state.proofs.Images.{vertex-image}
 use Rattle.read_state.proofs.Rooms.{Within, fits-parts, parts-fit}
-use Rattle.read_vertices.specs.Vertex.{width, vertexSaid, TakenVertex, NoVertex}
+use Rattle.read_vertices.specs.Vertex.{width, TakenVertex, NoVertex}
 use Rattle.read_vertices.proofs.Taking.{vertex-row}
 use Rattle.read_vertices.proofs.Parse.{vertex-wide, taken-parse, parse-said}
 use Rattle.read_vertex_lines.specs.Stepping.{countIn, counted, withUsed}

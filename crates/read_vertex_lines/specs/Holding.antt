@@ -1,15 +1,14 @@
 -- What holds between two lines: the state in numbers and the tables stand for what was said so far.
 use Prim.Native.Nat.{ℕ, _+_, _-_, _≤_}
 use mathlib.Core.Path.{_≡_}
-use mathlib.Core.List.{List, [], _∷_}
-use mathlib.Core.Bool.{Bool, true, false}
+use mathlib.Core.List.{List}
+use mathlib.Core.Bool.{true}
 use mathlib.Core.Option.{Option, none, some}
-use lib.ListN.{length}
-use lib.IntN.{ℤ, pos}
+use lib.IntN.{ℤ}
 use Rattle.text.specs.Rest.{restAt}
 use Rattle.tables.specs.Tables.{Tables}
 use Rattle.model.specs.Model as model
-use Rattle.model.specs.Parse.{Parsed, fine, fault, unless, openedBody}
+use Rattle.model.specs.Parse.{Parsed, fine, unless, openedBody}
 use Rattle.model.specs.Room.{Rooms, fits}
 use Rattle.model.specs.Read.{step}
 use Rattle.read_state.specs.declared.State.{State}

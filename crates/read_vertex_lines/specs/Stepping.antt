@@ -1,5 +1,5 @@
 -- What the code does with a line that it knows the keyword of: the state after it, or that it is rejected.
-use Prim.Native.Nat.{ℕ, _≤_}
+use Prim.Native.Nat.{ℕ}
 use mathlib.Core.Path.{_≡_}
 use mathlib.Core.List.{List}
 use lib.ListN.{length}
@@ -14,7 +14,7 @@ use Rattle.keywords.specs.Keywords.{statementOf}
 use Rattle.model.specs.Model as model
 use Rattle.model.specs.Model.{VertexKind, geometric, texture, normal, parametric, Shape, Free}
 use Rattle.model.specs.Statements.{Statement}
-use Rattle.model.specs.Parse.{fine, fault, Keyword, a-vertex, an-element, a-body, parm, ends}
+use Rattle.model.specs.Parse.{fine, fault, Keyword, a-vertex, an-element, a-body, ends}
 use Rattle.model.specs.Room.{Rooms}
 use Rattle.model.specs.Read.{keywordOf}
 use Rattle.read_state.specs.declared.State.{State}

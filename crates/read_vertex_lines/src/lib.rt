@@ -5,7 +5,7 @@ use read_vertices::Vertex;
 use statements::VertexKind;
 use tables::Used;
 ghost use mathlib.Core.Path.{_≡_};
-ghost use Prim.Native.Nat.{_+_, _≤_, _<_};
+ghost use Prim.Native.Nat.{_+_, _≤_};
 ghost use lib.ListN.{length};
 ghost use Rattle.read_vertex_lines.specs.Stepping.{countIn, counted, withUsed, vertexInto, vertexStep};
 

@@ -1,6 +1,6 @@
 -- A line that is closed after its numbers: it has as many words, no byte that is not allowed, and its words have these values. By the words.
-use Prim.Native.Nat.{ℕ, zero, suc, _<_, _≤_}
-use mathlib.Core.Path.{_≡_, refl, sym, ap, ap₂, subst, _∙_}
+use Prim.Native.Nat.{ℕ, zero, suc, _≤_}
+use mathlib.Core.Path.{_≡_, refl, sym, ap, subst, _∙_}
 use mathlib.Core.Bool.{Bool, true, false, cond}
 use mathlib.Core.List.{List, [], _∷_, map}
 use mathlib.Core.Option.{Option, none, some}
@@ -13,7 +13,7 @@ use Rattle.text.specs.Words.{Word}
 use Rattle.text.specs.Rest.{Rest}
 use Rattle.digits.specs.Said.{Said, says, wrong}
 use Rattle.decimals.specs.Number.{numberOf}
-use Rattle.model.specs.Parse.{Parsed, fine, fault, then, WordForm, a-number, Value, number, onSaid, Seen, placed, valuesOf, numbersOf}
+use Rattle.model.specs.Parse.{Parsed, fine, fault, then, a-number, Value, number, onSaid, Seen, placed, valuesOf, numbersOf}
 use Rattle.read_state.specs.Numbers.{Walk, ended, full, stuck, onto, onNumber, numbersFrom, numbersWalk}
 use Rattle.read_vertices.specs.Into.{closing, closed, atLeast, rowSaid}
 use Rattle.model.proofs.Parsed.{fine-fault}

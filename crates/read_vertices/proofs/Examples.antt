@@ -3,7 +3,7 @@ use mathlib.Core.Path.{_≡_, refl}
 use mathlib.Core.List.{[], _∷_}
 use mathlib.Core.Option.{none, some}
 use lib.IntN.{ℤ, pos, negsuc}
-use Rattle.keywords.specs.Rows.{bytes}
+use Rattle.spellings.specs.Rows.{bytes}
 use Rattle.text.specs.Rest.{restAt}
 use Rattle.decimals.specs.Number.{numberOf, decimal, numerator, denominator, nearest}
 use Rattle.model.specs.Model.{geometric, texture, normal, parametric}

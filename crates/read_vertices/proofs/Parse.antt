@@ -1,20 +1,20 @@
 -- A line says a vertex exactly where `parse` reads one: the walk's numbers are the words' values, and both count them alike.
-use Prim.Native.Nat.{ℕ, zero, suc, _+_, _-_, _<_, _≤_}
-use mathlib.Core.Path.{_≡_, refl, sym, ap, subst, _∙_}
-use mathlib.Core.Bool.{Bool, true, false, _&&_}
-use mathlib.Core.List.{List, [], _∷_, _++_, map}
-use mathlib.Core.Option.{Option, none, some}
+use Prim.Native.Nat.{ℕ, suc, _≤_}
+use mathlib.Core.Path.{_≡_, sym, ap, _∙_}
+use mathlib.Core.Bool.{true, _&&_}
+use mathlib.Core.List.{List, _++_, map}
+use mathlib.Core.Option.{none, some}
 use lib.ListN.{length, drop, length-append, length-drop}
-use lib.Dec.{leb, eqb}
+use lib.Dec.{leb}
 use lib.IntN.{ℤ}
 use borrow.Author.Tests.{leb-true, le-leb, eqb-true, eq-eqb}
 use native.Mathlib.Omega.{arith}
 use Rattle.lists.proofs.Tests.{and-left, and-right, and-both}
-use Rattle.text.specs.Words.{Word}
 use Rattle.text.specs.Rest.{Rest}
 use Rattle.model.specs.Model.{VertexKind, geometric, texture, normal, parametric, State}
 use Rattle.model.specs.Statements.{Statement, vertex}
-use Rattle.model.specs.Parse.{Parsed, fine, fault, then, must, a-vertex, a-number, outsideBody, Value, number, formOf, valuesOf, numbersOf, defaults, vertexRecord, seenIn, parse}
+use Rattle.model.specs.Parse.{Parsed, fine, then, must, a-vertex, a-number, Value, number, formOf, valuesOf, numbersOf, defaults, vertexRecord, seenIn, parse}
+use Rattle.model.specs.Standing.{outsideBody}
 use Rattle.model.proofs.Pieces.{countedVertex}
 use Rattle.model.proofs.Parsed.{fine-is, must-fine, then-fine}
 use Rattle.read_vertices.specs.Vertex.{fewestNumbers, mostNumbers, width, recorded, vertexSaid}

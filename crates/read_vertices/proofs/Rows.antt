@@ -1,15 +1,15 @@
 -- What `row_into` answers from what `numbers_into` found: a row that is closed and long enough, or none.
-use Prim.Native.Nat.{ℕ, suc, _+_, _<_, _≤_}
+use Prim.Native.Nat.{ℕ, _+_, _<_, _≤_}
 use mathlib.Core.Path.{_≡_, refl, sym, ap, subst, _∙_}
-use mathlib.Core.List.{List, [], _∷_}
+use mathlib.Core.List.{List}
 use mathlib.Core.Option.{Option, none, some}
 use lib.ListN.{length}
-use lib.Seq.{sets, length-sets}
+use lib.Seq.{length-sets}
 use lib.IntN.{ℤ}
 use native.Mathlib.Omega.{arith}
-use Rattle.text.specs.Rest.{Rest, restAt, endOf, wordAt, WordMet, EndMet, BadMet}
+use Rattle.text.specs.Rest.{Rest, restAt, WordMet, EndMet, BadMet}
 use Rattle.read_state.specs.Numbers.{Walk, ended, full, stuck, numbersWalk}
-use Rattle.read_vertices.specs.Into.{EndedAfter, FullAfter, StoppedAfter, numbersIs, closing, closed, rowSaid, WholeRow, NoRow, rowIs}
+use Rattle.read_vertices.specs.Into.{EndedAfter, FullAfter, StoppedAfter, numbersIs, closed, WholeRow, NoRow, rowIs}
 use Rattle.read_vertices.specs.declared.Numbers.{Numbers}
 use Rattle.read_vertices.specs.declared.Numbers.the-variants.{Ended, Full, Stopped}
 use Rattle.read_vertices.specs.declared.NumberRow.{NumberRow}

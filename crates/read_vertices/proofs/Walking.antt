@@ -1,29 +1,25 @@
 -- The loop over a line's numbers: what is left of the line, after the numbers stored, comes to what all of it comes to.
-use Prim.Native.Nat.{ℕ, zero, suc, _+_, _-_, _<_, _≤_, _^_}
-use mathlib.Core.Path.{_≡_, refl, sym, ap, subst, _∙_}
+use Prim.Native.Nat.{ℕ, zero, suc, _+_, _-_, _<_, _≤_}
+use mathlib.Core.Path.{_≡_, refl, sym, ap, _∙_}
 use mathlib.Core.Bool.{Bool, true, false, cond}
 use mathlib.Core.List.{List, [], _∷_, _++_, append-assoc, append-nil}
-use mathlib.Core.Option.{Option, none, some}
+use mathlib.Core.Option.{none}
 use lib.ListN.{length, getD, drop, set, length-append}
 use lib.Seq.{sets, length-sets, getD-set-other}
 use lib.Dec.{leb}
 use lib.IntN.{ℤ, pos}
-use lib.Signed.{mag}
-use mir.Syntax.{w32}
-use mir.Val.{toZ, ofZ}
-use mir.Facts.{toZ-ofZ}
 use borrow.Author.Tests.{leb-true, leb-false}
-use native.Mathlib.Nat.{add-zero}
 use native.Mathlib.Omega.{arith}
-use Rattle.text.specs.Words.{Word, wordOf}
-use Rattle.text.specs.Rest.{Rest, restAt, wordAt, endOf, WordMet, EndMet, BadMet, afterBlanksIs}
+use Rattle.text.specs.Words.{wordOf}
+use Rattle.text.specs.Rest.{Rest, restAt, endOf, WordMet, EndMet, BadMet, afterBlanksIs}
 use Rattle.text.specs.declared.AfterBlanks.{AfterBlanks}
 use Rattle.text.specs.declared.AfterBlanks.the-variants.{Start, End, Bad}
-use Rattle.digits.specs.Said.{Said, says, wrong, ended as endedAt}
+use Rattle.digits.specs.Said.{Said, says, wrong}
+use Rattle.digits.specs.Answers.{ended as endedAt}
 use Rattle.decimals.specs.Number.{numberOf}
-use Rattle.decimals.specs.Answers.{saidNumber}
-use Rattle.decimals.specs.declared.number.Number.{Number}
-use Rattle.decimals.specs.declared.number.Number.the-variants.{Value, Malformed, OutOfRange}
+use Rattle.word_numbers.specs.Answers.{saidNumber}
+use Rattle.word_numbers.specs.declared.Number.{Number}
+use Rattle.word_numbers.specs.declared.Number.the-variants.{Value, Malformed, OutOfRange}
 use Rattle.digits.proofs.Saids.{ended-says, ended-wrong}
 use Rattle.read_state.specs.Numbers.{Walk, ended, full, stuck, onto, onNumber, numbersWalk}
 use Rattle.read_vertices.specs.Into.{EndedAfter, FullAfter, StoppedAfter}

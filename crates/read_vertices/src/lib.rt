@@ -1,10 +1,10 @@
 // The numbers of a line into a table, and the four kinds of vertices.
-use decimals::number::Number;
 use statements::VertexKind;
 use statements::rules::fewest_words;
 use statements::rules::most_words;
 use statements::rules::vertex_count;
 use text::AfterBlanks;
+use word_numbers::Number;
 ghost use mathlib.Core.Path.{_≡_};
 ghost use mathlib.Core.Bool.{cond};
 ghost use Prim.Native.Nat.{_+_, _≤_};
@@ -31,7 +31,7 @@ pub fn numbers_into(text: &[u8], at: usize, most: usize, table: &mut [i32], firs
     let mut count: usize = 0;
     while count < most {
         match text::skip_blanks(text, i) {
-            AfterBlanks::Start(p) => match decimals::number::quick_number_at(text, p) {
+            AfterBlanks::Start(p) => match word_numbers::quick_number_at(text, p) {
                 Number::Value { value, end } => {
                     if !table_store::put_i32(table, first + count, value) {
                         return Numbers::Stopped;

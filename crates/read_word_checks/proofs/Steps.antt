@@ -7,7 +7,8 @@ use lib.ListN.{drop}
 use lib.IntN.{ℤ}
 use Rattle.text.specs.Words.{Word, wordOf}
 use Rattle.text.specs.Rest.{restAt, wordAt, endOf}
-use Rattle.digits.specs.Said.{Said, wrong, ended}
+use Rattle.digits.specs.Said.{Said, wrong}
+use Rattle.digits.specs.Answers.{ended}
 use Rattle.references.specs.Corner.{Corner, cornerOf}
 use Rattle.references.specs.Answers.{saidCorner}
 use Rattle.references.specs.declared.corner.CornerWord.{CornerWord}

@@ -1,16 +1,17 @@
 -- What an answer of a reader says of its word: by its cases; the end that comes with a value is of no account here.
-use Prim.Native.Nat.{ℕ, zero, suc, _-_, _*_, _≤_}
+use Prim.Native.Nat.{ℕ}
 use mathlib.Core.Path.{_≡_, refl, sym, ap, _∙_}
-use mathlib.Core.List.{List, [], _∷_}
+use mathlib.Core.List.{List}
 use mathlib.Core.Bool.{Bool, true, false, cond}
-use lib.ListN.{length, getD, drop}
+use lib.ListN.{drop}
 use lib.Dec.{leb, eqb, leb·suc-suc}
 use lib.IntN.{ℤ, pos, negsuc, natAbs}
 use lib.Signed.{ltZ}
 use native.Mathlib.Omega.{arith}
 use borrow.Author.Tests.{ltb-true, ltb-false, le-leb, lt-leb}
 use Rattle.text.specs.Words.{Word, wordOf}
-use Rattle.digits.specs.Said.{Said, says, wrong, ended}
+use Rattle.digits.specs.Said.{Said, says, wrong}
+use Rattle.digits.specs.Answers.{ended}
 use Rattle.references.specs.Corner.{Corner, agree}
 use Rattle.references.specs.Answers.{saidCorner, saidReference}
 use Rattle.references.specs.declared.corner.CornerWord.{CornerWord}
@@ -69,14 +70,6 @@ above-one (negsuc a) h = absurd (let z : _≡_ {A = ℕ} 0 1 = cc in omega arith
 pub not-above-one : (z : ℤ) → ltZ (pos 1) z ≡ false → ltZ z (negsuc 0) ≡ leb 2 (natAbs z)
 not-above-one (pos a) h = sym (lt-leb 2 a (let l = ltb-false 1 a h in omega arith))
 not-above-one (negsuc a) h = sym (leb·suc-suc 1 a)
-
-getD-past : {A : Type 0} (t : List A) (i : ℕ) (d : A) → length t ≤ i → getD t i d ≡ d
-getD-past [] i d h = refl
-getD-past (x ∷ xs) zero d h = absurd (omega arith)
-getD-past (x ∷ xs) (suc i) d h = getD-past xs i d (omega arith)
-
-pub not-given : (t : List ℤ) (k : ℕ) → eqb k 0 ≡ false → length t ≤ 4 * (k - 1) → false ≡ givenBy t k
-not-given t k n h = rw (n, getD-past t (4 * (k - 1)) (pos 0) h) refl
 
 -- ---- the form that is asked for
 pub heard-on : {A C : Type 0} (g : A → C) (x : Said A) → checkOf x ≡ checkOf (parse.onSaid g x)

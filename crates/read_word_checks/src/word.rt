@@ -1,11 +1,12 @@
 use crate::tests::Test;
-use decimals::number::Number;
 use digits::name::Name;
 use digits::whole::Whole;
 use keywords::Argument;
 use references::corner::CornerWord;
 use references::reference::Reference;
 use statements::rules::WordForm;
+use tables::vertices::given_at;
+use word_numbers::Number;
 ghost use mathlib.Core.Path.{_≡_};
 ghost use mathlib.Core.Bool.{true};
 ghost use Prim.Native.Nat.{_≤_};
@@ -40,7 +41,7 @@ fn number_fault(text: &[u8], at: usize) -> WordCheck
     requires { ⌜ at ≤ length (now text) ⌝ }
     ensures { λ r. ⌜ r ≡ checkOf (numberOf (wordOf (drop at (now (text .entry))))) ⌝ }
 {
-    match decimals::number::number_at(text, at) {
+    match word_numbers::number_at(text, at) {
         Number::Value { value: _, end: _ } => WordCheck::Valid,
         Number::Malformed => WordCheck::Fault(6),
         Number::OutOfRange => WordCheck::Fault(7),
@@ -201,7 +202,6 @@ fn alike_fault(
     }
 }
 
-// A record of a vp begins with how many coordinates were given.
 fn two_or_more(given: i32) -> bool
     ensures { λ r. ⌜ r ≡ leb 2 (natAbs given) ⌝ }
 {
@@ -217,11 +217,7 @@ fn two_given(vp: &[i32], k: u32) -> bool
     if k == 0 {
         return false;
     }
-    let at = 4 * (k as usize - 1);
-    if vp.len() <= at {
-        return false;
-    }
-    two_or_more(vp[at])
+    two_or_more(given_at(vp, k - 1))
 }
 
 // 12: a control whose vp has fewer than two coordinates given.

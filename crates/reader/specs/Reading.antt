@@ -1,3 +1,4 @@
+-- Must be believed: a promise reaches every definition of this file.
 -- The whole of reading: the answer, and what every lent table holds at the end, for every text and every lent length.
 use Prim.Native.Nat.{ℕ}
 use mathlib.Core.List.{List}
@@ -7,4 +8,4 @@ pub use Rattle.read_lines.specs.Answered.{roomsOf, ReadOutcome, readOutcome, Re
 
 -- what reading the text s into the tables t comes to
 unfoldable pub readInto : List ℕ → Tables → ReadAnswer
-readInto s t = answered (roomsOf t) (readOf (roomsOf t) s)
+readInto s t = answered t (readOf (roomsOf t) s)

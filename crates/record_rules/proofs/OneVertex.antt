@@ -13,7 +13,7 @@ use Rattle.lists.proofs.Tests.{and-left, and-right}
 use Rattle.record_rules.specs.Numbers.{inRange, runInRange, eqZ}
 use Rattle.record_rules.specs.Vertices.{vertexObeys, givenObeys, parameterVertexObeys}
 use Rattle.record_rules.proofs.Runs.{run-lent, run-small}
-use Rattle.basis.proofs.Order.{lt-no-le, no-lt-le, least}
+use Rattle.parameter_order.proofs.Comparing.{lt-no-le, no-lt-le, least}
 
 -- record k of w numbers: its number, the entries it takes, its range
 pub record Vertex (w : ℕ) (l : List ℤ) (used k : ℕ) : Type 0 where

@@ -1,3 +1,4 @@
+-- Must be believed: a promise reaches every definition of this file.
 -- 01, "Bodies": the body of a curv, curv2 or surf, all of its records.
 use Prim.Native.Nat.{ℕ, _-_}
 use mathlib.Core.List.{List}

@@ -1,3 +1,4 @@
+-- Must be believed: a promise reaches every definition of this file.
 -- 01, "Records": an element's corners, their patterns and what they name.
 use Prim.Native.Nat.{ℕ}
 use mathlib.Core.List.{List}

@@ -1,3 +1,4 @@
+-- Must be believed: a promise reaches every definition of this file.
 -- 01, "Records" and "Bodies": a body's type, degrees and parameters.
 use Prim.Native.Nat.{ℕ, _+_}
 use mathlib.Core.List.{List}

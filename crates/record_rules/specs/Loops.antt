@@ -1,10 +1,12 @@
+-- Must be believed: a promise reaches every definition of this file.
 -- 01, "Bodies": a surface's trimming loops.
 use Prim.Native.Nat.{ℕ, _+_, _*_}
 use mathlib.Core.Bool.{Bool, true, cond, _&&_}
 use lib.ListN.{length}
 use lib.Dec.{leb, eqb}
 use Rattle.tables.specs.Tables.{Tables}
-use Rattle.tables.specs.Records.{PartRecord, partAt, loopWidth, spanWidth}
+use Rattle.tables.specs.declared.parts.LoopPart.{LoopPart}
+use Rattle.tables.specs.Records.{partAt, loopWidth, spanWidth}
 use Rattle.record_rules.specs.Numbers.{inRange, allBelow}
 
 -- 1 begins a trim, 2 a hole, 0 goes on, which the first part can't
@@ -12,7 +14,7 @@ unfoldable pub beginsObeys : ℕ → ℕ → Bool
 beginsObeys k begins = leb begins 2 && cond (eqb k 0) (leb 1 begins) true
 
 -- part k of a body's loops. A trim's or hole's curve number counts the curv2 elements so far; "A loop's numbers are not held against its curve."
-unfoldable pub partObeys : ℕ → ℕ → PartRecord → Bool
+unfoldable pub partObeys : ℕ → ℕ → LoopPart → Bool
 partObeys curves k part = beginsObeys k (part .begins) && leb 1 (part .curve) && leb (part .curve) curves && inRange (part .from) && inRange (part .to)
 
 unfoldable pub eachPart : Tables → ℕ → ℕ → ℕ → Bool

@@ -1,3 +1,4 @@
+-- Must be believed: a promise reaches every definition of this file.
 -- Refusal 15: "its records (names aside) or a vertex they name break a rule above or pass the used or lent entries".
 use Prim.Native.Nat.{ℕ, zero, suc, _+_, _*_}
 use mathlib.Core.List.{List}

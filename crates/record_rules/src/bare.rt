@@ -7,12 +7,15 @@ ghost use lib.ListN.{length};
 ghost use Rattle.tables.specs.Records.{cornersEnd, vWidth};
 ghost use Rattle.record_rules.specs.Bare.{Reach, reachedObeys, eachBare};
 use crate::numbers::four_in_range;
+use tables::Corner;
+use tables::vertices::lent_vertex;
+use tables::widths;
 
 // How many vertices are both used and lent.
 fn reach(values: &[i32], used: u32) -> usize
     ensures { λ r. ⌜ Reach (length (now (values .entry))) used r ⌝ }
 {
-    let lent = values.len() / 4;
+    let lent = values.len() / widths::V;
     let used = used as usize;
     if used < lent {
         return used;
@@ -30,18 +33,18 @@ fn reached(values: &[i32], reach: usize, number: usize) -> bool
     if reach < number {
         return false;
     }
-    let at = 4 * (number - 1);
-    four_in_range(values[at], values[at + 1], values[at + 2], values[at + 3])
+    let vertex = lent_vertex(values, number - 1);
+    four_in_range(vertex.x, vertex.y, vertex.z, vertex.w)
 }
 
-fn bare_corner(values: &[i32], reach: usize, v: u32, vt: u32, vn: u32) -> bool
+fn bare_corner(values: &[i32], reach: usize, corner: Corner) -> bool
     requires { ⌜ vWidth * reach ≤ length (now values) ⌝ }
-    ensures { λ r. ⌜ r ≡ (reachedObeys (now (values .entry)) reach v && eqb vt 0 && eqb vn 0) ⌝ }
+    ensures { λ r. ⌜ r ≡ (reachedObeys (now (values .entry)) reach (corner .v) && eqb (corner .vt) 0 && eqb (corner .vn) 0) ⌝ }
 {
-    if !reached(values, reach, v as usize) {
+    if !reached(values, reach, corner.v as usize) {
         return false;
     }
-    (vt == 0) & (vn == 0)
+    (corner.vt == 0) & (corner.vn == 0)
 }
 
 pub fn each_bare(values: &[i32], used: u32, corners: &[u32], first: u32, count: usize) -> bool
@@ -49,11 +52,9 @@ pub fn each_bare(values: &[i32], used: u32, corners: &[u32], first: u32, count: 
     ensures { λ r. ⌜ r ≡ eachBare (now (values .entry)) used (now (corners .entry)) first count ⌝ }
 {
     let reach = reach(values, used);
-    let first = first as usize;
     let mut k = 0;
     while k < count {
-        let at = first + 3 * k;
-        if !bare_corner(values, reach, corners[at], corners[at + 1], corners[at + 2]) {
+        if !bare_corner(values, reach, tables::lent_corner(corners, first, k)) {
             return false;
         }
         k += 1;

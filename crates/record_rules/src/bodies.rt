@@ -14,6 +14,9 @@ use basis::surface_count;
 use basis::widest;
 use tables::Body;
 use tables::Used;
+use tables::bases;
+use tables::kinds;
+use tables::limits;
 
 fn degree_obeys(basis: u32, n: u32) -> bool
     ensures { λ r. ⌜ r ≡ degreeObeys basis n ⌝ }
@@ -21,22 +24,22 @@ fn degree_obeys(basis: u32, n: u32) -> bool
     if n < 1 {
         return false;
     }
-    if 20 < n {
+    if limits::DEGREE < n {
         return false;
     }
-    if basis != 3 {
+    if basis != bases::CARDINAL {
         return true;
     }
-    n == 3
+    n == limits::CARDINAL_DEGREE
 }
 
 fn type_obeys(surface: bool, basis: u32, rational: u32, m: u32, n: u32) -> bool
     ensures { λ r. ⌜ r ≡ typeObeys surface basis rational m n ⌝ }
 {
-    if basis < 1 {
+    if basis < bases::BEZIER {
         return false;
     }
-    if 4 < basis {
+    if bases::TAYLOR < basis {
         return false;
     }
     if 1 < rational {
@@ -154,7 +157,7 @@ pub fn record_with(
 ) -> bool
     ensures { λ r. ⌜ r ≡ recordObeys used (tables [] [] [] [] [] [] [] [] (now (parameters .entry)) (now (loops .entry)) (now (spans .entry))) curves kind count body ⌝ }
 {
-    let surface = kind == 6;
+    let surface = kind == kinds::SURFACE;
     if !type_obeys(
         surface,
         body.basis,
@@ -179,5 +182,5 @@ pub fn record_with(
     }
     let start = body.first_parameter as usize;
     let end = start + body.count_u as usize;
-    curve_obeys(kind == 5, &parameters[start..end], body, count)
+    curve_obeys(kind == kinds::CURVE2, &parameters[start..end], body, count)
 }

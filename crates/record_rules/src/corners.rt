@@ -10,17 +10,19 @@ use crate::vertices::control;
 use crate::vertices::vertex;
 use tables::Corner;
 use tables::Used;
+use tables::kinds;
+use tables::widths;
 
 fn least_corners(kind: u32) -> u32
     ensures { λ r. ⌜ r ≡ leastCorners kind ⌝ }
 {
-    if kind == 1 {
+    if kind == kinds::POINT {
         return 1;
     }
-    if kind == 6 {
+    if kind == kinds::SURFACE {
         return 1;
     }
-    if kind == 3 {
+    if kind == kinds::FACE {
         return 3;
     }
     2
@@ -29,16 +31,16 @@ fn least_corners(kind: u32) -> u32
 fn with_normal(kind: u32) -> bool
     ensures { λ r. ⌜ r ≡ withNormal kind ⌝ }
 {
-    if kind == 3 {
+    if kind == kinds::FACE {
         return true;
     }
-    kind == 6
+    kind == kinds::SURFACE
 }
 
 fn with_texture(kind: u32) -> bool
     ensures { λ r. ⌜ r ≡ withTexture kind ⌝ }
 {
-    if kind == 2 {
+    if kind == kinds::LINE {
         return true;
     }
     with_normal(kind)
@@ -57,16 +59,16 @@ fn attribute(allowed: bool, values: &[i32], used: u32, first: u32, number: u32) 
     if first == 0 {
         return false;
     }
-    vertex(values, 3, used, number)
+    vertex(values, widths::VT, used, number)
 }
 
 fn point(used: Used, v: &[i32], vp: &[i32], kind: u32, number: u32) -> bool
     ensures { λ r. ⌜ r ≡ pointObeys used (now (v .entry)) (now (vp .entry)) kind number ⌝ }
 {
-    if kind == 5 {
+    if kind == kinds::CURVE2 {
         return control(vp, used.vp, number);
     }
-    vertex(v, 4, used.v, number)
+    vertex(v, widths::V, used.v, number)
 }
 
 fn corner_obeys(
@@ -127,7 +129,7 @@ fn each_corner(
 fn is_bare(kind: u32, first: Corner) -> bool
     ensures { λ r. ⌜ r ≡ (not (eqb kind curve2Kind) && eqb (first .vt) 0 && eqb (first .vn) 0) ⌝ }
 {
-    if kind == 5 {
+    if kind == kinds::CURVE2 {
         return false;
     }
     if first.vt != 0 {

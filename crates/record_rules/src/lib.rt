@@ -12,6 +12,8 @@ use crate::corners::corners_obey;
 use tables::Body;
 use tables::Element;
 use tables::Used;
+use tables::kinds;
+use tables::limits;
 
 mod bare;
 mod bodies;
@@ -32,13 +34,13 @@ fn element_obeys(
 ) -> bool
     ensures { λ r. ⌜ r ≡ (leb 1 (element .kind) && leb (element .kind) surfaceKind && leb (element .smoothing) 65535 && cornersObey used (tables (now (v .entry)) (now (vt .entry)) (now (vn .entry)) (now (vp .entry)) (now (corners .entry)) [] [] [] [] [] []) (element .kind) (element .first) (element .count)) ⌝ }
 {
-    if element.kind < 1 {
+    if element.kind < kinds::POINT {
         return false;
     }
-    if 6 < element.kind {
+    if kinds::SURFACE < element.kind {
         return false;
     }
-    if 65535 < element.smoothing {
+    if limits::SMOOTHING < element.smoothing {
         return false;
     }
     corners_obey(
@@ -74,7 +76,7 @@ pub fn records_obey(
     if !element_obeys(used, v, vt, vn, vp, corners, element) {
         return false;
     }
-    if element.kind <= 3 {
+    if element.kind <= kinds::FACE {
         return element.body == 0;
     }
     record_with(

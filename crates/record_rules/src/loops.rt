@@ -4,48 +4,50 @@ ghost use mathlib.Core.List.{[]};
 ghost use Prim.Native.Nat.{_+_, _*_, _≤_};
 ghost use lib.Dec.{eqb};
 ghost use lib.ListN.{length};
-ghost use Rattle.tables.specs.Records.{partAt};
+ghost use Rattle.tables.specs.Records.{partAt, loopWidth, spanWidth, curve2Kind};
 ghost use Rattle.record_rules.specs.Rules.{curvesAmong};
 ghost use Rattle.record_rules.specs.Loops.{beginsObeys, partObeys, eachPart, loopsObey};
 ghost use Rattle.tables.specs.Tables.{tables};
 use crate::numbers::in_range;
+use tables::kinds;
+use tables::parts;
+use tables::widths;
 
 fn begins_obeys(k: usize, begins: u32) -> bool
     ensures { λ r. ⌜ r ≡ beginsObeys k begins ⌝ }
 {
-    if 2 < begins {
+    if parts::HOLE < begins {
         return false;
     }
     if k == 0 {
-        return 1 <= begins;
+        return parts::TRIM <= begins;
     }
     true
 }
 
 // The loop part at index i, which is part k of its body.
 fn part_obeys(loops: &[u32], spans: &[i32], curves: u32, k: usize, i: usize) -> bool
-    requires { ⌜ (2 * i + 2 ≤ length (now loops)) × (2 * i + 2 ≤ length (now spans)) ⌝ }
+    requires { ⌜ (loopWidth * i + loopWidth ≤ length (now loops)) × (spanWidth * i + spanWidth ≤ length (now spans)) ⌝ }
     ensures { λ r. ⌜ r ≡ partObeys curves k (partAt (tables [] [] [] [] [] [] [] [] [] (now (loops .entry)) (now (spans .entry))) i) ⌝ }
 {
-    let at = 2 * i;
-    if !begins_obeys(k, loops[at]) {
+    let part = parts::lent_part(loops, spans, i);
+    if !begins_obeys(k, part.begins) {
         return false;
     }
-    let curve = loops[at + 1];
-    if curve < 1 {
+    if part.curve < 1 {
         return false;
     }
-    if curves < curve {
+    if curves < part.curve {
         return false;
     }
-    if !in_range(spans[at]) {
+    if !in_range(part.from) {
         return false;
     }
-    in_range(spans[at + 1])
+    in_range(part.to)
 }
 
 fn each_part(loops: &[u32], spans: &[i32], curves: u32, first: usize, count: usize) -> bool
-    requires { ⌜ (2 * (first + count) ≤ length (now loops)) × (2 * (first + count) ≤ length (now spans)) ⌝ }
+    requires { ⌜ (loopWidth * (first + count) ≤ length (now loops)) × (spanWidth * (first + count) ≤ length (now spans)) ⌝ }
     ensures { λ r. ⌜ r ≡ eachPart (tables [] [] [] [] [] [] [] [] [] (now (loops .entry)) (now (spans .entry))) curves first count ⌝ }
 {
     let mut k = 0;
@@ -60,9 +62,9 @@ fn each_part(loops: &[u32], spans: &[i32], curves: u32, first: usize, count: usi
 
 // What an element of that kind adds to the count of curv2 elements.
 pub fn curve_or_none(kind: u32) -> u32
-    ensures { λ r. ⌜ (r ≡ cond (eqb kind 5) 1 0) × (r ≤ 1) ⌝ }
+    ensures { λ r. ⌜ (r ≡ cond (eqb kind curve2Kind) 1 0) × (r ≤ 1) ⌝ }
 {
-    if kind == 5 {
+    if kind == kinds::CURVE2 {
         return 1;
     }
     0
@@ -112,10 +114,10 @@ pub fn loops_with(
     if (used as usize) < end {
         return false;
     }
-    if loops.len() < 2 * end {
+    if loops.len() < widths::LOOP * end {
         return false;
     }
-    if spans.len() < 2 * end {
+    if spans.len() < widths::SPAN * end {
         return false;
     }
     each_part(loops, spans, curves, first as usize, count as usize)

@@ -4,15 +4,16 @@ ghost use Prim.Native.Nat.{_+_, _≤_};
 ghost use lib.ListN.{length, getD};
 ghost use lib.IntN.{pos};
 ghost use Rattle.record_rules.specs.Numbers.{inRange, allBelow, runInRange, eqZ};
+use tables::limits;
 
 // Whether x is at most 2,000,000,000 millionths from zero.
 pub fn in_range(x: i32) -> bool
     ensures { λ r. ⌜ r ≡ inRange x ⌝ }
 {
-    if x < -2_000_000_000 {
+    if x < limits::LEAST_NUMBER {
         return false;
     }
-    x <= 2_000_000_000
+    x <= limits::MOST_NUMBER
 }
 
 // The same of four numbers, with no branch between them.

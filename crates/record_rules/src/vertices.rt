@@ -1,10 +1,15 @@
 ghost use mathlib.Core.Path.{_≡_};
+ghost use Prim.Native.Nat.{_≤_};
 ghost use Rattle.record_rules.specs.Vertices.{vertexObeys, givenObeys, parameterVertexObeys, controlObeys};
 use crate::numbers::run_in_range;
 use crate::numbers::same;
+use tables::vertices::WEIGHT;
+use tables::vertices::lent_parameter_vertex;
+use tables::widths;
 
 // Whether record `number`, of `width` numbers, is used and lent, its numbers in range.
-pub fn vertex(values: &[i32], width: u32, used: u32, number: u32) -> bool
+pub fn vertex(values: &[i32], width: usize, used: u32, number: u32) -> bool
+    requires { ⌜ width ≤ 4294967295 ⌝ }
     ensures { λ r. ⌜ r ≡ vertexObeys width (now (values .entry)) used number ⌝ }
 {
     if number < 1 {
@@ -13,7 +18,6 @@ pub fn vertex(values: &[i32], width: u32, used: u32, number: u32) -> bool
     if used < number {
         return false;
     }
-    let width = width as usize;
     run_in_range(values, width * (number as usize - 1), width)
 }
 
@@ -30,7 +34,7 @@ fn given(count: i32, v: i32, w: i32) -> bool
     if 3 <= count {
         return true;
     }
-    if !same(w, 1_000_000) {
+    if !same(w, WEIGHT) {
         return false;
     }
     if 2 <= count {
@@ -42,11 +46,11 @@ fn given(count: i32, v: i32, w: i32) -> bool
 pub fn parameter_vertex(values: &[i32], used: u32, number: u32) -> bool
     ensures { λ r. ⌜ r ≡ parameterVertexObeys (now (values .entry)) used number ⌝ }
 {
-    if !vertex(values, 4, used, number) {
+    if !vertex(values, widths::VP, used, number) {
         return false;
     }
-    let at = 4 * (number as usize - 1);
-    given(values[at], values[at + 2], values[at + 3])
+    let own = lent_parameter_vertex(values, number as usize - 1);
+    given(own.given, own.v, own.w)
 }
 
 // A curv2's control has at least two coordinates given.
@@ -56,6 +60,5 @@ pub fn control(values: &[i32], used: u32, number: u32) -> bool
     if !parameter_vertex(values, used, number) {
         return false;
     }
-    let at = 4 * (number as usize - 1);
-    2 <= values[at]
+    2 <= lent_parameter_vertex(values, number as usize - 1).given
 }

@@ -1,21 +1,22 @@
 -- Digits that were read straight ahead are a whole part where no digit follows them; so each way out is one of those of the parts.
-use Prim.Native.Nat.{ℕ, zero, suc, _+_, _-_, _≤_, _<_}
+use Prim.Native.Nat.{ℕ, suc, _+_, _≤_}
 use mathlib.Core.Path.{_≡_, refl, sym, ap, ap₂, _∙_}
 use mathlib.Core.List.{List, [], _∷_}
 use mathlib.Core.Bool.{Bool, true, false, cond, _&&_}
 use mathlib.Core.Logic.{_⊎_, ⊎-elim}
 use lib.ListN.{length, take, drop}
 use lib.Seq.{take-all}
-use lib.Dec.{leb, eqb}
+use lib.Dec.{leb}
 use borrow.Author.Tests.{le-leb, leb-true, ne-eqb}
 use native.Mathlib.Omega.{arith}
 use Rattle.lists.proofs.Tests.{and-both, and-left, and-right, test, never}
 use Rattle.text.specs.Words.{wordOf}
 use Rattle.text.specs.Rest.{endOf}
-use Rattle.digits.specs.Said.{Said, says, ended}
+use Rattle.digits.specs.Said.{says}
+use Rattle.digits.specs.Answers.{ended}
 use Rattle.digits.specs.Digits.{isDigit, natOf, negative, unminus}
 use Rattle.references.specs.Reference.{item}
-use Rattle.references.specs.Corner.{Corner, Counts, Parts, split, cornerOf}
+use Rattle.references.specs.Corner.{Counts, Parts, split, cornerOf}
 use Rattle.digits.specs.Straight.{first, run, UptoRead}
 use Rattle.references.specs.Straight.{places, PartRead, AheadRead, NoneRead, second, third}
 use Rattle.digits.proofs.Fronts.{low-no-word, low-stops, slash-stops, word-over}

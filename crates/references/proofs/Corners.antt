@@ -1,23 +1,22 @@
 -- A corner's word cut at its slashes: the part read at the front is the first of them, and what follows the slash is the rest.
-use Prim.Native.Nat.{ℕ, zero, suc, _+_, _-_, _≤_, _<_}
-use mathlib.Core.Path.{_≡_, refl, sym, ap, ap₂, _∙_}
-use mathlib.Core.List.{List, [], _∷_, _++_}
+use Prim.Native.Nat.{ℕ, zero, suc, _+_, _≤_}
+use mathlib.Core.Path.{_≡_, refl, sym, ap, _∙_}
+use mathlib.Core.List.{List, [], _∷_}
 use mathlib.Core.Bool.{Bool, true, false, cond, _&&_, not}
 use mathlib.Core.Logic.{⊎-elim}
 use lib.ListN.{length, drop}
 use lib.Dec.{leb, eqb}
-use borrow.Author.Tests.{le-leb, lt-leb, ne-eqb, eq-eqb, eqb-true}
+use borrow.Author.Tests.{le-leb, ne-eqb, eqb-true}
 use native.Mathlib.Omega.{arith}
-use Rattle.lists.proofs.Tests.{and-left, and-first, and-second, and-both, test, never}
+use Rattle.lists.proofs.Tests.{and-left, and-first, and-both, test, never}
 use Rattle.text.specs.Bytes.{isWord}
 use Rattle.text.specs.Words.{wordOf}
 use Rattle.text.specs.Rest.{endOf}
-use Rattle.digits.specs.Digits.{isDigit, digits, negative, unminus, whole}
-use Rattle.digits.specs.Said.{Said, says, wrong, must, ended}
+use Rattle.digits.specs.Digits.{isDigit, unminus}
 use Rattle.references.specs.Reference.{isReference, refer}
-use Rattle.references.specs.Corner.{Corner, Counts, Parts, onto, split, formed, patterned, cornerOf}
-use Rattle.digits.specs.Straight.{first, over, past, front}
-use Rattle.references.specs.Straight.{isPiece, piece, places, PartRead, second, third}
+use Rattle.references.specs.Corner.{onto, split}
+use Rattle.digits.specs.Straight.{first, over, past}
+use Rattle.references.specs.Straight.{isPiece, piece, places, PartRead}
 use Rattle.digits.proofs.Fronts.{digit-word, next-at, byte-in}
 use Rattle.references.proofs.Pieces.{refer-yes, refer-not, refer-bad, refer-is, refer-length}
 use Rattle.references.proofs.References.{stops}

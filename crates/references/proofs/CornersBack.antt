@@ -1,14 +1,14 @@
 -- A corner that is written is read back, and what is read can be written: by the four patterns.
-use Prim.Native.Nat.{ℕ, zero, suc, _+_, _^_, _≤_, _<_}
-use mathlib.Core.Path.{_≡_, refl, sym, ap, ap₂, _∙_}
+use Prim.Native.Nat.{ℕ, zero, suc, _^_, _≤_, _<_}
+use mathlib.Core.Path.{_≡_, refl, sym, ap, _∙_}
 use mathlib.Core.List.{List, [], _∷_, _++_}
-use mathlib.Core.Bool.{Bool, true, false, cond, _&&_, _||_}
+use mathlib.Core.Bool.{Bool, true, false, _&&_}
 use lib.ListN.{length}
 use lib.Dec.{leb, eqb}
-use borrow.Author.Tests.{le-leb, leb-true, ne-eqb}
+use borrow.Author.Tests.{leb-true, ne-eqb}
 use native.Mathlib.Omega.{arith}
-use Rattle.lists.proofs.Tests.{and-left, and-right, and-both, never}
-use Rattle.digits.specs.Said.{Said, says, wrong, must}
+use Rattle.lists.proofs.Tests.{and-left, and-right, and-both}
+use Rattle.digits.specs.Said.{says, must}
 use Rattle.digits.specs.Digits.{isDigit, digits}
 use Rattle.references.specs.Reference.{isReference, refer}
 use Rattle.references.specs.Corner.{Corner, Counts, Parts, split, formed, patterned, cornerOf}

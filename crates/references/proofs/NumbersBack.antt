@@ -1,22 +1,23 @@
 -- A number that is written is read back: its numerator is the millionths themselves.
-use Prim.Native.Nat.{ℕ, zero, suc, _+_, _-_, _*_, _/_, _%_, _^_, _≤_, _<_}
+use Prim.Native.Nat.{ℕ, zero, suc, _+_, _*_, _/_, _%_, _^_, _≤_}
 use mathlib.Core.Path.{_≡_, refl, sym, ap, ap₂, _∙_}
 use mathlib.Core.List.{List, [], _∷_, _++_}
 use mathlib.Core.Bool.{Bool, true, false, _&&_}
 use lib.ListN.{length, length-append}
-use lib.Dec.{leb, eqb}
+use lib.Dec.{leb}
 use lib.IntN.{ℤ, pos, negsuc, negℤ, natAbs}
 use borrow.Author.Tests.{le-leb, leb-true, ne-eqb}
 use native.Mathlib.Omega.{arith}
-use Rattle.lists.proofs.Tests.{and-left, and-right}
-use Rattle.digits.specs.Said.{Said, says, wrong, must}
+use Rattle.lists.proofs.Tests.{and-left}
+use Rattle.digits.specs.Said.{says}
 use Rattle.digits.specs.Digits.{isDigit, digits, natOf, negative}
-use Rattle.decimals.specs.Number.{mantissa, exponent, isExponent, decimal, numerator, denominator, nearest, unsigned, withSign, limited, valueOf, numberOf}
+use Rattle.lists.specs.Signs.{withSign}
+use Rattle.decimals.specs.Number.{mantissa, exponent, isExponent, decimal, numerator, denominator, nearest, unsigned, limited, valueOf, numberOf}
 use Rattle.references.specs.Written.{short, full, writtenWhole, writtenMillionths, writtenNumber}
 use Rattle.references.specs.Fits.{numberFits}
 use Rattle.digits.proofs.Rows.{natOf-append}
 use Rattle.decimals.proofs.Mantissas.{decimal-plain}
-use Rattle.decimals.proofs.Decimals.{before-point, after-point}
+use Rattle.decimals.proofs.Points.{before-point, after-point}
 use Rattle.references.proofs.Numerals.{full-digits, full-length, full-value, short-digits, short-length, short-value}
 use Rattle.digits.proofs.Saids.{must-says}
 

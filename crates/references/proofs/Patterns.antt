@@ -1,8 +1,8 @@
 -- The ways out of `normal_at`, `texture_at` and `corner_at`: each is a pattern of the parts that are left, or none.
-use Prim.Native.Nat.{ℕ, zero, suc, _+_, _≤_, _<_}
+use Prim.Native.Nat.{ℕ, _+_, _≤_}
 use mathlib.Core.Path.{_≡_, refl, sym, ap, ap₂, _∙_}
 use mathlib.Core.List.{List, [], _∷_}
-use mathlib.Core.Bool.{Bool, true, false, cond, _&&_}
+use mathlib.Core.Bool.{Bool, true, false, _&&_}
 use mathlib.Core.Logic.{⊎-elim}
 use lib.ListN.{length, drop}
 use lib.Dec.{leb, eqb}
@@ -12,14 +12,15 @@ use Rattle.lists.proofs.Tests.{and-first, and-second, test, never}
 use Rattle.text.specs.Bytes.{isWord}
 use Rattle.text.specs.Words.{wordOf}
 use Rattle.text.specs.Rest.{endOf}
-use Rattle.digits.specs.Said.{Said, says, wrong, must, ended}
+use Rattle.digits.specs.Said.{Said, says, wrong, must}
+use Rattle.digits.specs.Answers.{ended}
 use Rattle.digits.specs.Digits.{whole}
 use Rattle.references.specs.Reference.{isReference, refer}
 use Rattle.references.specs.Corner.{Corner, Counts, Parts, split, formed, patterned, cornerOf}
 use Rattle.digits.specs.Straight.{first, over}
 use Rattle.references.specs.Straight.{piece, places, PartRead, second, third}
 use Rattle.digits.proofs.Fronts.{word-on, word-over, next-at, byte-in, byte-word}
-use Rattle.references.proofs.Corners.{others, split-word, Slashed, Ended, slashed, done, other, no-part}
+use Rattle.references.proofs.Corners.{others, split-word, slashed, done, other, no-part}
 
 and-true : (a : Bool) → (a && true) ≡ a
 and-true true = refl

@@ -1,7 +1,7 @@
 -- The ways out of `part_at` and `reference_at`: how many digits there are, and whether the word ends with them.
-use Prim.Native.Nat.{ℕ, zero, suc, _+_, _-_, _≤_, _<_}
+use Prim.Native.Nat.{ℕ, _+_, _-_, _≤_, _<_}
 use mathlib.Core.Path.{_≡_, refl, sym, ap, ap₂, _∙_}
-use mathlib.Core.List.{List, [], _∷_, _++_}
+use mathlib.Core.List.{List, [], _∷_}
 use mathlib.Core.Bool.{Bool, true, false, cond, _&&_}
 use mathlib.Core.Logic.{⊎-elim}
 use lib.ListN.{length, drop, length-drop}
@@ -13,7 +13,8 @@ use Rattle.lists.proofs.Tests.{and-first, and-second, test}
 use Rattle.text.specs.Bytes.{isWord}
 use Rattle.text.specs.Words.{wordOf}
 use Rattle.text.specs.Rest.{endOf}
-use Rattle.digits.specs.Said.{Said, says, wrong, ended}
+use Rattle.digits.specs.Said.{says, wrong}
+use Rattle.digits.specs.Answers.{ended}
 use Rattle.digits.specs.Digits.{natOf, negative, unminus}
 use Rattle.references.specs.Reference.{isReference, item, refer, referenceOf}
 use Rattle.digits.specs.Straight.{first, over, run, past, cap, front, WholeRead}
@@ -21,7 +22,7 @@ use Rattle.references.specs.Straight.{places, PartRead}
 use Rattle.digits.proofs.Fronts.{word-front, digit-word}
 use Rattle.digits.proofs.Lengths.{ten-digits}
 use Rattle.references.proofs.Pieces.{negative-first, minus-drop, refer-yes, refer-not, refer-bad, refer-is, refer-length, beyond}
-use Rattle.digits.proofs.Saids.{said, unsaid}
+use Rattle.digits.proofs.Saids.{said}
 
 minus-in : (l : List ℕ) → cond (negative l) 1 0 ≤ length l
 minus-in [] = omega arith

@@ -1,18 +1,18 @@
 -- Each written word is a token: digits, signs, points and slashes are word bytes, and none is #.
-use Prim.Native.Nat.{ℕ, zero, suc, _+_, _/_, _%_, _≤_}
+use Prim.Native.Nat.{ℕ, zero, suc, _/_, _%_, _≤_}
 use mathlib.Core.Path.{_≡_, refl, sym, ap, _∙_}
 use mathlib.Core.List.{List, [], _∷_, _++_}
-use mathlib.Core.Bool.{Bool, true, false, _&&_, not}
+use mathlib.Core.Bool.{true}
 use lib.ListN.{length}
-use lib.Dec.{leb, eqb}
+use lib.Dec.{leb}
 use lib.IntN.{ℤ, pos, negsuc}
 use borrow.Author.Tests.{leb-true, ne-eqb}
 use native.Mathlib.Omega.{arith}
 use Rattle.lists.specs.Lists.{all}
 use Rattle.lists.proofs.Tests.{and-left, and-right, and-both}
 use Rattle.lists.proofs.Laws.{all-append, all-imp}
-use Rattle.text.specs.Bytes.{isWord, startsWord}
-use Rattle.text.specs.Written.{isToken}
+use Rattle.text.specs.Bytes.{isWord}
+use Rattle.text.specs.Tokens.{isToken}
 use Rattle.digits.specs.Digits.{isDigit, digits}
 use Rattle.references.specs.Corner.{Corner}
 use Rattle.references.specs.Written.{full, writtenWhole, writtenMillionths, writtenNumber, slashed, writtenCorner}

@@ -1,22 +1,22 @@
 -- Whole numbers, references and corners that are written are read back, and what is read can be written.
-use Prim.Native.Nat.{ℕ, zero, suc, _+_, _-_, _^_, _≤_, _<_}
-use mathlib.Core.Path.{_≡_, refl, sym, ap, ap₂, _∙_}
-use mathlib.Core.List.{List, [], _∷_, _++_}
-use mathlib.Core.Bool.{Bool, true, false, cond, _&&_, _||_}
+use Prim.Native.Nat.{ℕ, suc, _+_, _-_, _^_, _≤_, _<_}
+use mathlib.Core.Path.{_≡_, refl, sym, ap, _∙_}
+use mathlib.Core.List.{List, [], _∷_}
+use mathlib.Core.Bool.{Bool, true, false, cond, _&&_}
 use mathlib.Core.Logic.{⊎-elim}
 use lib.ListN.{length}
-use lib.Dec.{leb, eqb}
+use lib.Dec.{leb}
 use borrow.Author.Tests.{le-leb, leb-true, ne-eqb}
 use native.Mathlib.Omega.{arith}
 use Rattle.lists.specs.Lists.{same}
 use Rattle.lists.proofs.Tests.{and-left, and-right, and-both, test, never}
-use Rattle.digits.specs.Said.{Said, says, wrong, must}
+use Rattle.digits.specs.Said.{says, must}
 use Rattle.digits.specs.Digits.{isDigit, digits, natOf, whole, negative, unminus}
 use Rattle.keywords.specs.declared.Argument.the-variants.{Off}
 use Rattle.keywords.specs.Arguments.{arguments, argumentBytes}
 use Rattle.digits.specs.Degree.{degreeOf, smoothingOf}
 use Rattle.references.specs.Reference.{isReference, item, refer, referenceOf}
-use Rattle.references.specs.Written.{short, writtenWhole}
+use Rattle.references.specs.Written.{writtenWhole}
 use Rattle.references.specs.Fits.{degreeFits, smoothingFits, referenceFits}
 use Rattle.references.proofs.Numerals.{short-digits, short-few, short-some, short-value}
 use Rattle.digits.proofs.Saids.{must-says}

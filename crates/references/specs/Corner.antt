@@ -1,8 +1,9 @@
+-- Must be believed: a promise reaches every definition of this file.
 -- 01: "Corner patterns: p and curv are v; l is v or v/vt; f and surf are v, v/vt, v//vn or v/vt/vn. All corners of a line share one pattern; one that
 -- the statement lacks is 6." "A corner is v, vt, vn (0 for none)". "in a word 6 first".
 use Prim.Native.Nat.{ℕ}
 use mathlib.Core.List.{List, [], _∷_}
-use mathlib.Core.Bool.{Bool, true, false, cond, _&&_, not}
+use mathlib.Core.Bool.{Bool, cond, _&&_, not}
 use lib.Dec.{leb, eqb}
 -- which parts a statement's corners may have besides v
 pub use Rattle.statements.specs.declared.rules.Parts.{Parts}

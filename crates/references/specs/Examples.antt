@@ -3,7 +3,7 @@ use Prim.Native.Nat.{ℕ}
 use Prim.{tt}
 use mathlib.Core.List.{List, [], _∷_, _++_}
 use mathlib.Core.Bool.{Bool, true, false, _&&_}
-use lib.ListN.{length, replicate}
+use lib.ListN.{replicate}
 use lib.Dec.{T, eqb}
 use lib.IntN.{ℤ, pos, negsuc}
 use Rattle.lists.specs.Lists.{all, same}
@@ -11,7 +11,7 @@ use Rattle.digits.specs.Said.{Said, says, wrong}
 use Rattle.digits.specs.Digits.{whole}
 use Rattle.decimals.specs.Number.{decimal, numerator, denominator, nearest, numberOf}
 use Rattle.references.specs.Reference.{isReference, refer, referenceOf}
-use Rattle.references.specs.Corner.{Corner, Counts, Parts, cornerOf}
+use Rattle.references.specs.Corner.{Corner, Parts, cornerOf}
 use Rattle.keywords.specs.Arguments.{arguments, argumentBytes}
 use Rattle.digits.specs.Degree.{degreeOf, smoothingOf, nameOf}
 use Rattle.references.specs.Written.{writtenWhole, writtenMillionths, writtenNumber, writtenCorner}

@@ -1,9 +1,10 @@
+-- Must be believed: a promise reaches every definition of this file.
 -- 01: "Reference: optional -, then 1 to 10 digits. k means the k-th of its kind so far; -k the k-th from the last. Zero or past either end: 8."
 use Prim.Native.Nat.{ℕ, _+_, _-_}
 use mathlib.Core.List.{List}
 use mathlib.Core.Bool.{Bool, cond, _&&_}
 use lib.Dec.{leb}
-use Rattle.digits.specs.Said.{Said, says, wrong, must}
+use Rattle.digits.specs.Said.{Said, says, must}
 use Rattle.digits.specs.Digits.{natOf, whole, negative, unminus}
 
 -- "optional -, then 1 to 10 digits"

@@ -1,6 +1,6 @@
 -- What the code computes on the way, from a place in the text to where its digits stop; the laws of proofs/ say that it comes to the forms of the word there.
 use Prim.{Unit}
-use Prim.Native.Nat.{ℕ, _+_, _-_, _≤_}
+use Prim.Native.Nat.{ℕ, _+_, _≤_}
 use mathlib.Core.Path.{_≡_}
 use mathlib.Core.Logic.{_⊎_}
 use mathlib.Core.List.{List, [], _∷_}

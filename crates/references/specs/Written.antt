@@ -1,7 +1,8 @@
+-- Must be believed: a promise reaches every definition of this file.
 -- 01, "The tidy text": "References positive", "numbers with six places and no plus", "zero has no minus".
 use Prim.Native.Nat.{ℕ, zero, suc, _+_, _/_, _%_}
 use mathlib.Core.List.{List, [], _∷_, _++_}
-use mathlib.Core.Bool.{Bool, cond}
+use mathlib.Core.Bool.{cond}
 use lib.Dec.{ltb}
 use lib.IntN.{ℤ, pos, negsuc}
 use Rattle.references.specs.Corner.{Corner}

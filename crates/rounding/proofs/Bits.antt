@@ -1,7 +1,7 @@
 -- The machine's signed numbers: sizes are all that their operations ask, and a number that fits is read back from its bits.
 use mathlib.Core.Path.{_≡_, refl, ap, _∙_, subst}
 use mathlib.Core.Bool.{Bool, true, false}
-use Prim.Native.Nat.{ℕ, zero, _^_, _≤_, _<_}
+use Prim.Native.Nat.{ℕ, _^_, _≤_, _<_}
 use native.Mathlib.Omega.{arith}
 use borrow.Author.Tests.{ltb-true, leb-true, ltb-false}
 use lib.Dec.{T}
@@ -10,10 +10,11 @@ use lib.Signed.{ltZ, leZ, mag}
 use mir.Syntax.{Width, w32, w64}
 use mir.Val.{SFits, toZ, ofZ, hbits}
 use mir.Facts.{toZ-ofZ, toZ-pos, sfits-widen}
-use Rattle.rounding.specs.Round.{signed, InRange}
+use Rattle.lists.specs.Signs.{withSign}
+use Rattle.rounding.specs.Range.{InRange}
 use Rattle.rounding.proofs.IntLaws.{abs-neg}
 
-pub abs-signed : (t : Bool) (m : ℕ) → natAbs (signed t m) ≡ m
+pub abs-signed : (t : Bool) (m : ℕ) → natAbs (withSign t m) ≡ m
 abs-signed true m = abs-neg (pos m)
 abs-signed false m = refl
 
@@ -22,8 +23,8 @@ pub fits-abs : (w : Width) (z : ℤ) → natAbs z < 2 ^ hbits w → SFits w z
 fits-abs w (pos n) h = record { sfits = h }
 fits-abs w (negsuc n) h = record { sfits = omega arith }
 
-pub fits-signed : (t : Bool) (m : ℕ) → m ≤ 2000000000 → SFits w32 (signed t m)
-fits-signed t m h = fits-abs w32 (signed t m) (omega (arith, abs-signed t m))
+pub fits-signed : (t : Bool) (m : ℕ) → m ≤ 2000000000 → SFits w32 (withSign t m)
+fits-signed t m h = fits-abs w32 (withSign t m) (omega (arith, abs-signed t m))
 
 -- the number that the bits of z stand for
 pub read-back : (w : Width) (z : ℤ) → natAbs z < 2 ^ hbits w → toZ w (ofZ w z) ≡ z
@@ -49,7 +50,7 @@ plus (pos m) h = refl
 plus (negsuc m) h = absurd (subst T h tt)
 
 -- `-(m as i32)`
-pub negated : (m : ℕ) → m ≤ 2000000000 → pos 0 -ℤ toZ w32 m ≡ signed true m
+pub negated : (m : ℕ) → m ≤ 2000000000 → pos 0 -ℤ toZ w32 m ≡ withSign true m
 negated m h = rw (toZ-pos w32 {n = m} (omega arith)) (+ℤ-idl (negℤ (pos m)))
 
 -- the two tests that tell a small number

@@ -8,7 +8,9 @@ use borrow.Author.Tests.{le-ltb}
 use lib.Dec.{T, ltb, ltb→lt, leb→le, le→leb}
 use lib.IntN.{ℤ, pos, negsuc, negℤ, natAbs, _+ℤ_, _-ℤ_, _*ℤ_, +ℤ-idl, +ℤ-idr, *ℤ-zero}
 use lib.Signed.{_≤ℤ_, leZ, ltZ, leZ-yes}
-use Rattle.rounding.specs.Round.{nearest, rounded, between, InRange, signed}
+use Rattle.lists.specs.Signs.{withSign}
+use Rattle.rounding.specs.Round.{nearest, rounded, between}
+use Rattle.rounding.specs.Range.{InRange}
 use Rattle.rounding.proofs.IntLaws.{abs-neg, abs-*, abs-+, cond-ind, sub-eq}
 use Rattle.rounding.proofs.FracLaws.{no-size}
 use Rattle.rounding.proofs.Ring.{ring, _⊕_, _⊝_, _⊗_, ⊖, _≐_}
@@ -172,7 +174,7 @@ between-small a b p D h some u v =
     weighted m n q u v e = omega (arith, mul-le-mul-right q u, mul-le-mul-right p v)
 
 -- rounding by the sign and the size, as the machine does it
-pub rounded-signed : (z : ℤ) (d : ℕ) → signed (ltZ z (pos 0)) (nearest (natAbs z) d) ≡ rounded z d
+pub rounded-signed : (z : ℤ) (d : ℕ) → withSign (ltZ z (pos 0)) (nearest (natAbs z) d) ≡ rounded z d
 unfolding rounded
 rounded-signed (pos m) d = rw (le-ltb m 0 (omega arith))
 rounded-signed (negsuc m) d = refl

@@ -1,3 +1,4 @@
+-- Must be believed: a promise reaches every definition of this file.
 -- 01, "How a point is made": "a fraction stands as two whole numbers, the lower above 0, and is held against another by multiplying out".
 use mathlib.Core.Path.{_≡_}
 use Prim.Native.Nat.{ℕ, zero, suc, _*_, _≤_, _<_}

@@ -1,7 +1,7 @@
+-- Must be believed: a promise reaches every definition of this file.
 -- 01, "How a point is made": the one rounding rule.
-use mathlib.Core.Bool.{Bool, true, false}
-use Prim.Native.Nat.{ℕ, suc, _+_, _-_, _*_, _/_, _≤_}
-use lib.IntN.{ℤ, pos, negsuc, negℤ, natAbs, _+ℤ_, _*ℤ_}
+use Prim.Native.Nat.{ℕ, suc, _+_, _-_, _*_, _/_}
+use lib.IntN.{ℤ, pos, negsuc, negℤ, _+ℤ_, _*ℤ_}
 
 -- the nearest whole number of m / d, a half going up: the whole part of m / d + 1 / 2
 abbrev pub nearest : ℕ → ℕ → ℕ
@@ -15,12 +15,3 @@ rounded (negsuc m) d = negℤ (pos (nearest (suc m) d))
 -- "Between two values a and b at p parts of D: (a(D-p) + bp)/D, to the nearest whole number, ties away from zero."
 unfoldable pub between : (a b : ℤ) (p D : ℕ) → ℤ
 between a b p D = rounded (a *ℤ pos (D - p) +ℤ b *ℤ pos p) D
-
--- at most 2,000,000,000 millionths on either side of zero, as every number of an accepted file is
-abbrev pub InRange : ℤ → Type 0
-InRange z = natAbs z ≤ 2000000000
-
--- m, or -m where the number is below zero
-abbrev pub signed : Bool → ℕ → ℤ
-signed true m = negℤ (pos m)
-signed false m = pos m

@@ -2,7 +2,9 @@
 ghost use mathlib.Core.Path.{_≡_};
 ghost use Prim.Native.Nat.{_*_, _^_, _≤_, _<_};
 ghost use lib.IntN.{pos, natAbs, _-ℤ_, _*ℤ_};
-ghost use Rattle.rounding.specs.Round.{between, rounded, nearest, signed, InRange};
+ghost use Rattle.lists.specs.Signs.{withSign};
+ghost use Rattle.rounding.specs.Round.{between, rounded, nearest};
+ghost use Rattle.rounding.specs.Range.{InRange};
 
 // k times a.
 pub fn weighted(a: i32, k: u64) -> i64
@@ -23,7 +25,7 @@ fn size(n: i64) -> u64
 // m, or -m.
 fn with_sign(below: bool, m: u64) -> i32
     requires { ⌜ m ≤ 2000000000 ⌝ }
-    ensures { λ r. ⌜ (r ≡ signed below m) × InRange r ⌝ }
+    ensures { λ r. ⌜ (r ≡ withSign below m) × InRange r ⌝ }
 {
     if below { -(m as i32) } else { m as i32 }
 }

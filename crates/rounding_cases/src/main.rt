@@ -1,6 +1,6 @@
 // Runs `between` at its edges: halves of both signs, both ends, the widest numbers and parts. Each line is a, b, p, D and the answer.
 ghost use Prim.Native.Nat.{_≤_, _<_};
-ghost use Rattle.rounding.specs.Round.{InRange};
+ghost use Rattle.rounding.specs.Range.{InRange};
 
 fn show(z: i32)
     requires { ⌜ InRange z ⌝ }

@@ -1,5 +1,5 @@
 -- From an accepted text to a point within its bound: its tables obey the rules, so that demand 3 holds of them, and what they give is the file's own.
-use Prim.Native.Nat.{ℕ, _+_, _*_, _-_, _≤_, _<_}
+use Prim.Native.Nat.{ℕ, _+_, _*_, _≤_, _<_}
 use mathlib.Core.Path.{_≡_, refl, sym, ap, ap₂, _∙_, subst}
 use mathlib.Core.Bool.{cond}
 use mathlib.Core.Logic.{_⊎_, inl, inr}
@@ -27,7 +27,8 @@ use Rattle.sampler.specs.Demand3.{Curve, OnCurve, RunClaim, Surface, OnSurface}
 use Rattle.sampler.proofs.Demanded.{points-on-curves, runs-on-curves}
 use Rattle.sampler.proofs.OnSurfaces.{points-on-surfaces}
 use Rattle.sampled_files.specs.Files.{alongU, alongV, controlIn, axesIn, gridIn}
-use Rattle.sampled_files.specs.Joined.{HasBody, Carried, PointOnCurve, AcceptedCurves, PointsOfRun, AcceptedRuns, PointOnSurface, AcceptedSurfaces}
+use Rattle.sampled_files.specs.Joined.{HasBody, Carried, PointOnCurve, PointsOfRun, PointOnSurface}
+use Rattle.sampled_files.specs.Accepted.{AcceptedCurves, AcceptedRuns, AcceptedSurfaces}
 use Rattle.model.proofs.BodyRows.{laidBody, parametersIn}
 use Rattle.sampled_files.proofs.Curves.{curve-kept, curve2-kept}
 use Rattle.sampled_files.proofs.Surfaces.{surface-kept}

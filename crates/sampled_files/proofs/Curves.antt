@@ -18,7 +18,7 @@ use Rattle.tables.specs.Tables.{Tables}
 use Rattle.tables.specs.Bodies.{Basis, low, high, inOrder, curveCount}
 use Rattle.tables.specs.Records.{parametersU}
 use Rattle.tables.specs.declared.Used.{Used}
-use Rattle.model.specs.Model.{Vertices, Free, curve, curve2, surface, Loop, Body}
+use Rattle.model.specs.Model.{Vertices, Free, curve, curve2, Loop, Body}
 use Rattle.model.specs.Statements.{settled}
 use Rattle.model.specs.Parse.{inForce, countsAgree, rangeWithin, openedBody}
 use Rattle.model.specs.Room.{summed, partCount}

@@ -14,7 +14,7 @@ use Rattle.lists.proofs.Tests.{and-left, and-right, and-both}
 use Rattle.lists.proofs.Laws.{all-append}
 use Rattle.references.specs.Corner.{Corner}
 use Rattle.references.specs.Fits.{numberFits}
-use Rattle.tables.specs.Bodies.{Basis, bezier, bspline, cardinal, taylor, basisNumber, basisOf}
+use Rattle.tables.specs.Bodies.{Basis, bezier, bspline, cardinal, taylor, basisNumber}
 use Rattle.model.specs.Model.{Vertices, Free, curve, curve2, surface, ParmDirection, Body, Form, start}
 use Rattle.model.specs.Statements.{body, parameters}
 use Rattle.model.specs.Parse.{WordForm, a-number, controlForm, formOf, a-body, parm, Value, number, corner, Seen, degreesNeeded, inForce, degreeIn, rangeWords, fewestControls}

@@ -14,7 +14,7 @@ use Rattle.lists.proofs.Laws.{all-append}
 use Rattle.references.specs.Fits.{numberFits, referenceFits}
 use Rattle.tables.specs.Tables.{Tables}
 use Rattle.tables.specs.Records.{partAt, loopWidth, spanWidth}
-use Rattle.tables.specs.Records as records
+use Rattle.tables.specs.declared.parts.LoopPart.{LoopPart}
 use Rattle.tables.proofs.Flat.{length-flat}
 use Rattle.model.specs.Model.{Vertices, Part, Loop}
 use Rattle.model.specs.Statements.{loop}
@@ -40,7 +40,7 @@ use Rattle.sampled_files.proofs.Vertices.{all-at}
 abbrev partOk : ℕ → Part → Bool
 partOk n p = referenceFits n (p .curve) && numberFits (p .from) && numberFits (p .to)
 
-abbrev pub begunOk : ℕ → records.PartRecord → Bool
+abbrev pub begunOk : ℕ → LoopPart → Bool
 begunOk n q = leb (q .begins) 2 && partOk n (partFrom q)
 
 module _ (s : Seen) where
@@ -95,7 +95,7 @@ begun-ok x n (l ∷ ls) g =
     all-append (begunOk n) (laidLoop l) (laidParts ls) (begun-part n (beginning (l .hole)) (l .parts) (begins-few (l .hole)) (fine-parts x n l (g .0))) (begun-ok x n ls (g .1))
 
 -- the first of all begins a loop
-abbrev noPart : records.PartRecord
+abbrev noPart : LoopPart
 noPart = record { begins = 0; curve = 0; from = pos 0; to = pos 0 }
 
 first-begins : (ls : List Loop) → Parted ls → 0 < length (laidParts ls) → leb 1 (getD (laidParts ls) 0 noPart .begins) ≡ true
@@ -107,11 +107,11 @@ first-begins (l ∷ ls) g h = go (l .parts) (g .0)
     go (p ∷ ps) k = begins-some (l .hole)
 
 -- ---- read back
-module _ (t : Tables) (n l : ℕ) (qs : List records.PartRecord) (s : Stands (t .loops) (loopWidth * l) (flat rowOf qs)) (r : Stands (t .spans) (spanWidth * l) (flat spanOf qs)) where
+module _ (t : Tables) (n l : ℕ) (qs : List LoopPart) (s : Stands (t .loops) (loopWidth * l) (flat rowOf qs)) (r : Stands (t .spans) (spanWidth * l) (flat spanOf qs)) where
   part-is : (k : ℕ) → k < length qs → partAt t (l + k) ≡ getD qs k noPart
   part-is k h = let a = among qs k h in part-among t l qs s r k a ∙ sym (among-at qs k a noPart)
 
-  part-obeys : (k : ℕ) (q : records.PartRecord) → begunOk n q ≡ true → cond (eqb k 0) (leb 1 (q .begins)) true ≡ true → partObeys n k q ≡ true
+  part-obeys : (k : ℕ) (q : LoopPart) → begunOk n q ≡ true → cond (eqb k 0) (leb 1 (q .begins)) true ≡ true → partObeys n k q ≡ true
   unfolding partObeys beginsObeys inRange
   part-obeys k q o f =
       let c = q .curve in

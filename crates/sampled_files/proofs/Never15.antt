@@ -17,7 +17,7 @@ use Rattle.model.specs.Layout.{tablesOf, usedOf}
 use Rattle.record_rules.specs.Rules.{obeys, curvesBefore}
 use Rattle.record_rules.proofs.Element.{obeys-facts}
 use Rattle.sampler.specs.Answers.{wanted, carried, elementOf, bodyOf, refusalOf}
-use Rattle.sampled_files.specs.Joined.{SamplingNever15}
+use Rattle.sampled_files.specs.Accepted.{SamplingNever15}
 use Rattle.sampled_files.proofs.Obeyed.{every-element-obeys}
 
 pub used-elements : (m : Model) → usedOf m .elements ≡ length (m .elements)

@@ -15,7 +15,6 @@ use Rattle.tables.specs.Records.{bodyWidth, rangeWidth, bodyAt}
 use Rattle.tables.specs.Asking.{held, bodyHeld}
 use Rattle.tables.specs.declared.Used.{Used}
 use Rattle.model.specs.Model.{Vertices, Free, curve, curve2, surface, along-u, Body, Kind, plain, free, Element, Model, curves}
-use Rattle.model.specs.Statements.{body}
 use Rattle.model.specs.Parse.{a-corner, a-control, corner}
 use Rattle.model.specs.Room.{partCount, summed}
 use Rattle.model.specs.Layout.{freeNumber, kindNumber, bodyNumber, bodiesOf, tablesOf, usedOf}
@@ -27,7 +26,7 @@ use Rattle.tidy_form.proofs.Keep.{degrees-form}
 use Rattle.record_rules.specs.Corners.{leastCorners, withTexture, withNormal, pointObeys, cornersObey}
 use Rattle.record_rules.specs.Bodies.{recordObeys, bodyObeys}
 use Rattle.record_rules.specs.Rules.{obeys, curvesBefore}
-use Rattle.sampled_files.specs.Joined.{EveryElementObeys}
+use Rattle.sampled_files.specs.Accepted.{EveryElementObeys}
 use Rattle.tidy_form.proofs.Bodies.{unsettled-free}
 use Rattle.model.proofs.Stands.{Among, among}
 use Rattle.sampled_files.proofs.Vertices.{all-at, control-obeys}

@@ -11,7 +11,7 @@ use Rattle.sampler.specs.Demand3.{OnCurve}
 use Rattle.polyline.specs.Answers.{polylineOutcome, parametersOf, polylineInto}
 use Rattle.polyline.proofs.Granted.{agreed-polyline}
 use Rattle.polyline.proofs.Demanded.{polylines-on-curves}
-use Rattle.sampled_files.specs.Polylines.{AcceptedPolylines}
+use Rattle.sampled_files.specs.Accepted.{AcceptedPolylines}
 use Rattle.sampled_files.specs.Files.{axesIn}
 use Rattle.sampled_files.proofs.Accepted.{its-curve, axes-are, close}
 

@@ -10,7 +10,7 @@ use Rattle.tables.specs.Tables.{Tables}
 use Rattle.tables.specs.Bodies.{bezier, bspline}
 use Rattle.tables.specs.Records.{bodyAt, cornerAt}
 use Rattle.tables.specs.declared.Corner as records-corner
-use Rattle.model.specs.Model.{Body, Kind, free, Model, curves}
+use Rattle.model.specs.Model.{Body, Kind, Model, curves}
 use Rattle.model.specs.Room.{Rooms, summed, partCount}
 use Rattle.model.specs.Read.{read, readOf}
 use Rattle.model.specs.Layout.{freeNumber, kindNumber, bodyNumber, bodiesOf, tablesOf, usedOf}

@@ -19,11 +19,13 @@ use Rattle.model.specs.Layout.{elementRows, tablesOf, usedOf}
 use Rattle.model.proofs.Rows.{elementRows-length}
 use Rattle.model.proofs.Placed.{Placed}
 use Rattle.tidy_form.specs.Printed.{tidyText}
-use Rattle.tidy_form.specs.Agree.{Agree, TablesAgree}
+use Rattle.tidy_form.specs.Agree.{TablesAgree}
+use Rattle.tidy_form.specs.Bare.{Agree}
 use Rattle.tidy_form.proofs.Placed.{read-placed}
 use Rattle.tidy_form.proofs.TablesAgree.{placed-agree, others-same, counts-same, number-same}
 use Rattle.tidy_form.proofs.TidyRead.{tidy-read}
-use Rattle.sampled_files.specs.Joined.{PromisedAlike, TidiedSamplesAlike}
+use Rattle.sampled_files.specs.Joined.{PromisedAlike}
+use Rattle.sampled_files.specs.Accepted.{TidiedSamplesAlike}
 use Rattle.sampled_files.proofs.Names.{names-aside}
 
 -- ---- models that agree, and so their tables but for names

@@ -1,3 +1,4 @@
+-- Must be believed: a promise reaches every definition of this file.
 -- 01, "How a point is made", of what a file says, with no table between: a body's directions and an element's controls.
 use Prim.Native.Nat.{ℕ, _+_, _*_, _-_}
 use mathlib.Core.List.{List, []}

@@ -1,3 +1,4 @@
 pub mod Files
 pub mod Joined
+pub mod Accepted
 pub mod Polylines

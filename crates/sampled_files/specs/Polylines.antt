@@ -1,21 +1,16 @@
+-- Must be believed: a promise reaches every definition of this file.
 -- Q-3 from a text on: "Demand 3 holds for every point."
-use Prim.Native.Nat.{ℕ, _+_, _*_, _≤_, _<_}
+use Prim.Native.Nat.{ℕ, _+_, _*_, _<_}
 use mathlib.Core.Path.{_≡_}
-use mathlib.Core.Logic.{_⊎_}
 use mathlib.Core.List.{List}
 use lib.ListN.{length, getD}
 use lib.IntN.{ℤ, pos}
-use lib.Signed.{_≤ℤ_}
 use Rattle.references.specs.Corner.{Corner}
 use Rattle.rounding.specs.Fractions.{Close}
 use Rattle.point_exact.specs.Exact.{curveExact}
-use Rattle.model.specs.Model.{curve, curve2, Body, Model}
-use Rattle.model.specs.Room.{Rooms}
-use Rattle.model.specs.Read.{read, readOf}
-use Rattle.model.specs.Layout.{tablesOf, usedOf}
-use Rattle.polyline.specs.Answers.{PolylineAnswer, parametersOf, polylineInto}
+use Rattle.model.specs.Model.{Body, Model}
+use Rattle.polyline.specs.Answers.{PolylineAnswer}
 use Rattle.sampled_files.specs.Files.{alongU, controlIn, axesIn}
-use Rattle.sampled_files.specs.Joined.{HasBody, Carried}
 
 -- r, the answer to a polyline with the parameters x: point j lies at most n/2 millionths from the exact value that the file's own numbers give at its parameter
 pub record PointsOfPolyline (m : Model) (b : Body) (cs : List Corner) (x : List ℤ) (at : ℕ) (r : PolylineAnswer) : Type 0 where
@@ -23,10 +18,3 @@ pub record PointsOfPolyline (m : Model) (b : Body) (cs : List Corner) (x : List 
   pub count : r .outcome .points ≡ length x
   pub near : (j axis : ℕ) → j < length x → axis < axesIn (b .free)
       → Close (getD (r .points) (at + (axesIn (b .free) * j + axis)) (pos 0)) (curveExact (alongU b) (getD x j (pos 0)) (controlIn (m .vertices) (b .free) cs axis)) (b .degree-u)
-
-abbrev pub AcceptedPolylines : Type 0
-AcceptedPolylines =
-    (R : Rooms) (s : List ℕ) (m : Model) → readOf R s ≡ read m
-    → (number : ℕ) (b : Body) (o : HasBody m number b) → Carried b → (b .free ≡ curve) ⊎ (b .free ≡ curve2)
-    → (tolerance : ℤ) (at : ℕ) (points : List ℤ) → pos 0 ≤ℤ tolerance → at + axesIn (b .free) * length (parametersOf (usedOf m) (tablesOf R m) number tolerance) ≤ length points
-    → PointsOfPolyline m b (o .one .corners) (parametersOf (usedOf m) (tablesOf R m) number tolerance) at (polylineInto (usedOf m) (tablesOf R m) number tolerance at points)

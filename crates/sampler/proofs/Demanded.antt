@@ -21,7 +21,7 @@ use Rattle.tables.specs.declared.Used.{Used}
 use Rattle.tables.specs.declared.Element.{Element}
 use Rattle.record_rules.specs.Rules.{obeys, curvesBefore}
 use Rattle.record_rules.proofs.Element.{obeys-facts}
-use Rattle.point_exact.specs.Directions.{Rules}
+use Rattle.point_exact.specs.Rules.{Rules}
 use Rattle.point_exact.specs.Exact.{curveExact}
 use Rattle.point_exact.proofs.CurveNear.{curve-near}
 use Rattle.point_runs.specs.Runs.{joined, listed, parameterAt}

@@ -20,7 +20,7 @@ use Rattle.point_exact.specs.Sampled.{firstControl}
 use Rattle.point_exact.proofs.Pyramid.{sampled-cong}
 use Rattle.point_rows.specs.Places.{direction, Sound}
 use Rattle.point_rows.specs.Controls.{controlAt, ControlsLent}
-use Rattle.point_runs.specs.Runs.{Ranged}
+use Rattle.point_runs.specs.Inner.{Ranged}
 use Rattle.point_rows.specs.declared.BodyDirection.{BodyDirection}
 use Rattle.sampler.specs.Points.{bodyDirection, controlOf, curveAt}
 use Rattle.sampler.specs.Answers.{pointAnswer, inside, curvePoint, pointOnCurve}

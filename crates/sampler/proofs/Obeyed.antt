@@ -11,7 +11,7 @@ use lib.ListN.{length, getD, take, drop, length-drop}
 use lib.Seq.{length-take-le, getD-take, getD-drop}
 use lib.IntN.{ℤ, pos}
 use Rattle.lists.proofs.Tests.{and-left, and-right, test, never}
-use Rattle.rounding.specs.Round.{InRange}
+use Rattle.rounding.specs.Range.{InRange}
 use Rattle.tables.specs.Tables.{Tables}
 use Rattle.tables.specs.Records.{bodyAt, elementAt, cornerAt, parametersU, parametersV}
 use Rattle.tables.specs.declared.Body.{Body}
@@ -29,7 +29,7 @@ use Rattle.basis.proofs.Basis.{curve-enough, surface-enough-u, surface-enough-v
 use Rattle.point_exact.specs.Directions.{at}
 use Rattle.point_rows.specs.Places.{Sized}
 use Rattle.point_rows.specs.Controls.{controlAt, ControlsLent}
-use Rattle.point_runs.specs.Runs.{Ranged}
+use Rattle.point_runs.specs.Inner.{Ranged}
 use Rattle.sampler.specs.Points.{bodyDirection}
 use Rattle.sampler.specs.Answers.{wanted, carried, elementOf, bodyOf, refusalOf}
 use Rattle.sampler.specs.Sampling.{Directed, Curved, Surfaced}

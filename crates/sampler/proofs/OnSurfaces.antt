@@ -12,7 +12,7 @@ use Rattle.tables.specs.Tables.{Tables}
 use Rattle.tables.specs.declared.Body.{Body}
 use Rattle.tables.specs.declared.Used.{Used}
 use Rattle.tables.specs.declared.Element.{Element}
-use Rattle.point_exact.specs.Directions.{Rules}
+use Rattle.point_exact.specs.Rules.{Rules}
 use Rattle.point_exact.proofs.SurfaceNear.{surface-near}
 use Rattle.point_runs.specs.Runs.{listed}
 use Rattle.sampler.specs.Points.{directionU, directionV, gridOf, surfaceAt}

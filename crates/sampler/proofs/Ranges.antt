@@ -12,12 +12,13 @@ use lib.ListN.{length}
 use lib.IntN.{ℤ}
 use lib.Signed.{_≤ℤ_, _<ℤ_, leZ, ltZ, <ℤ-≤ℤ-trans}
 use Rattle.lists.proofs.Tests.{and-left, and-right}
-use Rattle.rounding.specs.Round.{InRange}
+use Rattle.rounding.specs.Range.{InRange}
 use Rattle.rounding.proofs.Order.{yes-le, yes-lt, ≤ℤ-trans, ≤ℤ-<ℤ-trans, <ℤ→≤ℤ}
 use Rattle.tables.specs.Bodies.{Basis, bezier, bspline, enough, rising, steady, ordered, continuous, low, high, ranged, inOrder, basisOf}
-use Rattle.point_exact.specs.Directions.{at, BezierRules, SplineRules, Rules}
+use Rattle.point_exact.specs.Directions.{at}
+use Rattle.point_exact.specs.Rules.{BezierRules, SplineRules, Rules}
 use Rattle.point_rows.specs.Places.{direction, Sound}
-use Rattle.point_runs.specs.Runs.{Ranged}
+use Rattle.point_runs.specs.Inner.{Ranged}
 use Rattle.sampler.specs.Points.{bodyDirection}
 use Rattle.point_runs.proofs.Steps.{small-between}
 

@@ -19,10 +19,11 @@ use Rattle.tables.specs.declared.Element.{Element}
 use Rattle.point_exact.specs.Sampled.{curveSampled}
 use Rattle.point_rows.specs.Places.{direction}
 use Rattle.point_rows.specs.Controls.{controlAt, ControlsLent}
-use Rattle.point_runs.specs.Runs.{joined, listed, parameterAt, pointAt, pointsUpto, Ranged}
+use Rattle.point_runs.specs.Runs.{joined, listed, parameterAt}
+use Rattle.point_runs.specs.Inner.{pointAt, pointsUpto, Ranged}
 use Rattle.sampler.specs.Points.{bodyDirection, axesOf, controlOf, curveAt, runNumbers}
 use Rattle.sampler.specs.Answers.{runAnswer, elementOf, bodyOf, refusalOf, filledRun, runInto}
-use Rattle.point_runs.specs.Runs.{runBy, axesBy}
+use Rattle.point_runs.specs.Inner.{runBy, axesBy}
 use Rattle.point_rows.specs.declared.BodyDirection.{BodyDirection}
 use Rattle.sampler.specs.declared.RunResult.{RunResult}
 use Rattle.sampler.specs.declared.RunResult.the-variants as ran

@@ -1,3 +1,4 @@
+-- Must be believed: a promise reaches every definition of this file.
 -- Demand 3: given room, a point is handed out, on a curve alone or as one of a run, and each of its coordinates differs from the exact value
 -- by at most n/2 millionths on a curve of degree n, (m+n)/2 on a surface of degrees m and n.
 use mathlib.Core.Path.{_≡_}

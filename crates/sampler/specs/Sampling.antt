@@ -12,7 +12,7 @@ use Rattle.tables.specs.declared.Body.{Body}
 use Rattle.tables.specs.declared.Element.{Element}
 use Rattle.point_rows.specs.Places.{Sized}
 use Rattle.point_rows.specs.Controls.{ControlsLent}
-use Rattle.point_runs.specs.Runs.{Ranged}
+use Rattle.point_runs.specs.Inner.{Ranged}
 use Rattle.sampler.specs.Points.{bodyDirection, axesOf, runNumbers}
 use Rattle.sampler.specs.Answers.{PointAnswer, RunAnswer, inside, curvePoint, surfacePoint, refusedPoint, refusedRun, filledRun}
 

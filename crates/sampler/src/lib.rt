@@ -68,7 +68,7 @@ pub fn look_up(
     if !is_wanted(surface, e.kind) {
         return Lookup::Refused { number: 17 };
     }
-    let body = tables::body_of(used, bodies, ranges, e.body);
+    let body = table_asking::body_of(used, bodies, ranges, e.body);
     let curves = curves_for(elements, index, body.loops);
     if !records_obey(
         used,

@@ -2,6 +2,7 @@ ghost use mathlib.Core.Path.{_≡_};
 ghost use mathlib.Core.Bool.{cond};
 ghost use Prim.Native.Nat.{_*_};
 ghost use lib.Dec.{eqb};
+ghost use Rattle.tables.specs.Records.{curve2Kind};
 ghost use Rattle.point_rows.specs.Places.{Sound};
 ghost use Rattle.point_rows.specs.Controls.{ControlsLent};
 ghost use Rattle.sampler.specs.Inner.{pointBy, surfaceBy};
@@ -9,8 +10,11 @@ use crate::PointResult;
 use point_rows::BodyDirection;
 use point_rows::search::find;
 use point_single::across;
+use tables::kinds;
+use tables::vertices::V_START;
+use tables::vertices::VP_START;
 
-// The point at t of a curv, or of a curv2 where the kind is 5.
+// The point at t of a curv, or of a curv2 by the kind.
 pub fn curve_point(
     kind: u32,
     v: &[i32],
@@ -21,15 +25,15 @@ pub fn curve_point(
     along: BodyDirection,
     t: i32,
 ) -> PointResult
-    requires { ⌜ ControlsLent (cond (eqb kind 5) (now vp) (now v)) (now corners) first 0 (along .controls) × Sound along (now x) t ⌝ }
+    requires { ⌜ ControlsLent (cond (eqb kind curve2Kind) (now vp) (now v)) (now corners) first 0 (along .controls) × Sound along (now x) t ⌝ }
     ensures { λ r. ⌜ r ≡ pointBy kind (now (v .entry)) (now (vp .entry)) (now (corners .entry)) first along (now (x .entry)) t ⌝ }
 {
     let chosen = find(x, along, t);
-    if kind == 5 {
-        let p = point_single::curve_point(vp, corners, first, 1, x, along, chosen, t);
+    if kind == kinds::CURVE2 {
+        let p = point_single::curve_point(vp, corners, first, VP_START, x, along, chosen, t);
         return PointResult::Plane { u: p.x, v: p.y };
     }
-    let p = point_single::curve_point(v, corners, first, 0, x, along, chosen, t);
+    let p = point_single::curve_point(v, corners, first, V_START, x, along, chosen, t);
     PointResult::Space {
         x: p.x,
         y: p.y,

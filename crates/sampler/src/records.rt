@@ -3,19 +3,21 @@ ghost use Prim.Native.Nat.{_≤_};
 ghost use Rattle.point_rows.specs.Places.{Sized};
 ghost use Rattle.sampler.specs.Points.{bodyDirection};
 ghost use Rattle.sampler.specs.Answers.{wanted, carried, inside};
-ghost use Rattle.point_runs.specs.Runs.{axesBy};
+ghost use Rattle.point_runs.specs.Inner.{axesBy};
 use point_rows::BodyDirection;
+use tables::bases;
+use tables::kinds;
 
 pub fn is_wanted(surface: bool, kind: u32) -> bool
     ensures { λ r. ⌜ r ≡ wanted surface kind ⌝ }
 {
     if surface {
-        return kind == 6;
+        return kind == kinds::SURFACE;
     }
-    if kind == 4 {
+    if kind == kinds::CURVE {
         return true;
     }
-    kind == 5
+    kind == kinds::CURVE2
 }
 
 pub fn is_carried(rational: u32, basis: u32) -> bool
@@ -24,10 +26,10 @@ pub fn is_carried(rational: u32, basis: u32) -> bool
     if rational != 0 {
         return false;
     }
-    if basis == 1 {
+    if basis == bases::BEZIER {
         return true;
     }
-    basis == 2
+    basis == bases::BSPLINE
 }
 
 // A direction of type 1 or 2 from its degree and the count of its parameters.
@@ -37,7 +39,7 @@ pub fn body_direction(basis: u32, degree: u32, count: u32) -> BodyDirection
 {
     let n = degree as usize;
     let p = count as usize;
-    if basis == 2 {
+    if basis == bases::BSPLINE {
         return BodyDirection {
             basis,
             degree: n,
@@ -65,7 +67,7 @@ pub fn is_inside(start: i32, end: i32, t: i32) -> bool
 pub fn axes_of(kind: u32) -> usize
     ensures { λ r. ⌜ (r ≡ axesBy kind) × (r ≤ 3) ⌝ }
 {
-    if kind == 5 {
+    if kind == kinds::CURVE2 {
         return 2;
     }
     3

@@ -19,16 +19,15 @@ use Rattle.tables.specs.declared.Used.{Used}
 use Rattle.tables.specs.declared.Corner.{Corner}
 use Rattle.model.specs.Model.{VertexKind, geometric, texture, normal, parametric}
 use Rattle.table_rules.specs.Whole.{wholeObeys}
-use Rattle.sweep_rows.specs.Marks.{numberListed, cornerBy, cornerNumbers, runBy, runsBy, cornersUpto}
-use Rattle.sweep_rows.proofs.Counting.{kept-dropped, kept-most}
-use Rattle.sweep_rows.proofs.FlatBelow.{flatBelow-same}
-use Rattle.sweep_rows.proofs.Numbering.{length-numbers, numbers-at}
+use Rattle.sweep_marks.specs.Marks.{numberListed, cornerBy, cornerNumbers, runBy, runsBy, cornersUpto}
+use Rattle.sweep_marks.proofs.Counting.{kept-dropped, kept-most}
+use Rattle.sweep_marks.proofs.FlatBelow.{flatBelow-same}
+use Rattle.sweep_marks.proofs.Numbering.{length-numbers, numbers-at}
 use Rattle.sweep_rows.proofs.Renumbering.{length-runs}
-use Rattle.sweep.specs.Named.{named, reference, usedOf, keptUpto, newNumber, newNumbers, cornerAfter, cornersAfter}
+use Rattle.sweep.specs.Named.{named, reference, usedOf, newNumber, newNumbers, cornerAfter, cornersAfter}
 use Rattle.sweep.specs.Swept.{sweepAnswer, sweepInto, sweptUsed, droppedOf, sweptTables, numbersOf, numbersNeeded, keptIn, droppedIn, sweptAnswer, refusedSweep}
 use Rattle.sweep.specs.Vertices.{VerticesSwept, fewer, refusalOf}
 use Rattle.sweep.specs.declared.Dropped.{Dropped}
-use Rattle.sweep.specs.declared.SweepResult.{SweepResult}
 use Rattle.sweep.specs.declared.SweepResult.the-variants as result
 use Rattle.sweep.proofs.Whole.{Lent, lent-facts, whole-parts}
 use Rattle.sweep.proofs.References.{references-within, corners-follow, corners-end}

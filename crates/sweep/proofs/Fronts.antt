@@ -1,5 +1,5 @@
 -- The four tables swept one after the other: the list of new numbers grows by a kind at a time, and the rest stays.
-use Prim.Native.Nat.{ℕ, _+_, _*_, _-_, _≤_, _<_}
+use Prim.Native.Nat.{ℕ, _+_, _≤_}
 use mathlib.Core.Path.{_≡_, refl, sym, ap, ap₂, _∙_}
 use mathlib.Core.List.{List, [], _++_, append-assoc}
 use mathlib.Core.Bool.{Bool}
@@ -11,12 +11,12 @@ use Rattle.lists.specs.Lists.{filled}
 use Rattle.tables.specs.Tables.{Tables}
 use Rattle.tables.specs.declared.Used.{Used}
 use Rattle.model.specs.Model.{VertexKind, geometric, texture, normal, parametric}
-use Rattle.sweep_rows.specs.Counting.{keptUpto, newNumbers, keptRows}
-use Rattle.sweep_rows.specs.Marks.{namedIn}
-use Rattle.sweep_rows.proofs.Numbering.{length-numbers}
+use Rattle.sweep_marks.specs.Counting.{keptUpto, newNumbers, keptRows}
+use Rattle.sweep_marks.specs.Marks.{namedIn}
+use Rattle.sweep_marks.proofs.Numbering.{length-numbers}
 use Rattle.sweep_rows.proofs.Stored.{drop-past}
 use Rattle.sweep.specs.Named.{named}
-use Rattle.sweep.specs.Swept.{rowsAfter, sweptUsed, numbersOf, numbersNeeded}
+use Rattle.sweep.specs.Swept.{sweptUsed, numbersOf}
 use Rattle.sweep.specs.Vertices.{VerticesSwept}
 
 -- what is named is asked of two tables alone

@@ -5,7 +5,7 @@ use mathlib.Core.List.{List}
 use mathlib.Core.Bool.{Bool, true, false, cond, not, _&&_}
 use native.Mathlib.Omega.{arith}
 use borrow.Author.Tests.{eqb-true}
-use lib.Dec.{leb, eqb}
+use lib.Dec.{eqb}
 use lib.IntN.{ℤ, pos}
 use lib.Signed.{leZ}
 use Rattle.lists.proofs.Tests.{and-left, and-right}
@@ -19,7 +19,7 @@ use Rattle.record_rules.specs.Corners.{withTexture, withNormal, attributeObeys,
 use Rattle.record_rules.proofs.OneVertex.{Vertex, vertex-facts, parameter-facts}
 use Rattle.record_rules.proofs.Element.{obeys-facts}
 use Rattle.table_rules.specs.Whole.{endsBefore, elementFollows, wholeObeys}
-use Rattle.sweep_rows.specs.Marks.{cornersUpto}
+use Rattle.sweep_marks.specs.Marks.{cornersUpto}
 use Rattle.sweep.specs.Named.{usedOf, reference}
 use Rattle.sweep.proofs.Whole.{Whole, whole-parts, elements-facts, runs-at, runs-end}
 

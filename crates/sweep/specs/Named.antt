@@ -1,3 +1,4 @@
+-- Must be believed: a promise reaches every definition of this file.
 -- Q-6: which v, vt, vn and vp a corner names, "counted from the references alone", and the new number of each.
 use Prim.Native.Nat.{ℕ}
 use mathlib.Core.List.{List, [], _∷_}
@@ -9,8 +10,8 @@ use Rattle.tables.specs.Records.{elementAt, cornerAt, vWidth, vtWidth, vnWidth,
 use Rattle.tables.specs.declared.Used.{Used}
 use Rattle.tables.specs.declared.Corner.{Corner}
 use Rattle.model.specs.Model.{VertexKind, geometric, texture, normal, parametric}
-pub use Rattle.sweep_rows.specs.Counting.{reference, anyBelow, keptUpto, droppedUpto, newNumber, flatBelow}
-unfoldable pub use Rattle.sweep_rows.specs.Counting.{newNumbers, keptRows}
+pub use Rattle.sweep_marks.specs.Counting.{reference, anyBelow, keptUpto, droppedUpto, newNumber, flatBelow}
+unfoldable pub use Rattle.sweep_marks.specs.Counting.{newNumbers, keptRows}
 
 -- the records of one kind: how many are used, their table, and the numbers of each
 abbrev pub usedOf : VertexKind → Used → ℕ

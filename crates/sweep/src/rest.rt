@@ -6,6 +6,7 @@ ghost use lib.ListN.{length, take};
 ghost use Rattle.lists.specs.Lists.{filled};
 ghost use Rattle.tables.specs.Records.{elementWidth, bodyWidth, rangeWidth, loopWidth, spanWidth};
 use tables::Used;
+use tables::widths;
 
 fn clear_rest_i32(values: &mut [i32], used: usize)
     requires { ⌜ used ≤ length (now values) ⌝ }
@@ -36,10 +37,10 @@ pub fn clear_rest(
     ensures { λ r. ⌜ (now (corners .exit) ≡ filled (length (now (corners .entry))) 0 (take (used .corners) (now (corners .entry)))) × (now (elements .exit) ≡ filled (length (now (elements .entry))) 0 (take (elementWidth * used .elements) (now (elements .entry)))) × (now (bodies .exit) ≡ filled (length (now (bodies .entry))) 0 (take (bodyWidth * used .bodies) (now (bodies .entry)))) × (now (ranges .exit) ≡ filled (length (now (ranges .entry))) (pos 0) (take (rangeWidth * used .bodies) (now (ranges .entry)))) × (now (parameters .exit) ≡ filled (length (now (parameters .entry))) (pos 0) (take (used .parameters) (now (parameters .entry)))) × (now (loops .exit) ≡ filled (length (now (loops .entry))) 0 (take (loopWidth * used .loops) (now (loops .entry)))) × (now (spans .exit) ≡ filled (length (now (spans .entry))) (pos 0) (take (spanWidth * used .loops) (now (spans .entry)))) ⌝ }
 {
     clear_rest_u32(corners, used.corners as usize);
-    clear_rest_u32(elements, 9 * used.elements as usize);
-    clear_rest_u32(bodies, 9 * used.bodies as usize);
-    clear_rest_i32(ranges, 4 * used.bodies as usize);
+    clear_rest_u32(elements, widths::ELEMENT * used.elements as usize);
+    clear_rest_u32(bodies, widths::BODY * used.bodies as usize);
+    clear_rest_i32(ranges, widths::RANGE * used.bodies as usize);
     clear_rest_i32(parameters, used.parameters as usize);
-    clear_rest_u32(loops, 2 * used.loops as usize);
-    clear_rest_i32(spans, 2 * used.loops as usize);
+    clear_rest_u32(loops, widths::LOOP * used.loops as usize);
+    clear_rest_i32(spans, widths::SPAN * used.loops as usize);
 }

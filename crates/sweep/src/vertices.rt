@@ -5,9 +5,10 @@ ghost use lib.ListN.{length};
 ghost use Rattle.tables.specs.Tables.{tables};
 ghost use Rattle.tables.specs.Records.{vWidth, vtWidth, vnWidth, vpWidth};
 ghost use Rattle.sweep.specs.Vertices.{VerticesSwept};
-use sweep_rows::VertexTable;
+use sweep_marks::VertexTable;
 use sweep_rows::sweep_part;
 use tables::Used;
+use tables::widths;
 
 // The used counts afterwards.
 pub fn sweep_vertices(
@@ -29,7 +30,7 @@ pub fn sweep_vertices(
     let vps = vns + used.vn as usize;
     let kept_v = sweep_part(
         VertexTable::V,
-        4,
+        widths::V,
         elements,
         n,
         corners,
@@ -40,7 +41,7 @@ pub fn sweep_vertices(
     );
     let kept_vt = sweep_part(
         VertexTable::Vt,
-        3,
+        widths::VT,
         elements,
         n,
         corners,
@@ -51,7 +52,7 @@ pub fn sweep_vertices(
     );
     let kept_vn = sweep_part(
         VertexTable::Vn,
-        3,
+        widths::VN,
         elements,
         n,
         corners,
@@ -62,7 +63,7 @@ pub fn sweep_vertices(
     );
     let kept_vp = sweep_part(
         VertexTable::Vp,
-        4,
+        widths::VP,
         elements,
         n,
         corners,

@@ -2,7 +2,7 @@
 use Prim.Native.Nat.{ℕ, zero, suc, _+_, _*_, _-_, _≤_, _<_}
 use mathlib.Core.Path.{_≡_, refl, sym, ap, ap₂, _∙_}
 use mathlib.Core.List.{List, [], _∷_, _++_, append-nil}
-use mathlib.Core.Bool.{Bool, true, false, cond, not}
+use mathlib.Core.Bool.{Bool, true, false, cond}
 use mathlib.Core.Logic.{_⊎_, inl, inr}
 use native.Mathlib.Nat.{mul-zero, mul-suc, mul-le-mul-left}
 use native.Mathlib.Numerals.{add-one}
@@ -15,10 +15,10 @@ use lib.Seq.{sets, length-sets, take-suc, getD-drop, length-take-le, take-at}
 use Rattle.lists.specs.Lists.{filled}
 use Rattle.lists.proofs.Laws.{sets-append}
 use Rattle.lists.proofs.Tests.{test}
-use Rattle.sweep_rows.specs.Counting.{keptUpto, keptRows, flatBelow}
-use Rattle.sweep_rows.specs.Marks.{markedIn}
-use Rattle.sweep_rows.proofs.Counting.{kept-most}
-use Rattle.sweep_rows.proofs.FlatBelow.{flatBelow-same}
+use Rattle.sweep_marks.specs.Counting.{keptUpto, keptRows, flatBelow}
+use Rattle.sweep_marks.specs.Marks.{markedIn}
+use Rattle.sweep_marks.proofs.Counting.{kept-most}
+use Rattle.sweep_marks.proofs.FlatBelow.{flatBelow-same}
 use Rattle.sweep_rows.proofs.Stored.{getD-sets-past, drop-past, sets-front}
 
 -- ---- one row: the first j of its numbers are copied

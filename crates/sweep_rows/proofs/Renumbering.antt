@@ -1,7 +1,7 @@
 -- Corners renumbered in place: one element's, then all of them, where the elements' corners follow on.
 use Prim.Native.Nat.{ℕ, zero, suc, _+_, _*_, _-_, _≤_, _<_}
 use mathlib.Core.Path.{_≡_, refl, sym, ap, ap₂, _∙_}
-use mathlib.Core.List.{List, [], _∷_, _++_}
+use mathlib.Core.List.{List}
 use mathlib.Core.Bool.{Bool, true, cond}
 use native.Mathlib.Decide.{decLe}
 use native.Mathlib.Numerals.{add-one}
@@ -14,9 +14,9 @@ use Rattle.lists.proofs.Laws.{sets-append}
 use Rattle.tables.specs.Records.{elementIn, cornerIn, cornersEnd}
 use Rattle.tables.specs.declared.Used.{Used}
 use Rattle.tables.specs.declared.Corner.{Corner}
-use Rattle.sweep_rows.specs.Counting.{flatBelow}
-use Rattle.sweep_rows.specs.Marks.{numberListed, cornerBy, cornerNumbers, runBy, runsBy, cornersUpto}
-use Rattle.sweep_rows.proofs.FlatBelow.{flatBelow-same, flatBelow-length}
+use Rattle.sweep_marks.specs.Counting.{flatBelow}
+use Rattle.sweep_marks.specs.Marks.{numberListed, cornerBy, cornerNumbers, runBy, runsBy, cornersUpto}
+use Rattle.sweep_marks.proofs.FlatBelow.{flatBelow-same, flatBelow-length}
 use Rattle.sweep_rows.proofs.Stored.{getD-sets-past}
 
 -- a corner that stands past the stores is as it was

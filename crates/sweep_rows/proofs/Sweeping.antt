@@ -1,6 +1,6 @@
 -- The four passes over one table, one after the other: what is kept is what a corner names.
 use Prim.Native.Nat.{ℕ, suc, _+_, _*_, _-_, _≤_, _<_}
-use mathlib.Core.Path.{_≡_, sym, ap, ap₂, _∙_}
+use mathlib.Core.Path.{_≡_, ap, ap₂, _∙_}
 use mathlib.Core.List.{List, _++_}
 use native.Mathlib.Omega.{arith}
 use borrow.Rule.Slice.PartMut.{midOf, putMid, post-is}
@@ -10,11 +10,11 @@ use lib.ListN.{length, take, drop, replicate, length-replicate, length-drop}
 use lib.Seq.{length-take-le}
 use Rattle.lists.specs.Lists.{filled}
 use Rattle.model.specs.Model.{VertexKind}
-use Rattle.sweep_rows.specs.Counting.{keptUpto, newNumbers, keptRows}
-use Rattle.sweep_rows.specs.Marks.{namedIn, markElements, markedIn}
-use Rattle.sweep_rows.proofs.Counting.{kept-same}
-use Rattle.sweep_rows.proofs.Marking.{length-elements, marks-named}
-use Rattle.sweep_rows.proofs.Numbering.{length-numbers, numbers-same, numbers-marked}
+use Rattle.sweep_marks.specs.Counting.{keptUpto, newNumbers, keptRows}
+use Rattle.sweep_marks.specs.Marks.{namedIn, markElements, markedIn}
+use Rattle.sweep_marks.proofs.Counting.{kept-same}
+use Rattle.sweep_marks.proofs.Marking.{length-elements, marks-named}
+use Rattle.sweep_marks.proofs.Numbering.{length-numbers, numbers-same, numbers-marked}
 use Rattle.sweep_rows.proofs.Moving.{rows-same}
 
 module _ (kind : VertexKind) (count : ℕ) (elements corners : List ℕ) (n : ℕ) where

@@ -3,12 +3,14 @@ ghost use mathlib.Core.Path.{_≡_};
 ghost use Prim.Native.Nat.{ℕ, _+_, _*_, _≤_, _<_};
 ghost use mathlib.Core.Bool.{cond};
 ghost use lib.Dec.{eqb};
-ghost use lib.ListN.{length, getD};
+ghost use lib.ListN.{length};
 ghost use lib.Seq.{sets};
-ghost use Rattle.tables.specs.Records.{elementIn, curve2Kind};
-ghost use Rattle.sweep_rows.specs.Marks.{numberListed, cornerBy, runBy, runsBy, cornersUpto};
+ghost use Rattle.tables.specs.Records.{cornersEnd, elementIn, curve2Kind};
+ghost use Rattle.sweep_marks.specs.Marks.{numberListed, cornerBy, runBy, runsBy, cornersUpto};
 use tables::Corner;
 use tables::Used;
+use tables::kinds;
+use tables::widths;
 
 // The new number of record `number` of a kind whose numbers begin at `base`; 0 stays 0.
 fn number_of(numbers: &[u32], base: usize, number: u32) -> u32
@@ -25,7 +27,7 @@ fn number_of(numbers: &[u32], base: usize, number: u32) -> u32
 fn point_base(used: Used, kind: u32) -> usize
     ensures { λ r. ⌜ (r ≡ cond (eqb kind curve2Kind) (used .v + used .vt + used .vn) 0) × (r ≤ 12884901885) ⌝ }
 {
-    if kind == 5 {
+    if kind == kinds::CURVE2 {
         return used.v as usize + used.vt as usize + used.vn as usize;
     }
     0
@@ -43,7 +45,7 @@ fn corner_by(used: Used, numbers: &[u32], kind: u32, corner: Corner) -> Corner
 }
 
 fn renumber_run(used: Used, numbers: &[u32], corners: &mut [u32], kind: u32, first: u32, count: u32)
-    requires { ⌜ first + 3 * count ≤ length (now corners) ⌝ }
+    requires { ⌜ cornersEnd first count ≤ length (now corners) ⌝ }
     ensures { λ r. ⌜ now (corners .exit) ≡ sets (now (corners .entry)) first (runBy used (now (numbers .entry)) (now (corners .entry)) kind first count) ⌝ }
 {
     let mut j: u32 = 0;
@@ -52,7 +54,7 @@ fn renumber_run(used: Used, numbers: &[u32], corners: &mut [u32], kind: u32, fir
         let new = corner_by(used, numbers, kind, old);
         table_store::put3_u32(
             corners,
-            first as usize + 3 * j as usize,
+            first as usize + widths::CORNER * j as usize,
             new.v,
             new.vt,
             new.vn,
@@ -67,7 +69,7 @@ pub fn renumber(used: Used, numbers: &[u32], elements: &[u32], corners: &mut [u3
 {
     let mut i: u32 = 0;
     while i < used.elements {
-        let e = tables::element_in(elements, i);
+        let e = table_asking::element_in(elements, i);
         renumber_run(used, numbers, corners, e.kind, e.first, e.count);
         i += 1;
     }

@@ -5,20 +5,14 @@ ghost use Prim.Native.Nat.{_+_, _*_, _≤_};
 ghost use lib.IntN.{pos};
 ghost use lib.ListN.{length, take, drop};
 ghost use Rattle.lists.specs.Lists.{filled};
-ghost use Rattle.sweep_rows.specs.Counting.{keptUpto, newNumbers, keptRows};
-ghost use Rattle.sweep_rows.specs.Marks.{kindOf, namedIn};
+ghost use Rattle.sweep_marks.specs.Counting.{keptUpto, newNumbers, keptRows};
+ghost use Rattle.sweep_marks.specs.Marks.{kindOf, namedIn};
+use sweep_marks::VertexTable;
+use sweep_marks::mark_elements;
+use sweep_marks::number_marks;
 
 pub mod corners;
-mod marks;
 mod rows;
-
-// The tables of vertices.
-pub enum VertexTable {
-    V,
-    Vt,
-    Vn,
-    Vp,
-}
 
 // Keeps the records of one table that a corner names: their rows from the front on, the rest 0, and in `numbers` the new
 // number of each old record, or 0. How many are kept.
@@ -35,8 +29,8 @@ fn sweep_table(
     ensures { λ r. ⌜ (r ≡ keptUpto (namedIn count (now (elements .entry)) (now (corners .entry)) (kindOf table)) (length (now (numbers .entry)))) × (now (numbers .exit) ≡ newNumbers (namedIn count (now (elements .entry)) (now (corners .entry)) (kindOf table)) (length (now (numbers .entry)))) × (now (values .exit) ≡ filled (length (now (values .entry))) (pos 0) (keptRows width (namedIn count (now (elements .entry)) (now (corners .entry)) (kindOf table)) (now (values .entry)) (length (now (numbers .entry))))) ⌝ }
 {
     table_store::clear_u32(numbers);
-    marks::mark_elements(table, elements, count, corners, numbers);
-    let kept = marks::number_marks(numbers);
+    mark_elements(table, elements, count, corners, numbers);
+    let kept = number_marks(numbers);
     rows::move_rows(values, width, numbers);
     kept
 }

@@ -4,11 +4,11 @@ ghost use mathlib.Core.Bool.{cond};
 ghost use Prim.Native.Nat.{_+_, _*_, _≤_, _<_};
 ghost use lib.Dec.{eqb};
 ghost use lib.IntN.{pos};
-ghost use lib.ListN.{length, getD, take, drop};
+ghost use lib.ListN.{length, take, drop};
 ghost use lib.Seq.{sets};
 ghost use Rattle.lists.specs.Lists.{filled};
-ghost use Rattle.sweep_rows.specs.Counting.{keptRows};
-ghost use Rattle.sweep_rows.specs.Marks.{markedIn};
+ghost use Rattle.sweep_marks.specs.Counting.{keptRows};
+ghost use Rattle.sweep_marks.specs.Marks.{markedIn};
 
 // `width` numbers from `from` on, copied to `to` and after; what lies between is read before it is written over.
 fn copy_row(values: &mut [i32], from: usize, to: usize, width: usize)

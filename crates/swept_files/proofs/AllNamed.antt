@@ -11,11 +11,11 @@ use Rattle.tables.specs.Records.{elementAt, cornerAt}
 use Rattle.tables.specs.declared.Used.{Used}
 use Rattle.tables.specs.declared.Corner.{Corner}
 use Rattle.model.specs.Model.{VertexKind, geometric, texture, normal, parametric}
-use Rattle.sweep_rows.specs.Counting.{newNumber}
+use Rattle.sweep_marks.specs.Counting.{newNumber}
 use Rattle.sweep.specs.Named.{usedOf, tableIn, widthIn, named, cornerAfter}
 use Rattle.sweep.specs.Swept.{keptIn, droppedIn, rowsAfter, sweptUsed, droppedOf, noneDropped}
 use Rattle.swept_files.specs.Promises.{referenceIn}
-use Rattle.sweep_rows.proofs.Counting.{kept-dropped}
+use Rattle.sweep_marks.proofs.Counting.{kept-dropped}
 use Rattle.swept_files.proofs.Counting.{kept-all, new-named}
 use Rattle.swept_files.proofs.Rows.{rows-all}
 use Rattle.swept_files.proofs.Standing.{Standing, reference-in}

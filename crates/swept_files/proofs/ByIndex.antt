@@ -8,9 +8,9 @@ use lib.ListN.{length, getD}
 use Rattle.lists.specs.Lists.{flat}
 use Rattle.model.specs.Layout.{itself}
 use Rattle.model.proofs.Placed.{Each}
-use Rattle.sweep_rows.specs.Counting.{anyBelow, keptUpto, flatBelow}
+use Rattle.sweep_marks.specs.Counting.{anyBelow, keptUpto, flatBelow}
 use Rattle.swept_files.specs.Files.{anyOf, keptOf}
-use Rattle.sweep_rows.proofs.FlatBelow.{flatBelow-same}
+use Rattle.sweep_marks.proofs.FlatBelow.{flatBelow-same}
 
 -- ---- some index passes
 or-none : (b : Bool) → (b || false) ≡ b

@@ -17,12 +17,12 @@ use Rattle.tables.specs.declared.Element.{Element}
 use Rattle.tables.proofs.Filled.{getD-filled}
 use Rattle.model.specs.Model.{VertexKind, geometric, texture, normal, parametric}
 use Rattle.table_rules.specs.Whole.{endsBefore, followsAt}
-use Rattle.sweep_rows.specs.Counting.{reference, anyBelow, newNumber, flatBelow}
+use Rattle.sweep_marks.specs.Counting.{reference, anyBelow, newNumber, flatBelow}
 use Rattle.sweep.specs.Named.{named, cornerAfter, cornersAfter}
 use Rattle.sweep.specs.Swept.{sweptTables}
 use Rattle.swept_files.specs.Promises.{referenceIn, NamedBy}
 use Rattle.swept_files.proofs.Counting.{any-at, any-found, new-zero}
-use Rattle.sweep_rows.proofs.FlatBelow.{flatBelow-length}
+use Rattle.sweep_marks.proofs.FlatBelow.{flatBelow-length}
 use Rattle.swept_files.proofs.FlatBelow.{flatBelow-at}
 use Rattle.sweep.proofs.Whole.{Lent}
 use Rattle.swept_files.proofs.Others.{elements-same}

@@ -10,7 +10,7 @@ use Rattle.table_rules.specs.Whole.{wholeObeys}
 use Rattle.sweep.specs.Named.{usedOf, named}
 use Rattle.sweep.specs.Swept.{sweptUsed, sweptAnswer}
 use Rattle.swept_files.specs.Promises.{SweepCounted, SameCounts}
-use Rattle.sweep_rows.proofs.Counting.{kept-dropped}
+use Rattle.sweep_marks.proofs.Counting.{kept-dropped}
 use Rattle.swept_files.proofs.OneKind.{used-in, dropped-in}
 
 pub counted : (used : Used) (t : Tables) → wholeObeys used t ≡ true → (numbers : List ℕ) (kind : VertexKind) → SweepCounted used t (sweptAnswer used t numbers) kind

@@ -6,7 +6,7 @@ use mathlib.Core.Logic.{_⊎_, inl, inr}
 use native.Mathlib.Decide.{decLe}
 use native.Mathlib.Omega.{arith}
 use Rattle.lists.proofs.Tests.{test, never}
-use Rattle.sweep_rows.specs.Counting.{anyBelow, keptUpto, newNumber}
+use Rattle.sweep_marks.specs.Counting.{anyBelow, keptUpto, newNumber}
 
 -- ---- one below n
 pub any-at : (f : ℕ → Bool) (n i : ℕ) → i < n → f i ≡ true → anyBelow n f ≡ true

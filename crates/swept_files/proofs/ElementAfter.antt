@@ -20,7 +20,7 @@ use Rattle.record_rules.specs.Bodies.{bodyObeys}
 use Rattle.record_rules.specs.Rules.{elementObeys, obeys, curvesBefore}
 use Rattle.record_rules.proofs.Below.{below-all}
 use Rattle.record_rules.proofs.OneVertex.{vertex-facts}
-use Rattle.sweep_rows.specs.Counting.{reference, newNumber}
+use Rattle.sweep_marks.specs.Counting.{reference, newNumber}
 use Rattle.sweep.specs.Named.{named, cornersAfter}
 use Rattle.sweep.specs.Swept.{sweptUsed, sweptTables}
 use Rattle.sweep.proofs.References.{control-facts, CornerParts}

@@ -1,8 +1,7 @@
 -- The tests of an element and of a corner, taken apart and put together.
 use Prim.Native.Nat.{ℕ, _+_, _*_, _≤_, _<_}
 use mathlib.Core.Path.{_≡_}
-use mathlib.Core.Bool.{Bool, true, false, cond, _&&_}
-use native.Mathlib.Omega.{arith}
+use mathlib.Core.Bool.{true, cond, _&&_}
 use lib.ListN.{length}
 use lib.Dec.{leb, eqb}
 use Rattle.lists.proofs.Tests.{and-left, and-right, and-both}
@@ -11,14 +10,12 @@ use Rattle.tables.specs.Records.{elementAt, cornerAt}
 use Rattle.tables.specs.declared.Used.{Used}
 use Rattle.tables.specs.declared.Corner.{Corner}
 use Rattle.tables.specs.declared.Element.{Element}
-use Rattle.model.specs.Model.{VertexKind, geometric, texture, normal, parametric}
-use Rattle.record_rules.specs.Vertices.{vertexObeys, controlObeys}
-use Rattle.record_rules.specs.Corners.{withTexture, withNormal, attributeObeys, pointObeys, cornerObeys, cornersObey}
+use Rattle.model.specs.Model.{VertexKind}
+use Rattle.record_rules.specs.Corners.{cornerObeys, cornersObey}
 use Rattle.record_rules.specs.Bodies.{bodyObeys}
 use Rattle.record_rules.specs.Rules.{elementObeys, obeys}
-use Rattle.record_rules.proofs.OneVertex.{vertex-facts}
 use Rattle.record_rules.proofs.Facts.{Corners, corners-facts}
-use Rattle.sweep_rows.specs.Counting.{reference}
+use Rattle.sweep_marks.specs.Counting.{reference}
 use Rattle.sweep.specs.Named.{usedOf}
 use Rattle.swept_files.specs.Promises.{referenceIn}
 use Rattle.sweep.proofs.References.{CornerParts, corner-parts, reference-within}

@@ -15,7 +15,7 @@ use Rattle.record_rules.specs.Directions.{degreeObeys, typeObeys, parametersObe
 use Rattle.record_rules.specs.Bodies.{flatObeys, curveObeys, recordObeys, bodyObeys}
 use Rattle.record_rules.specs.Rules.{elementObeys, obeys}
 use Rattle.table_rules.specs.Whole.{lentAll, verticesObey, elementsObey, runsFollow, wholeObeys}
-use Rattle.sweep_rows.specs.Counting.{newNumbers, keptRows}
+use Rattle.sweep_marks.specs.Counting.{newNumbers, keptRows}
 use Rattle.sweep.specs.Named.{named, cornersAfter}
 use Rattle.sweep.specs.Swept.{sweptUsed, droppedOf, sweptTables, numbersOf, sweepInto}
 use Rattle.sweep.specs.declared.SweepResult.the-variants as result

@@ -24,7 +24,7 @@ use Rattle.model.proofs.Stands.{Stands, stands-filled, stands-used}
 use Rattle.sampled_files.proofs.Vertices.{width}
 use Rattle.model.proofs.Laid.{laid}
 use Rattle.tidy_form.proofs.Placed.{vertices-wide, kept}
-use Rattle.sweep_rows.specs.Counting.{keptUpto, keptRows}
+use Rattle.sweep_marks.specs.Counting.{keptUpto, keptRows}
 use Rattle.sweep.specs.Named.{widthIn, named, cornersAfter}
 use Rattle.sweep.specs.Swept.{sweptUsed, sweptTables}
 use Rattle.swept_files.specs.Files.{namedIn, keptOf, sweptCorner, sweptElement, sweptModel, SweptFiles}
@@ -137,7 +137,7 @@ pub swept-files : SweptFiles
 unfolding readInto
 swept-files s S m h =
     let R = roomsOf S in
-    let r : readInto s S ≡ answered R (read m) = ap (answered R) h in
+    let r : readInto s S ≡ answered S (read m) = ap (answered S) h in
     record {
       used = ap (λ (q : ReadAnswer). sweptUsed (q .outcome .used) (q .tables)) r ∙ used-left R s m h;
       tables = ap (λ (q : ReadAnswer). sweptTables (q .outcome .used) (q .tables)) r ∙ tables-left R s m h;

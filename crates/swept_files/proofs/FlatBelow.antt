@@ -6,7 +6,7 @@ use native.Mathlib.Decide.{decLe}
 use native.Mathlib.Omega.{arith}
 use lib.ListN.{length, getD, take, drop, List·getD-append}
 use lib.Seq.{getD-append-add, take-append-seam, drop-append-seam}
-use Rattle.sweep_rows.specs.Counting.{flatBelow}
+use Rattle.sweep_marks.specs.Counting.{flatBelow}
 
 module _ {A : Type 0} where
   module _ (f : ℕ → List A) where

@@ -20,10 +20,10 @@ use Rattle.model.proofs.Stands.{Stands, Among, among, among-at}
 use Rattle.sampled_files.proofs.Vertices.{width, vertex-at}
 use Rattle.model.proofs.Laid.{laid}
 use Rattle.model.proofs.ElementRows.{cornersIn, Row, row-of, corners-stand, noCorner, laidCorner, corner-at}
-use Rattle.sweep_rows.specs.Counting.{reference, anyBelow, flatBelow, keptRows}
+use Rattle.sweep_marks.specs.Counting.{reference, anyBelow, flatBelow, keptRows}
 use Rattle.sweep.specs.Named.{widthIn, named, cornerAfter, cornersAfter}
 use Rattle.swept_files.specs.Files.{numberIn, anyOf, namedIn, keptOf, sweptCorner, sweptElement}
-use Rattle.sweep_rows.proofs.FlatBelow.{flatBelow-same}
+use Rattle.sweep_marks.proofs.FlatBelow.{flatBelow-same}
 use Rattle.swept_files.proofs.ByIndex.{any-by, flat-by, kept-flat}
 
 -- ---- kinds and corners, in the tables and in the model

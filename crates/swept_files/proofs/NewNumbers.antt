@@ -9,7 +9,7 @@ use lib.Dec.{leb, eqb}
 use lib.ListN.{length, getD}
 use Rattle.lists.proofs.Tests.{and-left, and-right, and-both}
 use Rattle.references.specs.Fits.{referenceFits, partFits}
-use Rattle.sweep_rows.specs.Counting.{keptUpto, newNumber}
+use Rattle.sweep_marks.specs.Counting.{keptUpto, newNumber}
 use Rattle.swept_files.specs.Files.{keptOf}
 use Rattle.swept_files.proofs.Counting.{kept-named, kept-more, new-zero, new-named}
 use Rattle.swept_files.proofs.ByIndex.{upto-first, kept-length}

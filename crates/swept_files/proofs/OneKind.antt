@@ -12,11 +12,11 @@ use Rattle.tables.specs.Tables.{Tables}
 use Rattle.tables.specs.declared.Used.{Used}
 use Rattle.tables.proofs.Filled.{length-filled}
 use Rattle.model.specs.Model.{VertexKind, geometric, texture, normal, parametric}
-use Rattle.sweep_rows.specs.Counting.{keptUpto, newNumber}
+use Rattle.sweep_marks.specs.Counting.{keptUpto, newNumber}
 use Rattle.sweep.specs.Named.{usedOf, tableIn, widthIn, named}
 use Rattle.sweep.specs.Swept.{keptIn, droppedIn, rowsAfter, sweptUsed, sweptTables, droppedOf}
 use Rattle.swept_files.specs.Promises.{rowNumbered, droppedAs}
-use Rattle.sweep_rows.proofs.Counting.{kept-most}
+use Rattle.sweep_marks.proofs.Counting.{kept-most}
 use Rattle.swept_files.proofs.Counting.{kept-named, kept-more, new-named, new-zero, Old, kept-old}
 use Rattle.swept_files.proofs.Parts.{row-within}
 use Rattle.swept_files.proofs.Rows.{rows-fit, table-row}

@@ -10,12 +10,12 @@ use Rattle.tables.specs.Tables.{Tables}
 use Rattle.tables.specs.declared.Used.{Used}
 use Rattle.model.specs.Model.{VertexKind, geometric, texture, normal, parametric}
 use Rattle.table_rules.specs.Whole.{wholeObeys}
-use Rattle.sweep_rows.specs.Counting.{keptUpto, flatBelow, newNumber, newNumbers}
+use Rattle.sweep_marks.specs.Counting.{keptUpto, flatBelow, newNumber, newNumbers}
 use Rattle.sweep.specs.Named.{usedOf, named}
 use Rattle.sweep.specs.Swept.{numbersOf, numbersNeeded, sweptUsed, sweptTables, sweptAnswer}
 use Rattle.swept_files.specs.Promises.{rowNumbered, referenceIn, listedFrom, numberAfter, Renumbered, RestKept}
 use Rattle.swept_files.proofs.Counting.{kept-named, kept-more, kept-order, new-zero, new-named}
-use Rattle.sweep_rows.proofs.FlatBelow.{flatBelow-length}
+use Rattle.sweep_marks.proofs.FlatBelow.{flatBelow-length}
 use Rattle.swept_files.proofs.FlatBelow.{flatBelow-at}
 use Rattle.swept_files.proofs.OneKind.{used-in, new-moved}
 use Rattle.swept_files.proofs.Standing.{Standing, standing, reference-in}

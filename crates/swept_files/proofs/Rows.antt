@@ -12,8 +12,8 @@ use lib.IntN.{ℤ, pos}
 use Rattle.lists.specs.Lists.{filled}
 use Rattle.lists.proofs.Tests.{test}
 use Rattle.tables.proofs.Filled.{take-drop-append}
-use Rattle.sweep_rows.specs.Counting.{flatBelow, keptUpto, keptRows}
-use Rattle.sweep_rows.proofs.Counting.{kept-most}
+use Rattle.sweep_marks.specs.Counting.{flatBelow, keptUpto, keptRows}
+use Rattle.sweep_marks.proofs.Counting.{kept-most}
 use Rattle.swept_files.proofs.Counting.{kept-named, kept-more}
 use Rattle.swept_files.proofs.FlatBelow.{flatBelow-part}
 use Rattle.swept_files.proofs.Parts.{row-within, part-length}

@@ -22,13 +22,14 @@ use Rattle.record_rules.specs.Rules.{curvesBefore}
 use Rattle.record_rules.proofs.Facts.{Corners, corner-vertex, corner-control}
 use Rattle.record_rules.proofs.Element.{Recorded, recorded, Obeys, obeys-facts, body-of}
 use Rattle.table_rules.specs.Whole.{wholeObeys}
-use Rattle.point_exact.specs.Directions.{Direction, Rules}
+use Rattle.point_exact.specs.Directions.{Direction}
+use Rattle.point_exact.specs.Rules.{Rules}
 use Rattle.point_exact.specs.Sampled.{firstControl, curveSampled, surfaceSampled}
 use Rattle.point_exact.proofs.Pyramid.{sampled-cong}
 use Rattle.point_exact.proofs.Samplers.{controls-there}
 use Rattle.point_rows.specs.Places.{direction}
 use Rattle.sampler.specs.Points.{bodyDirection, directionU, directionV, controlOf, gridOf, curveAt, surfaceAt}
-use Rattle.sweep_rows.specs.Counting.{reference}
+use Rattle.sweep_marks.specs.Counting.{reference}
 use Rattle.sweep.specs.Named.{tableIn, widthIn}
 use Rattle.swept_files.specs.Promises.{rowNumbered, SameShown}
 use Rattle.swept_files.proofs.Parts.{part-length, part-values}

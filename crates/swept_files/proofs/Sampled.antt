@@ -27,7 +27,7 @@ use Rattle.sampler.specs.Sampling.{Curved, Surfaced}
 use Rattle.sampler.proofs.Obeyed.{Granted, granted, curved, surfaced}
 use Rattle.sampler.proofs.Refusals.{kinds, past-used}
 use Rattle.sampler.proofs.Entries.{sound-inside}
-use Rattle.polyline.specs.Chords.{parameters, numbers}
+use Rattle.point_chords.specs.Chords.{parameters, numbers}
 use Rattle.polyline.specs.Answers.{PolylineAnswer, pointAt, parametersOf, numbersOf, refusedPolyline, filledPolyline, polylineInto}
 use Rattle.sweep.specs.Swept.{sweptUsed, sweptTables}
 use Rattle.swept_files.specs.Promises.{SameShown}

@@ -14,13 +14,13 @@ use Rattle.tables.specs.declared.Used.{Used}
 use Rattle.tables.specs.declared.Element.{Element}
 use Rattle.model.specs.Model.{VertexKind, geometric, texture, normal, parametric}
 use Rattle.table_rules.specs.Whole.{wholeObeys}
-use Rattle.sweep_rows.specs.Counting.{keptUpto, newNumber, flatBelow}
+use Rattle.sweep_marks.specs.Counting.{keptUpto, newNumber, flatBelow}
 use Rattle.sweep.specs.Named.{usedOf, tableIn, widthIn, named, cornerAfter, cornersAfter}
 use Rattle.sweep.specs.Swept.{SweepAnswer, numbersNeeded, rowsAfter, sweptUsed, sweptTables, sweptAnswer, sweepInto}
 use Rattle.swept_files.specs.Promises.{referenceIn, AllNamed, Unchanged}
-use Rattle.sweep_rows.proofs.Counting.{kept-most}
+use Rattle.sweep_marks.proofs.Counting.{kept-most}
 use Rattle.swept_files.proofs.Counting.{kept-named, new-named}
-use Rattle.sweep_rows.proofs.FlatBelow.{flatBelow-same}
+use Rattle.sweep_marks.proofs.FlatBelow.{flatBelow-same}
 use Rattle.swept_files.proofs.Parts.{front, front-filled, front-again}
 use Rattle.swept_files.proofs.Rows.{rows-length}
 use Rattle.swept_files.proofs.OneKind.{lent-in, used-in, table-in, moved-from}

@@ -11,7 +11,7 @@ use Rattle.tables.specs.declared.Used.{Used}
 use Rattle.model.specs.Model.{VertexKind}
 use Rattle.record_rules.specs.Rules.{obeys, curvesBefore}
 use Rattle.table_rules.specs.Whole.{followsAt, endsBefore, endsUsed, wholeObeys}
-use Rattle.sweep_rows.specs.Counting.{newNumber}
+use Rattle.sweep_marks.specs.Counting.{newNumber}
 use Rattle.sweep.specs.Named.{usedOf, named}
 use Rattle.sweep.specs.Swept.{sweptTables}
 use Rattle.swept_files.specs.Promises.{referenceIn}

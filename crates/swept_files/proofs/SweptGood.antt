@@ -24,7 +24,7 @@ use Rattle.tidy_form.proofs.Values.{loopKey, valuesIn}
 use Rattle.tidy_form.proofs.Words.{Fits, Fitting}
 use Rattle.tidy_form.proofs.Standing.{seenOf, uniform, wide, wideIn, Fine, Sound}
 use Rattle.tidy_form.proofs.Good.{GoodLoops, LoopsIn, GoodBody, GoodKind, plus, GoodElements}
-use Rattle.sweep_rows.specs.Counting.{newNumber}
+use Rattle.sweep_marks.specs.Counting.{newNumber}
 use Rattle.swept_files.specs.Files.{numberIn, anyOf, namedIn, sweptVertices, sweptCorner, sweptElement}
 use Rattle.model.proofs.Placed.{Each}
 use Rattle.swept_files.proofs.ByIndex.{any-of-at, each-by}

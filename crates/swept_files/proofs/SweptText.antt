@@ -16,6 +16,7 @@ use Rattle.model.specs.Room.{Rooms, summed, ofKind, partCount, fits}
 use Rattle.model.specs.Read.{read, readOf}
 use Rattle.model.specs.Layout.{tablesOf, usedOf}
 use Rattle.model.proofs.Rows.{bodies-summed}
+use Rattle.read_lines.proofs.Cleared.{answered-same}
 use Rattle.reader.specs.Reading.{roomsOf, readInto, ReadAnswer, answered}
 use Rattle.read_lines.specs.declared.ReadResult.the-variants as reading
 use Rattle.tidy_form.specs.Printed.{tidyText}
@@ -151,7 +152,7 @@ swept-texts c s S m h l T e =
     let k = sweptModel m in
     let w = tidyText c k in
     let g = good-read c R (length (linesOf s)) k (swept-came R (length (linesOf s)) m (read-came R s m h)) (small-kept m (read-small R s m h)) l in
-    let r : readInto w T ≡ answered R (read (g .0)) = ap (λ (Q : Rooms). answered Q (readOf Q w)) e ∙ ap (answered R) (g .1) in
+    let r : readInto w T ≡ answered S (read (g .0)) = ap (answered T) (ap (λ (Q : Rooms). readOf Q w) e ∙ g .1) ∙ answered-same T S e (read (g .0)) in
     let f = swept-files s S m h in
     let a = placed-agree R R w s (g .0) k (read-placed R w (g .0) (g .1)) (placed-kept m s (read-placed R s m h)) (g .2) in
     let b = subst (λ (u : Used). TablesAgree w (tablesOf R (g .0)) u s (tablesOf R k) (usedOf k)) (a .used) a in

@@ -1,6 +1,6 @@
 -- A record that obeys its rules obeys them where a sweep puts it: its numbers are the same. By what each test reads.
 use Prim.Native.Nat.{ℕ, zero, suc, _+_, _*_, _-_, _≤_, _<_}
-use mathlib.Core.Path.{_≡_, refl, sym, ap, _∙_}
+use mathlib.Core.Path.{_≡_, sym, ap, _∙_}
 use mathlib.Core.List.{List}
 use mathlib.Core.Bool.{Bool, true, false, cond, not, _&&_}
 use native.Mathlib.Omega.{arith}
@@ -16,7 +16,7 @@ use Rattle.record_rules.specs.Vertices.{vertexObeys, givenObeys, parameterVerte
 use Rattle.record_rules.specs.Corners.{attributeObeys}
 use Rattle.record_rules.proofs.Below.{below-all}
 use Rattle.record_rules.proofs.OneVertex.{vertex-facts}
-use Rattle.sweep_rows.specs.Counting.{keptUpto, newNumber}
+use Rattle.sweep_marks.specs.Counting.{keptUpto, newNumber}
 use Rattle.swept_files.proofs.Counting.{kept-named, new-zero, new-named}
 use Rattle.swept_files.proofs.Parts.{part-values}
 use Rattle.swept_files.proofs.OneKind.{Moved}

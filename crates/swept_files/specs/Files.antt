@@ -1,3 +1,4 @@
+-- Must be believed: a promise reaches every definition of this file.
 -- Q-6 on files: the model of a file without the vertices that no corner of it names, and what a sweep leaves of the tables that a text was read into.
 use Prim.Native.Nat.{ℕ, suc, _≤_}
 use mathlib.Core.Path.{_≡_}
@@ -18,7 +19,7 @@ use Rattle.tidy_form.specs.Tidied.{vertexLines, tidied}
 use Rattle.tidy_form.specs.declared.Weights.{Weights}
 use Rattle.tidy_form.specs.Printed.{tidyText}
 use Rattle.tidy_form.specs.Agree.{TablesAgree}
-use Rattle.sweep_rows.specs.Counting.{newNumber}
+use Rattle.sweep_marks.specs.Counting.{newNumber}
 use Rattle.sweep.specs.Swept.{sweptUsed, sweptTables}
 
 -- ---- the swept model, from the model's lists and corners alone

@@ -1,3 +1,4 @@
+-- Must be believed: a promise reaches every definition of this file.
 -- Q-6, the retention sweep: what is promised of every sweep that is not refused, for all used counts and tables.
 use Prim.Native.Nat.{ℕ, zero, suc, _+_, _*_, _≤_, _<_}
 use mathlib.Core.Path.{_≡_}
@@ -9,7 +10,7 @@ use Rattle.tables.specs.Tables.{Tables}
 use Rattle.tables.specs.Records.{elementAt, bodyAt, cornerAt, partAt}
 use Rattle.tables.specs.declared.Used.{Used}
 use Rattle.model.specs.Model.{VertexKind, geometric, texture, normal, parametric}
-use Rattle.sweep_rows.specs.Counting.{reference, droppedUpto}
+use Rattle.sweep_marks.specs.Counting.{reference, droppedUpto}
 use Rattle.sweep.specs.Named.{usedOf, tableIn, widthIn, named}
 use Rattle.sweep.specs.declared.Dropped.{Dropped}
 use Rattle.sweep.specs.Swept.{SweepAnswer, numbersNeeded, noneDropped}

@@ -41,7 +41,7 @@ pub fn elements_obey(
     let mut i = 0;
     while i < used.elements {
         let element = tables::lent_element(elements, i);
-        let body = tables::body_of(used, bodies, ranges, element.body);
+        let body = table_asking::body_of(used, bodies, ranges, element.body);
         if !records_obey(
             used,
             v,

@@ -5,6 +5,8 @@ ghost use Rattle.table_rules.specs.Whole.{endsAfter, bodyFollows, elemen
 use tables::Body;
 use tables::Element;
 use tables::Used;
+use tables::kinds;
+use tables::widths;
 
 // Numbers of corners, bodies, parameters and loop parts.
 pub struct Ends {
@@ -19,8 +21,8 @@ pub fn ends_after(ends: Ends, element: Element, body: Body) -> Ends
     requires { ⌜ (ends .corners ≤ 4294967295) × (ends .bodies ≤ 4294967295) × (ends .parameters ≤ 4294967295) × (ends .parts ≤ 4294967295) ⌝ }
     ensures { λ r. ⌜ r ≡ endsAfter ends element body ⌝ }
 {
-    let corners = ends.corners + 3 * element.count as usize;
-    if element.kind <= 3 {
+    let corners = ends.corners + widths::CORNER * element.count as usize;
+    if element.kind <= kinds::FACE {
         return Ends {
             corners: corners,
             bodies: ends.bodies,
@@ -58,7 +60,7 @@ pub fn element_follows(ends: Ends, element: Element, body: Body) -> bool
     if first != end {
         return false;
     }
-    if element.kind <= 3 {
+    if element.kind <= kinds::FACE {
         return true;
     }
     if element.body as usize != ends.bodies + 1 {

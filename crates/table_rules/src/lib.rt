@@ -1,22 +1,24 @@
 // Refusal 15 of whole tables (Q-6): every record held against the rules, and every run against the one before it.
 ghost use mathlib.Core.Path.{_≡_};
-ghost use Prim.Native.Nat.{_*_};
+ghost use Prim.Native.Nat.{_*_, _≤_};
 ghost use lib.Dec.{leb};
 ghost use Rattle.tables.specs.Tables.{tables};
 ghost use Rattle.table_rules.specs.Whole.{lentAll, wholeObeys};
 use crate::elements::elements_obey;
 use crate::vertices::vertices_obey;
 use tables::Used;
+use tables::widths;
 
 mod elements;
 pub mod ends;
 mod vertices;
 
 // Whether `count` records of `width` numbers stand within a lent length.
-fn is_lent(width: u32, count: u32, lent: usize) -> bool
+fn is_lent(width: usize, count: u32, lent: usize) -> bool
+    requires { ⌜ width ≤ 4294967295 ⌝ }
     ensures { λ r. ⌜ r ≡ leb (width * count) lent ⌝ }
 {
-    (width as usize) * (count as usize) <= lent
+    width * (count as usize) <= lent
 }
 
 fn lent_all(
@@ -35,17 +37,17 @@ fn lent_all(
 ) -> bool
     ensures { λ r. ⌜ r ≡ lentAll used (tables (now (v .entry)) (now (vt .entry)) (now (vn .entry)) (now (vp .entry)) (now (corners .entry)) (now (elements .entry)) (now (bodies .entry)) (now (ranges .entry)) (now (parameters .entry)) (now (loops .entry)) (now (spans .entry))) ⌝ }
 {
-    is_lent(4, used.v, v.len())
-        & is_lent(3, used.vt, vt.len())
-        & is_lent(3, used.vn, vn.len())
-        & is_lent(4, used.vp, vp.len())
+    is_lent(widths::V, used.v, v.len())
+        & is_lent(widths::VT, used.vt, vt.len())
+        & is_lent(widths::VN, used.vn, vn.len())
+        & is_lent(widths::VP, used.vp, vp.len())
         & (used.corners as usize <= corners.len())
-        & is_lent(9, used.elements, elements.len())
-        & is_lent(9, used.bodies, bodies.len())
-        & is_lent(4, used.bodies, ranges.len())
+        & is_lent(widths::ELEMENT, used.elements, elements.len())
+        & is_lent(widths::BODY, used.bodies, bodies.len())
+        & is_lent(widths::RANGE, used.bodies, ranges.len())
         & (used.parameters as usize <= parameters.len())
-        & is_lent(2, used.loops, loops.len())
-        & is_lent(2, used.loops, spans.len())
+        & is_lent(widths::LOOP, used.loops, loops.len())
+        & is_lent(widths::SPAN, used.loops, spans.len())
 }
 
 // Whether nothing that 15 names is wrong with the tables.

@@ -1,6 +1,6 @@
 ghost use mathlib.Core.Path.{_≡_};
 ghost use mathlib.Core.List.{[]};
-ghost use Prim.Native.Nat.{suc};
+ghost use Prim.Native.Nat.{suc, _≤_};
 ghost use Rattle.tables.specs.Tables.{tables};
 ghost use Rattle.record_rules.specs.Numbers.{allBelow};
 ghost use Rattle.record_rules.specs.Vertices.{vertexObeys, parameterVertexObeys};
@@ -8,12 +8,14 @@ ghost use Rattle.table_rules.specs.Whole.{verticesObey};
 use record_rules::numbers::run_in_range;
 use record_rules::vertices::parameter_vertex;
 use tables::Used;
+use tables::widths;
 
 // Every v, vt or vn: all of their numbers are one run.
-fn numbers_obey(values: &[i32], width: u32, used: u32) -> bool
+fn numbers_obey(values: &[i32], width: usize, used: u32) -> bool
+    requires { ⌜ width ≤ 4294967295 ⌝ }
     ensures { λ r. ⌜ r ≡ allBelow used (λ k. vertexObeys width (now (values .entry)) used (suc k)) ⌝ }
 {
-    run_in_range(values, 0, (width as usize) * (used as usize))
+    run_in_range(values, 0, width * (used as usize))
 }
 
 // Every vp.
@@ -33,8 +35,8 @@ fn parameter_vertices_obey(values: &[i32], used: u32) -> bool
 pub fn vertices_obey(used: Used, v: &[i32], vt: &[i32], vn: &[i32], vp: &[i32]) -> bool
     ensures { λ r. ⌜ r ≡ verticesObey used (tables (now (v .entry)) (now (vt .entry)) (now (vn .entry)) (now (vp .entry)) [] [] [] [] [] [] []) ⌝ }
 {
-    numbers_obey(v, 4, used.v)
-        & numbers_obey(vt, 3, used.vt)
-        & numbers_obey(vn, 3, used.vn)
+    numbers_obey(v, widths::V, used.v)
+        & numbers_obey(vt, widths::VT, used.vt)
+        & numbers_obey(vn, widths::VN, used.vn)
         & parameter_vertices_obey(vp, used.vp)
 }

@@ -1,3 +1,4 @@
+-- Must be believed: a promise reaches every definition of this file.
 -- 01, "Records": "Asking for an element's group or material gives back that part of the caller's own text"; and asking for an element, for a corner of one and for a body. An element's and a body's number count from 1, a corner's from 0.
 use Prim.Native.Nat.{ℕ, _+_, _*_, _-_}
 use mathlib.Core.List.{List, []}

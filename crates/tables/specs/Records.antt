@@ -1,3 +1,4 @@
+-- Must be believed: a promise reaches every definition of this file.
 -- The numbers of each record, as docs/RECORDS.md lists them. A record has a number that counts from 1, and an index that counts from 0.
 use Prim.Native.Nat.{ℕ, _+_, _*_}
 use mathlib.Core.List.{List}
@@ -7,6 +8,7 @@ use Rattle.tables.specs.Tables.{Tables}
 use Rattle.tables.specs.declared.Element.{Element}
 use Rattle.tables.specs.declared.Body.{Body}
 use Rattle.tables.specs.declared.Corner.{Corner}
+use Rattle.tables.specs.declared.parts.LoopPart.{LoopPart}
 
 -- how many numbers a record has in each table
 abbrev pub vWidth : ℕ
@@ -106,20 +108,17 @@ abbrev pub parametersV : Tables → Body → List ℤ
 parametersV t b = take (b .«count_v») (drop (b .«first_parameter» + b .«count_u») (t .parameters))
 
 -- a part of a trimming loop: what begins with it (1 a trim, 2 a hole, 0 nothing), its curv2's number, its two numbers
-pub record PartRecord : Type 0 where
-  pub begins : ℕ
-  pub curve : ℕ
-  pub from : ℤ
-  pub to : ℤ
-
-abbrev pub partAt : Tables → ℕ → PartRecord
-partAt t i =
+abbrev pub partIn : List ℕ → List ℤ → ℕ → LoopPart
+partIn loops spans i =
     record {
-      begins = numberAt loopWidth (t .loops) i 0;
-      curve = numberAt loopWidth (t .loops) i 1;
-      from = valueAt spanWidth (t .spans) i 0;
-      to = valueAt spanWidth (t .spans) i 1;
+      begins = numberAt loopWidth loops i 0;
+      curve = numberAt loopWidth loops i 1;
+      from = valueAt spanWidth spans i 0;
+      to = valueAt spanWidth spans i 1;
     }
+
+abbrev pub partAt : Tables → ℕ → LoopPart
+partAt t i = partIn (t .loops) (t .spans) i
 
 -- ---- the numbers of kinds and types
 abbrev pub pointKind : ℕ

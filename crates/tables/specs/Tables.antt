@@ -1,3 +1,4 @@
+-- Must be believed: a promise reaches every definition of this file.
 -- 01, "Records": "Tables are lent slices of 32-bit numbers, signed for millionths and unsigned for numbers and counts."
 use Prim.Native.Nat.{ℕ}
 use mathlib.Core.List.{List}

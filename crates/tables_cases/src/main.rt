@@ -64,16 +64,16 @@ fn ask_corner(elements: &[u32], corners: &[u32], element: u32, k: u32) {
     put_number(element);
     put_number(k);
     put(b"is ");
-    put_corner(tables::corner_of(used(), elements, corners, element, k));
+    put_corner(table_asking::corner_of(used(), elements, corners, element, k));
 }
 
 fn ask_names(text: &[u8], elements: &[u32], element: u32) {
     put(b"names ");
     put_number(element);
     put(b"are [");
-    put(tables::group_of(text, used(), elements, element));
+    put(table_asking::group_of(text, used(), elements, element));
     put(b"] [");
-    put(tables::material_of(text, used(), elements, element));
+    put(table_asking::material_of(text, used(), elements, element));
     put(b"]\n");
 }
 
@@ -108,7 +108,7 @@ fn ask_body(bodies: &[u32], ranges: &[i32], body: u32) {
     put(b"body ");
     put_number(body);
     put(b"is ");
-    put_body(tables::body_of(used(), bodies, ranges, body));
+    put_body(table_asking::body_of(used(), bodies, ranges, body));
 }
 
 fn bodies(bodies: &[u32], ranges: &[i32]) {

@@ -1,5 +1,5 @@
 -- A text is its first line, and then the lines from where the next one starts: each line takes a byte or more, so what is left never runs out of turns.
-use Prim.Native.Nat.{ℕ, zero, suc, _+_, _-_, _≤_, _<_}
+use Prim.Native.Nat.{ℕ, zero, suc, _+_, _≤_, _<_}
 use mathlib.Core.Path.{_≡_, refl, sym, ap, _∙_}
 use mathlib.Core.List.{List, [], _∷_}
 use mathlib.Core.Bool.{Bool, true, false, cond}
@@ -10,9 +10,9 @@ use lib.Dec.{eqb}
 use native.Mathlib.Omega.{arith}
 use Rattle.lists.proofs.Tests.{test}
 use Rattle.text.specs.Bytes.{isWord, isBlank, lineEnd}
-use Rattle.text.specs.Lines.{Mode, gap, word, comment, join, Look, goes, ends, refused, plain, look, extent, ending, strideOf, Line, lineOf, linesFrom, linesOf, linesAt}
+use Rattle.text.specs.Lines.{Mode, gap, word, comment, join, Look, goes, ends, refused, plain, look, extent, ending, strideOf, Line, lineOf, linesFrom, linesOf}
 use Rattle.text.specs.Words.{wordsOf, badOf}
-use Rattle.text.specs.Rest.{restAt}
+use Rattle.text.specs.Rest.{restAt, linesAt}
 use Rattle.text.proofs.Cut.{goes-ends, ends-refused}
 use Rattle.text.proofs.Walk.{strideIn}
 use Rattle.text.proofs.Places.{ending-some}

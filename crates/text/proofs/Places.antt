@@ -1,10 +1,10 @@
 -- What stands at a place between words, for each thing that the code tests there: the rest of the line from the place on, one step further.
-use Prim.Native.Nat.{ℕ, suc, _+_, _-_, _≤_, _<_}
+use Prim.Native.Nat.{ℕ, suc, _+_, _≤_, _<_}
 use mathlib.Core.Path.{_≡_, refl, sym, ap, _∙_}
 use mathlib.Core.List.{List, [], _∷_}
 use mathlib.Core.Bool.{Bool, true, false, cond, _&&_, not}
 use mathlib.Core.Option.{none}
-use mathlib.Core.Logic.{_⊎_, ⊎-elim}
+use mathlib.Core.Logic.{⊎-elim}
 use lib.ListN.{length, drop, getD, drop-of-length-le, length-drop}
 use lib.Seq.{drop-cons, drop-drop}
 use lib.Dec.{eqb}
@@ -12,10 +12,11 @@ use native.Mathlib.Omega.{arith}
 use native.Mathlib.Numerals.{add-one}
 use borrow.Author.Tests.{ne-eqb}
 use Rattle.lists.proofs.Tests.{test}
-use Rattle.text.specs.Bytes.{isWord, isBlank, startsWord, lf, lineEnd}
-use Rattle.text.specs.Lines.{gap, word, join, look, refused, ending, breakOf}
+use Rattle.text.specs.Bytes.{isWord, isBlank, lf, lineEnd}
+use Rattle.text.specs.Tokens.{startsWord}
+use Rattle.text.specs.Lines.{gap, word, join, look, refused, ending}
 use Rattle.text.specs.Words.{wordOf, words}
-use Rattle.text.specs.Rest.{Rest, restAt, push, wordAt, endOf, WordMet, EndMet, BadMet, JoinMet}
+use Rattle.text.specs.Rest.{Rest, restAt, push, wordAt, endOf, WordMet, EndMet, BadMet, JoinMet, breakOf}
 use Rattle.text.proofs.Walk as W
 
 pub here : (s : List ℕ) (i : ℕ) → i < length s → drop i s ≡ getD s i 0 ∷ drop (i + 1) s

@@ -1,5 +1,5 @@
 -- What is written is read back: a token and what is no word byte after it make one word; so word by word, and line by line.
-use Prim.Native.Nat.{ℕ, suc, _+_, _-_, _<_}
+use Prim.Native.Nat.{ℕ, suc, _+_, _<_}
 use mathlib.Core.Path.{_≡_, refl, ap, ap₂, _∙_}
 use mathlib.Core.List.{List, [], _∷_, _++_, map, append-assoc}
 use mathlib.Core.Bool.{true}
@@ -9,13 +9,14 @@ use lib.Seq.{drop-append-seam}
 use native.Mathlib.Omega.{arith}
 use Rattle.lists.specs.Lists.{all}
 use Rattle.lists.proofs.Tests.{never, and-left, and-right}
-use Rattle.text.specs.Bytes.{isWord, startsWord}
+use Rattle.text.specs.Bytes.{isWord}
 use Rattle.text.specs.Lines.{gap, word, lineOf, strideOf, linesOf}
 use Rattle.text.specs.Words.{Word, wordOf, words, refusedAt}
-use Rattle.text.specs.Rest.{Rest, restAt, push}
-use Rattle.text.specs.Written.{isToken, writtenAfter, writtenLine, writtenLines, areLines, WrittenStatement, bytesOf, saidBy, sayingOf}
+use Rattle.text.specs.Rest.{Rest, push}
+use Rattle.text.specs.Written.{writtenAfter, writtenLine, writtenLines, bytesOf}
+use Rattle.text.specs.Tokens.{isToken, areLines, WrittenStatement, saidBy, sayingOf, startsWord}
 use Rattle.text.proofs.Cut.{words-cut, refused-cut}
-use Rattle.text.proofs.Walk.{restIn, rest-in, rest-goes, rest-opens, rest-ends, past-word, word-look, starts-word}
+use Rattle.text.proofs.Walk.{restIn, rest-goes, rest-opens, rest-ends, past-word, word-look, starts-word}
 use Rattle.text.proofs.LineByLine.{linesIn, lines-cons}
 
 -- ---- one word

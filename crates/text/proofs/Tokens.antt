@@ -14,11 +14,11 @@ use borrow.Author.Tests.{le-leb, leb-true, leb-false}
 use Rattle.lists.specs.Lists.{all, same}
 use Rattle.lists.proofs.Tests.{test, never, and-left, and-right, and-both}
 use Rattle.lists.proofs.Laws.{same-refl, same-eq}
-use Rattle.text.specs.Bytes.{isWord, isBlank, startsWord, lineEnd}
+use Rattle.text.specs.Bytes.{isWord, isBlank, lineEnd}
 use Rattle.text.specs.Lines.{Mode, gap, word, comment, join, Look, goes, ends, refused, plain, look, onward}
 use Rattle.text.specs.Words.{Word, wordOf, isInWord, opens, words}
-use Rattle.text.specs.Rest.{Rest, restAt, endOf, wordAt, WordMet}
-use Rattle.text.specs.Written.{isToken}
+use Rattle.text.specs.Rest.{restAt, endOf}
+use Rattle.text.specs.Tokens.{isToken, startsWord}
 use Rattle.text.proofs.Cut.{goes-ends, goes-refused, words-cut, in-word}
 use Rattle.text.proofs.Places.{here}
 use Rattle.text.proofs.Walk.{word-short, starts-word}

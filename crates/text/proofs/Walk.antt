@@ -11,7 +11,8 @@ use native.Mathlib.Omega.{arith}
 use native.Mathlib.Nat.{add-zero}
 use borrow.Author.Tests.{eqb-true, ne-eqb, not-true}
 use Rattle.lists.proofs.Tests.{test, never, and-left, and-right}
-use Rattle.text.specs.Bytes.{isWord, isBlank, startsWord, lf, lineEnd}
+use Rattle.text.specs.Bytes.{isWord, isBlank, lf, lineEnd}
+use Rattle.text.specs.Tokens.{startsWord}
 use Rattle.text.specs.Lines.{Mode, gap, word, comment, join, goes, ends, refused, look, onward, extent, ending}
 use Rattle.text.specs.Words.{Word, wordOf, opens, words, refusedAt}
 use Rattle.text.specs.Rest.{Rest, restAt, push}

@@ -1,3 +1,4 @@
+-- Must be believed: a promise reaches every definition of this file.
 -- 01, "Bytes, lines, words": what a byte of a text can be.
 use Prim.Native.Nat.{ℕ}
 use mathlib.Core.List.{List, [], _∷_}
@@ -11,10 +12,6 @@ isBlank b = eqb b 32 || eqb b 9
 -- "Words hold bytes 33 to 126"; a backslash, 92, joins lines or is refused
 abbrev pub isWord : ℕ → Bool
 isWord b = leb 33 b && leb b 126 && not (eqb b 92)
-
--- "A # at the start of a word opens a comment": a word starts with any other word byte
-abbrev pub startsWord : ℕ → Bool
-startsWord b = isWord b && not (eqb b 35)
 
 -- LF at the front
 abbrev pub lf : List ℕ → Bool

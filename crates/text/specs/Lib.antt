@@ -3,4 +3,5 @@ pub mod Lines
 pub mod Words
 pub mod Rest
 pub mod Written
+pub mod Tokens
 pub mod Examples

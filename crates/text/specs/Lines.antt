@@ -1,3 +1,4 @@
+-- Must be believed: a promise reaches every definition of this file.
 -- 01, "Bytes, lines, words": where the joined lines of a text begin and end. A byte that is not allowed plays no part in it.
 use Prim.Native.Nat.{ℕ, zero, suc, _+_}
 use mathlib.Core.List.{List, [], _∷_}
@@ -48,10 +49,6 @@ abbrev pub ending : List ℕ → ℕ
 ending [] = 0
 ending (b ∷ bs) = cond (eqb b 10) 1 2
 
--- the same where no line need end: 0 where none does
-abbrev pub breakOf : List ℕ → ℕ
-breakOf l = cond (lineEnd l) (ending l) 0
-
 -- the line that l begins with, and how far it is from there to the next
 abbrev pub lineOf : List ℕ → List ℕ
 lineOf l = take (extent gap l) l
@@ -73,7 +70,3 @@ linesFrom (suc n) p (b ∷ bs) =
 -- the joined lines of a text; each takes a byte or more
 unfoldable pub linesOf : List ℕ → List Line
 linesOf t = linesFrom (length t) 0 t
-
--- the lines from place p on, where a line starts
-unfoldable pub linesAt : List ℕ → ℕ → List Line
-linesAt t p = linesFrom (length (drop p t)) p (drop p t)

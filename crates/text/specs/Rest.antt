@@ -1,12 +1,12 @@
 -- What the code finds in a line from a place between words on: the line's words from there, its first byte that is not allowed, where the next line starts.
 use Prim.Native.Nat.{ℕ, _≤_, _<_, _+_}
 use mathlib.Core.Path.{_≡_}
-use mathlib.Core.Bool.{false}
+use mathlib.Core.Bool.{cond}
 use mathlib.Core.List.{List, [], _∷_}
 use mathlib.Core.Option.{Option, none, some}
-use lib.ListN.{length, drop, getD}
-use Rattle.text.specs.Bytes.{isBlank}
-use Rattle.text.specs.Lines.{gap, lineOf, strideOf}
+use lib.ListN.{length, drop}
+use Rattle.text.specs.Bytes.{lineEnd}
+use Rattle.text.specs.Lines.{gap, lineOf, strideOf, ending, Line, linesFrom}
 use Rattle.text.specs.Words.{Word, wordOf, words, refusedAt}
 use Rattle.text.specs.declared.Turn.{Turn}
 use Rattle.text.specs.declared.Turn.the-variants.{On, End as Over, Refused}
@@ -84,3 +84,11 @@ scanned (some p) n q = Fault p
 
 abbrev pub scanOf : Rest → Scan
 scanOf r = scanned (r .bad) (length (r .words)) (r .next)
+
+-- how many bytes the line ending has that l begins with, 0 where no line ends there
+abbrev pub breakOf : List ℕ → ℕ
+breakOf l = cond (lineEnd l) (ending l) 0
+
+-- the lines from place p on, where a line starts
+unfoldable pub linesAt : List ℕ → ℕ → List Line
+linesAt t p = linesFrom (length (drop p t)) p (drop p t)

@@ -3,9 +3,9 @@ ghost use mathlib.Core.Path.{_≡_};
 ghost use Prim.Native.Nat.{_+_, _≤_, _<_};
 ghost use lib.ListN.{length, getD, drop};
 ghost use mathlib.Core.Bool.{true, false};
-ghost use Rattle.text.specs.Bytes.{isBlank, isWord, startsWord, lf};
-ghost use Rattle.text.specs.Rest.{restAt, endOf, EndMet, turnIs, afterBlanksIs, scanOf};
-ghost use Rattle.text.specs.Lines.{breakOf};
+ghost use Rattle.text.specs.Bytes.{isBlank, isWord, lf};
+ghost use Rattle.text.specs.Tokens.{startsWord};
+ghost use Rattle.text.specs.Rest.{restAt, endOf, EndMet, turnIs, afterBlanksIs, scanOf, breakOf};
 
 // 01: "Words hold bytes 33 to 126"; a backslash is no word byte.
 pub fn is_word(b: u8) -> bool

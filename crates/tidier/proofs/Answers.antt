@@ -72,14 +72,14 @@ passedOn (reading.Read n) t out = tidyAnswer (TooLong 0 n) t out
 passedOn (reading.Refused n p) t out = tidyAnswer (Refused n p) t out
 
 module _ (c : Weights) (s : List ℕ) (t u : Tables) (out : List ℕ) where
-  from-read : (n : Used) (x : Answer) → readOf (roomsOf t) s ≡ x → readAnswer (reading.Read n) u ≡ reader.answered (roomsOf t) x
-      → written (tidyFrom c s n u) n u out ≡ answered c (roomsOf t) x out
+  from-read : (n : Used) (x : Answer) → readOf (roomsOf t) s ≡ x → readAnswer (reading.Read n) u ≡ reader.answered t x
+      → written (tidyFrom c s n u) n u out ≡ answered c t x out
   from-read n (read m) e f =
       ap₂ (λ (k : Used) (y : Tables). written (tidyFrom c s k y) k y out) (ap (λ (r : ReadAnswer). usedIn n (r .answer)) f) (ap (λ (r : ReadAnswer). r .tables) f)
       ∙ ap (λ (w : List ℕ). written w (usedOf m) (tablesOf (roomsOf t) m) out) (tidy-from c (roomsOf t) s m e)
   from-read n (refused k p) e f = never (sym (ap (λ (r : ReadAnswer). isRead (r .answer)) f))
 
-  from-refused : (k p : ℕ) (x : Answer) → readAnswer (reading.Refused k p) u ≡ reader.answered (roomsOf t) x → tidyAnswer (Refused k p) u out ≡ answered c (roomsOf t) x out
+  from-refused : (k p : ℕ) (x : Answer) → readAnswer (reading.Refused k p) u ≡ reader.answered t x → tidyAnswer (Refused k p) u out ≡ answered c t x out
   from-refused k p (read m) f = never (ap (λ (r : ReadAnswer). isRead (r .answer)) f)
   from-refused k p (refused n q) f = ap (λ (r : ReadAnswer). passedOn (r .answer) (r .tables) out) f
 

@@ -1,14 +1,14 @@
+-- Must be believed: a promise reaches every definition of this file.
 -- The whole of tidying: the answer, what every lent table holds at the end, and what the lent buffer holds, for every text and all lent lengths.
 use Prim.Native.Nat.{ℕ, min}
 use mathlib.Core.List.{List, _++_}
 use mathlib.Core.Bool.{Bool, cond, _&&_}
 use lib.Dec.{leb}
 use lib.ListN.{length, drop}
-use Rattle.tables.specs.Tables.{Tables}
+use Rattle.tables.specs.Tables.{Tables, zeros}
 use Rattle.tables.specs.declared.Used.{Used}
-use Rattle.model.specs.Room.{Rooms}
 use Rattle.model.specs.Read.{Answer, read, refused, readOf}
-use Rattle.model.specs.Layout.{tablesOf, usedOf, noneUsed, nothing}
+use Rattle.model.specs.Layout.{tablesOf, usedOf, noneUsed}
 use Rattle.tidy_form.specs.declared.Weights.{Weights}
 use Rattle.tidy_form.specs.Printed.{tidyText}
 use Rattle.reader.specs.Reading.{roomsOf}
@@ -55,10 +55,10 @@ written w used t out =
     (record { answer = TooLong (neededFor w) used; outcome = record { number = 16; place = 0; length = 0; needed = neededFor w; used = used }; tables = t; out = out })
 
 -- "A refusal zeroes every lent table and every count."
-abbrev pub answered : Weights → Rooms → Answer → List ℕ → TidyAnswer
-answered c R (read m) out = written (tidyText c m) (usedOf m) (tablesOf R m) out
-answered c R (refused n p) out = record { answer = Refused n p; outcome = record { number = n; place = p; length = 0; needed = 0; used = noneUsed }; tables = tablesOf R nothing; out = out }
+abbrev pub answered : Weights → Tables → Answer → List ℕ → TidyAnswer
+answered c t (read m) out = written (tidyText c m) (usedOf m) (tablesOf (roomsOf t) m) out
+answered c t (refused n p) out = record { answer = Refused n p; outcome = record { number = n; place = p; length = 0; needed = 0; used = noneUsed }; tables = zeros t; out = out }
 
 -- what tidying the text s comes to by a choice of weights, with the tables t and the buffer out lent
 unfoldable pub tidyInto : Weights → List ℕ → Tables → List ℕ → TidyAnswer
-tidyInto c s t out = answered c (roomsOf t) (readOf (roomsOf t) s) out
+tidyInto c s t out = answered c t (readOf (roomsOf t) s) out

@@ -16,7 +16,8 @@ use Rattle.references.specs.Corner.{Corner, alike}
 use Rattle.keywords.specs.Arguments.{argumentBytes}
 use Rattle.model.specs.Model.{Vertices, Free, curve, curve2, surface, Part, Body, Open, State, curves}
 use Rattle.model.specs.Statements.{Statement, vertex, element, group, smoothing, material, type, degree, body, parameters, loop, end, passed}
-use Rattle.model.specs.Parse.{fine, hole, Value, number, corner, whole, direction, basis, name, nothing, formOf, allowed, numbersOf, cornersOf, wholesOf, namesOf, partsOf, differing, unlike, narrow, narrowIn, checked, seenIn, parse, insideBody, isSurface, saysV, rangeWords, complete}
+use Rattle.model.specs.Parse.{fine, Value, number, corner, whole, direction, basis, name, nothing, formOf, allowed, numbersOf, wholesOf, namesOf, partsOf, differing, unlike, narrow, narrowIn, checked, seenIn, parse, isSurface, saysV, rangeWords}
+use Rattle.model.specs.Standing.{insideBody}
 use Rattle.model.proofs.Pieces.{finished, opened}
 use Rattle.tidy_form.specs.declared.Weights.{Weights}
 use Rattle.tidy_form.specs.Printed.{coordinates, rangeOf, wordsAfter, directionArgument}

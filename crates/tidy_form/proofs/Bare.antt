@@ -13,12 +13,12 @@ use Rattle.text.specs.Words.{Word}
 use Rattle.text.specs.Written.{bytesOf}
 use Rattle.model.specs.Model.{Free, Body, plain, Element, Form, Open, State, isCurve2, curves}
 use Rattle.model.specs.Statements.{Statement, vertex, element, group, smoothing, material, type, degree, body, parameters, loop, end, passed, apply, onOpen, withBody, withParameters, withLoop, closed}
-use Rattle.model.specs.Parse.{outsideBody, insideBody}
+use Rattle.model.specs.Standing.{outsideBody, insideBody}
 use Rattle.model.specs.Room.{summed, ofKind, ofOpen, partCount}
 use Rattle.tidy_form.specs.declared.Weights.{Weights}
 use Rattle.tidy_form.specs.Printed.{wordsAfter}
 use Rattle.tidy_form.specs.Tidied.{sameWords}
-use Rattle.tidy_form.specs.Agree.{bareWord, bareWords, bareNames, bareElement, bareElements}
+use Rattle.tidy_form.specs.Bare.{bareWord, bareWords, bareNames, bareElement, bareElements}
 use Rattle.tidy_form.proofs.Standing.{Here, Ends}
 use Rattle.tidy_form.proofs.Back.{renamed, firstOr}
 use Rattle.tidy_form.proofs.Rooms.{NoMore}

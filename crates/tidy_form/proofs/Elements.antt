@@ -14,7 +14,7 @@ use Rattle.model.specs.Model.{geometric, texture, normal, parametric, Vertices,
 use Rattle.model.specs.Statements.{Statement, element, type, degree, body, parameters, loop, end, settled}
 use Rattle.model.specs.Parse.{isSurface}
 use Rattle.tidy_form.specs.Tidied.{vertexLines, groupLines, smoothingLines, materialLines, unsettled, atLine, parameterLines, elementLines, elementsLines, tidied}
-use Rattle.tidy_form.specs.Agree.{bareNames, bareElement, bareElements}
+use Rattle.tidy_form.specs.Bare.{bareNames, bareElement, bareElements}
 use Rattle.tidy_form.proofs.Standing.{Sound}
 use Rattle.tidy_form.proofs.Good.{Always, GoodVertices, formIn, GoodLoops, LoopsIn, SecondIn, GoodBody, GoodKind, GoodElements, Good}
 use Rattle.tidy_form.proofs.Keep.{curves-add}

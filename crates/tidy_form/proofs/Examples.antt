@@ -2,7 +2,7 @@
 use mathlib.Core.Path.{_≡_, refl}
 use mathlib.Core.List.{List, [], _∷_}
 use Prim.Native.Nat.{ℕ}
-use Rattle.keywords.specs.Rows.{bytes}
+use Rattle.spellings.specs.Rows.{bytes}
 use Rattle.text.specs.Lines.{linesOf}
 use Rattle.decimals.specs.Number.{numberOf, decimal, numerator, denominator, nearest}
 use Rattle.digits.specs.Digits.{whole}

@@ -13,7 +13,7 @@ use Rattle.text.specs.Words.{Word}
 use Rattle.model.specs.Model.{VertexKind, geometric, texture, normal, parametric, Vertices, Names, Element, Form, State, curves, start}
 use Rattle.model.specs.Statements.{Statement, vertex, group, smoothing, material, apply, withVertex}
 use Rattle.tidy_form.specs.Tidied.{sameWords, groupLines, smoothingLines, materialLines}
-use Rattle.tidy_form.specs.Agree.{bareWord, bareWords, bareOption}
+use Rattle.tidy_form.specs.Bare.{bareWord, bareWords, bareOption}
 use Rattle.tidy_form.proofs.Ready.{Ready}
 use Rattle.tidy_form.proofs.Good.{Always, GoodVertices, GoodMaterial, stays}
 use Rattle.tidy_form.proofs.Bare.{bareStatement, same-words}

@@ -11,7 +11,8 @@ use borrow.Author.Tests.{leb-true, eqb-true}
 use Rattle.lists.specs.Lists.{all}
 use Rattle.lists.proofs.Tests.{and-right, never}
 use Rattle.text.specs.Words.{Word}
-use Rattle.text.specs.Written.{bytesOf, isToken}
+use Rattle.text.specs.Written.{bytesOf}
+use Rattle.text.specs.Tokens.{isToken}
 use Rattle.digits.specs.Said.{says}
 use Rattle.keywords.specs.Arguments.{argumentOf}
 use Rattle.model.specs.Model.{Vertices, ParmDirection, Open, State, curves}

@@ -13,7 +13,7 @@ use Rattle.lists.proofs.Tests.{test, never, and-left, and-right}
 use Rattle.text.specs.Bytes.{isWord, isBlank, lf, lineEnd}
 use Rattle.text.specs.Lines.{Mode, gap, word, comment, join, Look, goes, ends, refused, plain, look, onward}
 use Rattle.text.specs.Words.{Word, wordOf, isGap, isInWord, opens, words}
-use Rattle.text.proofs.Cut.{lf-cut, end-cut, tested, stays, no-word, in-word}
+use Rattle.text.proofs.Cut.{end-cut, stays, no-word, in-word}
 
 -- ---- the words from one word on
 next-drop : (s : List ℕ) (p b : ℕ) (bs : List ℕ) → drop p s ≡ b ∷ bs → drop (suc p) s ≡ bs

@@ -13,7 +13,8 @@ use Rattle.lists.specs.Lists.{all}
 use Rattle.lists.proofs.Tests.{and-right}
 use Rattle.text.specs.Lines.{Line as JoinedLine, linesOf}
 use Rattle.text.specs.Words.{Word, wordsOf, badOf}
-use Rattle.text.specs.Written.{bytesOf, isToken}
+use Rattle.text.specs.Written.{bytesOf}
+use Rattle.text.specs.Tokens.{isToken}
 use Rattle.keywords.specs.Keywords.{statementOf}
 use Rattle.model.specs.Model.{geometric, texture, normal, parametric, Vertices, Kind, plain, Model, Open, State, isCurve2, curves, start}
 use Rattle.model.specs.Statements.{Statement, vertex, element, group, smoothing, material, type, degree, body, parameters, loop, end, passed, apply, ended, closed}

@@ -10,9 +10,9 @@ use lib.IntN.{ℤ}
 use native.Mathlib.Omega.{arith}
 use borrow.Author.Tests.{leb-true, le-leb}
 use Rattle.lists.proofs.Tests.{and-left, and-right, and-both, never}
-use Rattle.model.specs.Model.{geometric, texture, normal, parametric, Free, curve, curve2, surface, ParmDirection, along-u, along-v, Loop, Body, plain, free, Element, Open, State}
+use Rattle.model.specs.Model.{geometric, texture, normal, parametric, Free, curve, curve2, surface, ParmDirection, along-u, along-v, Loop, Body, plain, Element, Open, State}
 use Rattle.model.specs.Statements.{Statement, vertex, element, group, smoothing, material, type, degree, body, parameters, loop, end, passed, apply, closed, onOpen, withBody, withParameters, withLoop, settled}
-use Rattle.model.specs.Parse.{outsideBody}
+use Rattle.model.specs.Standing.{outsideBody}
 use Rattle.model.specs.Room.{Rooms, summed, ofKind, ofOpen, partCount, cornerCount, elementCount, bodyCount, parameterCount, loopPartCount, needed, within, fits}
 use Rattle.tidy_form.proofs.Standing.{Here}
 

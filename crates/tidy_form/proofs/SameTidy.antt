@@ -12,14 +12,14 @@ use Rattle.text.specs.Words.{Word, wordsOf, badOf}
 use Rattle.text.specs.Written.{bytesOf, writtenLines}
 use Rattle.keywords.specs.Keywords.{statementOf}
 use Rattle.model.specs.Model.{Names, Element, Model, State, start}
-use Rattle.model.specs.Statements.{Statement, group, smoothing, material, apply}
+use Rattle.model.specs.Statements.{Statement, group, material, apply}
 use Rattle.model.specs.Parse.{fine, unless, parse}
 use Rattle.model.specs.Room.{Rooms, fits}
 use Rattle.model.specs.Read.{keywordOf, statement, step, read, readLines, readOf}
 use Rattle.tidy_form.specs.declared.Weights.{Weights}
 use Rattle.tidy_form.specs.Tidied.{vertexLines, sameWords, groupLines, smoothingLines, materialLines, elementLines, elementsLines, tidied}
 use Rattle.tidy_form.specs.Printed.{printed, tidyText}
-use Rattle.tidy_form.specs.Agree.{bareWord, bareWords, bareOption, bareNames, bareElements, bare, Agree}
+use Rattle.tidy_form.specs.Bare.{bareWord, bareWords, bareOption, bareNames, bareElements, bare, Agree}
 use Rattle.tidy_form.proofs.Values.{map-append}
 use Rattle.tidy_form.proofs.Words.{then-fine}
 use Rattle.tidy_form.proofs.Ready.{must-fine, unless-fine}

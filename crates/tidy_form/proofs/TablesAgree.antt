@@ -16,14 +16,15 @@ use Rattle.tables.specs.declared.Element as records
 use Rattle.model.specs.Model.{Vertices, Body, Element, Model}
 use Rattle.model.specs.Room.{Rooms, summed, ofKind, partCount}
 use Rattle.model.specs.Read.{read, readOf}
-use Rattle.model.specs.Layout.{listed, kindNumber, bodyNumber, cornerRows, elementRows, bodyOfKind, bodiesOf, bodyRows, rangeRow, parameterRow, loopRows, spanRows, itself, tablesOf, usedOf}
-use Rattle.model.specs.In.{each, verticesFrom, wordsIn, firstOf, elementFrom, modelIn}
+use Rattle.model.specs.Layout.{listed, kindNumber, bodyNumber, cornerRows, elementRows, bodyOfKind, bodiesOf, bodyRows, rangeRow, parameterRow, loopRows, spanRows, itself, tablesOf, usedOf, wordsIn}
+use Rattle.model.specs.In.{each, verticesFrom, firstOf, elementFrom, modelIn}
 use Rattle.model.proofs.Rows.{cornerRows-length, elementRows-length, bodyRows-length, rangeRows-length, parameterRows-length, loopRows-length, spanRows-length}
 use Rattle.model.proofs.Stands.{stands-used}
 use Rattle.model.proofs.Placed.{wide-length, Placed}
 use Rattle.model.proofs.Laid.{laid}
 use Rattle.model.proofs.In.{model-in}
-use Rattle.tidy_form.specs.Agree.{bareOption, bareElement, bareElements, bare, Agree, wordsAt, unnamed, namesShown, TablesAgree}
+use Rattle.tidy_form.specs.Agree.{wordsAt, unnamed, namesShown, TablesAgree}
+use Rattle.tidy_form.specs.Bare.{bareOption, bareElement, bareElements, bare, Agree}
 use Rattle.tidy_form.proofs.Bare.{bare-words, summed-bare, length-bare}
 use Rattle.tidy_form.proofs.SameTidy.{bytes-bare}
 use Rattle.tidy_form.proofs.Layouts.{fives, unnamed-is, namesOf, names-in, withElements, unnamed-at, group-at, material-at}

@@ -12,7 +12,8 @@ use Rattle.lists.proofs.Tests.{and-left, and-right, and-both}
 use Rattle.text.specs.Lines.{Line, gap, lineOf, strideOf, linesFrom, linesOf}
 use Rattle.text.specs.Words.{Word, words, wordsOf, badOf}
 use Rattle.text.specs.Rest.{restAt}
-use Rattle.text.specs.Written.{isToken, writtenLines, areLines, WrittenStatement, bytesOf, saidBy, sayingOf}
+use Rattle.text.specs.Written.{writtenLines, bytesOf}
+use Rattle.text.specs.Tokens.{isToken, areLines, WrittenStatement, saidBy, sayingOf}
 use Rattle.text.proofs.Cut.{words-cut}
 use Rattle.text.proofs.Tokens.{stands, words-stand, word-token}
 use Rattle.text.proofs.ReadBack.{written-back}

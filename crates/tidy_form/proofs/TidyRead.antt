@@ -12,7 +12,8 @@ use Rattle.lists.specs.Lists.{all}
 use Rattle.lists.proofs.Tests.{and-both, never}
 use Rattle.text.specs.Lines.{Line as JoinedLine, linesOf}
 use Rattle.text.specs.Words.{Word, wordsOf}
-use Rattle.text.specs.Written.{bytesOf, isToken, writtenLines}
+use Rattle.text.specs.Written.{bytesOf, writtenLines}
+use Rattle.text.specs.Tokens.{isToken}
 use Rattle.keywords.specs.Keywords.{keywordOf}
 use Rattle.model.specs.Model.{Vertices, Names, Kind, plain, Model, Form, Open, State, isCurve2, curves, start}
 use Rattle.model.specs.Statements.{Statement, vertex, element, group, smoothing, material, type, degree, body, parameters, loop, end, passed, apply, ended, closed}
@@ -22,7 +23,7 @@ use Rattle.model.specs.Read.{statement, step, read, refused, finish, onParsed, 
 use Rattle.tidy_form.specs.declared.Weights.{Weights}
 use Rattle.tidy_form.specs.Printed.{keywordIn, wordsAfter, printed, tidyText}
 use Rattle.tidy_form.specs.Tidied.{tidied}
-use Rattle.tidy_form.specs.Agree.{bareElements, bare, Agree}
+use Rattle.tidy_form.specs.Bare.{bareElements, bare, Agree}
 use Rattle.tidy_form.proofs.Values.{keyOf, key-back}
 use Rattle.tidy_form.proofs.Words.{Small}
 use Rattle.tidy_form.proofs.Standing.{seenOf, Fine, Here}

@@ -7,7 +7,7 @@ use lib.ListN.{length}
 use lib.Dec.{leb}
 use Rattle.lists.specs.Lists.{all}
 use Rattle.lists.proofs.Tests.{and-left, and-both}
-use Rattle.text.specs.Written.{isToken}
+use Rattle.text.specs.Tokens.{isToken}
 use Rattle.references.proofs.Tokens.{number-token, whole-token, corner-token}
 use Rattle.keywords.specs.Keywords.{keywordOf, keywords}
 use Rattle.keywords.specs.Arguments.{argumentBytes, arguments}

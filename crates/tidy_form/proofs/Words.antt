@@ -12,7 +12,8 @@ use borrow.Author.Tests.{leb-true, le-leb}
 use Rattle.lists.specs.Lists.{all}
 use Rattle.lists.proofs.Tests.{and-left, and-right, and-both, never}
 use Rattle.text.specs.Words.{Word}
-use Rattle.text.specs.Written.{bytesOf, isToken}
+use Rattle.text.specs.Written.{bytesOf}
+use Rattle.text.specs.Tokens.{isToken}
 use Rattle.digits.specs.Said.{Said, says, wrong, must}
 use Rattle.decimals.specs.Number.{numberOf}
 use Rattle.references.specs.Reference.{referenceOf}

@@ -1,3 +1,4 @@
 pub mod Tidied
 pub mod Printed
 pub mod Agree
+pub mod Bare

@@ -1,3 +1,4 @@
+-- Must be believed: a promise reaches every definition of this file.
 -- 01, "The tidy text": the words of each statement's line, and the text. "One space between words, LF after each line".
 use Prim.Native.Nat.{ℕ, zero, suc}
 use mathlib.Core.List.{List, [], _∷_, _++_, map}
@@ -15,7 +16,7 @@ use Rattle.keywords.specs.declared.Argument.the-variants.{Rational, Bezier, Bsp
 use Rattle.statements.specs.declared.Carried.{Carried as Keyword}
 use Rattle.statements.specs.declared.Carried.the-variants.{Vertex, Element, Body as BodyOf, Parameters, Trim, Hole, End, BodyType, Degree, Group, Smoothing, Material, PassedOver}
 use Rattle.tables.specs.Bodies.{Basis, bezier, bspline, cardinal, taylor}
-use Rattle.model.specs.Model.{VertexKind, geometric, texture, normal, parametric, Shape, point, line, face, Free, curve, curve2, surface, ParmDirection, along-u, along-v, Part, Body, Model}
+use Rattle.model.specs.Model.{VertexKind, geometric, texture, normal, parametric, Shape, Free, curve, curve2, surface, ParmDirection, along-u, along-v, Part, Body, Model}
 use Rattle.model.specs.Statements.{Statement, vertex, element, group, smoothing, material, type, degree, body, parameters, loop, end, passed}
 use Rattle.tidy_form.specs.declared.Weights.{Weights}
 use Rattle.tidy_form.specs.declared.Weights.the-variants.{WhenNeeded, Always}

@@ -1,3 +1,4 @@
+-- Must be believed: a promise reaches every definition of this file.
 -- 01, "The tidy text": the statements that it holds, in their order.
 use Prim.Native.Nat.{ℕ}
 use mathlib.Core.List.{List, [], _∷_, _++_, map}
@@ -9,7 +10,7 @@ use Rattle.lists.specs.Lists.{same}
 use Rattle.text.specs.Words.{Word}
 use Rattle.references.specs.Corner.{Corner}
 use Rattle.model.specs.Model.{geometric, texture, normal, parametric, Vertices, Names, Free, curve, curve2, surface, along-u, along-v, Body, Kind, plain, free, Element, Model, start}
-use Rattle.model.specs.Statements.{Statement, vertex, element, group, smoothing, material, type, degree, body, parameters, loop, end, withRange}
+use Rattle.model.specs.Statements.{Statement, vertex, element, group, smoothing, material, type, degree, body, parameters, loop, end, bodyWith, withRange}
 use Rattle.model.specs.Layout.{listed}
 
 -- "All v, vt, vn (every coordinate), vp (those given)"
@@ -43,21 +44,7 @@ unsettled surface b = b
 
 -- no parameters and no loops yet
 abbrev pub unfilled : Body → Body
-unfilled b =
-    record {
-      free = b .free;
-      basis = b .basis;
-      rational = b .rational;
-      degree-u = b .degree-u;
-      degree-v = b .degree-v;
-      start-u = b .start-u;
-      end-u = b .end-u;
-      start-v = b .start-v;
-      end-v = b .end-v;
-      us = [];
-      vs = [];
-      loops = [];
-    }
+unfilled b = bodyWith [] [] [] b
 
 -- a body as its element's line leaves it
 abbrev pub atLine : Body → Body

@@ -1,6 +1,6 @@
 -- What each way of printing comes to: `sets-eq` at the buffer's front; a refusal's line is short, so that its length is never capped.
 use Prim.Native.Nat.{ℕ, _+_, _≤_, _<_, min}
-use mathlib.Core.Path.{_≡_, refl, sym, ap, ap₂, _∙_, subst}
+use mathlib.Core.Path.{_≡_, refl, sym, ap, ap₂, _∙_}
 use mathlib.Core.List.{List, [], _∷_, _++_, append-nil}
 use mathlib.Core.Bool.{true, false}
 use mathlib.Core.Logic.{⊎-elim}
@@ -10,14 +10,14 @@ use lib.Dec.{leb}
 use lib.ListN.{length, take, drop, length-append, take-append-drop, drop-of-length-le}
 use lib.Seq.{length-take-le, take-all, sets-eq}
 use Rattle.lists.proofs.Tests.{test}
-use Rattle.keywords.specs.Rows.{bytes}
+use Rattle.spellings.specs.Rows.{bytes}
 use Rattle.references.specs.Written.{writtenWhole}
 use Rattle.references.proofs.Numerals.{short-length}
 use Rattle.tables.specs.Tables.{Tables}
 use Rattle.tables.specs.declared.Used.{Used}
 use Rattle.tidy_words.specs.Emitting.{Emitted}
 use Rattle.tidy_form.specs.declared.Weights.the-variants.{WhenNeeded}
-use Rattle.tidier.specs.Tidying.{TidyAnswer, tidyAnswer, tidyInto}
+use Rattle.tidier.specs.Tidying.{tidyAnswer, tidyInto}
 use Rattle.tidier.specs.declared.TidyResult.{TidyResult}
 use Rattle.tidier.specs.declared.TidyResult.the-variants.{Written, TooLong, Refused}
 use Rattle.tidy_output.specs.Output.{refusalLine, answerBytes, Printing, printing, printedIn, output, printedFor, outputOf}

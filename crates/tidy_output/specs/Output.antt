@@ -1,10 +1,11 @@
+-- Must be believed: a promise reaches every definition of this file.
 -- 01, "The tidy text": what the program `tidy` prints.
 use Prim.Native.Nat.{ℕ, min}
 use mathlib.Core.List.{List, [], _∷_, _++_}
 use mathlib.Core.Bool.{cond}
 use lib.Dec.{leb}
 use lib.ListN.{length, take, drop}
-use Rattle.keywords.specs.Rows.{bytes}
+use Rattle.spellings.specs.Rows.{bytes}
 use Rattle.references.specs.Written.{writtenWhole}
 use Rattle.tables.specs.Tables.{Tables}
 use Rattle.tidy_form.specs.declared.Weights.the-variants.{WhenNeeded}

@@ -63,7 +63,7 @@ fn same_words(one: &[u8], other: &[u8]) -> bool
         if other.len() <= q {
             return false;
         }
-        let end = keywords::same_word(one, p, other, q);
+        let end = spellings::same_word(one, p, other, q);
         if end <= p {
             return false;
         }
@@ -100,7 +100,7 @@ fn emit_word(text: &[u8], from: usize, to: usize, out: &mut [u8], at: usize) -> 
 {
     let end = place_after(at, to - from);
     if end <= room_in(out.len()) {
-        return keywords::copy_word(text, from, out, at);
+        return spellings::copy_word(text, from, out, at);
     }
     end
 }

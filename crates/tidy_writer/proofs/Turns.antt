@@ -1,5 +1,5 @@
 -- One turn of each loop that emits rows: the first row left, and then the others. By the rows' definitions, a read behind `drop` being a read further on.
-use Prim.Native.Nat.{ℕ, zero, suc, _+_, _-_, _^_, _≤_, _<_, min}
+use Prim.Native.Nat.{ℕ, zero, suc, _+_, _*_, _-_, _^_, _≤_, _<_, min}
 use mathlib.Core.Path.{_≡_, refl, sym, ap, ap₂, _∙_}
 use mathlib.Core.List.{List, [], _∷_, _++_, map, append-nil}
 use mathlib.Core.Bool.{Bool, true, false, cond}
@@ -14,7 +14,8 @@ use lib.Signed.{mag}
 use mir.Syntax.{w32}
 use mir.Val.{toZ, ofZ}
 use mir.Facts.{toZ-ofZ}
-use Rattle.tables.specs.Records.{cornerIn, cornersEnd}
+use Rattle.tables.specs.Records.{partIn, loopWidth, spanWidth, cornerIn, cornersEnd}
+use Rattle.tables.specs.declared.parts.LoopPart.{LoopPart}
 use Rattle.tables.specs.declared.Corner.{Corner}
 use Rattle.tables.proofs.Flat.{flat-append}
 use Rattle.text.specs.Written.{writtenLine, writtenLines}
@@ -166,60 +167,82 @@ corners-none l zero h = refl
 corners-none l (suc n) h = absurd (omega arith)
 
 -- ---- loops
-pub part-words : (l : List ℕ) (z : List ℤ) (i : ℕ) → (32 ∷ writtenNumber (getD z i (pos 0))) ++ ((32 ∷ writtenNumber (getD z (i + 1) (pos 0))) ++ (32 ∷ writtenWhole (getD l (i + 1) 0)))
-    ≡ spaced (partWords (drop i l) (drop i z))
-part-words l z i =
-    let a : getD z i (pos 0) ≡ getD (drop i z) 0 (pos 0) = sym (getD-drop i z 0 (pos 0) ∙ ap (λ (j : ℕ). getD z j (pos 0)) (let k : i + 0 ≡ i = omega arith in k)) in
-    ap₂ (λ (x y : ℤ). (32 ∷ writtenNumber x) ++ ((32 ∷ writtenNumber y) ++ (32 ∷ writtenWhole (getD l (i + 1) 0)))) a (sym (getD-drop i z 1 (pos 0)))
-    ∙ ap (λ (n : ℕ). (32 ∷ writtenNumber (getD (drop i z) 0 (pos 0))) ++ ((32 ∷ writtenNumber (getD (drop i z) 1 (pos 0))) ++ (32 ∷ writtenWhole n))) (sym (getD-drop i l 1 0))
-    ∙ ap (λ (t : List ℕ). (32 ∷ writtenNumber (getD (drop i z) 0 (pos 0))) ++ ((32 ∷ writtenNumber (getD (drop i z) 1 (pos 0))) ++ t)) (sym (append-nil (32 ∷ writtenWhole (getD (drop i l) 1 0))))
+-- the words of a part's record
+abbrev pub wordsOf : LoopPart → List (List ℕ)
+wordsOf p = writtenNumber (p .from) ∷ writtenNumber (p .to) ∷ writtenWhole (p .curve) ∷ []
 
-pub loop-words : (l : List ℕ) (z : List ℤ) (i n : ℕ)
-    → spaced (partWords (drop i l) (drop i z)) ++ spaced (goingOn n (drop (i + 2) l) (drop (i + 2) z))
-    ≡ spaced (partWords (drop i l) (drop i z) ++ goingOn n (drop 2 (drop i l)) (drop 2 (drop i z)))
-loop-words l z i n =
-    ap₂ (λ (a : List ℕ) (b : List ℤ). spaced (partWords (drop i l) (drop i z)) ++ spaced (goingOn n a b)) (sym (drop-drop 2 i l)) (sym (drop-drop 2 i z))
-    ∙ spaced-append (partWords (drop i l) (drop i z)) (goingOn n (drop 2 (drop i l)) (drop 2 (drop i z)))
+pub three-spaced : (a b c : List ℕ) → (32 ∷ a) ++ ((32 ∷ b) ++ (32 ∷ c)) ≡ spaced (a ∷ b ∷ c ∷ [])
+three-spaced a b c = ap (λ (t : List ℕ). (32 ∷ a) ++ ((32 ∷ b) ++ t)) (sym (append-nil (32 ∷ c)))
 
-pub going-turn : (l : List ℕ) (z : List ℤ) (i n : ℕ) → 0 < n → getD l i 0 ≡ 0
-    → spaced (goingOn n (drop i l) (drop i z)) ≡ spaced (partWords (drop i l) (drop i z)) ++ spaced (goingOn (n - 1) (drop (i + 2) l) (drop (i + 2) z))
-going-turn l z i zero h e = absurd (omega arith)
-going-turn l z i (suc n) h e =
-    ap (λ (k : ℕ). spaced (cond (eqb k 0) (partWords (drop i l) (drop i z) ++ goingOn n (drop 2 (drop i l)) (drop 2 (drop i z))) [])) (first-read l i ∙ e)
-    ∙ sym (spaced-append (partWords (drop i l) (drop i z)) (goingOn n (drop 2 (drop i l)) (drop 2 (drop i z))))
-    ∙ ap₂ (λ (a : List ℕ) (b : List ℤ). spaced (partWords (drop i l) (drop i z)) ++ spaced (goingOn n a b)) (drop-drop 2 i l) (drop-drop 2 i z)
-    ∙ ap (λ (m : ℕ). spaced (partWords (drop i l) (drop i z)) ++ spaced (goingOn m (drop (i + 2) l) (drop (i + 2) z))) (let q : n ≡ suc n - 1 = omega arith in q)
+module _ (l : List ℕ) (z : List ℤ) (i : ℕ) where
+  -- the two tables from part i on, and from the part after it
+  abbrev own : List ℕ
+  own = drop (loopWidth * i) l
 
-pub going-stops : (l : List ℕ) (z : List ℤ) (i n : ℕ) → 0 < getD l i 0 → spaced (goingOn n (drop i l) (drop i z)) ≡ []
-going-stops l z i zero e = refl
-going-stops l z i (suc n) e =
-    let f = first-read l i in
-    ap (λ (t : Bool). spaced (cond t (partWords (drop i l) (drop i z) ++ goingOn n (drop 2 (drop i l)) (drop 2 (drop i z))) []))
-    (ne-eqb (getD (drop i l) 0 0) 0 (λ (h : getD (drop i l) 0 0 ≡ 0). omega arith))
+  abbrev span : List ℤ
+  span = drop (spanWidth * i) z
+
+  abbrev owns : List ℕ
+  owns = drop (loopWidth * (i + 1)) l
+
+  abbrev spans : List ℤ
+  spans = drop (spanWidth * (i + 1)) z
+
+  owns-are : drop loopWidth own ≡ owns
+  owns-are = drop-drop 2 (2 * i) l ∙ ap (λ (k : ℕ). drop k l) (let d : 2 * i + 2 ≡ 2 * (i + 1) = omega arith in d)
+
+  spans-are : drop spanWidth span ≡ spans
+  spans-are = drop-drop 2 (2 * i) z ∙ ap (λ (k : ℕ). drop k z) (let d : 2 * i + 2 ≡ 2 * (i + 1) = omega arith in d)
+
+  pub loops-turn : (n : ℕ) → 0 < n → writtenLines (loopLines n own span) ≡ writtenLines (begunLines (n - 1) own span) ++ writtenLines (loopLines (n - 1) owns spans)
+  loops-turn zero h = absurd (omega arith)
+  loops-turn (suc n) h =
+      sym (lines-append (begunLines n own span) (loopLines n (drop loopWidth own) (drop spanWidth span)))
+      ∙ ap₂ (λ (a : List ℕ) (b : List ℤ). writtenLines (begunLines n own span) ++ writtenLines (loopLines n a b)) owns-are spans-are
+      ∙ ap (λ (m : ℕ). writtenLines (begunLines m own span) ++ writtenLines (loopLines m owns spans)) (let q : n ≡ suc n - 1 = omega arith in q)
+
+  module _ (p : LoopPart) (e : p ≡ partIn l z i) where
+    pub begins-first : getD own 0 0 ≡ p .begins
+    begins-first = getD-drop (2 * i) l 0 0 ∙ sym (ap (λ (q : LoopPart). q .begins) e)
+
+    part-words : wordsOf p ≡ partWords own span
+    part-words =
+        ap wordsOf e
+        ∙ ap₂ (λ (x y : ℤ). writtenNumber x ∷ writtenNumber y ∷ writtenWhole (getD l (2 * i + 1) 0) ∷ []) (sym (getD-drop (2 * i) z 0 (pos 0))) (sym (getD-drop (2 * i) z 1 (pos 0)))
+        ∙ ap (λ (n : ℕ). writtenNumber (getD span 0 (pos 0)) ∷ writtenNumber (getD span 1 (pos 0)) ∷ writtenWhole n ∷ []) (sym (getD-drop (2 * i) l 1 0))
+
+    pub loop-words : (n : ℕ) → spaced (wordsOf p) ++ spaced (goingOn n owns spans) ≡ spaced (partWords own span ++ goingOn n (drop loopWidth own) (drop spanWidth span))
+    loop-words n =
+        ap (λ (w : List (List ℕ)). spaced w ++ spaced (goingOn n owns spans)) part-words
+        ∙ ap₂ (λ (a : List ℕ) (b : List ℤ). spaced (partWords own span) ++ spaced (goingOn n a b)) (sym owns-are) (sym spans-are)
+        ∙ spaced-append (partWords own span) (goingOn n (drop loopWidth own) (drop spanWidth span))
+
+    pub going-turn : (n : ℕ) → 0 < n → p .begins ≡ 0 → spaced (goingOn n own span) ≡ spaced (wordsOf p) ++ spaced (goingOn (n - 1) owns spans)
+    going-turn zero h b = absurd (omega arith)
+    going-turn (suc n) h b =
+        ap (λ (k : ℕ). spaced (cond (eqb k 0) (partWords own span ++ goingOn n (drop loopWidth own) (drop spanWidth span)) [])) (begins-first ∙ b)
+        ∙ sym (loop-words n)
+        ∙ ap (λ (m : ℕ). spaced (wordsOf p) ++ spaced (goingOn m owns spans)) (let q : n ≡ suc n - 1 = omega arith in q)
+
+    pub going-stops : (n : ℕ) → 0 < p .begins → spaced (goingOn n own span) ≡ []
+    going-stops zero b = refl
+    going-stops (suc n) b =
+        let f = begins-first in
+        ap (λ (t : Bool). spaced (cond t (partWords own span ++ goingOn n (drop loopWidth own) (drop spanWidth span)) []))
+        (ne-eqb (getD own 0 0) 0 (λ (h : getD own 0 0 ≡ 0). omega arith))
+
+    pub begun-none : (n : ℕ) → p .begins ≡ 0 → [] ≡ writtenLines (begunLines n own span)
+    begun-none n b = ap (λ (k : ℕ). writtenLines (cond (eqb k 0) [] (loopWords n own span ∷ []))) (sym (begins-first ∙ b))
+
+    pub begun-line : (n : ℕ) → (p .begins ≡ 0 → ⊥) → writtenLine (loopWords n own span) ≡ writtenLines (begunLines n own span)
+    begun-line n b =
+        one-line (loopWords n own span)
+        ∙ ap (λ (t : Bool). writtenLines (cond t [] (loopWords n own span ∷ [])))
+        (sym (ne-eqb (getD own 0 0) 0 (λ (h : getD own 0 0 ≡ 0). b (sym begins-first ∙ h))))
 
 pub going-none : (l : List ℕ) (z : List ℤ) (n : ℕ) → n ≤ 0 → spaced (goingOn n l z) ≡ []
 going-none l z zero h = refl
 going-none l z (suc n) h = absurd (omega arith)
-
-pub begun-none : (n : ℕ) (l : List ℕ) (z : List ℤ) (i : ℕ) → getD l i 0 ≡ 0 → [] ≡ writtenLines (begunLines n (drop i l) (drop i z))
-begun-none n l z i e = ap (λ (k : ℕ). writtenLines (cond (eqb k 0) [] (loopWords n (drop i l) (drop i z) ∷ []))) (sym (first-read l i ∙ e))
-
-pub begun-line : (n : ℕ) (l : List ℕ) (z : List ℤ) (i : ℕ) → (getD l i 0 ≡ 0 → ⊥)
-    → writtenLine (loopWords n (drop i l) (drop i z)) ≡ writtenLines (begunLines n (drop i l) (drop i z))
-begun-line n l z i e =
-    let f = first-read l i in
-    one-line (loopWords n (drop i l) (drop i z))
-    ∙ ap (λ (t : Bool). writtenLines (cond t [] (loopWords n (drop i l) (drop i z) ∷ [])))
-    (sym (ne-eqb (getD (drop i l) 0 0) 0 (λ (h : getD (drop i l) 0 0 ≡ 0). e (sym f ∙ h))))
-
-pub loops-turn : (l : List ℕ) (z : List ℤ) (i n : ℕ) → 0 < n
-    → writtenLines (loopLines n (drop i l) (drop i z))
-    ≡ writtenLines (begunLines (n - 1) (drop i l) (drop i z)) ++ writtenLines (loopLines (n - 1) (drop (i + 2) l) (drop (i + 2) z))
-loops-turn l z i zero h = absurd (omega arith)
-loops-turn l z i (suc n) h =
-    sym (lines-append (begunLines n (drop i l) (drop i z)) (loopLines n (drop 2 (drop i l)) (drop 2 (drop i z))))
-    ∙ ap₂ (λ (a : List ℕ) (b : List ℤ). writtenLines (begunLines n (drop i l) (drop i z)) ++ writtenLines (loopLines n a b)) (drop-drop 2 i l) (drop-drop 2 i z)
-    ∙ ap (λ (m : ℕ). writtenLines (begunLines m (drop i l) (drop i z)) ++ writtenLines (loopLines m (drop (i + 2) l) (drop (i + 2) z))) (let q : n ≡ suc n - 1 = omega arith in q)
 
 pub loops-none : (l : List ℕ) (z : List ℤ) (n : ℕ) → n ≤ 0 → writtenLines (loopLines n l z) ≡ []
 loops-none l z zero h = refl

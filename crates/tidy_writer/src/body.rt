@@ -13,14 +13,16 @@ use crate::element;
 use crate::loops;
 use crate::vertices;
 use tables::Body;
+use tables::bases;
+use tables::kinds;
 
 fn basis_argument(basis: u32) -> keywords::Argument
     ensures { λ r. ⌜ r ≡ basisArgument basis ⌝ }
 {
     match basis {
-        1 => keywords::Argument::Bezier,
-        2 => keywords::Argument::Bspline,
-        3 => keywords::Argument::Cardinal,
+        bases::BEZIER => keywords::Argument::Bezier,
+        bases::BSPLINE => keywords::Argument::Bspline,
+        bases::CARDINAL => keywords::Argument::Cardinal,
         _ => keywords::Argument::Taylor,
     }
 }
@@ -116,7 +118,7 @@ fn parameter_lines(
         out,
         at,
     );
-    if kind == 6 {
+    if kind == kinds::SURFACE {
         return parameter_line(
             keywords::Argument::DirectionV,
             table,
@@ -164,7 +166,7 @@ fn closing_lines(
     ensures { λ r. ⌜ Emitted at (writtenLines (parameterLines (now (parameters .entry)) kind body ++ (bodyLoops (now (parts .entry)) (now (spans .entry)) body ++ endLine ∷ []))) (now (out .entry)) (now (out .exit)) r ⌝ }
 {
     let trims = parameter_lines(kind, body, table, arguments, parameters, out, at);
-    let first = 2 * (body.first_loop as usize);
+    let first = body.first_loop as usize;
     let end = loops::loop_lines(table, parts, spans, first, body.loops, out, trims);
     let last = tidy_words::emit_keyword(statements::Carried::End, table, out, end);
     tidy_words::emit_byte(out, last, b'\n')
@@ -188,8 +190,8 @@ pub fn own_lines(
     requires { ⌜ now arguments ≡ argumentTable ⌝ }
     ensures { λ r. ⌜ Emitted at (writtenLines (ownLines (now (corners .entry)) (now (bodies .entry)) (now (ranges .entry)) (now (parameters .entry)) (now (parts .entry)) (now (spans .entry)) element)) (now (out .entry)) (now (out .exit)) r ⌝ }
 {
-    let body = tables::body_in(bodies, ranges, element::body_index(element.body));
-    if element.kind < 4 {
+    let body = table_asking::body_in(bodies, ranges, element::body_index(element.body));
+    if element.kind < kinds::CURVE {
         return element::element_line(element, body, table, corners, out, at);
     }
     let own = form_lines(body, table, arguments, out, at);

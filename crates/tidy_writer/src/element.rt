@@ -10,16 +10,17 @@ ghost use Rattle.tidy_words.specs.Emitting.{Emitted};
 ghost use Rattle.tidy_words.specs.Emitting.{spaced};
 ghost use Rattle.tidy_writer.specs.Rows.{kindKeyword, rangeCount, bodyIndex, cornersFrom, elementWords};
 use crate::vertices;
+use tables::kinds;
 
 fn kind_keyword(kind: u32) -> statements::Carried
     ensures { λ r. ⌜ r ≡ kindKeyword kind ⌝ }
 {
     match kind {
-        1 => statements::Carried::Element(statements::Shape::Point),
-        2 => statements::Carried::Element(statements::Shape::Line),
-        3 => statements::Carried::Element(statements::Shape::Face),
-        4 => statements::Carried::Body(statements::Free::Curve),
-        5 => statements::Carried::Body(statements::Free::Curve2),
+        kinds::POINT => statements::Carried::Element(statements::Shape::Point),
+        kinds::LINE => statements::Carried::Element(statements::Shape::Line),
+        kinds::FACE => statements::Carried::Element(statements::Shape::Face),
+        kinds::CURVE => statements::Carried::Body(statements::Free::Curve),
+        kinds::CURVE2 => statements::Carried::Body(statements::Free::Curve2),
         _ => statements::Carried::Body(statements::Free::Surface),
     }
 }
@@ -27,10 +28,10 @@ fn kind_keyword(kind: u32) -> statements::Carried
 fn range_count(kind: u32) -> usize
     ensures { λ r. ⌜ r ≡ rangeCount kind ⌝ }
 {
-    if kind == 4 {
+    if kind == kinds::CURVE {
         return 2;
     }
-    if kind == 6 {
+    if kind == kinds::SURFACE {
         return 4;
     }
     0

@@ -119,8 +119,8 @@ fn element_lines(
     requires { ⌜ (at ≤ 16777217) × (number + 1 ≤ 4294967295) ⌝ }
     ensures { λ r. ⌜ Emitted at (writtenLines (elementLines (now (text .entry)) used (now (elements .entry)) (now (corners .entry)) (now (bodies .entry)) (now (ranges .entry)) (now (parameters .entry)) (now (parts .entry)) (now (spans .entry)) number)) (now (out .entry)) (now (out .exit)) r ⌝ }
 {
-    let before = tables::element_of(used, elements, number);
-    let element = tables::element_of(used, elements, number + 1);
+    let before = table_asking::element_of(used, elements, number);
+    let element = table_asking::element_of(used, elements, number + 1);
     let own = names_lines(table, text, before, element, out, at);
     body::own_lines(
         element,

@@ -1,23 +1,27 @@
-// The lines of a surface's trimming loops. A part's numbers stand at the same index in both tables.
+// The lines of a surface's trimming loops.
 ghost use mathlib.Core.Path.{_≡_};
-ghost use mathlib.Core.List.{_++_};
+ghost use mathlib.Core.List.{_∷_, []};
 ghost use Prim.Native.Nat.{_+_, _*_, _≤_};
 ghost use lib.ListN.{drop};
 ghost use lib.Dec.{eqb};
 ghost use Rattle.text.specs.Written.{writtenLines};
+ghost use Rattle.references.specs.Written.{writtenNumber, writtenWhole};
+ghost use Rattle.tables.specs.Records.{loopWidth, spanWidth};
 ghost use Rattle.keywords.specs.Keywords.{keywordTable};
 ghost use Rattle.tidy_form.specs.Printed.{loopKeyword};
 ghost use Rattle.tidy_words.specs.Emitting.{Emitted};
 ghost use Rattle.tidy_words.specs.Emitting.{spaced};
-ghost use Rattle.tidy_writer.specs.Rows.{partWords, goingOn, begunLines, loopLines};
+ghost use Rattle.tidy_writer.specs.Rows.{goingOn, begunLines, loopLines};
+use tables::parts::HOLE;
+use tables::parts::LoopPart;
+use tables::parts::part_at;
 
-fn emit_part(loops: &[u32], spans: &[i32], i: usize, out: &mut [u8], at: usize) -> usize
-    requires { ⌜ i ≤ 17179869180 ⌝ }
-    ensures { λ r. ⌜ Emitted at (spaced (partWords (drop i (now (loops .entry))) (drop i (now (spans .entry))))) (now (out .entry)) (now (out .exit)) r ⌝ }
+fn emit_part(part: LoopPart, out: &mut [u8], at: usize) -> usize
+    ensures { λ r. ⌜ Emitted at (spaced (writtenNumber (part .from) ∷ writtenNumber (part .to) ∷ writtenWhole (part .curve) ∷ [])) (now (out .entry)) (now (out .exit)) r ⌝ }
 {
-    let to = tidy_words::emit_spaced_number(out, at, tables::value_in(spans, i));
-    let curve = tidy_words::emit_spaced_number(out, to, tables::value_in(spans, i + 1));
-    tidy_words::emit_spaced_whole(out, curve, tables::number_in(loops, i + 1))
+    let to = tidy_words::emit_spaced_number(out, at, part.from);
+    let curve = tidy_words::emit_spaced_number(out, to, part.to);
+    tidy_words::emit_spaced_whole(out, curve, part.curve)
 }
 
 // Of `count` parts from `first` on, those that go on with a loop.
@@ -29,18 +33,19 @@ fn emit_going_on(
     out: &mut [u8],
     at: usize,
 ) -> usize
-    requires { ⌜ (at ≤ 16777217) × (first + 2 * count ≤ 17179869180) ⌝ }
-    ensures { λ r. ⌜ Emitted at (spaced (goingOn count (drop first (now (loops .entry))) (drop first (now (spans .entry))))) (now (out .entry)) (now (out .exit)) r ⌝ }
+    requires { ⌜ (at ≤ 16777217) × (first + count ≤ 8589934590) ⌝ }
+    ensures { λ r. ⌜ Emitted at (spaced (goingOn count (drop (loopWidth * first) (now (loops .entry))) (drop (spanWidth * first) (now (spans .entry))))) (now (out .entry)) (now (out .exit)) r ⌝ }
 {
     let mut i = first;
     let mut left = count as usize;
     let mut end = at;
     while 0 < left {
-        if 0 < tables::number_in(loops, i) {
+        let part = part_at(loops, spans, i);
+        if 0 < part.begins {
             return end;
         }
-        end = emit_part(loops, spans, i, out, end);
-        i += 2;
+        end = emit_part(part, out, end);
+        i += 1;
         left -= 1;
     }
     end
@@ -49,7 +54,7 @@ fn emit_going_on(
 fn loop_keyword(begins: u32) -> statements::Carried
     ensures { λ r. ⌜ r ≡ loopKeyword (eqb begins 2) ⌝ }
 {
-    if begins == 2 {
+    if begins == HOLE {
         return statements::Carried::Hole;
     }
     statements::Carried::Trim
@@ -66,16 +71,16 @@ fn loop_line(
     at: usize,
 ) -> usize
     requires { ⌜ now table ≡ keywordTable ⌝ }
-    requires { ⌜ (at ≤ 16777217) × (first + 2 + 2 * count ≤ 17179869180) ⌝ }
-    ensures { λ r. ⌜ Emitted at (writtenLines (begunLines count (drop first (now (loops .entry))) (drop first (now (spans .entry))))) (now (out .entry)) (now (out .exit)) r ⌝ }
+    requires { ⌜ (at ≤ 16777217) × (first + 1 + count ≤ 8589934590) ⌝ }
+    ensures { λ r. ⌜ Emitted at (writtenLines (begunLines count (drop (loopWidth * first) (now (loops .entry))) (drop (spanWidth * first) (now (spans .entry))))) (now (out .entry)) (now (out .exit)) r ⌝ }
 {
-    let begins = tables::number_in(loops, first);
-    if begins == 0 {
+    let part = part_at(loops, spans, first);
+    if part.begins == 0 {
         return at;
     }
-    let words = tidy_words::emit_keyword(loop_keyword(begins), table, out, at);
-    let rest = emit_part(loops, spans, first, out, words);
-    let end = emit_going_on(loops, spans, first + 2, count, out, rest);
+    let words = tidy_words::emit_keyword(loop_keyword(part.begins), table, out, at);
+    let rest = emit_part(part, out, words);
+    let end = emit_going_on(loops, spans, first + 1, count, out, rest);
     tidy_words::emit_byte(out, end, b'\n')
 }
 
@@ -90,8 +95,8 @@ pub fn loop_lines(
     at: usize,
 ) -> usize
     requires { ⌜ now table ≡ keywordTable ⌝ }
-    requires { ⌜ (at ≤ 16777217) × (first + 2 * count ≤ 17179869180) ⌝ }
-    ensures { λ r. ⌜ Emitted at (writtenLines (loopLines count (drop first (now (loops .entry))) (drop first (now (spans .entry))))) (now (out .entry)) (now (out .exit)) r ⌝ }
+    requires { ⌜ (at ≤ 16777217) × (first + count ≤ 8589934590) ⌝ }
+    ensures { λ r. ⌜ Emitted at (writtenLines (loopLines count (drop (loopWidth * first) (now (loops .entry))) (drop (spanWidth * first) (now (spans .entry))))) (now (out .entry)) (now (out .exit)) r ⌝ }
 {
     let mut i = first;
     let mut left = count;
@@ -99,7 +104,7 @@ pub fn loop_lines(
     while 0 < left {
         left -= 1;
         end = loop_line(table, loops, spans, i, left, out, end);
-        i += 2;
+        i += 1;
     }
     end
 }

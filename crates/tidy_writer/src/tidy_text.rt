@@ -9,6 +9,7 @@ ghost use Rattle.tidy_words.specs.Emitting.{emission, emittedWhole, Emitted};
 ghost use Rattle.tidy_writer.specs.TidyFrom.{verticesFrom, tidyFrom};
 use crate::elements;
 use crate::vertices;
+use tables::widths;
 use tidy_form::Weights;
 
 fn all_vertices(
@@ -32,7 +33,7 @@ fn all_vertices(
         weights,
         table,
         v,
-        4,
+        widths::V,
         used.v,
         out,
         at,
@@ -43,7 +44,7 @@ fn all_vertices(
         Weights::Always,
         table,
         vt,
-        3,
+        widths::VT,
         used.vt,
         out,
         second,
@@ -54,7 +55,7 @@ fn all_vertices(
         Weights::Always,
         table,
         vn,
-        3,
+        widths::VN,
         used.vn,
         out,
         third,
@@ -65,7 +66,7 @@ fn all_vertices(
         weights,
         table,
         vp,
-        4,
+        widths::VP,
         used.vp,
         out,
         fourth,

@@ -10,6 +10,7 @@ ghost use Rattle.keywords.specs.Keywords.{keywordTable, keywordOf};
 ghost use Rattle.tidy_words.specs.Emitting.{Emitted};
 ghost use Rattle.tidy_words.specs.Emitting.{spaced};
 ghost use Rattle.tidy_writer.specs.Rows.{rowNumbers, vertexRows};
+use tables::vertices::VP_START;
 use tidy_form::Weights;
 
 // Up to `count` numbers from `first` on, each with a space before it.
@@ -79,7 +80,7 @@ fn row_line(
 {
     if counted {
         let count = given_count(values, width, first);
-        return number_line(statement, table, values, first + 1, count, out, at);
+        return number_line(statement, table, values, first + VP_START, count, out, at);
     }
     let count = tidy_form::weighted_count(weights, values, width, first);
     number_line(statement, table, values, first, count, out, at)

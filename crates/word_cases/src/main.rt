@@ -1,12 +1,12 @@
 // Pairs of words from standard input: the letter of a form, and a word with what it is in that form. What is read is written, and numbers are read back.
 // n number, r reference to one of 4, R to one of 4,294,967,295, p l f corner as on such a line with 4 v, 3 vt and 2 vn, d degree, s smoothing, g name.
-use decimals::number::Number;
 use digits::name::Name;
 use digits::whole::Whole;
 use libc::STDOUT_FILENO;
 use references::corner::CornerWord;
 use references::reference::Reference;
 use text::AfterBlanks;
+use word_numbers::Number;
 ghost use Prim.Native.Nat.{_≤_, _<_};
 ghost use lib.ListN.{length};
 
@@ -36,7 +36,7 @@ fn put_corner(v: u32, vt: u32, vn: u32) {
 
 // Whether the word is that number.
 fn put_back(word: &[u8], value: i32) {
-    match decimals::number::number_at(word, 0) {
+    match word_numbers::number_at(word, 0) {
         Number::Value {
             value: read,
             end: _,
@@ -64,7 +64,7 @@ fn put_number(value: i32) {
 fn number(text: &[u8], at: usize)
     requires { ⌜ at ≤ length (now text) ⌝ }
 {
-    match decimals::number::number_at(text, at) {
+    match word_numbers::number_at(text, at) {
         Number::Value { value, end: _ } => put_number(value),
         Number::Malformed => put(b"refused 6"),
         Number::OutOfRange => put(b"refused 7"),

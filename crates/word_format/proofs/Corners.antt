@@ -1,10 +1,9 @@
 -- A corner is its vertex and what stands after it, by the parts that are there.
-use Prim.Native.Nat.{ℕ, zero, suc, _+_, _^_, _≤_, _<_}
-use mathlib.Core.Path.{_≡_, refl, sym, ap, _∙_}
-use mathlib.Core.List.{List, [], _∷_, _++_, append-nil}
+use Prim.Native.Nat.{ℕ, zero, suc, _^_, _≤_, _<_}
+use mathlib.Core.Path.{_≡_, refl, sym}
+use mathlib.Core.List.{[], _∷_, _++_, append-nil}
 use native.Mathlib.Omega.{arith}
 use lib.ListN.{length, length-append}
-use Rattle.references.specs.Corner.{Corner}
 use Rattle.references.specs.Written.{writtenWhole, writtenCorner}
 use Rattle.references.proofs.WholesBack.{written-few}
 use Rattle.word_format.specs.Parts.{part, parts}

@@ -4,7 +4,7 @@ use borrow.Author.Tests.{not-true, not-false}
 use mir.Facts.{toZ-ofZ}
 use Rattle.basis.specs.Widest.{widest}
 use Rattle.tables.proofs.Bits.{fitted}
-use Rattle.basis.proofs.Order.{lt-no-le, no-lt-le}
+use Rattle.parameter_order.proofs.Comparing.{lt-no-le, no-lt-le}
 use Rattle.basis.proofs.widest.Statement.{statement}
 use Rattle.basis.proofs.widest.Tie as tie
 

@@ -1,6 +1,6 @@
 -- The loop is a turn of `Few` each time; no turn wraps, since all the digits that may be read do not.
-use Prim.Native.Nat.{ℕ, suc, _-_, _*_, _+_, _<_, _^_}
-use mathlib.Core.Path.{_≡_, refl, sym, ap, subst}
+use Prim.Native.Nat.{ℕ, suc, _-_, _*_, _+_, _<_}
+use mathlib.Core.Path.{_≡_, refl, sym, subst}
 use native.Mathlib.Omega.{arith}
 use lib.ListN.{length}
 use denote.Ref.{now}

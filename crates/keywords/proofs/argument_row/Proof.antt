@@ -1,6 +1,6 @@
 -- The row that the walk of the table finds is the row of the definition.
 use denote.Ref.{now}
-use Rattle.keywords.proofs.Rows.{row-found, row-none, rows-ahead}
+use Rattle.spellings.proofs.Rows.{row-found, row-none, rows-ahead}
 use Rattle.keywords.proofs.Arguments.{laid}
 use borrow.Author.Needs.{needs}
 use Rattle.keywords.proofs.argument_row.Statement.{statement}

@@ -2,7 +2,7 @@
 use mathlib.Core.Path.{_∙_}
 use native.Mathlib.Omega.{arith}
 use denote.Ref.{now}
-use Rattle.keywords.proofs.Rows.{kind-in, kind-none}
+use Rattle.spellings.proofs.Rows.{kind-in, kind-none}
 use Rattle.keywords.proofs.Keywords.{laid, keyword-is}
 use borrow.Author.Needs.{needs}
 use Rattle.keywords.proofs.keyword_at.Statement.{statement}

@@ -1,6 +1,6 @@
 -- The element's record, and then the part that it names: the definition's own two steps.
 use denote.Ref.{now}
-use Rattle.c_records.proofs.Parts.{group-placed}
+use Rattle.c_tables.proofs.Parts.{group-placed}
 use borrow.Author.Needs.{needs}
 use Rattle.kuhlabires.proofs.kuhlabires_group_of.Statement.{statement}
 use Rattle.kuhlabires.proofs.kuhlabires_group_of.Tie as tie

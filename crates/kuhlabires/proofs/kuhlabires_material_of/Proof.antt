@@ -1,6 +1,6 @@
 -- The element's record, and then the part that it names: the definition's own two steps.
 use denote.Ref.{now}
-use Rattle.c_records.proofs.Parts.{material-placed}
+use Rattle.c_tables.proofs.Parts.{material-placed}
 use borrow.Author.Needs.{needs}
 use Rattle.kuhlabires.proofs.kuhlabires_material_of.Statement.{statement}
 use Rattle.kuhlabires.proofs.kuhlabires_material_of.Tie as tie

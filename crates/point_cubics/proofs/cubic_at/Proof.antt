@@ -1,6 +1,6 @@
 -- What was looked up is the definition's element and body, or its refusal.
 use borrow.Author.Needs.{needs}
-use mathlib.Core.Path.{_≡_, sym, _∙_}
+use mathlib.Core.Path.{sym, _∙_}
 use mathlib.Core.Bool.{false}
 use Rattle.tables.specs.Tables.{Tables, tables}
 use Rattle.tables.specs.declared.Body.{Body}

@@ -1,12 +1,11 @@
 -- The type, then the step, then the point of the parts that are lent.
 use borrow.Author.Needs.{needs}
 use mathlib.Core.Path.{_≡_, sym, ap, _∙_, subst}
-use mathlib.Core.Bool.{true, cond}
+use mathlib.Core.Bool.{true}
 use mathlib.Core.List.{List, []}
-use Prim.Native.Nat.{ℕ, _+_, _*_, _-_, _≤_, _<_}
+use Prim.Native.Nat.{ℕ, _+_, _-_, _≤_, _<_}
 use native.Mathlib.Omega.{arith}
 use borrow.Author.Tests.{not-true, not-false}
-use lib.Dec.{eqb}
 use lib.ListN.{length, take, drop}
 use lib.IntN.{ℤ}
 use mir.Syntax.{w32}
@@ -16,11 +15,9 @@ use Rattle.tables.specs.Records.{parametersU}
 use Rattle.tables.specs.declared.Body.{Body}
 use Rattle.tables.specs.declared.Element.{Element}
 use Rattle.tables.proofs.Bits.{fitted}
-use Rattle.rounding.specs.Round.{InRange}
+use Rattle.rounding.specs.Range.{InRange}
 use Rattle.point_exact.specs.Directions.{at}
-use Rattle.point_rows.specs.Controls.{ControlsLent}
 use Rattle.sampler.specs.Answers.{pointAnswer}
-use Rattle.sampler.specs.Sampling.{Curved}
 use Rattle.sampler.proofs.Entries.{part-is}
 use Rattle.point_cubics.specs.Answers.{cubic, reached}
 use Rattle.point_cubics.proofs.Answers.{point-is, not-cubic, not-reached, handed-out, cubic-type, cubic-degree, step-there, segment-there, controls-held, small-parameters}

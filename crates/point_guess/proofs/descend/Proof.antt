@@ -5,13 +5,11 @@ use Prim.Native.Nat.{ℕ, suc, _+_, _-_, _≤_, _<_}
 use native.Mathlib.Numerals.{add-one}
 use native.Mathlib.Omega.{arith}
 use lib.ListN.{length}
-use lib.IntN.{ℤ}
 use mathlib.Core.Logic.{⊎-elim}
 use borrow.Author.Tests.{not-false}
 use mir.Syntax.{w32}
 use mir.Val.{toZ, ofZ}
 use mir.Facts.{toZ-ofZ}
-use Rattle.point_exact.specs.Directions.{Direction}
 use Rattle.point_exact.specs.Sampled.{pyramid, partAt, gapAt}
 use Rattle.point_rows.specs.Places.{direction}
 use Rattle.point_guess.specs.Steps.{Axis, Encodes, Next}

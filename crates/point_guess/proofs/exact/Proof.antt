@@ -1,5 +1,5 @@
 -- What the two doubles keep is read back, and what lies between is kept (`between-kept`).
-use mathlib.Core.Path.{_≡_, sym}
+use mathlib.Core.Path.{_≡_}
 use native.Mathlib.Omega.{arith}
 use lib.IntN.{natAbs, _-ℤ_}
 use Rattle.rounding.proofs.Bits.{read-back-small}

@@ -1,6 +1,5 @@
 -- Nothing is promised of a spline or of degree 0.
-use mathlib.Core.Path.{_≡_, sym, _∙_}
-use mathlib.Core.Bool.{true, false}
+use mathlib.Core.Path.{sym, _∙_}
 use native.Mathlib.Omega.{arith}
 use borrow.Author.Tests.{eq-eqb}
 use mir.Facts.{toZ-ofZ}

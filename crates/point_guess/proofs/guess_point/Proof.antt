@@ -1,21 +1,19 @@
 -- What is left of the rows comes to what the first row comes to, as long as each place of each level was certain.
 use borrow.Author.Needs.{needs}
 use mathlib.Core.Path.{_≡_, refl, sym, ap, subst, _∙_}
-use mathlib.Core.Bool.{true, _&&_}
-use Prim.Native.Nat.{ℕ, suc, _+_, _-_, _≤_, _<_}
+use mathlib.Core.Bool.{true}
+use Prim.Native.Nat.{ℕ, _+_, _-_, _≤_, _<_}
 use native.Mathlib.Numerals.{add-one}
 use native.Mathlib.Omega.{arith}
 use lib.ListN.{length}
-use lib.IntN.{ℤ}
 use borrow.Author.Tests.{not-false}
 use mir.Syntax.{w32}
 use mir.Val.{toZ, ofZ}
 use mir.Facts.{toZ-ofZ}
 use Rattle.lists.proofs.Tests.{and-left, and-right, never}
-use Rattle.point_exact.specs.Directions.{Direction}
 use Rattle.point_exact.specs.Sampled.{pyramid, partAt, gapAt}
 use Rattle.point_rows.specs.Places.{direction}
-use Rattle.point_guess.specs.Steps.{Axis, Encodes, Next}
+use Rattle.point_guess.specs.Steps.{Axis, Encodes}
 use Rattle.point_guess.specs.Rows.{placeAt, numberAt, Encoded}
 use Rattle.point_guess.proofs.Levels.{Level, Left, made-none, made-more, left-all, left-less, next-place, level-encoded, level-row, pyramid-one}
 use Rattle.point_guess.proofs.guess_point.Statement.{statement}

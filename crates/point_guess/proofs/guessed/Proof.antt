@@ -1,7 +1,6 @@
 -- The literal is 2^-16.
 use borrow.Author.Needs.{needs}
 use mathlib.Core.Path.{_∙_, ap}
-use lib.Ieee.{Float}
 use Rattle.doubles.specs.Doubles.{blend}
 use Rattle.point_guess.specs.Steps.{on}
 use Rattle.point_guess.proofs.Stepping.{raised-is}

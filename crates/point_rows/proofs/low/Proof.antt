@@ -6,7 +6,7 @@ use borrow.Author.Tests.{eq-eqb, ne-eqb}
 use lib.Dec.{eqb}
 use lib.ListN.{length}
 use mathlib.Core.Bool.{true, false}
-use Rattle.rounding.specs.Round.{InRange}
+use Rattle.rounding.specs.Range.{InRange}
 use Rattle.rounding.proofs.Bits.{read-back-small}
 use Rattle.point_exact.specs.Directions.{at}
 use Rattle.point_rows.proofs.Places.{deep, inside, spline-low, bezier-low, segment-inside}

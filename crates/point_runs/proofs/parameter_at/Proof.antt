@@ -1,13 +1,12 @@
 -- The part of the way is at most the way: nothing wraps, and the parameter lies from start to end.
 use borrow.Author.Needs.{needs}
-use mathlib.Core.Path.{_≡_, refl, sym, ap, _∙_}
-use Prim.Native.Nat.{ℕ, _+_, _*_, _/_, _≤_, _<_}
+use mathlib.Core.Path.{_≡_, ap}
+use Prim.Native.Nat.{ℕ, _*_, _/_, _≤_, _<_}
 use native.Mathlib.Omega.{arith}
-use lib.IntN.{ℤ, pos, natAbs, _+ℤ_, _-ℤ_}
+use lib.IntN.{pos, natAbs, _+ℤ_, _-ℤ_}
 use mir.Syntax.{w32, w64}
 use mir.Facts.{toZ-ofZ, toZ-pos, sfits-widen}
-use Rattle.rounding.specs.Round.{InRange}
-use Rattle.rounding.proofs.IntLaws.{abs-+}
+use Rattle.rounding.specs.Range.{InRange}
 use Rattle.rounding.proofs.Bits.{fits-abs, read-back, read-back-small, widened}
 use Rattle.point_runs.specs.Runs.{parameterAt}
 use Rattle.point_runs.proofs.Steps.{part-within, product-small, small-between, parameter-from, parameter-upto}

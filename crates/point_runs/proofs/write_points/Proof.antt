@@ -9,7 +9,7 @@ use Prim.Native.Nat.{ℕ, suc, _+_, _*_, _-_, _≤_, _<_}
 use native.Mathlib.Numerals.{add-one}
 use native.Mathlib.Omega.{arith}
 use native.Mathlib.Nat.{mul-zero, mul-le-mul}
-use lib.ListN.{length, take, drop, length-take, length-drop, length-set}
+use lib.ListN.{length, drop, length-take, length-drop, length-set}
 use lib.IntN.{ℤ}
 use lib.Signed.{≤ℤ-refl}
 use borrow.Author.Tests.{not-false}
@@ -32,7 +32,8 @@ use Rattle.point_guess.specs.declared.Row.{Row}
 use Rattle.point_guess.proofs.Levels.{Level, Left, made-none, made-more, left-all, left-less, next-place, next-of, level-encoded, level-row, pyramid-one}
 use Rattle.point_single.specs.Points.{Spanned}
 use Rattle.point_single.proofs.Making.{there, span-place, curve-has}
-use Rattle.point_runs.specs.Runs.{listed, coordinateOf, parameterAt, pointAt, pointsUpto}
+use Rattle.point_runs.specs.Runs.{listed, parameterAt}
+use Rattle.point_runs.specs.Inner.{coordinateOf, pointAt, pointsUpto}
 use Rattle.point_runs.proofs.Steps.{parameter-first, run-sound, run-hint, room}
 use Rattle.point_runs.proofs.Written.{point-written, lent-pasted, run-length, point-length}
 use Rattle.point_runs.proofs.write_points.Statement.{statement}

@@ -1,10 +1,9 @@
 -- The kind says from which table, and how many numbers a point has.
 use borrow.Author.Needs.{needs}
-use mathlib.Core.Path.{_≡_, refl}
 use native.Mathlib.Omega.{arith}
 use borrow.Author.Tests.{eq-eqb, ne-eqb}
 use mir.Facts.{toZ-ofZ}
-use Rattle.point_runs.specs.Runs.{runBy}
+use Rattle.point_runs.specs.Inner.{runBy}
 use Rattle.point_runs.proofs.write_run.Statement.{statement}
 use Rattle.point_runs.proofs.write_run.Tie as tie
 

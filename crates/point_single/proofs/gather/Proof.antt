@@ -1,6 +1,6 @@
 -- The row is gathered place by place.
 use mathlib.Core.Path.{_≡_}
-use Prim.Native.Nat.{ℕ, _+_, _-_, _≤_}
+use Prim.Native.Nat.{_+_, _-_, _≤_}
 use native.Mathlib.Omega.{arith}
 use Rattle.point_rows.specs.Controls.{controlAt}
 use Rattle.point_rows.proofs.Grids.{held-part}

@@ -13,7 +13,7 @@ use Rattle.tables.specs.Tables.{Tables, tables}
 use Rattle.tables.proofs.Bits.{fitted}
 use Rattle.sampler.specs.Answers.{PointAnswer}
 use Rattle.sampler.specs.Sampling.{Curved, answerOnCurve}
-use Rattle.polyline.specs.Chords.{ends}
+use Rattle.point_chords.specs.Chords.{ends}
 use Rattle.polyline.specs.Inner.{PieceEnds, splitOf}
 use Rattle.polyline.proofs.Halves.{Parted, one-chord, two-halves, counted, ends-few, interval-read}
 use Rattle.polyline.proofs.Granted.{agreed}

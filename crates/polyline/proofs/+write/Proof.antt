@@ -14,7 +14,7 @@ use Rattle.tables.specs.Tables.{Tables, tables}
 use Rattle.tables.proofs.Bits.{fitted}
 use Rattle.sampler.specs.Answers.{PointAnswer, pointOutcome}
 use Rattle.sampler.specs.Sampling.{Curved, answerOnCurve}
-use Rattle.polyline.specs.Chords.{ends, numbers}
+use Rattle.point_chords.specs.Chords.{ends, numbers}
 use Rattle.polyline.specs.Inner.{PieceEnds, splitOf}
 use Rattle.polyline.proofs.Halves.{Parted, one-chord, two-halves, interval-read, numbers-chord, numbers-joined, room-first, room-second, both-written, room-read, written}
 use Rattle.polyline.proofs.Granted.{agreed}

@@ -20,7 +20,7 @@ use Rattle.tables.proofs.Bits.{fitted}
 use Rattle.sampler.specs.Points.{axesOf}
 use Rattle.sampler.specs.Answers.{PointAnswer, pointAnswer, pointOutcome}
 use Rattle.sampler.specs.Sampling.{Curved, answerOnCurve}
-use Rattle.polyline.specs.Chords.{ends, numbers, parameters}
+use Rattle.point_chords.specs.Chords.{ends, numbers, parameters}
 use Rattle.polyline.specs.Inner.{PieceEnds, coordinatesOf}
 use Rattle.polyline.proofs.Halves.{counted, ends-few, interval-read, room-first, room-second, both-written, room-read, written}
 use Rattle.polyline.proofs.Granted.{curve-axes, is-negative, is-full, is-filled, numbers-many}

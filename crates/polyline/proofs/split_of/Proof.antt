@@ -10,7 +10,7 @@ use mir.Facts.{toZ-ofZ}
 use Rattle.tables.specs.Tables.{tables}
 use Rattle.sampler.specs.Answers.{PointAnswer, pointAnswer}
 use Rattle.sampler.specs.Sampling.{answerOnCurve}
-use Rattle.polyline.specs.Chords.{middle, short, straight}
+use Rattle.point_chords.specs.Chords.{middle, short, straight}
 use Rattle.polyline.specs.declared.Split.the-variants as split
 use Rattle.polyline.proofs.Halves.{split-none, split-short, split-straight, split-halves}
 use Rattle.polyline.proofs.split_of.Statement.{statement}

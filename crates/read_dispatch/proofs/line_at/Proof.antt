@@ -1,233 +1,63 @@
--- Each way out by the law of what stands first in the line.
-use mathlib.Core.Path.{refl}
-use native.Mathlib.Omega.{arith}
-use denote.Ref.{now}
-use Rattle.text.proofs.Found.{word-found, end-found, bad-found}
-use Rattle.tables.specs.Tables.{tables}
-use Rattle.read_dispatch.proofs.Sorted.{keyword-to, line-empty, line-bad, line-taken, line-refuses, line-gave-up}
+-- The key, and the line by it.
 use borrow.Author.Needs.{needs}
 use Rattle.read_dispatch.proofs.line_at.Statement.{statement}
 use Rattle.read_dispatch.proofs.line_at.Tie as tie
 use Rattle.read_dispatch.proofs.line_at.Reads as reads
 use Rattle.read_dispatch.proofs.line_at.Lts as lts
-use Rattle.read_diagnosis.proofs.diagnose.Reads as diagnosis-reads
-use Rattle.keywords.proofs.keyword_at.Reads as keyword-at-reads
-use Rattle.read_dispatch.proofs.families.family_of.Reads as family-of-reads
-use Rattle.read_dispatch.proofs.stopped.Reads as stopped-reads
-use Rattle.read_dispatch.proofs.by_family.take_line.Reads as take-line-reads
-use Rattle.text.proofs.skip_blanks.Reads as gap-reads
+use Rattle.read_dispatch.proofs.keys.key_at.Reads as key-at-reads
+use Rattle.read_dispatch.proofs.line_with.Reads as line-with-reads
 
-skip-blanks-requires : tie.Need-skip-blanks-requires
-skip-blanks-requires c κs = search needs
+key-at-requires : tie.Need-key-at-requires
+key-at-requires c κs = search needs
 
-enum-known-q : tie.Need-enum-known-q
-enum-known-q c = search needs
-
-enum-known-p : tie.Need-enum-known-p
-enum-known-p c = search needs
-
-enum-known-p-2 : tie.Need-enum-known-p-2
-enum-known-p-2 c = search needs
-
-keyword-at-requires : tie.Need-keyword-at-requires
-keyword-at-requires c κs = search needs
-
-family-of-requires : tie.Need-family-of-requires
-family-of-requires c κs = search needs
-
-take-line-requires : tie.Need-take-line-requires
-take-line-requires c κs =
-    let g = c .before .before .before .before .before .before .before .before .before .before .before .before .before .before .before .before in
-    let start = g .before .before .before .before .before .before in
-    let a = start .args in
-    ((keyword-to (now (a .text)) (a .at) _ (c .before .before .before .before .before .before .before .before .before .before .before .before .keyword-at .result) (word-found (now (a .text)) (a .at) (g .skip-blanks .result) (g .skip-blanks .ensures) (c .before .before .before .before .before .before .before .before .before .before .before .before .before .before .p2 .given .1)) (c .before .before .before .before .before .before .before .before .before .before .before .before .keyword-at .ensures), start .pre .0 .1), start .pre .1 .1)
-
-enum-known-state : tie.Need-enum-known-state
-enum-known-state c = search needs
-
-enum-known-number : tie.Need-enum-known-number
-enum-known-number c = search needs
-
-enum-told : tie.Need-enum-told
-enum-told c = search needs
-
-diagnose-requires : tie.Need-diagnose-requires
-diagnose-requires c κs =
-    let start = c .before .before .before .before .before .before .before .before .before .before .before .before .before .before .before .before .before .before .before .before .before .before .before .before .before .before .before .before .before .before .before .before .before .before .before .before .before .before .before .before .before in
-    let below = start .pre .0 .0 in
-    (omega (arith, below), (start .pre .1 .0, start .pre .1 .1))
-
-stopped-requires : tie.Need-stopped-requires
-stopped-requires c κs = search needs
-
-returns : tie.Need-returns
-returns c =
-    let g = c .before .before .before in
-    let a = g .before .before .before .before .before .before .args in
-    line-empty (now (a .text)) (a .at) (a .state) (tables (now (a .v)) (now (a .vt)) (now (a .vn)) (now (a .vp)) (now (a .corners)) (now (a .elements)) (now (a .bodies)) (now (a .ranges)) (now (a .parameters)) (now (a .loops)) (now (a .spans))) (end-found (now (a .text)) (a .at) (g .skip-blanks .result) (g .skip-blanks .ensures) (c .before .q .given .1))
-
-returns-2 : tie.Need-returns-2
-returns-2 c =
-    let g = c .before .before .before in
-    let a = g .before .before .before .before .before .before .args in
-    line-bad (now (a .text)) (a .at) (a .state) (tables (now (a .v)) (now (a .vt)) (now (a .vn)) (now (a .vp)) (now (a .corners)) (now (a .elements)) (now (a .bodies)) (now (a .ranges)) (now (a .parameters)) (now (a .loops)) (now (a .spans))) (bad-found (now (a .text)) (a .at) (g .skip-blanks .result) (g .skip-blanks .ensures) (c .before .p .given .1))
+line-with-requires : tie.Need-line-with-requires
+line-with-requires c κs =
+    let keyed = c .before .before .before .before .before .before .before .before .before .before .before in
+    let start = keyed .before .before .before .before .before .before in
+    (start .pre .0, (keyed .key-at .ensures, start .pre .1))
 
 same-length : tie.Need-same-length
-same-length c = c .before .before .before .before .before .before .before .before .before .before .before .before .before .before .before .before .before .before .take-line .kept .1 .1 .1 .1 .0
+same-length c = search needs
 
 same-length-2 : tie.Need-same-length-2
-same-length-2 c = c .before .before .before .before .before .before .before .before .before .before .before .before .before .before .before .before .before .before .take-line .kept .1 .1 .1 .1 .1 .0
+same-length-2 c = search needs
 
 same-length-3 : tie.Need-same-length-3
-same-length-3 c = c .before .before .before .before .before .before .before .before .before .before .before .before .before .before .before .before .before .before .take-line .kept .1 .1 .1 .1 .1 .1 .0
+same-length-3 c = search needs
 
 same-length-4 : tie.Need-same-length-4
-same-length-4 c = c .before .before .before .before .before .before .before .before .before .before .before .before .before .before .before .before .before .before .take-line .kept .1 .1 .1 .1 .1 .1 .1 .0
+same-length-4 c = search needs
 
 same-length-5 : tie.Need-same-length-5
-same-length-5 c = c .before .before .before .before .before .before .before .before .before .before .before .before .before .before .before .before .before .before .take-line .kept .1 .1 .1 .1 .1 .1 .1 .1 .0
+same-length-5 c = search needs
 
 same-length-6 : tie.Need-same-length-6
-same-length-6 c = c .before .before .before .before .before .before .before .before .before .before .before .before .before .before .before .before .before .before .take-line .kept .1 .1 .1 .1 .1 .1 .1 .1 .1 .0
+same-length-6 c = search needs
 
 same-length-7 : tie.Need-same-length-7
-same-length-7 c = c .before .before .before .before .before .before .before .before .before .before .before .before .before .before .before .before .before .before .take-line .kept .1 .1 .1 .1 .1 .1 .1 .1 .1 .1 .0
+same-length-7 c = search needs
 
 same-length-8 : tie.Need-same-length-8
-same-length-8 c = c .before .before .before .before .before .before .before .before .before .before .before .before .before .before .before .before .before .before .take-line .kept .1 .1 .1 .1 .1 .1 .1 .1 .1 .1 .1 .0
+same-length-8 c = search needs
 
 same-length-9 : tie.Need-same-length-9
-same-length-9 c = c .before .before .before .before .before .before .before .before .before .before .before .before .before .before .before .before .before .before .take-line .kept .1 .1 .1 .1 .1 .1 .1 .1 .1 .1 .1 .1 .0
+same-length-9 c = search needs
 
 same-length-10 : tie.Need-same-length-10
-same-length-10 c = c .before .before .before .before .before .before .before .before .before .before .before .before .before .before .before .before .before .before .take-line .kept .1 .1 .1 .1 .1 .1 .1 .1 .1 .1 .1 .1 .1 .0
+same-length-10 c = search needs
 
 same-length-11 : tie.Need-same-length-11
-same-length-11 c = c .before .before .before .before .before .before .before .before .before .before .before .before .before .before .before .before .before .before .take-line .kept .1 .1 .1 .1 .1 .1 .1 .1 .1 .1 .1 .1 .1 .1 .0
+same-length-11 c = search needs
 
-returns-3 : tie.Need-returns-3
-returns-3 c =
-    let took = c .before .before .before .before .before .before .before .before .before .before .before .before .before .before .before .before .before .before in
-    let sorted = took .before .before .before .before .before .before .before .before .before .before .before .before in
-    let key = sorted .before in
-    let g = key .before .before .before .before in
-    let start = g .before .before .before .before .before .before in
-    let a = start .args in
-    let s = now (a .text) in
-    let met = word-found s (a .at) (g .skip-blanks .result) (g .skip-blanks .ensures) (key .before .before .p2 .given .1) in
-    line-taken s (a .at) _ (a .state) (tables (now (a .v)) (now (a .vt)) (now (a .vn)) (now (a .vp)) (now (a .corners)) (now (a .elements)) (now (a .bodies)) (now (a .ranges)) (now (a .parameters)) (now (a .loops)) (now (a .spans))) (tables (took .take-line .last .1 .1 .1 .1 .0) (took .take-line .last .1 .1 .1 .1 .1 .0) (took .take-line .last .1 .1 .1 .1 .1 .1 .0) (took .take-line .last .1 .1 .1 .1 .1 .1 .1 .0) (took .take-line .last .1 .1 .1 .1 .1 .1 .1 .1 .0) (took .take-line .last .1 .1 .1 .1 .1 .1 .1 .1 .1 .0) (took .take-line .last .1 .1 .1 .1 .1 .1 .1 .1 .1 .1 .0) (took .take-line .last .1 .1 .1 .1 .1 .1 .1 .1 .1 .1 .1 .0) (took .take-line .last .1 .1 .1 .1 .1 .1 .1 .1 .1 .1 .1 .1 .0) (took .take-line .last .1 .1 .1 .1 .1 .1 .1 .1 .1 .1 .1 .1 .1 .0) (took .take-line .last .1 .1 .1 .1 .1 .1 .1 .1 .1 .1 .1 .1 .1 .1 .0)) (key .keyword-at .result) (sorted .family-of .result) (took .take-line .result)
-    met (key .keyword-at .ensures) (sorted .family-of .ensures) (took .take-line .ensures) _ _ (c .before .state .given .1)
-
-same-length-12 : tie.Need-same-length-12
-same-length-12 c = c .before .before .before .before .before .before .before .before .before .before .before .before .before .before .before .before .before .before .take-line .kept .1 .1 .1 .1 .0
-
-same-length-13 : tie.Need-same-length-13
-same-length-13 c = c .before .before .before .before .before .before .before .before .before .before .before .before .before .before .before .before .before .before .take-line .kept .1 .1 .1 .1 .1 .0
-
-same-length-14 : tie.Need-same-length-14
-same-length-14 c = c .before .before .before .before .before .before .before .before .before .before .before .before .before .before .before .before .before .before .take-line .kept .1 .1 .1 .1 .1 .1 .0
-
-same-length-15 : tie.Need-same-length-15
-same-length-15 c = c .before .before .before .before .before .before .before .before .before .before .before .before .before .before .before .before .before .before .take-line .kept .1 .1 .1 .1 .1 .1 .1 .0
-
-same-length-16 : tie.Need-same-length-16
-same-length-16 c = c .before .before .before .before .before .before .before .before .before .before .before .before .before .before .before .before .before .before .take-line .kept .1 .1 .1 .1 .1 .1 .1 .1 .0
-
-same-length-17 : tie.Need-same-length-17
-same-length-17 c = c .before .before .before .before .before .before .before .before .before .before .before .before .before .before .before .before .before .before .take-line .kept .1 .1 .1 .1 .1 .1 .1 .1 .1 .0
-
-same-length-18 : tie.Need-same-length-18
-same-length-18 c = c .before .before .before .before .before .before .before .before .before .before .before .before .before .before .before .before .before .before .take-line .kept .1 .1 .1 .1 .1 .1 .1 .1 .1 .1 .0
-
-same-length-19 : tie.Need-same-length-19
-same-length-19 c = c .before .before .before .before .before .before .before .before .before .before .before .before .before .before .before .before .before .before .take-line .kept .1 .1 .1 .1 .1 .1 .1 .1 .1 .1 .1 .0
-
-same-length-20 : tie.Need-same-length-20
-same-length-20 c = c .before .before .before .before .before .before .before .before .before .before .before .before .before .before .before .before .before .before .take-line .kept .1 .1 .1 .1 .1 .1 .1 .1 .1 .1 .1 .1 .0
-
-same-length-21 : tie.Need-same-length-21
-same-length-21 c = c .before .before .before .before .before .before .before .before .before .before .before .before .before .before .before .before .before .before .take-line .kept .1 .1 .1 .1 .1 .1 .1 .1 .1 .1 .1 .1 .1 .0
-
-same-length-22 : tie.Need-same-length-22
-same-length-22 c = c .before .before .before .before .before .before .before .before .before .before .before .before .before .before .before .before .before .before .take-line .kept .1 .1 .1 .1 .1 .1 .1 .1 .1 .1 .1 .1 .1 .1 .0
-
-returns-4 : tie.Need-returns-4
-returns-4 c =
-    let took = c .before .before .before .before .before .before .before .before .before .before .before .before .before .before .before .before .before .before in
-    let sorted = took .before .before .before .before .before .before .before .before .before .before .before .before in
-    let key = sorted .before in
-    let g = key .before .before .before .before in
-    let start = g .before .before .before .before .before .before in
-    let a = start .args in
-    let s = now (a .text) in
-    let met = word-found s (a .at) (g .skip-blanks .result) (g .skip-blanks .ensures) (key .before .before .p2 .given .1) in
-    line-refuses s (a .at) _ (a .state) (tables (now (a .v)) (now (a .vt)) (now (a .vn)) (now (a .vp)) (now (a .corners)) (now (a .elements)) (now (a .bodies)) (now (a .ranges)) (now (a .parameters)) (now (a .loops)) (now (a .spans))) (tables (took .take-line .last .1 .1 .1 .1 .0) (took .take-line .last .1 .1 .1 .1 .1 .0) (took .take-line .last .1 .1 .1 .1 .1 .1 .0) (took .take-line .last .1 .1 .1 .1 .1 .1 .1 .0) (took .take-line .last .1 .1 .1 .1 .1 .1 .1 .1 .0) (took .take-line .last .1 .1 .1 .1 .1 .1 .1 .1 .1 .0) (took .take-line .last .1 .1 .1 .1 .1 .1 .1 .1 .1 .1 .0) (took .take-line .last .1 .1 .1 .1 .1 .1 .1 .1 .1 .1 .1 .0) (took .take-line .last .1 .1 .1 .1 .1 .1 .1 .1 .1 .1 .1 .1 .0) (took .take-line .last .1 .1 .1 .1 .1 .1 .1 .1 .1 .1 .1 .1 .1 .0) (took .take-line .last .1 .1 .1 .1 .1 .1 .1 .1 .1 .1 .1 .1 .1 .1 .0)) (key .keyword-at .result) (sorted .family-of .result) (took .take-line .result)
-    met (key .keyword-at .ensures) (sorted .family-of .ensures) (took .take-line .ensures) _ (c .before .number .given .1)
-
-same-length-23 : tie.Need-same-length-23
-same-length-23 c = c .before .before .before .before .before .before .before .before .before .before .before .before .before .before .before .before .before .before .before .before .take-line .kept .1 .1 .1 .1 .0
-
-same-length-24 : tie.Need-same-length-24
-same-length-24 c = c .before .before .before .before .before .before .before .before .before .before .before .before .before .before .before .before .before .before .before .before .take-line .kept .1 .1 .1 .1 .1 .0
-
-same-length-25 : tie.Need-same-length-25
-same-length-25 c = c .before .before .before .before .before .before .before .before .before .before .before .before .before .before .before .before .before .before .before .before .take-line .kept .1 .1 .1 .1 .1 .1 .0
-
-same-length-26 : tie.Need-same-length-26
-same-length-26 c = c .before .before .before .before .before .before .before .before .before .before .before .before .before .before .before .before .before .before .before .before .take-line .kept .1 .1 .1 .1 .1 .1 .1 .0
-
-same-length-27 : tie.Need-same-length-27
-same-length-27 c = c .before .before .before .before .before .before .before .before .before .before .before .before .before .before .before .before .before .before .before .before .take-line .kept .1 .1 .1 .1 .1 .1 .1 .1 .0
-
-same-length-28 : tie.Need-same-length-28
-same-length-28 c = c .before .before .before .before .before .before .before .before .before .before .before .before .before .before .before .before .before .before .before .before .take-line .kept .1 .1 .1 .1 .1 .1 .1 .1 .1 .0
-
-same-length-29 : tie.Need-same-length-29
-same-length-29 c = c .before .before .before .before .before .before .before .before .before .before .before .before .before .before .before .before .before .before .before .before .take-line .kept .1 .1 .1 .1 .1 .1 .1 .1 .1 .1 .0
-
-same-length-30 : tie.Need-same-length-30
-same-length-30 c = c .before .before .before .before .before .before .before .before .before .before .before .before .before .before .before .before .before .before .before .before .take-line .kept .1 .1 .1 .1 .1 .1 .1 .1 .1 .1 .1 .0
-
-same-length-31 : tie.Need-same-length-31
-same-length-31 c = c .before .before .before .before .before .before .before .before .before .before .before .before .before .before .before .before .before .before .before .before .take-line .kept .1 .1 .1 .1 .1 .1 .1 .1 .1 .1 .1 .1 .0
-
-same-length-32 : tie.Need-same-length-32
-same-length-32 c = c .before .before .before .before .before .before .before .before .before .before .before .before .before .before .before .before .before .before .before .before .take-line .kept .1 .1 .1 .1 .1 .1 .1 .1 .1 .1 .1 .1 .1 .0
-
-same-length-33 : tie.Need-same-length-33
-same-length-33 c = c .before .before .before .before .before .before .before .before .before .before .before .before .before .before .before .before .before .before .before .before .take-line .kept .1 .1 .1 .1 .1 .1 .1 .1 .1 .1 .1 .1 .1 .1 .0
-
-returns-5 : tie.Need-returns-5
-returns-5 c =
-    let took = c .before .before .before .before .before .before .before .before .before .before .before .before .before .before .before .before .before .before .before .before in
-    let sorted = took .before .before .before .before .before .before .before .before .before .before .before .before in
-    let key = sorted .before in
-    let g = key .before .before .before .before in
-    let start = g .before .before .before .before .before .before in
-    let a = start .args in
-    let s = now (a .text) in
-    let met = word-found s (a .at) (g .skip-blanks .result) (g .skip-blanks .ensures) (key .before .before .p2 .given .1) in
-    line-gave-up s (a .at) _ (a .state) (tables (now (a .v)) (now (a .vt)) (now (a .vn)) (now (a .vp)) (now (a .corners)) (now (a .elements)) (now (a .bodies)) (now (a .ranges)) (now (a .parameters)) (now (a .loops)) (now (a .spans))) (tables (took .take-line .last .1 .1 .1 .1 .0) (took .take-line .last .1 .1 .1 .1 .1 .0) (took .take-line .last .1 .1 .1 .1 .1 .1 .0) (took .take-line .last .1 .1 .1 .1 .1 .1 .1 .0) (took .take-line .last .1 .1 .1 .1 .1 .1 .1 .1 .0) (took .take-line .last .1 .1 .1 .1 .1 .1 .1 .1 .1 .0) (took .take-line .last .1 .1 .1 .1 .1 .1 .1 .1 .1 .1 .0) (took .take-line .last .1 .1 .1 .1 .1 .1 .1 .1 .1 .1 .1 .0) (took .take-line .last .1 .1 .1 .1 .1 .1 .1 .1 .1 .1 .1 .1 .0) (took .take-line .last .1 .1 .1 .1 .1 .1 .1 .1 .1 .1 .1 .1 .1 .0) (took .take-line .last .1 .1 .1 .1 .1 .1 .1 .1 .1 .1 .1 .1 .1 .1 .0)) (key .keyword-at .result) (sorted .family-of .result) (took .take-line .result)
-    met (key .keyword-at .ensures) (sorted .family-of .ensures) (took .take-line .ensures) (c .before .before .before .enum-told .given .1) (c .before .diagnose .result) (c .before .diagnose .ensures) (c .stopped .result) (c .stopped .ensures)
+returns : tie.Need-returns
+returns c = search needs
 
 pub line-at-spec : {M : Type 1} → statement M
 line-at-spec =
     tie.close
     (tie.spec
-    skip-blanks-requires
-    enum-known-q
-    enum-known-p
-    enum-known-p-2
-    keyword-at-requires
-    family-of-requires
-    take-line-requires
-    enum-known-state
-    enum-known-number
-    enum-told
-    diagnose-requires
-    stopped-requires
-    returns
-    returns-2
+    key-at-requires
+    line-with-requires
     same-length
     same-length-2
     same-length-3
@@ -239,28 +69,4 @@ line-at-spec =
     same-length-9
     same-length-10
     same-length-11
-    returns-3
-    same-length-12
-    same-length-13
-    same-length-14
-    same-length-15
-    same-length-16
-    same-length-17
-    same-length-18
-    same-length-19
-    same-length-20
-    same-length-21
-    same-length-22
-    returns-4
-    same-length-23
-    same-length-24
-    same-length-25
-    same-length-26
-    same-length-27
-    same-length-28
-    same-length-29
-    same-length-30
-    same-length-31
-    same-length-32
-    same-length-33
-    returns-5)
+    returns)

@@ -3,8 +3,6 @@ use mathlib.Core.Path.{refl}
 use borrow.Author.Needs.{needs}
 use Rattle.read_dispatch.proofs.stopped.Statement.{statement}
 use Rattle.read_dispatch.proofs.stopped.Tie as tie
-use Rattle.read_dispatch.proofs.stopped.Reads as reads
-use Rattle.read_dispatch.proofs.stopped.Lts as lts
 
 enum-known-refusal : tie.Need-enum-known-refusal
 enum-known-refusal c = search needs

@@ -7,10 +7,6 @@ use Rattle.read_lines.proofs.Cleared.{all-read, all-refused}
 use borrow.Author.Needs.{needs}
 use Rattle.read_lines.proofs.lines_of.Statement.{statement}
 use Rattle.read_lines.proofs.lines_of.Tie as tie
-use Rattle.read_lines.proofs.lines_of.Reads as reads
-use Rattle.read_lines.proofs.lines_of.Lts as lts
-use Rattle.read_lines.proofs.store_lines.Reads as store-lines-reads
-use Rattle.table_store.proofs.clear.Reads as clear-reads
 
 store-lines-requires : tie.Need-store-lines-requires
 store-lines-requires c κs = search needs

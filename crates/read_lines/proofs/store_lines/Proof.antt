@@ -9,10 +9,6 @@ use Rattle.model.specs.Room.{Rooms}
 use Rattle.read_lines.proofs.Loop.{Reached, reached-start, reached-next, reached-stop, reached-open, reached-end, rooms-eq}
 use Rattle.read_lines.proofs.store_lines.Statement.{statement}
 use Rattle.read_lines.proofs.store_lines.Tie as tie
-use Rattle.read_lines.proofs.store_lines.Reads as reads
-use Rattle.read_lines.proofs.store_lines.Lts as lts
-use Rattle.read_lines.proofs.begin.Reads as begin-reads
-use Rattle.read_dispatch.proofs.line_at.Reads as line-at-reads
 
 abbrev Inv-loop : tie.InvT-loop
 Inv-loop text v₀ vt₀ vn₀ vp₀ corners₀ elements₀ bodies₀ ranges₀ parameters₀ loops₀ spans₀ keyword-table argument-table state₀ at₀ v vt vn vp corners elements bodies ranges parameters loops spans state at =

@@ -6,14 +6,6 @@ use Rattle.read_rooms.specs.Rooms.{elementRoom, bodyRoom, carriedRoom}
 use borrow.Author.Needs.{needs}
 use Rattle.read_rooms.proofs.carried_room.Statement.{statement}
 use Rattle.read_rooms.proofs.carried_room.Tie as tie
-use Rattle.read_rooms.proofs.carried_room.Reads as reads
-use Rattle.read_rooms.proofs.carried_room.Lts as lts
-use Rattle.read_rooms.proofs.body_room.Reads as body-room-reads
-use Rattle.read_rooms.proofs.element_room.Reads as element-room-reads
-use Rattle.read_rooms.proofs.kind_room.Reads as kind-room-reads
-use Rattle.read_rooms.proofs.less.Reads as less-reads
-use Rattle.read_rooms.proofs.no_room.Reads as no-room-reads
-use Rattle.statements.proofs.rules.range_words.Reads as range-words-reads
 
 enum-known-statement : tie.Need-enum-known-statement
 enum-known-statement c = search needs

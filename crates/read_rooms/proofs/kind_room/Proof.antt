@@ -4,9 +4,6 @@ use Rattle.read_rooms.specs.Rooms.{kindRoom}
 use borrow.Author.Needs.{needs}
 use Rattle.read_rooms.proofs.kind_room.Statement.{statement}
 use Rattle.read_rooms.proofs.kind_room.Tie as tie
-use Rattle.read_rooms.proofs.kind_room.Reads as reads
-use Rattle.read_rooms.proofs.kind_room.Lts as lts
-use Rattle.read_rooms.proofs.vertex_room.Reads as vertex-room-reads
 
 enum-told : tie.Need-enum-told
 enum-told c = search needs

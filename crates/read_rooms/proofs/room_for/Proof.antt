@@ -5,10 +5,6 @@ use Rattle.read_rooms.specs.Rooms.{roomFor}
 use borrow.Author.Needs.{needs}
 use Rattle.read_rooms.proofs.room_for.Statement.{statement}
 use Rattle.read_rooms.proofs.room_for.Tie as tie
-use Rattle.read_rooms.proofs.room_for.Reads as reads
-use Rattle.read_rooms.proofs.room_for.Lts as lts
-use Rattle.read_rooms.proofs.carried_room.Reads as carried-room-reads
-use Rattle.read_rooms.proofs.no_room.Reads as no-room-reads
 
 enum-known-statement : tie.Need-enum-known-statement
 enum-known-statement c = search needs

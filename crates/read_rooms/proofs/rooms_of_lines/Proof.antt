@@ -1,7 +1,6 @@
 -- The loop keeps what was counted with what is left (`Going`); each line takes bytes off what is left.
 use Prim.Native.Nat.{_-_}
 use lib.ListN.{length}
-use native.Mathlib.Omega.{arith}
 use denote.Ref.{now}
 use borrow.Author.Needs.{needs}
 use Rattle.read_rooms.proofs.Going as G

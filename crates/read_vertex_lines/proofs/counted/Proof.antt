@@ -3,8 +3,6 @@ use mathlib.Core.Path.{refl}
 use borrow.Author.Needs.{needs}
 use Rattle.read_vertex_lines.proofs.counted.Statement.{statement}
 use Rattle.read_vertex_lines.proofs.counted.Tie as tie
-use Rattle.read_vertex_lines.proofs.counted.Reads as reads
-use Rattle.read_vertex_lines.proofs.counted.Lts as lts
 
 enum-told : tie.Need-enum-told
 enum-told c = search needs

@@ -4,9 +4,6 @@ use Rattle.read_vertex_lines.proofs.Stepped.{geometric-into, texture-in
 use borrow.Author.Needs.{needs}
 use Rattle.read_vertex_lines.proofs.vertex_into.Statement.{statement}
 use Rattle.read_vertex_lines.proofs.vertex_into.Tie as tie
-use Rattle.read_vertex_lines.proofs.vertex_into.Reads as reads
-use Rattle.read_vertex_lines.proofs.vertex_into.Lts as lts
-use Rattle.read_vertices.proofs.take_vertex.Reads as take-vertex-reads
 
 enum-told : tie.Need-enum-told
 enum-told c = search needs

@@ -6,12 +6,6 @@ use Rattle.read_vertex_lines.proofs.Stepped.{vertex-open, vertex-full, 
 use borrow.Author.Needs.{needs}
 use Rattle.read_vertex_lines.proofs.vertex_line.Statement.{statement}
 use Rattle.read_vertex_lines.proofs.vertex_line.Tie as tie
-use Rattle.read_vertex_lines.proofs.vertex_line.Reads as reads
-use Rattle.read_vertex_lines.proofs.vertex_line.Lts as lts
-use Rattle.read_vertex_lines.proofs.count_of.Reads as count-of-reads
-use Rattle.read_vertex_lines.proofs.counted.Reads as counted-reads
-use Rattle.read_vertex_lines.proofs.vertex_into.Reads as vertex-into-reads
-use Rattle.read_vertex_lines.proofs.with_used.Reads as with-used-reads
 
 returns : tie.Need-returns
 returns c =

@@ -2,7 +2,7 @@
 use native.Mathlib.Omega.{arith}
 use borrow.Author.Tests.{not-true, not-false}
 use denote.Ref.{now}
-use Rattle.decimals.proofs.Signs.{reads}
+use Rattle.word_numbers.proofs.Signs.{reads}
 use Rattle.read_vertices.proofs.Rows as R
 use Rattle.read_vertices.proofs.Taking as T
 use borrow.Author.Needs.{needs}

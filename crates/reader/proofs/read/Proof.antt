@@ -7,12 +7,6 @@ use Rattle.reader.proofs.Whole.{read-too-long, read-whole}
 use borrow.Author.Needs.{needs}
 use Rattle.reader.proofs.read.Statement.{statement}
 use Rattle.reader.proofs.read.Tie as tie
-use Rattle.reader.proofs.read.Reads as reads
-use Rattle.reader.proofs.read.Lts as lts
-use Rattle.keywords.proofs.argument_table.Reads as argument-table-reads
-use Rattle.keywords.proofs.keyword_table.Reads as keyword-table-reads
-use Rattle.read_lines.proofs.lines_of.Reads as lines-of-reads
-use Rattle.table_store.proofs.clear.Reads as clear-reads
 
 clear-requires : tie.Need-clear-requires
 clear-requires c κs = search needs

@@ -1,9 +1,9 @@
 -- The sum's size is at most that of the larger number times d, so every step fits, and the sum is rounded.
 use borrow.Author.Needs.{needs}
 use mathlib.Core.Path.{_≡_}
-use Prim.Native.Nat.{_-_, _*_, _≤_}
+use Prim.Native.Nat.{_*_, _≤_}
 use native.Mathlib.Omega.{arith}
-use lib.IntN.{natAbs, pos, _+ℤ_, _*ℤ_}
+use lib.IntN.{natAbs, _+ℤ_}
 use mir.Syntax.{w32, w64}
 use mir.Val.{toZ, ofZ}
 use mir.Facts.{toZ-ofZ}

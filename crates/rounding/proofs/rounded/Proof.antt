@@ -1,9 +1,8 @@
 -- The sign and the size of a number make the rounded one (`rounded-signed`).
 use borrow.Author.Needs.{needs}
-use mathlib.Core.Path.{_≡_, _∙_}
+use mathlib.Core.Path.{_∙_}
 use native.Mathlib.Omega.{arith}
-use mir.Syntax.{w32, w64}
-use mir.Val.{toZ, ofZ}
+use mir.Syntax.{w32}
 use mir.Facts.{toZ-ofZ}
 use Rattle.rounding.proofs.Bits.{read-back}
 use Rattle.rounding.proofs.Rounding.{rounded-signed}

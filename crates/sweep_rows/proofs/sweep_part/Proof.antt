@@ -1,6 +1,6 @@
 -- The part is swept and put back.
 use Rattle.sweep_rows.proofs.Sweeping.{lent-alike, part-long, part-swept}
-use Rattle.sweep_rows.specs.Marks.{kindOf, namedIn}
+use Rattle.sweep_marks.specs.Marks.{kindOf, namedIn}
 use native.Mathlib.Omega.{arith}
 use denote.Ref.{now}
 use borrow.Author.Needs.{needs}

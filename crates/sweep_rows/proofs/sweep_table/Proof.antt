@@ -1,6 +1,6 @@
 -- The list is cleared, marked and numbered, then the rows are moved by it.
 use Rattle.sweep_rows.proofs.Sweeping.{kept-is, numbers-are, numbers-long, rows-are, lent-alike}
-use Rattle.sweep_rows.specs.Marks.{kindOf}
+use Rattle.sweep_marks.specs.Marks.{kindOf}
 use denote.Ref.{now}
 use lib.ListN.{length}
 use borrow.Author.Needs.{needs}

@@ -3,8 +3,6 @@ use Rattle.table_store.proofs.Clearing.{tables-eq}
 use borrow.Author.Needs.{needs}
 use Rattle.table_store.proofs.clear.Statement.{statement}
 use Rattle.table_store.proofs.clear.Tie as tie
-use Rattle.table_store.proofs.clear_i32.Reads as clear-i32-reads
-use Rattle.table_store.proofs.clear_u32.Reads as clear-u32-reads
 
 clear-i32-requires : tie.Need-clear-i32-requires
 clear-i32-requires c κs = search needs

@@ -1,4 +1,4 @@
--- Three numbers, one after the other, from where the corners before it end; none where there are no more corners than entries.
+-- A corner that is lent, or three numbers, one after the other; none where there are no more corners than entries.
 use denote.Ref.{now}
 use mathlib.Core.Path.{refl}
 use Rattle.tables.proofs.Asked.{corner-past}
@@ -18,29 +18,8 @@ add-at c = search needs
 add-if2 : tie.Need-add-if2
 add-if2 c = search needs
 
-mul-t8 : tie.Need-mul-t8
-mul-t8 c = search needs
-
-shared-slice-read-t10 : tie.Need-shared-slice-read-t10
-shared-slice-read-t10 c = search needs
-
-add-t11 : tie.Need-add-t11
-add-t11 c = search needs
-
-mul-t12 : tie.Need-mul-t12
-mul-t12 c = search needs
-
-shared-slice-read-t14 : tie.Need-shared-slice-read-t14
-shared-slice-read-t14 c = search needs
-
-add-t15 : tie.Need-add-t15
-add-t15 c = search needs
-
-mul-t16 : tie.Need-mul-t16
-mul-t16 c = search needs
-
-shared-slice-read-t18 : tie.Need-shared-slice-read-t18
-shared-slice-read-t18 c = search needs
+lent-corner-requires : tie.Need-lent-corner-requires
+lent-corner-requires c κs = search needs
 
 returns-2 : tie.Need-returns-2
 returns-2 c = search needs
@@ -71,14 +50,7 @@ corner-at-spec =
     mul-at
     add-at
     add-if2
-    mul-t8
-    shared-slice-read-t10
-    add-t11
-    mul-t12
-    shared-slice-read-t14
-    add-t15
-    mul-t16
-    shared-slice-read-t18
+    lent-corner-requires
     returns-2
     number-in-requires
     add-number-in

@@ -1,6 +1,5 @@
 -- The vertex and what stands after it.
-use mathlib.Core.Path.{_≡_, ap}
-use mathlib.Core.List.{_++_}
+use mathlib.Core.Path.{ap}
 use native.Mathlib.Omega.{arith}
 use borrow.Author.Needs.{needs}
 use lib.ListN.{length, length-append}

@@ -1,6 +1,6 @@
 -- The sign, the whole part, a point and six digits.
-use Prim.Native.Nat.{_^_, _<_, _≤_, _/_}
-use mathlib.Core.Path.{_≡_, sym, ap, _∙_}
+use Prim.Native.Nat.{_/_}
+use mathlib.Core.Path.{_≡_, ap}
 use mathlib.Core.Bool.{true, false}
 use native.Mathlib.Omega.{arith}
 use borrow.Author.Needs.{needs}
@@ -9,7 +9,6 @@ use lib.ListN.{length}
 use lib.Signed.{ltZ}
 use mir.Syntax.{w32}
 use mir.Facts.{toZ-ofZ, fits-natAbs}
-use Rattle.references.specs.Written.{writtenWhole}
 use Rattle.word_format.proofs.Corners.{whole-few}
 use Rattle.word_format.proofs.Numbers.{millionths-length, below-zero, from-zero}
 use Rattle.word_format.proofs.number_length.Statement.{statement}

@@ -1,6 +1,6 @@
 -- The digits counted and those of what is left are those of n, and one more.
 use Prim.Native.Nat.{_+_, _≤_}
-use mathlib.Core.Path.{_≡_, refl}
+use mathlib.Core.Path.{_≡_}
 use native.Mathlib.Omega.{arith}
 use lib.ListN.{length}
 use Rattle.references.specs.Written.{writtenWhole}

@@ -1,5 +1,4 @@
 -- The vertex, then what stands after it.
-use mathlib.Core.Path.{_≡_}
 use borrow.Author.Needs.{needs}
 use denote.Ref.{now}
 use Rattle.references.specs.Written.{writtenWhole, writtenCorner}

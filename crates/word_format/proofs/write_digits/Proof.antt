@@ -1,9 +1,7 @@
 -- From the back: the digits that are left, stored, come to what all of them come to.
-use Prim.Native.Nat.{_+_, _≤_}
-use mathlib.Core.Path.{_≡_, refl, sym, _∙_}
+use mathlib.Core.Path.{refl}
 use native.Mathlib.Omega.{arith}
 use denote.Ref.{now}
-use lib.ListN.{length}
 use Rattle.word_format.proofs.Digits.{Digits, next-digit, all-digits}
 use Rattle.word_format.proofs.write_digits.Statement.{statement}
 use Rattle.word_format.proofs.write_digits.Tie as tie

@@ -3,7 +3,7 @@ use mathlib.Core.Path.{_∙_, sym, ap}
 use native.Mathlib.Omega.{arith}
 use denote.Ref.{now}
 use Rattle.digits.specs.Answers.{saidRow}
-use Rattle.decimals.proofs.Numbers.{sign-fits}
+use Rattle.decimals.proofs.Signed.{sign-fits}
 use Rattle.decimals.proofs.Exponents.{exponent-bad, exponent-read}
 use borrow.Author.Needs.{needs}
 use Rattle.decimals.proofs.exponent.exponent_at.Statement.{statement}

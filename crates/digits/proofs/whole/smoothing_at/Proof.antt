@@ -5,7 +5,6 @@ use denote.Ref.{now}
 use Rattle.text.specs.Words.{wordOf}
 use Rattle.text.specs.Rest.{endOf}
 use Rattle.digits.specs.Answers.{saidRow}
-use native.Mathlib.Omega.{arith}
 use Rattle.keywords.proofs.Arguments.{off-found, off-not}
 use Rattle.digits.proofs.Wholes.{smoothing-off, smoothing-bad, smoothing-high, smoothing-of}
 use borrow.Author.Needs.{needs}

@@ -1,18 +1,17 @@
 -- Each test is one of the definition's; 64 times a parameter is held against 64 times start and end.
 use borrow.Author.Needs.{needs}
-use mathlib.Core.Path.{_≡_, refl, sym, ap, _∙_}
-use mathlib.Core.Bool.{true, false}
+use mathlib.Core.Path.{_≡_, refl, _∙_}
 use Prim.Native.Nat.{_+_, _≤_}
 use native.Mathlib.Numerals.{add-one}
 use native.Mathlib.Omega.{arith}
 use borrow.Author.Tests.{le-leb, lt-leb}
 use lib.ListN.{length}
-use lib.IntN.{ℤ, pos, natAbs, _+ℤ_, _-ℤ_, _*ℤ_, *ℤ-comm}
+use lib.IntN.{ℤ, pos, natAbs, _*ℤ_, *ℤ-comm}
 use mir.Syntax.{w64}
 use mir.Val.{toZ, ofZ}
 use mir.Facts.{toZ-ofZ}
-use Rattle.basis.proofs.Order.{lt-no-le, no-lt-le}
-use Rattle.rounding.specs.Round.{InRange}
+use Rattle.parameter_order.proofs.Comparing.{lt-no-le, no-lt-le}
+use Rattle.rounding.specs.Range.{InRange}
 use Rattle.rounding.proofs.Bits.{read-back, read-back-small}
 use Rattle.point_exact.specs.Directions.{at}
 use Rattle.point_cubics.specs.Answers.{parameter64, reached}

@@ -7,7 +7,7 @@ use native.Mathlib.Omega.{arith}
 use lib.IntN.{ℤ, pos, _+ℤ_, _-ℤ_, _*ℤ_}
 use mir.Facts.{toZ-ofZ}
 use Rattle.rounding.proofs.Ring.{ring, _⊕_, _⊝_, _⊗_, _≐_}
-use Rattle.point_cubics.proofs.Machine.{Added, one, plus, plus-fits}
+use Rattle.point_weights.proofs.Machine.{Added, one, plus, plus-fits}
 use Rattle.point_cubics.proofs.steps.parameter64.Statement.{statement}
 use Rattle.point_cubics.proofs.steps.parameter64.Tie as tie
 

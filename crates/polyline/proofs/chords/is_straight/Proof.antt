@@ -8,7 +8,7 @@ use mir.Facts.{toZ-ofZ}
 use Rattle.tables.proofs.Bits.{fitted}
 use Rattle.sampler.specs.Answers.{pointOutcome}
 use Rattle.polyline.specs.declared.chords.Space.{Space}
-use Rattle.polyline.specs.Chords.{near, nearAt, straight}
+use Rattle.point_chords.specs.Chords.{near, nearAt, straight}
 use Rattle.polyline.proofs.chords.is_straight.Statement.{statement}
 use Rattle.polyline.proofs.chords.is_straight.Tie as tie
 

@@ -2,7 +2,7 @@
 use mathlib.Core.Path.{ap}
 use native.Mathlib.Omega.{arith}
 use denote.Ref.{now}
-use Rattle.decimals.specs.Answers.{saidNumber}
+use Rattle.word_numbers.specs.Answers.{saidNumber}
 use Rattle.tables.proofs.Bits.{fitted}
 use Rattle.read_bodies.proofs.Steps as S
 use borrow.Author.Needs.{needs}

@@ -9,15 +9,6 @@ use Rattle.read_dispatch.proofs.Sorted.{family-step}
 use borrow.Author.Needs.{needs}
 use Rattle.read_dispatch.proofs.by_family.take_line.Statement.{statement}
 use Rattle.read_dispatch.proofs.by_family.take_line.Tie as tie
-use Rattle.read_dispatch.proofs.by_family.take_line.Reads as reads
-use Rattle.read_dispatch.proofs.by_family.take_line.Lts as lts
-use Rattle.read_element_lines.proofs.body_lines.body_line.Reads as body-line-reads
-use Rattle.read_element_lines.proofs.element_lines.element_line.Reads as element-line-reads
-use Rattle.read_body_lines.proofs.end_line.Reads as end-line-reads
-use Rattle.read_body_lines.proofs.loop_line.Reads as loop-line-reads
-use Rattle.read_body_lines.proofs.parm_line.Reads as parm-line-reads
-use Rattle.read_element_lines.proofs.setting_lines.setting_line.Reads as setting-line-reads
-use Rattle.read_vertex_lines.proofs.vertex_line.Reads as vertex-line-reads
 
 enum-known-family : tie.Need-enum-known-family
 enum-known-family c = search needs

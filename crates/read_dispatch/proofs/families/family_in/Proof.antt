@@ -3,8 +3,6 @@ use mathlib.Core.Path.{refl}
 use borrow.Author.Needs.{needs}
 use Rattle.read_dispatch.proofs.families.family_in.Statement.{statement}
 use Rattle.read_dispatch.proofs.families.family_in.Tie as tie
-use Rattle.read_dispatch.proofs.families.family_in.Reads as reads
-use Rattle.read_dispatch.proofs.families.family_in.Lts as lts
 
 enum-known-carried : tie.Need-enum-known-carried
 enum-known-carried c = search needs

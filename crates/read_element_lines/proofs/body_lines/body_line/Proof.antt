@@ -7,11 +7,6 @@ use Rattle.read_element_lines.proofs.SteppedBodies.{body-inside, body-f
 use borrow.Author.Needs.{needs}
 use Rattle.read_element_lines.proofs.body_lines.body_line.Statement.{statement}
 use Rattle.read_element_lines.proofs.body_lines.body_line.Tie as tie
-use Rattle.read_element_lines.proofs.body_lines.body_line.Reads as reads
-use Rattle.read_element_lines.proofs.body_lines.body_line.Lts as lts
-use Rattle.read_elements.proofs.body.take_body_line.Reads as take-body-line-reads
-use Rattle.read_element_lines.proofs.body_lines.one_body.Reads as one-body-reads
-use Rattle.read_element_lines.proofs.element_lines.countable.Reads as countable-reads
 
 returns : tie.Need-returns
 returns c =

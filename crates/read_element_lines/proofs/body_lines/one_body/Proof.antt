@@ -5,10 +5,6 @@ use Rattle.tables.specs.declared.Used.{Used}
 use borrow.Author.Needs.{needs}
 use Rattle.read_element_lines.proofs.body_lines.one_body.Statement.{statement}
 use Rattle.read_element_lines.proofs.body_lines.one_body.Tie as tie
-use Rattle.read_element_lines.proofs.body_lines.one_body.Reads as reads
-use Rattle.read_element_lines.proofs.body_lines.one_body.Lts as lts
-use Rattle.read_element_lines.proofs.body_lines.kind_of.Reads as kind-of-reads
-use Rattle.read_element_lines.proofs.element_lines.one_element.Reads as one-element-reads
 
 one-element-requires : tie.Need-one-element-requires
 one-element-requires c κs = search needs

@@ -3,8 +3,6 @@ use mathlib.Core.Path.{refl}
 use borrow.Author.Tests.{le-leb, lt-leb}
 use Rattle.read_element_lines.proofs.element_lines.countable.Statement.{statement}
 use Rattle.read_element_lines.proofs.element_lines.countable.Tie as tie
-use Rattle.read_element_lines.proofs.element_lines.countable.Reads as reads
-use Rattle.read_element_lines.proofs.element_lines.countable.Lts as lts
 
 returns : tie.Need-returns
 returns c = rw (lt-leb (c .before .before .args .used .corners) 50331648 (c .if1 .taken)) refl

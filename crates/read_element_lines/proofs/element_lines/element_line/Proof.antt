@@ -10,12 +10,6 @@ use Rattle.read_element_lines.proofs.SteppedElements.{element-inside, e
 use borrow.Author.Needs.{needs}
 use Rattle.read_element_lines.proofs.element_lines.element_line.Statement.{statement}
 use Rattle.read_element_lines.proofs.element_lines.element_line.Tie as tie
-use Rattle.read_element_lines.proofs.element_lines.element_line.Reads as reads
-use Rattle.read_element_lines.proofs.element_lines.element_line.Lts as lts
-use Rattle.read_elements.proofs.take_element.Reads as take-element-reads
-use Rattle.read_element_lines.proofs.element_lines.countable.Reads as countable-reads
-use Rattle.read_element_lines.proofs.element_lines.one_element.Reads as one-element-reads
-use Rattle.read_vertex_lines.proofs.with_used.Reads as with-used-reads
 
 returns : tie.Need-returns
 returns c =

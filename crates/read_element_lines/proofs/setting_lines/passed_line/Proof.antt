@@ -5,9 +5,6 @@ use Rattle.read_element_lines.proofs.Quiet.{passed-line, passed-bad}
 use borrow.Author.Needs.{needs}
 use Rattle.read_element_lines.proofs.setting_lines.passed_line.Statement.{statement}
 use Rattle.read_element_lines.proofs.setting_lines.passed_line.Tie as tie
-use Rattle.read_element_lines.proofs.setting_lines.passed_line.Reads as reads
-use Rattle.read_element_lines.proofs.setting_lines.passed_line.Lts as lts
-use Rattle.text.proofs.scan_line.Reads as scan-line-reads
 
 scan-line-requires : tie.Need-scan-line-requires
 scan-line-requires c κs = search needs

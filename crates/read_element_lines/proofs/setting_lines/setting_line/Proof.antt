@@ -5,16 +5,6 @@ use Rattle.read_element_lines.proofs.Quiet.{setting-inside, setting-is,
 use borrow.Author.Needs.{needs}
 use Rattle.read_element_lines.proofs.setting_lines.setting_line.Statement.{statement}
 use Rattle.read_element_lines.proofs.setting_lines.setting_line.Tie as tie
-use Rattle.read_element_lines.proofs.setting_lines.setting_line.Reads as reads
-use Rattle.read_element_lines.proofs.setting_lines.setting_line.Lts as lts
-use Rattle.read_element_lines.proofs.setting_lines.form_step.Reads as form-step-reads
-use Rattle.read_element_lines.proofs.setting_lines.names_step.Reads as names-step-reads
-use Rattle.read_element_lines.proofs.setting_lines.passed_line.Reads as passed-line-reads
-use Rattle.read_settings.proofs.take_degree.Reads as take-degree-reads
-use Rattle.read_settings.proofs.take_group.Reads as take-group-reads
-use Rattle.read_settings.proofs.take_material.Reads as take-material-reads
-use Rattle.read_settings.proofs.take_smoothing.Reads as take-smoothing-reads
-use Rattle.read_settings.proofs.take_type.Reads as take-type-reads
 
 returns : tie.Need-returns
 returns c = let a = c .before .before .before .before .args in setting-inside (now (a .text)) (a .at) (a .state) (a .setting) (c .if1 .taken)

@@ -1,5 +1,5 @@
 -- By the arm.
-use mathlib.Core.Path.{refl, ap, _∙_}
+use mathlib.Core.Path.{ap}
 use Rattle.read_word_checks.specs.declared.tests.Test.the-variants.{Form}
 use borrow.Author.Needs.{needs}
 use Rattle.read_word_checks.proofs.tests.test_at.Statement.{statement}

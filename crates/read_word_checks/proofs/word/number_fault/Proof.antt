@@ -3,7 +3,7 @@ use denote.Ref.{now}
 use lib.ListN.{drop}
 use Rattle.text.specs.Words.{wordOf}
 use Rattle.text.specs.Rest.{endOf}
-use Rattle.decimals.specs.Answers.{saidNumber}
+use Rattle.word_numbers.specs.Answers.{saidNumber}
 use Rattle.decimals.specs.Number.{numberOf}
 use Rattle.read_word_checks.proofs.Words.{told}
 use borrow.Author.Needs.{needs}

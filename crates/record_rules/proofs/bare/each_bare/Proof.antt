@@ -12,11 +12,11 @@ use Rattle.record_rules.proofs.bare.each_bare.Statement.{statement}
 use Rattle.record_rules.proofs.bare.each_bare.Tie as tie
 
 abbrev Inv-loop : tie.InvT-loop
-Inv-loop values used corners first count reach first' k₀ k =
+Inv-loop values used corners first count reach k₀ k =
     (k ≤ count) × (allBelow k (atBare values used corners first) ≡ true)
 
 abbrev μ-loop : tie.MeasureT-loop
-μ-loop values used corners first count reach first' k₀ k = count - k
+μ-loop values used corners first count reach k₀ k = count - k
 
 reach-requires : tie.Need-reach-requires Inv-loop μ-loop
 reach-requires c κs = search needs
@@ -24,51 +24,24 @@ reach-requires c κs = search needs
 loop-holds : tie.Need-loop-holds Inv-loop μ-loop
 loop-holds c = (omega arith, refl)
 
-mul-at : tie.Need-mul-at Inv-loop μ-loop
-mul-at c = omega arith
-
-add-at : tie.Need-add-at Inv-loop μ-loop
-add-at c = omega arith
-
-mul-bare-corner : tie.Need-mul-bare-corner Inv-loop μ-loop
-mul-bare-corner c = omega arith
-
-shared-slice-read-bare-corner : tie.Need-shared-slice-read-bare-corner Inv-loop μ-loop
-shared-slice-read-bare-corner c = omega arith
-
-add-bare-corner : tie.Need-add-bare-corner Inv-loop μ-loop
-add-bare-corner c = omega arith
-
-mul-bare-corner-2 : tie.Need-mul-bare-corner-2 Inv-loop μ-loop
-mul-bare-corner-2 c = omega arith
-
-shared-slice-read-bare-corner-2 : tie.Need-shared-slice-read-bare-corner-2 Inv-loop μ-loop
-shared-slice-read-bare-corner-2 c = omega arith
-
-add-bare-corner-2 : tie.Need-add-bare-corner-2 Inv-loop μ-loop
-add-bare-corner-2 c = omega arith
-
-mul-bare-corner-3 : tie.Need-mul-bare-corner-3 Inv-loop μ-loop
-mul-bare-corner-3 c = omega arith
-
-shared-slice-read-bare-corner-3 : tie.Need-shared-slice-read-bare-corner-3 Inv-loop μ-loop
-shared-slice-read-bare-corner-3 c = omega arith
+lent-corner-requires : tie.Need-lent-corner-requires Inv-loop μ-loop
+lent-corner-requires c κs = omega arith
 
 bare-corner-requires : tie.Need-bare-corner-requires Inv-loop μ-loop
 bare-corner-requires c κs = search needs
 
 -- the test's answer of the corner at hand
 here : (call : tie.After-bare-corner Inv-loop μ-loop) →
-    let turn = call .before .before .before .before .before in let s = turn .before .before .before .args in
+    let turn = call .before .before .before in let s = turn .before .before .before .args in
     call .bare-corner .result ≡ atBare (s .values .now) (s .used) (s .corners .now) (s .first) (turn .loop .k)
 here call =
-    let turn = call .before .before .before .before .before in
+    let turn = call .before .before .before in
     let s = turn .before .before .before .args in
-    bare-here (s .values .now) (s .used) (s .corners .now) (s .first) _ (turn .before .reach .ensures) (turn .loop .k) (call .bare-corner .ensures)
+    bare-here (s .values .now) (s .used) (s .corners .now) (s .first) _ (turn .before .reach .ensures) (turn .loop .k) (rw (call .before .lent-corner .ensures) at (call .bare-corner .ensures))
 
 returns : tie.Need-returns Inv-loop μ-loop
 returns c =
-    let turn = c .before .before .before .before .before .before in
+    let turn = c .before .before .before .before in
     let s = turn .before .before .before .args in
     sym (bare-fails (s .values .now) (s .used) (s .corners .now) (s .first) (s .count) (turn .loop .k) (omega arith) (failed (here (c .before)) (c .if1 .taken)))
 
@@ -80,7 +53,7 @@ loop-less c = omega arith
 
 loop-again : tie.Need-loop-again Inv-loop μ-loop
 loop-again c =
-    let turn = c .before .before .before .before .before .before in
+    let turn = c .before .before .before .before in
     let s = turn .before .before .before .args in
     (omega arith, below-more (atBare (s .values .now) (s .used) (s .corners .now) (s .first)) (turn .loop .k) (turn .loop .inv .1) (passed (here (c .before)) (c .if1 .left)))
 
@@ -98,16 +71,7 @@ each-bare-spec =
     μ-loop
     reach-requires
     loop-holds
-    mul-at
-    add-at
-    mul-bare-corner
-    shared-slice-read-bare-corner
-    add-bare-corner
-    mul-bare-corner-2
-    shared-slice-read-bare-corner-2
-    add-bare-corner-2
-    mul-bare-corner-3
-    shared-slice-read-bare-corner-3
+    lent-corner-requires
     bare-corner-requires
     returns
     add-k

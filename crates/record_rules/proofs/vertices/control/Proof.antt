@@ -1,6 +1,5 @@
 -- What the vertex's test says of its entries lends the read.
 use borrow.Author.Needs.{needs}
-use native.Mathlib.Nat.{add-zero}
 use Rattle.record_rules.specs.Vertices.{controlObeys}
 use Rattle.tables.proofs.Bits.{fitted}
 use Rattle.basis.proofs.Tests.{failed, passed}
@@ -20,24 +19,18 @@ returns c = let e = failed (c .before .parameter-vertex .ensures) (c .if1 .taken
 facts : (c : tie.Else1) → let s = c .before .before .args in Vertex 4 (s .values .now) (s .used) (s .number)
 facts c = let s = c .before .before .args in parameter-facts (s .values .now) (s .used) (s .number) (passed (c .before .parameter-vertex .ensures) (c .if1 .left))
 
-sub-at : tie.Need-sub-at
-sub-at c = omega (arith, facts c)
+sub-lent-parameter-vertex : tie.Need-sub-lent-parameter-vertex
+sub-lent-parameter-vertex c = omega (arith, facts c)
 
-mul-at : tie.Need-mul-at
-mul-at c = search needs
-
-mul-result : tie.Need-mul-result
-mul-result c = search needs
-
-shared-slice-copy-out-result : tie.Need-shared-slice-copy-out-result
-shared-slice-copy-out-result c = omega (arith, facts c)
+lent-parameter-vertex-requires : tie.Need-lent-parameter-vertex-requires
+lent-parameter-vertex-requires c κs = facts c .lent
 
 returns-2 : tie.Need-returns-2
 unfolding controlObeys
 returns-2 c =
-    let test = c .before in
-    let e = passed (test .before .parameter-vertex .ensures) (test .if1 .left) in
-    rw (e, fitted (c .result .given), add-zero)
+    let read = c .before .before in
+    let e = passed (read .before .before .parameter-vertex .ensures) (read .before .if1 .left) in
+    rw (e, fitted (c .struct-told .given .0 .1), read .lent-parameter-vertex .ensures)
 
 pub control-spec : {M : Type 1} → statement M
 control-spec =
@@ -45,8 +38,6 @@ control-spec =
     (tie.spec
     parameter-vertex-requires
     returns
-    sub-at
-    mul-at
-    mul-result
-    shared-slice-copy-out-result
+    sub-lent-parameter-vertex
+    lent-parameter-vertex-requires
     returns-2)

@@ -1,6 +1,5 @@
--- What the vertex's test says of its entries lends the reads.
+-- What the vertex's test says of its entries lends the read.
 use borrow.Author.Needs.{needs}
-use native.Mathlib.Nat.{add-zero}
 use Rattle.record_rules.specs.Vertices.{parameterVertexObeys}
 use Rattle.tables.proofs.Bits.{fitted}
 use Rattle.basis.proofs.Tests.{failed, passed}
@@ -20,35 +19,11 @@ returns c = let e = failed (c .before .vertex .ensures) (c .if1 .taken) in rw e
 facts : (c : tie.Else1) → let s = c .before .before .args in Vertex 4 (s .values .now) (s .used) (s .number)
 facts c = let s = c .before .before .args in vertex-facts 4 (s .values .now) (s .used) (s .number) (passed (c .before .vertex .ensures) (c .if1 .left))
 
-sub-at : tie.Need-sub-at
-sub-at c = omega (arith, facts (c))
+sub-lent-parameter-vertex : tie.Need-sub-lent-parameter-vertex
+sub-lent-parameter-vertex c = omega (arith, facts c)
 
-mul-at : tie.Need-mul-at
-mul-at c = search needs
-
-mul-given : tie.Need-mul-given
-mul-given c = search needs
-
-shared-slice-copy-out-given : tie.Need-shared-slice-copy-out-given
-shared-slice-copy-out-given c = omega (arith, facts (c))
-
-add-given : tie.Need-add-given
-add-given c = search needs
-
-mul-given-2 : tie.Need-mul-given-2
-mul-given-2 c = search needs
-
-shared-slice-copy-out-given-2 : tie.Need-shared-slice-copy-out-given-2
-shared-slice-copy-out-given-2 c = omega (arith, facts (c .before))
-
-add-given-2 : tie.Need-add-given-2
-add-given-2 c = search needs
-
-mul-given-3 : tie.Need-mul-given-3
-mul-given-3 c = search needs
-
-shared-slice-copy-out-given-3 : tie.Need-shared-slice-copy-out-given-3
-shared-slice-copy-out-given-3 c = omega (arith, facts (c .before .before))
+lent-parameter-vertex-requires : tie.Need-lent-parameter-vertex-requires
+lent-parameter-vertex-requires c κs = facts c .lent
 
 given-requires : tie.Need-given-requires
 given-requires c κs = search needs
@@ -59,9 +34,10 @@ returns-2 c =
     let third = c .before in
     let second = third .before in
     let first = second .before in
-    let e = passed (first .before .before .vertex .ensures) (first .before .if1 .left) in
-    rw (e, add-zero)
-    (rw (fitted (first .given-arg .given), fitted (second .given-arg2 .given), fitted (third .given-arg3 .given)) at (c .given .ensures))
+    let read = first .before in
+    let e = passed (read .before .before .vertex .ensures) (read .before .if1 .left) in
+    rw e
+    (rw (fitted (first .struct-told .given .0 .1), fitted (second .struct-told2 .given .1 .1 .0 .1), fitted (third .struct-told3 .given .1 .1 .1 .0 .1), read .lent-parameter-vertex .ensures) at (c .given .ensures))
 
 pub parameter-vertex-spec : {M : Type 1} → statement M
 parameter-vertex-spec =
@@ -69,15 +45,7 @@ parameter-vertex-spec =
     (tie.spec
     vertex-requires
     returns
-    sub-at
-    mul-at
-    mul-given
-    shared-slice-copy-out-given
-    add-given
-    mul-given-2
-    shared-slice-copy-out-given-2
-    add-given-2
-    mul-given-3
-    shared-slice-copy-out-given-3
+    sub-lent-parameter-vertex
+    lent-parameter-vertex-requires
     given-requires
     returns-2)

@@ -1,5 +1,5 @@
 -- By the two numbers.
-use mathlib.Core.Path.{refl, sym}
+use mathlib.Core.Path.{refl}
 use borrow.Author.Tests.{le-leb}
 use native.Mathlib.Omega.{arith}
 use Rattle.references.proofs.Corners.{some-number}

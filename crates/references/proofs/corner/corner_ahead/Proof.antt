@@ -1,5 +1,5 @@
 -- By the byte after the first part.
-use mathlib.Core.Path.{_≡_, subst}
+use mathlib.Core.Path.{subst}
 use native.Mathlib.Omega.{arith}
 use borrow.Author.Tests.{not-false}
 use denote.Ref.{now}
@@ -8,10 +8,6 @@ use Rattle.references.proofs.Ahead.{ahead, near, first-slash, first-end
 use borrow.Author.Needs.{needs}
 use Rattle.references.proofs.corner.corner_ahead.Statement.{statement}
 use Rattle.references.proofs.corner.corner_ahead.Tie as tie
-use Rattle.references.proofs.corner.refers.Reads as refers-reads
-use Rattle.references.proofs.corner.texture_ahead.Reads as texture-ahead-reads
-use Rattle.digits.proofs.byte_in.Reads as byte-in-reads
-use Rattle.digits.proofs.digits_upto.Reads as few-reads
 
 digits-upto-requires : tie.Need-digits-upto-requires
 digits-upto-requires c κs = search needs

@@ -1,5 +1,5 @@
 -- By the byte after the first part.
-use mathlib.Core.Path.{_∙_, sym, ap, subst}
+use mathlib.Core.Path.{_∙_, sym, subst}
 use denote.Ref.{now}
 use Rattle.references.specs.Straight.{partIs}
 use native.Mathlib.Omega.{arith}

@@ -1,5 +1,4 @@
 -- The digits refer to a normal, and a byte that ends a word follows them.
-use mathlib.Core.Path.{_≡_}
 use native.Mathlib.Omega.{arith}
 use borrow.Author.Tests.{not-false}
 use denote.Ref.{now}
@@ -7,9 +6,6 @@ use Rattle.references.proofs.Ahead.{ahead, near, normal-end}
 use borrow.Author.Needs.{needs}
 use Rattle.references.proofs.corner.normal_ahead.Statement.{statement}
 use Rattle.references.proofs.corner.normal_ahead.Tie as tie
-use Rattle.references.proofs.corner.refers.Reads as refers-reads
-use Rattle.digits.proofs.byte_in.Reads as byte-in-reads
-use Rattle.digits.proofs.digits_upto.Reads as few-reads
 
 returns : tie.Need-returns
 returns c = search needs

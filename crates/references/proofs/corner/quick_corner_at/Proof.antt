@@ -4,14 +4,12 @@ use denote.Ref.{now}
 use Rattle.text.specs.Words.{wordOf}
 use Rattle.text.specs.Rest.{endOf}
 use lib.ListN.{drop}
-use Rattle.digits.specs.Said.{ended}
+use Rattle.digits.specs.Answers.{ended}
 use Rattle.references.specs.Corner.{cornerOf}
 use Rattle.references.specs.Answers.{aheadIs}
 use borrow.Author.Needs.{needs}
 use Rattle.references.proofs.corner.quick_corner_at.Statement.{statement}
 use Rattle.references.proofs.corner.quick_corner_at.Tie as tie
-use Rattle.references.proofs.corner.corner_ahead.Reads as corner-ahead-reads
-use Rattle.references.proofs.corner.corner_at.Reads as corner-at-reads
 
 sub-if1 : tie.Need-sub-if1
 sub-if1 c = search needs

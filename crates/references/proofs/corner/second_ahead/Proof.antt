@@ -1,5 +1,5 @@
 -- A slash, or digits that refer to a texture vertex.
-use mathlib.Core.Path.{_≡_, refl, sym, _∙_}
+use mathlib.Core.Path.{refl, sym, _∙_}
 use mathlib.Core.Logic.{inl, inr}
 use native.Mathlib.Omega.{arith}
 use denote.Ref.{now}
@@ -7,9 +7,6 @@ use Rattle.references.proofs.Ahead.{ahead}
 use borrow.Author.Needs.{needs}
 use Rattle.references.proofs.corner.second_ahead.Statement.{statement}
 use Rattle.references.proofs.corner.second_ahead.Tie as tie
-use Rattle.references.proofs.corner.refers.Reads as refers-reads
-use Rattle.digits.proofs.byte_in.Reads as byte-in-reads
-use Rattle.digits.proofs.digits_upto.Reads as few-reads
 
 byte-in-requires : tie.Need-byte-in-requires
 byte-in-requires c κs = search needs

@@ -1,5 +1,5 @@
 -- By the byte after the second part.
-use mathlib.Core.Path.{_≡_, subst}
+use mathlib.Core.Path.{subst}
 use native.Mathlib.Omega.{arith}
 use borrow.Author.Tests.{not-false}
 use denote.Ref.{now}
@@ -9,9 +9,6 @@ use Rattle.references.proofs.Ahead.{second-near, second-slash, second-e
 use borrow.Author.Needs.{needs}
 use Rattle.references.proofs.corner.texture_ahead.Statement.{statement}
 use Rattle.references.proofs.corner.texture_ahead.Tie as tie
-use Rattle.references.proofs.corner.normal_ahead.Reads as normal-ahead-reads
-use Rattle.references.proofs.corner.second_ahead.Reads as second-ahead-reads
-use Rattle.digits.proofs.byte_in.Reads as byte-in-reads
 
 returns : tie.Need-returns
 returns c = search needs

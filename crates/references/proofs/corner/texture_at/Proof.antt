@@ -1,5 +1,5 @@
 -- By the byte after the slash and the byte after the second part.
-use mathlib.Core.Path.{_∙_, sym, ap, subst}
+use mathlib.Core.Path.{_∙_, sym, subst}
 use borrow.Author.Tests.{not-true, not-false}
 use denote.Ref.{now}
 use Rattle.references.specs.Straight.{partIs}

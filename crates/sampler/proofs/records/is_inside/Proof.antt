@@ -1,7 +1,7 @@
 -- Each test is one of the definition's two, the first read from the other side.
 use mathlib.Core.Path.{refl}
 use mir.Facts.{toZ-ofZ}
-use Rattle.basis.proofs.Order.{lt-no-le, no-lt-le}
+use Rattle.parameter_order.proofs.Comparing.{lt-no-le, no-lt-le}
 use Rattle.sampler.proofs.records.is_inside.Statement.{statement}
 use Rattle.sampler.proofs.records.is_inside.Tie as tie
 

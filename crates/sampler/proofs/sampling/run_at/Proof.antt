@@ -14,7 +14,7 @@ use Rattle.tables.specs.Tables.{Tables, tables}
 use Rattle.tables.specs.declared.Body.{Body}
 use Rattle.tables.specs.declared.Element.{Element}
 use Rattle.tables.proofs.Bits.{fitted}
-use Rattle.point_runs.specs.Runs.{axesBy}
+use Rattle.point_runs.specs.Inner.{axesBy}
 use Rattle.sampler.specs.Points.{axesOf, runNumbers}
 use Rattle.sampler.specs.Sampling.{Curved}
 use Rattle.sampler.specs.declared.RunResult.the-variants as ran

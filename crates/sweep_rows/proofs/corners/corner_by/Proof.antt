@@ -2,7 +2,7 @@ use Rattle.sweep_rows.proofs.Renumbering.{corner-of}
 use Prim.Native.Nat.{ℕ}
 -- Each number by its own lookup.
 use mathlib.Core.Path.{_∙_, ap}
-use Rattle.sweep_rows.specs.Marks.{numberListed, cornerBy}
+use Rattle.sweep_marks.specs.Marks.{numberListed, cornerBy}
 use borrow.Author.Needs.{needs}
 use Rattle.sweep_rows.proofs.corners.corner_by.Statement.{statement}
 use Rattle.sweep_rows.proofs.corners.corner_by.Tie as tie

@@ -3,7 +3,6 @@ use Rattle.sweep_rows.proofs.Renumbering.{RunsRenumbered, runs-none, ru
 use Prim.Native.Nat.{_-_}
 use native.Mathlib.Omega.{arith}
 use denote.Ref.{now}
-use mathlib.Core.Path.{ap, _∙_}
 use borrow.Author.Needs.{needs}
 use Rattle.sweep_rows.proofs.corners.renumber.Statement.{statement}
 use Rattle.sweep_rows.proofs.corners.renumber.Tie as tie

@@ -1,5 +1,6 @@
 -- All numbers as one run.
 use mathlib.Core.Path.{_∙_}
+use native.Mathlib.Omega.{arith}
 use Rattle.tables.proofs.Asked.{product}
 use Rattle.table_rules.proofs.AllNumbers.{numbers-are}
 use borrow.Author.Needs.{needs}
@@ -7,7 +8,7 @@ use Rattle.table_rules.proofs.vertices.numbers_obey.Statement.{statemen
 use Rattle.table_rules.proofs.vertices.numbers_obey.Tie as tie
 
 mul-run-in-range : tie.Need-mul-run-in-range
-mul-run-in-range c = record { fits = product (c .fits .width .fits) (c .fits .used .fits) }
+mul-run-in-range c = record { fits = product (omega arith) (c .fits .used .fits) }
 
 run-in-range-requires : tie.Need-run-in-range-requires
 run-in-range-requires c κs = search needs

@@ -14,9 +14,6 @@ parameter-lines-requires c κs = search needs
 cast-first : tie.Need-cast-first
 cast-first c = search needs
 
-mul-first : tie.Need-mul-first
-mul-first c = search needs
-
 loop-lines-requires : tie.Need-loop-lines-requires
 loop-lines-requires c κs = search needs
 
@@ -42,7 +39,6 @@ closing-lines-spec =
     (tie.spec
     parameter-lines-requires
     cast-first
-    mul-first
     loop-lines-requires
     emit-keyword-requires
     emit-byte-requires

@@ -4,7 +4,8 @@ use Prim.Native.Nat.{_+_, _*_, _<_, _≤_}
 use mathlib.Core.Path.{_≡_}
 use native.Mathlib.Omega.{arith}
 use denote.Ref.{now}
-use lib.ListN.{getD, drop}
+use lib.ListN.{drop}
+use Rattle.tables.specs.Records.{loopWidth, spanWidth}
 use Rattle.tidy_words.specs.Emitting.{spaced}
 use Rattle.tidy_writer.specs.Rows.{goingOn}
 use Rattle.tidy_words.proofs.Emissions.{Left, left-start, left-turn, left-ends}
@@ -14,30 +15,35 @@ use Rattle.tidy_writer.proofs.loops.emit_going_on.Tie as tie
 
 abbrev Inv-loop : tie.InvT-loop
 Inv-loop loops spans first count out₀ at i₀ left₀ end₀ out i left end =
-    Left at (spaced (goingOn count (drop first loops) (drop first spans))) out₀ end (spaced (goingOn left (drop i loops) (drop i spans))) out
-    × (i + 2 * left ≤ first + 2 * count)
+    Left at (spaced (goingOn count (drop (loopWidth * first) loops) (drop (spanWidth * first) spans))) out₀ end (spaced (goingOn left (drop (loopWidth * i) loops) (drop (spanWidth * i) spans))) out
+    × (i + left ≤ first + count)
 
 abbrev μ-loop : tie.MeasureT-loop
 μ-loop loops spans first count out₀ at i₀ left₀ end₀ out i left end = left
 
 loop-holds : tie.Need-loop-holds Inv-loop μ-loop
-loop-holds c = let a = c .before .before .args in (left-start (a .at) (spaced (goingOn (a .count) (drop (a .first) (now (a .loops))) (drop (a .first) (now (a .spans))))) (now (a .out)) (c .before .before .pre .0), omega arith)
+loop-holds c =
+    let s = c .before .before in
+    let a = s .args in
+    (left-start (a .at) (spaced (goingOn (a .count) (drop (loopWidth * a .first) (now (a .loops))) (drop (spanWidth * a .first) (now (a .spans))))) (now (a .out)) (s .pre .0), omega arith)
 
-number-in-requires : tie.Need-number-in-requires Inv-loop μ-loop
-number-in-requires c κs = search needs
+part-at-requires : tie.Need-part-at-requires Inv-loop μ-loop
+part-at-requires c κs = omega arith
 
 same-length : tie.Need-same-length Inv-loop μ-loop
-same-length c = c .before .before .before .loop .inv .0 .same
+same-length c = c .before .before .before .before .loop .inv .0 .same
 
 returns : tie.Need-returns Inv-loop μ-loop
 returns c =
-    let a = c .before .before .before .before .before .before .args in
-    let l = c .before .before .before .loop in
-    let h : 0 < getD (now (a .loops)) (l .i) 0 = omega (arith, c .before .number-in .ensures) in
-    left-ends (l .inv .0) (going-stops (now (a .loops)) (now (a .spans)) (l .i) (l .left) h)
+    let part = c .before .before .part-at in
+    let turn = c .before .before .before .before in
+    let a = turn .before .before .before .args in
+    let l = turn .loop in
+    let h : 0 < part .result .begins = omega arith in
+    left-ends (l .inv .0) (going-stops (now (a .loops)) (now (a .spans)) (l .i) (part .result) (part .ensures) (l .left) h)
 
 emit-part-requires : tie.Need-emit-part-requires Inv-loop μ-loop
-emit-part-requires c κs = omega arith
+emit-part-requires c κs = search needs
 
 add-i : tie.Need-add-i Inv-loop μ-loop
 add-i c = omega arith
@@ -50,11 +56,13 @@ loop-less c = omega arith
 
 loop-again : tie.Need-loop-again Inv-loop μ-loop
 loop-again c =
-    let a = c .before .before .before .before .before .before .before .before .before .before .args in
-    let l = c .before .before .before .before .before .before .before .loop in
+    let part = c .before .before .before .before .before .before .part-at in
+    let turn = c .before .before .before .before .before .before .before .before in
+    let a = turn .before .before .before .args in
+    let l = turn .loop in
     let h : 0 < l .left = omega arith in
-    let z : getD (now (a .loops)) (l .i) 0 ≡ 0 = omega (arith, c .before .before .before .before .before .number-in .ensures) in
-    (left-turn (l .inv .0) (going-turn (now (a .loops)) (now (a .spans)) (l .i) (l .left) h z) (c .before .before .emit-part .ensures), omega arith)
+    let z : part .result .begins ≡ 0 = omega arith in
+    (left-turn (l .inv .0) (going-turn (now (a .loops)) (now (a .spans)) (l .i) (part .result) (part .ensures) (l .left) h z) (c .before .before .emit-part .ensures), omega arith)
 
 same-length-2 : tie.Need-same-length-2 Inv-loop μ-loop
 same-length-2 c = c .before .loop .inv .0 .same
@@ -63,7 +71,7 @@ returns-2 : tie.Need-returns-2 Inv-loop μ-loop
 returns-2 c =
     let a = c .before .before .before .before .args in
     let l = c .before .loop in
-    left-ends (l .inv .0) (going-none (drop (l .i) (now (a .loops))) (drop (l .i) (now (a .spans))) (l .left) (omega arith))
+    left-ends (l .inv .0) (going-none (drop (loopWidth * l .i) (now (a .loops))) (drop (spanWidth * l .i) (now (a .spans))) (l .left) (omega arith))
 
 pub emit-going-on-spec : {M : Type 1} → statement M
 emit-going-on-spec =
@@ -72,7 +80,7 @@ emit-going-on-spec =
     Inv-loop
     μ-loop
     loop-holds
-    number-in-requires
+    part-at-requires
     same-length
     returns
     emit-part-requires

@@ -4,6 +4,7 @@ use mathlib.Core.Path.{_≡_}
 use native.Mathlib.Omega.{arith}
 use denote.Ref.{now}
 use lib.ListN.{drop}
+use Rattle.tables.specs.Records.{loopWidth, spanWidth}
 use Rattle.text.specs.Written.{writtenLines}
 use Rattle.tidy_writer.specs.Rows.{loopLines}
 use Rattle.tidy_words.proofs.Emissions.{Left, left-start, left-turn, left-ends}
@@ -13,14 +14,14 @@ use Rattle.tidy_writer.proofs.loops.loop_lines.Tie as tie
 
 abbrev Inv-loop : tie.InvT-loop
 Inv-loop table loops spans first count out₀ at i₀ left₀ end₀ out i left end =
-    Left at (writtenLines (loopLines count (drop first loops) (drop first spans))) out₀ end (writtenLines (loopLines left (drop i loops) (drop i spans))) out
-    × (i + 2 * left ≤ first + 2 * count)
+    Left at (writtenLines (loopLines count (drop (loopWidth * first) loops) (drop (spanWidth * first) spans))) out₀ end (writtenLines (loopLines left (drop (loopWidth * i) loops) (drop (spanWidth * i) spans))) out
+    × (i + left ≤ first + count)
 
 abbrev μ-loop : tie.MeasureT-loop
 μ-loop table loops spans first count out₀ at i₀ left₀ end₀ out i left end = left
 
 loop-holds : tie.Need-loop-holds Inv-loop μ-loop
-loop-holds c = let a = c .before .before .args in (left-start (a .at) (writtenLines (loopLines (a .count) (drop (a .first) (now (a .loops))) (drop (a .first) (now (a .spans))))) (now (a .out)) (c .before .before .pre .1 .0), omega arith)
+loop-holds c = let a = c .before .before .args in (left-start (a .at) (writtenLines (loopLines (a .count) (drop (loopWidth * a .first) (now (a .loops))) (drop (spanWidth * a .first) (now (a .spans))))) (now (a .out)) (c .before .before .pre .1 .0), omega arith)
 
 sub-left : tie.Need-sub-left Inv-loop μ-loop
 sub-left c = omega arith
@@ -48,7 +49,7 @@ returns : tie.Need-returns Inv-loop μ-loop
 returns c =
     let a = c .before .before .before .before .args in
     let l = c .before .loop in
-    left-ends (l .inv .0) (loops-none (drop (l .i) (now (a .loops))) (drop (l .i) (now (a .spans))) (l .left) (omega arith))
+    left-ends (l .inv .0) (loops-none (drop (loopWidth * l .i) (now (a .loops))) (drop (spanWidth * l .i) (now (a .spans))) (l .left) (omega arith))
 
 pub loop-lines-spec : {M : Type 1} → statement M
 loop-lines-spec =

@@ -1,0 +1,44 @@
+-- Where a part of the text stands, and that its bytes are the part: by the one test, whether its end is within the text.
+use Prim.Native.Nat.{ℕ, _+_, _≤_, _<_}
+use mathlib.Core.Path.{_≡_, refl, ap, _∙_}
+use mathlib.Core.List.{List, []}
+use mathlib.Core.Bool.{Bool, true, false, cond}
+use borrow.Author.Tests.{le-leb, lt-leb}
+use lib.Dec.{leb}
+use lib.ListN.{length, take, drop}
+use Rattle.tables.specs.Asking.{askedElement, partOf, askedGroup, askedMaterial}
+use Rattle.tables.specs.declared.Used.{Used}
+use Rattle.tables.specs.declared.Element.{Element}
+use Rattle.c_tables.specs.Parts.{part, partIn, groupIn, materialIn, bytesIn}
+use Rattle.c_tables.specs.declared.Part.{Part}
+
+bytes-by : (text : List ℕ) (place count : ℕ) (b : Bool) → bytesIn text (cond b (part place count) (part 0 0)) ≡ cond b (take count (drop place text)) []
+bytes-by text place count true = refl
+bytes-by text place count false = refl
+
+module _ (text : List ℕ) (place count : ℕ) where
+  pub part-there : place + count ≤ length text → part place count ≡ partIn text place count
+  unfolding partIn
+  part-there h = rw (le-leb (place + count) (length text) h) refl
+
+  pub part-past : length text < place + count → part 0 0 ≡ partIn text place count
+  unfolding partIn
+  part-past h = rw (lt-leb (place + count) (length text) h) refl
+
+  bytes-in : bytesIn text (partIn text place count) ≡ partOf text place count
+  unfolding partIn partOf
+  bytes-in = bytes-by text place count (leb (place + count) (length text))
+
+-- an element's record e, and the answer r that was made of it
+module _ (text : List ℕ) (used : Used) (elements : List ℕ) (number : ℕ) {e : Element} {r : Part} (p : e ≡ askedElement used elements number) where
+  pub group-placed : r ≡ partIn text (e .«group_place») (e .«group_length») → (r ≡ groupIn text used elements number) × (bytesIn text r ≡ askedGroup text used elements number)
+  unfolding groupIn askedGroup
+  group-placed q =
+      let at : r ≡ partIn text (askedElement used elements number .«group_place») (askedElement used elements number .«group_length») = q ∙ ap (λ (e : Element). partIn text (e .«group_place») (e .«group_length»)) p in
+      (at, ap (λ (r : Part). bytesIn text r) at ∙ bytes-in text _ _)
+
+  pub material-placed : r ≡ partIn text (e .«material_place») (e .«material_length») → (r ≡ materialIn text used elements number) × (bytesIn text r ≡ askedMaterial text used elements number)
+  unfolding materialIn askedMaterial
+  material-placed q =
+      let at : r ≡ partIn text (askedElement used elements number .«material_place») (askedElement used elements number .«material_length») = q ∙ ap (λ (e : Element). partIn text (e .«material_place») (e .«material_length»)) p in
+      (at, ap (λ (r : Part). bytesIn text r) at ∙ bytes-in text _ _)

@@ -1,0 +1,30 @@
+// What C and Rust ask of the tables: an element and a body as records of numbers, the element of a curv2's number, and where a name stands.
+ghost use mathlib.Core.Path.{_≡_};
+ghost use Rattle.c_tables.specs.Parts.{partIn};
+
+pub mod curve_numbers;
+pub mod records;
+
+// A part of the caller's text; its length is 0 for none.
+#[repr(C)]
+pub struct Part {
+    pub place: usize,
+    pub length: usize,
+}
+
+pub fn part_of(text: &[u8], place: u32, count: u32) -> Part
+    ensures { λ r. ⌜ r ≡ partIn (now (text .entry)) place count ⌝ }
+{
+    let from = place as usize;
+    let many = count as usize;
+    if from + many <= text.len() {
+        return Part {
+            place: from,
+            length: many,
+        };
+    }
+    Part {
+        place: 0,
+        length: 0,
+    }
+}

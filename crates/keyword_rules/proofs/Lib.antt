@@ -1,0 +1,2 @@
+mod FormLimits
+mod Rows

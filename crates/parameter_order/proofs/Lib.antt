@@ -1,0 +1,3 @@
+pub mod Comparing
+mod Stepped
+mod Walks

@@ -1,0 +1,3 @@
+pub mod Middle
+mod Sizes
+mod Examples

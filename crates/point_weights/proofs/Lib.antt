@@ -1,0 +1,3 @@
+pub mod Machine
+mod Table
+pub mod Sums

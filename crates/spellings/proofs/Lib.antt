@@ -1,0 +1,5 @@
+pub mod Compare
+pub mod Walk
+pub mod Rows
+pub mod Spellings
+pub mod Write

@@ -1,0 +1,92 @@
+-- Tables of spellings: what a word finds in one, and how the code lays one out.
+use Prim.Native.Nat.{ℕ, zero, suc, _+_, _-_, _≤_, _<_}
+use mathlib.Core.Path.{_≡_}
+use mathlib.Core.Logic.{_↔_}
+use Prim.Native.Char.{code}
+use Prim.Native.String.{String, [] as empty, _∷_ as _then_}
+use mathlib.Core.List.{List, [], _∷_, _++_}
+use mathlib.Core.Bool.{Bool, true, false, cond, _&&_}
+use lib.ListN.{length, drop, getD, replicate}
+use lib.Dec.{eqb, leb, ltb}
+use Rattle.lists.specs.Lists.{same}
+use Rattle.text.specs.Bytes.{isWord}
+use Rattle.text.specs.Words.{wordOf}
+use Rattle.spellings.specs.declared.Found.{Found}
+
+-- a spelling's bytes
+abbrev pub bytes : String → List ℕ
+bytes empty = []
+bytes (c then cs) = code c ∷ bytes cs
+
+pub record Row (K : Type 0) : Type 0 where
+  pub spelling : String
+  pub kind : K
+
+-- the number of the row that the word w finds, from 0: the first that is spelled so, byte by byte; where none is, how many rows there are
+abbrev pub rowOf : {K : Type 0} → List (Row K) → List ℕ → ℕ
+rowOf [] w = 0
+rowOf (r ∷ rs) w = cond (same w (bytes (r .spelling))) 0 (suc (rowOf rs w))
+
+-- the spelling of row i
+abbrev pub spellingAt : {K : Type 0} → List (Row K) → ℕ → List ℕ
+spellingAt [] i = []
+spellingAt (r ∷ rs) zero = bytes (r .spelling)
+spellingAt (r ∷ rs) (suc i) = spellingAt rs i
+
+-- what is written of w into n bytes: all of it, or nothing
+abbrev pub fitting : ℕ → List ℕ → List ℕ
+fitting n w = cond (leb (length w) n) w []
+
+-- the kind of row i; other where there is none
+abbrev pub kindAt : {K : Type 0} → K → List (Row K) → ℕ → K
+kindAt other [] i = other
+kindAt other (r ∷ rs) zero = r .kind
+kindAt other (r ∷ rs) (suc i) = kindAt other rs i
+
+-- 02, Q-4, of the number n that a lookup answers for the word w: it finds "a row exactly when it is that row's spelling", and none exactly when it is no
+-- row's; that "no two rows share one" follows, since n is one number
+pub record Finds {K : Type 0} (rs : List (Row K)) (w : List ℕ) (n : ℕ) : Type 0 where
+  pub within : n ≤ length rs
+  pub exactly : (i : ℕ) → i < length rs → (n ≡ i) ↔ (w ≡ spellingAt rs i)
+  pub nothing : (n ≡ length rs) ↔ ((i : ℕ) → i < length rs → w ≡ spellingAt rs i → ⊥)
+
+-- what the word w at the place at finds: its row, and where the word ends; where it finds none, its place stands for its end
+abbrev pub foundBy : {K : Type 0} → List (Row K) → List ℕ → ℕ → Found
+foundBy rs w at = record { row = rowOf rs w; end = cond (ltb (rowOf rs w) (length rs)) (at + length w) at }
+
+-- the kind whose letter in the code's table is k
+abbrev pub kindBy : {K : Type 0} → (K → ℕ) → K → List (Row K) → ℕ → K
+kindBy letter other [] k = other
+kindBy letter other (r ∷ rs) k = cond (eqb k (letter (r .kind))) (r .kind) (kindBy letter other rs k)
+
+-- the bytes of the first row of the kind whose letter is k
+abbrev pub spellingOf : {K : Type 0} → (K → ℕ) → List (Row K) → ℕ → List ℕ
+spellingOf letter [] k = []
+spellingOf letter (r ∷ rs) k = cond (eqb k (letter (r .kind))) (bytes (r .spelling)) (spellingOf letter rs k)
+
+-- a row in the code: its spelling, blanks up to eleven bytes, the letter of its kind
+abbrev pub line : {K : Type 0} → (K → ℕ) → Row K → List ℕ
+line letter r = bytes (r .spelling) ++ (replicate (11 - length (bytes (r .spelling))) 32 ++ (letter (r .kind) ∷ []))
+
+-- the number of the first of n rows of the bytes t that the word w is the spelling of; n where there is none
+abbrev pub rowIn : ℕ → List ℕ → List ℕ → ℕ
+rowIn zero t w = 0
+rowIn (suc n) t w = cond (same w (wordOf t)) 0 (suc (rowIn n (drop 12 t) w))
+
+abbrev pub foundIn : ℕ → List ℕ → List ℕ → ℕ → Found
+foundIn n t w at = record { row = rowIn n t w; end = cond (ltb (rowIn n t w) n) (at + length w) at }
+
+-- the spelling of the first of n rows of the bytes t whose letter is k
+abbrev pub letteredIn : ℕ → List ℕ → ℕ → List ℕ
+letteredIn zero t k = []
+letteredIn (suc n) t k = cond (eqb k (getD t 11 0)) (wordOf t) (letteredIn n (drop 12 t) k)
+
+-- a word byte at the front
+abbrev pub wordAhead : List ℕ → Bool
+wordAhead [] = false
+wordAhead (b ∷ bs) = isWord b
+
+-- each of n rows of the bytes t begins with a word byte
+abbrev pub aheadIn : ℕ → List ℕ → Bool
+aheadIn zero t = true
+aheadIn (suc n) t = wordAhead t && aheadIn n (drop 12 t)

@@ -1,0 +1,4 @@
+pub mod Counting
+pub mod FlatBelow
+pub mod Marking
+pub mod Numbering
