@@ -18,15 +18,6 @@ ROOT = Path(__file__).resolve().parent.parent
 CRATES = ROOT / "crates"
 HEAD = re.compile(r"^(?:(?:abbrev|unfoldable|opaque|pub)\s+)*(?:(record|data|module)\s+)?(«[^»]+»|[^\s(){}:,;]+)")
 MARK = "-- Must be believed: a promise reaches every definition of this file."
-# Files that still hold other definitions beside them: they have no mark.
-MIXED = {
-    "keywords: Arguments",
-    "keywords: Keywords",
-    "spellings: Rows",
-    "point_rows: Places",
-    "sampler: Answers",
-    "statements: Rules",
-}
 # Entry points that the table of demand 1 does not list.
 FUNCTIONS = {
     "tidy_output/src/lib.rt": "tidy_output",
@@ -216,15 +207,14 @@ def wrongly_marked():
     """Each file of specs/ that lacks the mark, has it without being reached, or has it and holds more than what is reached."""
     reached = {file: rest for file, _, rest in counted()}
     for file in sorted(CRATES.glob("*/specs/**/*.antt")):
-        wanted = file in reached and named(file) not in MIXED
-        if marked(file) != wanted:
+        if marked(file) != (file in reached):
             yield file, "has the mark of what must be believed, and no promise reaches it" if marked(file) else "lacks the mark of what must be believed"
-        elif bool(reached.get(file)) != (named(file) in MIXED):
-            yield file, f"no promise reaches {', '.join(reached[file])}" if reached.get(file) else "no longer holds more than what must be believed"
+        elif reached.get(file):
+            yield file, f"no promise reaches {', '.join(reached[file])}"
 
 
 def mark():
-    reached = {file for file, _, rest in counted() if named(file) not in MIXED}
+    reached = {file for file, _, _ in counted()}
     for file in sorted(CRATES.glob("*/specs/**/*.antt")):
         text = file.read_text(encoding="utf-8").removeprefix(MARK + "\n")
         file.write_text(f"{MARK}\n{text}" if file in reached else text, encoding="utf-8")

@@ -3,7 +3,7 @@ use crate::word_ends;
 ghost use mathlib.Core.Path.{_≡_};
 ghost use Prim.Native.Nat.{_≤_, _<_};
 ghost use lib.ListN.{length, drop};
-ghost use Rattle.keywords.specs.Arguments.{argumentTable};
+ghost use Rattle.keywords.specs.Lookup.{argumentTable};
 ghost use Rattle.text.specs.Words.{wordOf};
 ghost use Rattle.text.specs.Rest.{endOf};
 ghost use Rattle.digits.specs.Degree.{degreeOf, smoothingOf};

@@ -5,7 +5,8 @@ use mathlib.Core.List.{List}
 use lib.IntN.{ℤ}
 use lib.ListN.{drop}
 use Rattle.text.specs.Words.{wordOf}
-use Rattle.keywords.specs.Keywords.{keywordAt, statementOf}
+use Rattle.keywords.specs.Keywords.{statementOf}
+use Rattle.keywords.specs.Lookup.{keywordAt}
 use Rattle.keywords.specs.declared.Keyword.{Keyword}
 use Rattle.statements.specs.declared.Carried.{Carried}
 use Rattle.statements.specs.Rules.{rulesOf, formBy, fewestBy, mostBy}

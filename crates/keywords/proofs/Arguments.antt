@@ -12,8 +12,10 @@ use Rattle.lists.proofs.Tests.{test}
 use Rattle.lists.proofs.Laws.{same-eq}
 use Rattle.text.specs.Words.{wordOf}
 use Rattle.text.specs.Rest.{endOf}
-use Rattle.spellings.specs.Rows.{kindAt, foundBy, letteredIn}
-use Rattle.keywords.specs.Arguments.{signOf, ofSign, arguments, argumentTable, argumentOf, argumentAt, argumentBytes}
+use Rattle.spellings.specs.Rows.{kindAt, foundBy}
+use Rattle.spellings.specs.Lookup.{letteredIn}
+use Rattle.keywords.specs.Arguments.{signOf, arguments, argumentOf, argumentBytes}
+use Rattle.keywords.specs.Lookup.{ofSign, argumentTable, argumentAt}
 use Rattle.spellings.specs.declared.Found.{Found}
 use Rattle.keywords.specs.declared.Argument.{Argument}
 use Rattle.keywords.specs.declared.Argument.the-variants.{Rational, BasisMatrix, Bezier, Bspline, Cardinal, Taylor, DirectionU, DirectionV, Off, Other}

@@ -8,8 +8,10 @@ use lib.ListN.{length, drop, getD}
 use lib.Dec.{eqb}
 use Rattle.text.specs.Words.{wordOf}
 use Rattle.text.specs.Rest.{endOf}
-use Rattle.spellings.specs.Rows.{rowOf, kindAt, foundBy, letteredIn}
-use Rattle.keywords.specs.Keywords.{letterOf, ofLetter, keywords, keywordTable, statementOf, keywordAt, keywordOf}
+use Rattle.spellings.specs.Rows.{rowOf, kindAt, foundBy}
+use Rattle.spellings.specs.Lookup.{letteredIn}
+use Rattle.keywords.specs.Keywords.{letterOf, keywords, statementOf, keywordOf}
+use Rattle.keywords.specs.Lookup.{ofLetter, keywordTable, keywordAt}
 use Rattle.spellings.specs.declared.Found.{Found}
 use Rattle.keywords.specs.declared.Keyword.{Keyword}
 use Rattle.statements.specs.declared.VertexKind.the-variants.{Geometric, Texture, Normal, Parametric}

@@ -1,3 +1,4 @@
+-- Must be believed: a promise reaches every definition of this file.
 -- The words after a keyword that have a fixed spelling: cstype's rat and types, the directions of parm, smoothing's off, as 000 comes to them.
 use Prim.Native.Nat.{ℕ}
 use Prim.Native.String.{String}
@@ -7,7 +8,8 @@ use lib.ListN.{drop}
 use lib.Dec.{eqb}
 use Rattle.lists.specs.Lists.{flat}
 use Rattle.text.specs.Words.{wordOf}
-use Rattle.spellings.specs.Rows.{Row, rowOf, kindAt, kindBy, spellingOf, line}
+use Rattle.spellings.specs.Rows.{Row, rowOf, kindAt, spellingOf}
+use Rattle.spellings.specs.Lookup.{kindBy, line}
 use Rattle.keywords.specs.declared.Argument.{Argument}
 use Rattle.keywords.specs.declared.Argument.the-variants.{Rational, BasisMatrix, Bezier, Bspline, Cardinal, Taylor, DirectionU, DirectionV, Off, Other}
 
@@ -41,21 +43,9 @@ arguments =
     ∷ row "off" Off
     ∷ []
 
--- the kind that a letter of the code's table stands for
-unfoldable pub ofSign : ℕ → Argument
-ofSign = kindBy signOf Other arguments
-
--- the code's table
-unfoldable pub argumentTable : List ℕ
-argumentTable = flat (line signOf) arguments
-
 unfoldable pub argumentOf : List ℕ → Argument
 argumentOf w = kindAt Other arguments (rowOf arguments w)
 
 -- the bytes that an argument is written with
 unfoldable pub argumentBytes : Argument → List ℕ
 argumentBytes k = spellingOf signOf arguments (signOf k)
-
--- the argument that the word at a place is
-unfoldable pub argumentAt : List ℕ → ℕ → Argument
-argumentAt s at = argumentOf (wordOf (drop at s))

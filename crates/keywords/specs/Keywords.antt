@@ -1,3 +1,4 @@
+-- Must be believed: a promise reaches every definition of this file.
 -- 01, "What the box carries": the keywords of its three lists. They stand in the order of 000's "File structure", and then as 000 comes to them.
 use Prim.Native.Nat.{ℕ}
 use Prim.Native.String.{String}
@@ -8,7 +9,8 @@ use lib.Dec.{eqb}
 use Rattle.lists.specs.Lists.{flat}
 use Rattle.text.specs.Words.{wordOf}
 use Rattle.text.specs.Rest.{endOf}
-use Rattle.spellings.specs.Rows.{Row, rowOf, kindAt, kindBy, spellingOf, line, foundBy}
+use Rattle.spellings.specs.Rows.{Row, rowOf, kindAt, spellingOf, foundBy}
+use Rattle.spellings.specs.Lookup.{kindBy, line}
 use Rattle.keywords.specs.declared.Keyword.{Keyword}
 use Rattle.statements.specs.declared.VertexKind.the-variants.{Geometric, Texture, Normal, Parametric}
 use Rattle.statements.specs.declared.Shape.the-variants.{Point, Line, Face}
@@ -98,14 +100,6 @@ keywords =
     ∷ row "res" Refused
     ∷ []
 
--- the kind that a letter of the code's table stands for
-unfoldable pub ofLetter : ℕ → Statement
-ofLetter = kindBy letterOf Unknown keywords
-
--- the code's table
-unfoldable pub keywordTable : List ℕ
-keywordTable = flat (line letterOf) keywords
-
 -- "keyword unknown" where no row is spelled so
 unfoldable pub statementOf : List ℕ → Statement
 statementOf w = kindAt Unknown keywords (rowOf keywords w)
@@ -113,11 +107,3 @@ statementOf w = kindAt Unknown keywords (rowOf keywords w)
 -- the bytes that a statement's keyword is written with
 unfoldable pub keywordOf : carried.Carried → List ℕ
 keywordOf k = spellingOf letterOf keywords (letterOf (Carried k))
-
--- the statement of the word at a place and where the word ends; an unknown word's end is not looked for, and its place stands for it
-unfoldable pub keywordAt : List ℕ → ℕ → Keyword
-keywordAt s at =
-    record {
-      statement = statementOf (wordOf (drop at s));
-      end = cond (eqb (letterOf (statementOf (wordOf (drop at s)))) 32) at (endOf s at);
-    }

@@ -1,2 +1,3 @@
 pub mod Keywords
+pub mod Lookup
 pub mod Arguments

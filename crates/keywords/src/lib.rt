@@ -20,8 +20,9 @@ ghost use Rattle.lists.specs.Lists.{same};
 ghost use Rattle.text.specs.Words.{wordOf};
 ghost use Rattle.text.specs.Rest.{endOf};
 ghost use Rattle.spellings.specs.Rows.{Finds, foundBy, spellingAt, fitting};
-ghost use Rattle.keywords.specs.Keywords.{keywords, keywordTable, keywordAt, keywordOf, letterOf, ofLetter};
-ghost use Rattle.keywords.specs.Arguments.{arguments, argumentTable, argumentAt, argumentBytes, signOf, ofSign};
+ghost use Rattle.keywords.specs.Keywords.{keywords, keywordOf, letterOf};
+ghost use Rattle.keywords.specs.Lookup.{keywordTable, keywordAt, ofLetter, argumentTable, argumentAt, ofSign};
+ghost use Rattle.keywords.specs.Arguments.{arguments, argumentBytes, signOf};
 
 const KEYWORD_ROWS: usize = 44;
 

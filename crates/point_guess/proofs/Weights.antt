@@ -19,7 +19,8 @@ use Rattle.point_exact.specs.Sampled.{lowAt, highAt, partAt, gapAt}
 use Rattle.point_exact.proofs.Chosen.{segment-holds}
 use Rattle.point_exact.proofs.Samplers.{span-on, step-parts}
 use Rattle.point_exact.proofs.SplineScheme as spline
-use Rattle.point_rows.specs.Places.{direction, On}
+use Rattle.point_rows.specs.Places.{direction}
+use Rattle.point_rows.specs.Finding.{On}
 use Rattle.point_rows.specs.declared.BodyDirection.{BodyDirection}
 use Rattle.point_rows.proofs.Places.{part-is, gap-is}
 use Rattle.point_guess.specs.Steps.{Within, Parted}

@@ -18,7 +18,8 @@ use Rattle.point_exact.specs.Sampled.{pyramid, partAt, gapAt, firstControl, cur
 use Rattle.point_exact.proofs.Samplers.{controls-there}
 use Rattle.point_exact.proofs.Pyramid.{sampled-cong}
 use Rattle.tables.specs.Records.{valueAt, vWidth}
-use Rattle.point_rows.specs.Places.{direction, Sound, On}
+use Rattle.point_rows.specs.Places.{direction}
+use Rattle.point_rows.specs.Finding.{Sound, On}
 use Rattle.point_rows.specs.Controls.{vertexOf, controlAt, ControlsLent, Reached}
 use Rattle.point_rows.specs.declared.BodyDirection.{BodyDirection}
 use Rattle.point_rows.proofs.Places.{deep, spline-first, bezier-first}

@@ -13,7 +13,8 @@ use Rattle.point_exact.specs.Directions.{PointBasis, bezier, bspline, by, Direc
 use Rattle.point_exact.specs.Rules.{BezierRules, SplineRules, Rules}
 use Rattle.point_exact.specs.Sampled.{lowAt, highAt, partAt, gapAt, firstControl}
 use Rattle.point_exact.proofs.Chosen.{span-below, span-from, segment-below}
-use Rattle.point_rows.specs.Places.{direction, Sound, On}
+use Rattle.point_rows.specs.Places.{direction}
+use Rattle.point_rows.specs.Finding.{Sound, On}
 use Rattle.point_rows.specs.declared.BodyDirection.{BodyDirection}
 
 module _ (a : BodyDirection) (x : List ℤ) (t : ℤ) where

@@ -17,7 +17,8 @@ use Rattle.lists.proofs.Tests.{and-left, and-right, and-both, and-first, and-se
 use Rattle.point_exact.specs.Directions.{PointBasis, bezier, bspline, Direction, at, lastWhere, segment, starts, span, chosen}
 use Rattle.point_exact.specs.Rules.{Rules}
 use Rattle.point_exact.proofs.Chosen.{Holds, segment-below, segment-holds, span-last, span-below, span-from}
-use Rattle.point_rows.specs.Places.{direction, passes, limit, lead, Sound, On, Hint}
+use Rattle.point_rows.specs.Places.{direction}
+use Rattle.point_rows.specs.Finding.{passes, limit, lead, Sound, On, Hint}
 use Rattle.point_rows.specs.declared.BodyDirection.{BodyDirection}
 
 -- nothing passes from i on

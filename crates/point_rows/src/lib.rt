@@ -3,7 +3,8 @@ ghost use mathlib.Core.Path.{_≡_};
 ghost use Prim.Native.Nat.{_≤_, _<_};
 ghost use Rattle.rounding.specs.Range.{InRange};
 ghost use Rattle.point_exact.specs.Sampled.{lowAt, highAt};
-ghost use Rattle.point_rows.specs.Places.{direction, On};
+ghost use Rattle.point_rows.specs.Places.{direction};
+ghost use Rattle.point_rows.specs.Finding.{On};
 use tables::bases;
 
 pub mod controls;

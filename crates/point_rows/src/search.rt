@@ -4,7 +4,8 @@ ghost use Prim.Native.Nat.{suc, _+_, _<_};
 ghost use lib.ListN.{length};
 ghost use lib.Signed.{ltZ};
 ghost use Rattle.point_exact.specs.Directions.{at};
-ghost use Rattle.point_rows.specs.Places.{direction, limit, Sound, On, Hint};
+ghost use Rattle.point_rows.specs.Places.{direction};
+ghost use Rattle.point_rows.specs.Finding.{limit, Sound, On, Hint};
 use crate::BodyDirection;
 use tables::bases;
 

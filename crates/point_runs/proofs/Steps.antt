@@ -10,7 +10,7 @@ use lib.Signed.{_≤ℤ_, leZ}
 use Rattle.rounding.specs.Range.{InRange}
 use Rattle.rounding.proofs.Order.{up, up-le, up-abs}
 use Rattle.rounding.proofs.Ring.{ring, _⊕_, _⊝_, _≐_}
-use Rattle.point_rows.specs.Places.{Sound, On, Hint}
+use Rattle.point_rows.specs.Finding.{Sound, On, Hint}
 use Rattle.point_rows.specs.declared.BodyDirection.{BodyDirection}
 use Rattle.point_rows.proofs.Searched.{followed}
 use Rattle.point_runs.specs.Runs.{parameterAt}

@@ -7,7 +7,8 @@ use lib.IntN.{ℤ}
 use lib.Signed.{_≤ℤ_}
 use Rattle.rounding.specs.Range.{InRange}
 use Rattle.point_exact.specs.Sampled.{curveSampled}
-use Rattle.point_rows.specs.Places.{direction, Sound}
+use Rattle.point_rows.specs.Places.{direction}
+use Rattle.point_rows.specs.Finding.{Sound}
 use Rattle.point_rows.specs.Controls.{controlAt}
 use Rattle.point_rows.specs.declared.BodyDirection.{BodyDirection}
 use Rattle.point_runs.specs.Runs.{parameterAt, joined, listed}

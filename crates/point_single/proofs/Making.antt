@@ -16,7 +16,8 @@ use Rattle.doubles.proofs.Whole.{decode-encode}
 use Rattle.point_exact.specs.Directions.{Direction}
 use Rattle.point_exact.specs.Sampled.{pyramid, partAt, gapAt, firstControl, curveSampled}
 use Rattle.point_exact.proofs.Pyramid.{pyramid-cong}
-use Rattle.point_rows.specs.Places.{direction, On}
+use Rattle.point_rows.specs.Places.{direction}
+use Rattle.point_rows.specs.Finding.{On}
 use Rattle.point_rows.specs.Controls.{controlAt, firstOf}
 use Rattle.point_rows.specs.declared.BodyDirection.{BodyDirection}
 use Rattle.point_rows.proofs.Grids.{first-is, reached, last-there, sampled-is, from-first}

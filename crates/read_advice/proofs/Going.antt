@@ -17,7 +17,8 @@ use Rattle.text.specs.declared.Scan.{Scan}
 use Rattle.text.specs.declared.Scan.the-variants.{Good, Bad as Fault}
 use Rattle.text.proofs.LineByLine.{lines-start, lines-on, lines-end, line-words, line-bad, next-ahead, next-to}
 use Rattle.text.proofs.Scans.{scan-good, scan-fault}
-use Rattle.keywords.specs.Keywords.{keywordAt, statementOf}
+use Rattle.keywords.specs.Keywords.{statementOf}
+use Rattle.keywords.specs.Lookup.{keywordAt}
 use Rattle.keywords.specs.declared.Keyword.{Keyword}
 use Rattle.statements.specs.declared.VertexKind.{VertexKind}
 use Rattle.statements.specs.declared.VertexKind.the-variants.{Geometric, Texture, Normal, Parametric}

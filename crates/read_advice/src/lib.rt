@@ -16,7 +16,7 @@ use text::Scan;
 ghost use mathlib.Core.Path.{_≡_};
 ghost use Prim.Native.Nat.{_≤_};
 ghost use lib.ListN.{length};
-ghost use Rattle.keywords.specs.Keywords.{keywordTable};
+ghost use Rattle.keywords.specs.Lookup.{keywordTable};
 ghost use Rattle.read_advice.specs.Advice.{adviceIs};
 ghost use Rattle.read_advice.specs.Inner.{NothingTold};
 

@@ -14,7 +14,8 @@ use Rattle.digits.specs.Said.{Said, says, wrong}
 use Rattle.decimals.specs.Number.{numberOf}
 use Rattle.keywords.specs.declared.Argument.{Argument}
 use Rattle.keywords.specs.declared.Argument.the-variants.{Rational, BasisMatrix, Bezier, Bspline, Cardinal, Taylor, DirectionU, DirectionV, Off, Other}
-use Rattle.keywords.specs.Arguments.{argumentOf, argumentAt}
+use Rattle.keywords.specs.Arguments.{argumentOf}
+use Rattle.keywords.specs.Lookup.{argumentAt}
 use Rattle.model.specs.Model.{ParmDirection, along-u, along-v}
 use Rattle.model.specs.Parse.{directionOf, isV}
 use Rattle.read_state.specs.Numbers.{Walk, ended, full, stuck, onto, onNumber, numbersFrom}

@@ -9,7 +9,7 @@ use text::word_end;
 ghost use mathlib.Core.Path.{_≡_};
 ghost use Prim.Native.Nat.{_≤_};
 ghost use lib.ListN.{length};
-ghost use Rattle.keywords.specs.Arguments.{argumentTable};
+ghost use Rattle.keywords.specs.Lookup.{argumentTable};
 ghost use Rattle.read_bodies.specs.Parm.{wayOf, rowIs, parmIs};
 
 pub enum Parm {

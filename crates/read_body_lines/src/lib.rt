@@ -14,7 +14,7 @@ use text::skip_blanks;
 ghost use mathlib.Core.Path.{_≡_};
 ghost use Prim.Native.Nat.{_+_, _≤_, _<_};
 ghost use lib.ListN.{length};
-ghost use Rattle.keywords.specs.Arguments.{argumentTable};
+ghost use Rattle.keywords.specs.Lookup.{argumentTable};
 ghost use Rattle.model.specs.Parse.{parm};
 ghost use Rattle.read_body_lines.specs.OpenBody.{keeping, looped, curvesWith, closedWith, typeFor, degreeFor, formFor, countsHold, closable};
 ghost use Rattle.read_vertex_lines.specs.Stepping.{quietStep, loopStep, endStep};

@@ -24,7 +24,8 @@ use Rattle.model.specs.Parse.{Parsed, fine, fault, then, must, unless, valuesOf
 use Rattle.read_state.specs.State.{formIn, openIs}
 use Rattle.read_state.specs.declared.Open.{Open}
 use Rattle.statements.specs.declared.rules.Forms.{Forms}
-use Rattle.statements.specs.Rules.{freeNumbered, formBy}
+use Rattle.statements.specs.Rules.{formBy}
+use Rattle.statements.specs.Numbered.{freeNumbered}
 use Rattle.read_word_checks.specs.declared.tests.Tests.the-variants.{Each}
 use Rattle.read_word_checks.specs.declared.Refusal.{Refusal}
 use Rattle.read_word_checks.specs.Faults.{checkOf, onCheck, givenBy, faultIn, inForceBy, owed, orElse}

@@ -6,13 +6,14 @@ use mathlib.Core.Bool.{Bool, true, false}
 use lib.IntN.{ℤ}
 use Rattle.text.specs.Words.{Word}
 use Rattle.text.specs.Rest.{restAt, endOf}
-use Rattle.keywords.specs.Keywords.{keywordAt}
+use Rattle.keywords.specs.Lookup.{keywordAt}
 use Rattle.keywords.specs.declared.Keyword.{Keyword}
 use Rattle.statements.specs.declared.Carried as carried
 use Rattle.statements.specs.declared.Statement.{Statement}
 use Rattle.statements.specs.declared.Statement.the-variants.{Carried, Refused as Unrecorded, Unknown}
 use Rattle.statements.specs.declared.rules.Rules.{Rules}
-use Rattle.statements.specs.Rules.{freeNumbered, allowedBy, countedBy, rulesOf}
+use Rattle.statements.specs.Rules.{allowedBy, countedBy, rulesOf}
+use Rattle.statements.specs.Numbered.{freeNumbered}
 use Rattle.model.specs.Parse as parse
 use Rattle.read_state.specs.declared.Form.{Form}
 use Rattle.read_word_checks.specs.declared.Refusal.{Refusal}

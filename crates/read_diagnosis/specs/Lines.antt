@@ -12,7 +12,8 @@ use Rattle.statements.specs.declared.Statement.the-variants.{Carried, Refused a
 use Rattle.statements.specs.declared.rules.Forms.{Forms}
 use Rattle.statements.specs.declared.rules.Held.{Held}
 use Rattle.statements.specs.declared.rules.Rules.{Rules}
-use Rattle.statements.specs.Rules.{freeNumbered, allowedBy, countedBy, rulesOf}
+use Rattle.statements.specs.Rules.{allowedBy, countedBy, rulesOf}
+use Rattle.statements.specs.Numbered.{freeNumbered}
 use Rattle.model.specs.Parse as parse
 use Rattle.read_state.specs.declared.Form.{Form}
 use Rattle.read_word_checks.specs.declared.tests.Tests.the-variants.{Each}

@@ -11,7 +11,8 @@ use lib.Dec.{eqb}
 use Rattle.text.specs.Words.{Word, wordOf}
 use Rattle.text.specs.Rest.{Rest, restAt, wordAt, endOf, WordMet, EndMet, BadMet}
 use Rattle.tables.specs.Tables.{Tables}
-use Rattle.keywords.specs.Keywords.{statementOf, letterOf, keywordAt}
+use Rattle.keywords.specs.Keywords.{statementOf, letterOf}
+use Rattle.keywords.specs.Lookup.{keywordAt}
 use Rattle.keywords.specs.declared.Keyword as spelled
 use Rattle.statements.specs.declared.VertexKind.the-variants.{Geometric, Texture, Normal, Parametric}
 use Rattle.statements.specs.declared.Shape.the-variants.{Point, Line, Face}

@@ -9,7 +9,7 @@ use Rattle.statements.specs.declared.Statement.{Statement}
 use Rattle.statements.specs.declared.Statement.the-variants.{Carried, Refused, Unknown}
 use Rattle.statements.specs.declared.Carried as carried
 use Rattle.statements.specs.declared.Carried.the-variants as carrying
-use Rattle.keywords.specs.Keywords.{keywordAt}
+use Rattle.keywords.specs.Lookup.{keywordAt}
 use Rattle.model.specs.Parse.{fault, a-vertex, an-element, a-body, parm, ends}
 use Rattle.model.specs.Model as model
 use Rattle.model.specs.Room.{Rooms}

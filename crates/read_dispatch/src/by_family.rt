@@ -12,7 +12,7 @@ use read_vertex_lines::vertex_line;
 ghost use mathlib.Core.Path.{_≡_};
 ghost use Prim.Native.Nat.{_≤_};
 ghost use lib.ListN.{length};
-ghost use Rattle.keywords.specs.Arguments.{argumentTable};
+ghost use Rattle.keywords.specs.Lookup.{argumentTable};
 ghost use Rattle.tables.specs.Tables.{tables};
 ghost use Rattle.read_dispatch.specs.Taking.{familyIs};
 

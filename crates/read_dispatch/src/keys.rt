@@ -4,7 +4,7 @@ use text::AfterBlanks;
 ghost use mathlib.Core.Path.{_≡_};
 ghost use Prim.Native.Nat.{_<_};
 ghost use lib.ListN.{length};
-ghost use Rattle.keywords.specs.Keywords.{keywordTable};
+ghost use Rattle.keywords.specs.Lookup.{keywordTable};
 ghost use Rattle.read_dispatch.specs.Taking.{keyIs};
 
 // A word, with its place and what it is as a keyword; no word, and where the next line starts; or a byte that is not allowed.

@@ -13,8 +13,7 @@ use read_word_checks::Refusal;
 ghost use mathlib.Core.Path.{_≡_};
 ghost use Prim.Native.Nat.{_≤_, _<_};
 ghost use lib.ListN.{length};
-ghost use Rattle.keywords.specs.Keywords.{keywordTable};
-ghost use Rattle.keywords.specs.Arguments.{argumentTable};
+ghost use Rattle.keywords.specs.Lookup.{keywordTable, argumentTable};
 ghost use Rattle.tables.specs.Tables.{tables};
 ghost use Rattle.read_dispatch.specs.Taking.{keyIs, lineIs, stoppedBy};
 

@@ -7,7 +7,7 @@ use text::Scan;
 ghost use mathlib.Core.Path.{_≡_};
 ghost use Prim.Native.Nat.{_≤_};
 ghost use lib.ListN.{length};
-ghost use Rattle.keywords.specs.Arguments.{argumentTable};
+ghost use Rattle.keywords.specs.Lookup.{argumentTable};
 ghost use Rattle.model.specs.Parse.{over};
 ghost use Rattle.read_vertex_lines.specs.Stepping.{quietStep};
 ghost use Rattle.read_element_lines.specs.InForce.{formStep, namesStep, settingOf};

@@ -12,7 +12,7 @@ use Rattle.text.specs.Rest.{Rest, restAt, wordAt, endOf, push, WordMet, EndMet,
 use Rattle.text.specs.declared.Scan.the-variants.{Good, Bad as Fault}
 use Rattle.text.proofs.LineByLine.{lines-start, lines-on, lines-end, line-words, line-bad, next-ahead, next-to}
 use Rattle.text.proofs.Scans.{scan-good, scan-fault}
-use Rattle.keywords.specs.Keywords.{keywordAt}
+use Rattle.keywords.specs.Lookup.{keywordAt}
 use Rattle.keywords.specs.declared.Keyword.{Keyword}
 use Rattle.read_rooms.specs.declared.Rooms.{Rooms}
 use Rattle.read_rooms.specs.declared.Line.{Line}

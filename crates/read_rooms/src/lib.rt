@@ -9,7 +9,7 @@ ghost use mathlib.Core.Path.{_≡_};
 ghost use Prim.Native.Nat.{_+_, _*_, _-_, _≤_, _<_};
 ghost use lib.ListN.{length};
 ghost use Rattle.text.specs.Rest.{restAt};
-ghost use Rattle.keywords.specs.Keywords.{keywordTable};
+ghost use Rattle.keywords.specs.Lookup.{keywordTable};
 ghost use Rattle.read_rooms.specs.Rooms.{noRoom, both, elementRoom, bodyRoom, kindRoom, carriedRoom, roomFor, roomsOfText};
 ghost use Rattle.read_rooms.specs.Line.{vertexRoom, countedOf};
 ghost use Rattle.read_rooms.specs.Claims.{total};

@@ -19,7 +19,8 @@ use Rattle.digits.specs.declared.whole.Whole.the-variants as whole
 use Rattle.digits.specs.declared.name.Name.{Name}
 use Rattle.digits.specs.declared.name.Name.the-variants as name
 use Rattle.digits.proofs.Saids.{ended-says, ended-wrong}
-use Rattle.keywords.specs.Arguments.{argumentOf, argumentAt}
+use Rattle.keywords.specs.Arguments.{argumentOf}
+use Rattle.keywords.specs.Lookup.{argumentAt}
 use Rattle.keywords.specs.declared.Argument.{Argument}
 use Rattle.model.specs.Parse.{typeSaid}
 use Rattle.read_state.specs.declared.Form.{Form}

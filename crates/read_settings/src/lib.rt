@@ -9,7 +9,7 @@ ghost use mathlib.Core.Path.{_≡_};
 ghost use Prim.Native.Nat.{_≤_, _<_};
 ghost use lib.ListN.{length};
 ghost use Rattle.text.specs.Rest.{restAt, wordAt, endOf, push};
-ghost use Rattle.keywords.specs.Arguments.{argumentTable};
+ghost use Rattle.keywords.specs.Lookup.{argumentTable};
 ghost use Rattle.read_settings.specs.Steps.{aloneIs, basisOr, isRational, lastType, typeTaken, secondDegree, degreeRest, degreeTaken, smoothingTaken, materialTaken, groupTaken};
 ghost use Rattle.model.specs.Parse.{typeSaid};
 

@@ -12,7 +12,7 @@ use Rattle.text.specs.Rest.{Rest, restAt, wordAt, endOf, WordMet, EndMet, BadMe
 use Rattle.text.specs.declared.AfterBlanks.{AfterBlanks}
 use Rattle.text.specs.declared.AfterBlanks.the-variants.{Start, End, Bad}
 use Rattle.text.proofs.Found.{word-found, end-found, bad-found}
-use Rattle.keywords.specs.Arguments.{argumentAt}
+use Rattle.keywords.specs.Lookup.{argumentAt}
 use Rattle.model.specs.Parse as parse
 use Rattle.read_word_checks.specs.declared.word.WordCheck.{WordCheck}
 use Rattle.read_word_checks.specs.declared.word.WordCheck.the-variants.{Valid, Fault}

@@ -19,7 +19,8 @@ use Rattle.references.specs.declared.corner.CornerWord.the-variants as corner
 use Rattle.references.specs.declared.reference.Reference.{Reference}
 use Rattle.references.specs.declared.reference.Reference.the-variants as reference
 use Rattle.digits.proofs.Saids.{ended-says, ended-wrong}
-use Rattle.keywords.specs.Arguments.{argumentOf, argumentAt}
+use Rattle.keywords.specs.Arguments.{argumentOf}
+use Rattle.keywords.specs.Lookup.{argumentAt}
 use Rattle.keywords.specs.declared.Argument.{Argument}
 use Rattle.model.specs.Parse as parse
 use Rattle.read_word_checks.specs.declared.word.WordCheck.{WordCheck}

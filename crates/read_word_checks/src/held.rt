@@ -15,7 +15,7 @@ ghost use mathlib.Core.List.{_∷_};
 ghost use Prim.Native.Nat.{_≤_};
 ghost use lib.ListN.{length};
 ghost use Rattle.text.specs.Rest.{restAt, wordAt, endOf};
-ghost use Rattle.keywords.specs.Arguments.{argumentTable};
+ghost use Rattle.keywords.specs.Lookup.{argumentTable};
 ghost use Rattle.read_word_checks.specs.Faults.{seenBy, patternFault, inForceBy, bodyFault, curve2Fault, freeFault, heldFault};
 
 // 9, of the corners after the first, which is the word at `at`.

@@ -19,7 +19,7 @@ ghost use Rattle.decimals.specs.Number.{numberOf};
 ghost use Rattle.references.specs.Reference.{referenceOf};
 ghost use Rattle.references.specs.Corner.{cornerOf, agree};
 ghost use Rattle.digits.specs.Degree.{degreeOf, smoothingOf, nameOf};
-ghost use Rattle.keywords.specs.Arguments.{argumentTable};
+ghost use Rattle.keywords.specs.Lookup.{argumentTable};
 ghost use Rattle.model.specs.Parse.{saidOf, directionOf, directionSaid, typeSaid, rationalSaid};
 ghost use Rattle.read_word_checks.specs.Faults.{checkOf, countsBy, seenBy, alikeSaid, givenBy, wideSaid, saidBy};
 

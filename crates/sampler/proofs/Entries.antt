@@ -18,7 +18,8 @@ use Rattle.tables.specs.declared.Used.{Used}
 use Rattle.tables.specs.declared.Element.{Element}
 use Rattle.point_exact.specs.Sampled.{firstControl}
 use Rattle.point_exact.proofs.Pyramid.{sampled-cong}
-use Rattle.point_rows.specs.Places.{direction, Sound}
+use Rattle.point_rows.specs.Places.{direction}
+use Rattle.point_rows.specs.Finding.{Sound}
 use Rattle.point_rows.specs.Controls.{controlAt, ControlsLent}
 use Rattle.point_runs.specs.Inner.{Ranged}
 use Rattle.point_rows.specs.declared.BodyDirection.{BodyDirection}

@@ -27,7 +27,7 @@ use Rattle.record_rules.proofs.Facts.{Corners, corner-vertex, corner-control, C
 use Rattle.record_rules.proofs.Element.{Recorded, recorded, curve-of, surface-of, Obeys, obeys-facts, body-of}
 use Rattle.basis.proofs.Basis.{curve-enough, surface-enough-u, surface-enough-v}
 use Rattle.point_exact.specs.Directions.{at}
-use Rattle.point_rows.specs.Places.{Sized}
+use Rattle.point_rows.specs.Finding.{Sized}
 use Rattle.point_rows.specs.Controls.{controlAt, ControlsLent}
 use Rattle.point_runs.specs.Inner.{Ranged}
 use Rattle.sampler.specs.Points.{bodyDirection}

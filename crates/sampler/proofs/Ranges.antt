@@ -17,7 +17,8 @@ use Rattle.rounding.proofs.Order.{yes-le, yes-lt, ≤ℤ-trans, ≤ℤ-<ℤ-tra
 use Rattle.tables.specs.Bodies.{Basis, bezier, bspline, enough, rising, steady, ordered, continuous, low, high, ranged, inOrder, basisOf}
 use Rattle.point_exact.specs.Directions.{at}
 use Rattle.point_exact.specs.Rules.{BezierRules, SplineRules, Rules}
-use Rattle.point_rows.specs.Places.{direction, Sound}
+use Rattle.point_rows.specs.Places.{direction}
+use Rattle.point_rows.specs.Finding.{Sound}
 use Rattle.point_runs.specs.Inner.{Ranged}
 use Rattle.sampler.specs.Points.{bodyDirection}
 use Rattle.point_runs.proofs.Steps.{small-between}

@@ -17,7 +17,8 @@ use Rattle.record_rules.specs.Rules.{obeys, curvesAmong, curvesBefore, recordsO
 use Rattle.record_rules.proofs.Records.{records-lent, records-counted, records-are}
 use Rattle.record_rules.proofs.Bodied.{body-is, body-there}
 use Rattle.record_rules.proofs.Element.{obeys-facts, body-of}
-use Rattle.sampler.specs.Answers.{wanted, carried, elementOf, bodyOf, refusalOf, lookupOf}
+use Rattle.sampler.specs.Answers.{wanted, carried, elementOf, bodyOf, refusalOf}
+use Rattle.sampler.specs.Sampling.{lookupOf}
 use Rattle.sampler.specs.declared.Lookup.{Lookup}
 use Rattle.sampler.specs.declared.Lookup.the-variants as lookup
 

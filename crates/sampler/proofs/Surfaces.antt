@@ -14,7 +14,8 @@ use Rattle.tables.specs.declared.Body.{Body}
 use Rattle.tables.specs.declared.Used.{Used}
 use Rattle.tables.specs.declared.Element.{Element}
 use Rattle.point_exact.proofs.Pyramid.{surface-cong}
-use Rattle.point_rows.specs.Places.{direction, Sound}
+use Rattle.point_rows.specs.Places.{direction}
+use Rattle.point_rows.specs.Finding.{Sound}
 use Rattle.point_rows.specs.Controls.{controlAt, ControlsLent}
 use Rattle.point_rows.specs.declared.BodyDirection.{BodyDirection}
 use Rattle.sampler.specs.Points.{bodyDirection, gridOf, surfaceAt}

@@ -1,3 +1,4 @@
+-- Must be believed: a promise reaches every definition of this file.
 -- 01, "Numbers of refusal": "Sampling, in this order", 17, 15, 18, 19, 16, and the answers.
 use mathlib.Core.Bool.{Bool, true, false, cond, _&&_, _||_}
 use mathlib.Core.List.{List, [], _∷_, _++_}
@@ -84,13 +85,6 @@ refusalOf surface used t number =
     17)
     15)
     17
-
--- the element with its body where none of them is given
-unfoldable pub lookupOf : (surface : Bool) → Used → Tables → ℕ → Lookup
-lookupOf surface used t number =
-    cond (eqb (refusalOf surface used t number) 0)
-    (lookup.Found (elementOf t number) (bodyOf t number))
-    (lookup.Refused (refusalOf surface used t number))
 
 -- "19 parameter outside start..end"
 abbrev pub inside : (start end p : ℤ) → Bool

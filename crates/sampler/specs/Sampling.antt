@@ -1,5 +1,5 @@
 -- Points of an element that was looked up: what its records then promise, and the answers, 19 and 16 among them.
-use mathlib.Core.Bool.{cond, _&&_}
+use mathlib.Core.Bool.{cond, _&&_, Bool}
 use mathlib.Core.List.{List}
 use Prim.Native.Nat.{ℕ, _+_, _*_, _≤_}
 use mathlib.Core.Path.{_≡_}
@@ -10,11 +10,14 @@ use Rattle.tables.specs.Tables.{Tables}
 use Rattle.tables.specs.Records.{surfaceKind}
 use Rattle.tables.specs.declared.Body.{Body}
 use Rattle.tables.specs.declared.Element.{Element}
-use Rattle.point_rows.specs.Places.{Sized}
+use Rattle.point_rows.specs.Finding.{Sized}
 use Rattle.point_rows.specs.Controls.{ControlsLent}
 use Rattle.point_runs.specs.Inner.{Ranged}
 use Rattle.sampler.specs.Points.{bodyDirection, axesOf, runNumbers}
-use Rattle.sampler.specs.Answers.{PointAnswer, RunAnswer, inside, curvePoint, surfacePoint, refusedPoint, refusedRun, filledRun}
+use Rattle.sampler.specs.Answers.{PointAnswer, RunAnswer, inside, curvePoint, surfacePoint, refusedPoint, refusedRun, filledRun, elementOf, bodyOf, refusalOf}
+use Rattle.tables.specs.declared.Used.{Used}
+use Rattle.sampler.specs.declared.Lookup.{Lookup}
+use Rattle.sampler.specs.declared.Lookup.the-variants as lookup
 
 -- one direction of a body: its p parameters stand from number `first` on
 pub record Directed (l : List ℤ) (first type n p : ℕ) (s e : ℤ) : Type 0 where
@@ -51,3 +54,10 @@ answerOfRun t e b steps at points =
     cond (leb 1 steps && leb steps 65536)
     (cond (leb (at + axesOf e * (steps + 1)) (length points)) (filledRun (axesOf e * (steps + 1)) at (runNumbers t e b steps) points) (refusedRun 16 points))
     (refusedRun 19 points)
+
+-- the element with its body where none of them is given
+unfoldable pub lookupOf : (surface : Bool) → Used → Tables → ℕ → Lookup
+lookupOf surface used t number =
+    cond (eqb (refusalOf surface used t number) 0)
+    (lookup.Found (elementOf t number) (bodyOf t number))
+    (lookup.Refused (refusalOf surface used t number))

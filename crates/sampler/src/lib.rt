@@ -1,7 +1,8 @@
 // Points on curves and surfaces, alone and in runs.
 ghost use mathlib.Core.Path.{_≡_};
 ghost use Rattle.tables.specs.Tables.{tables};
-ghost use Rattle.sampler.specs.Answers.{lookupOf, pointAnswer, pointOnCurve, pointOnSurface, runAnswer, runInto};
+ghost use Rattle.sampler.specs.Answers.{pointAnswer, pointOnCurve, pointOnSurface, runAnswer, runInto};
+ghost use Rattle.sampler.specs.Sampling.{lookupOf};
 use crate::records::is_carried;
 use crate::records::is_wanted;
 use crate::sampling::curve_at;

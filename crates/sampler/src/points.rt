@@ -3,7 +3,7 @@ ghost use mathlib.Core.Bool.{cond};
 ghost use Prim.Native.Nat.{_*_};
 ghost use lib.Dec.{eqb};
 ghost use Rattle.tables.specs.Records.{curve2Kind};
-ghost use Rattle.point_rows.specs.Places.{Sound};
+ghost use Rattle.point_rows.specs.Finding.{Sound};
 ghost use Rattle.point_rows.specs.Controls.{ControlsLent};
 ghost use Rattle.sampler.specs.Inner.{pointBy, surfaceBy};
 use crate::PointResult;

@@ -1,6 +1,6 @@
 ghost use mathlib.Core.Path.{_≡_};
 ghost use Prim.Native.Nat.{_≤_};
-ghost use Rattle.point_rows.specs.Places.{Sized};
+ghost use Rattle.point_rows.specs.Finding.{Sized};
 ghost use Rattle.sampler.specs.Points.{bodyDirection};
 ghost use Rattle.sampler.specs.Answers.{wanted, carried, inside};
 ghost use Rattle.point_runs.specs.Inner.{axesBy};

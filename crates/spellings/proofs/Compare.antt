@@ -15,7 +15,7 @@ use Rattle.text.specs.Bytes.{isWord}
 use Rattle.text.specs.Words.{wordOf}
 use Rattle.text.specs.Rest.{endOf}
 use Rattle.text.proofs.Places as T
-use Rattle.spellings.specs.Rows.{wordAhead}
+use Rattle.spellings.specs.Lookup.{wordAhead}
 
 word-more : (x : ℕ) (a : List ℕ) → isWord x ≡ true → wordOf (x ∷ a) ≡ x ∷ wordOf a
 word-more x a h = rw h refl

@@ -12,7 +12,8 @@ use lib.Dec.{eqb, ltb}
 use Rattle.lists.specs.Lists.{all}
 use Rattle.lists.proofs.Tests.{test, and-left, and-right}
 use Rattle.text.specs.Words.{wordOf}
-use Rattle.spellings.specs.Rows.{Row, bytes, rowOf, spellingAt, kindAt, Finds, foundBy, rowIn, foundIn, aheadIn}
+use Rattle.spellings.specs.Rows.{Row, bytes, rowOf, spellingAt, kindAt, Finds, foundBy}
+use Rattle.spellings.specs.Lookup.{rowIn, foundIn, aheadIn}
 use Rattle.spellings.specs.declared.Found.{Found}
 use Rattle.spellings.proofs.Compare.{word-none, past}
 use Rattle.spellings.proofs.Spellings.{distinct, finds-exactly}

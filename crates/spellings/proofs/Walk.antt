@@ -13,7 +13,7 @@ use Rattle.lists.proofs.Laws.{same-eq}
 use Rattle.lists.proofs.Tests.{test, and-left, and-right}
 use Rattle.text.specs.Words.{wordOf}
 use Rattle.text.specs.Rest.{endOf}
-use Rattle.spellings.specs.Rows.{rowIn, foundIn, wordAhead, aheadIn}
+use Rattle.spellings.specs.Lookup.{rowIn, foundIn, wordAhead, aheadIn}
 use Rattle.spellings.specs.declared.Found.{Found}
 use Rattle.spellings.proofs.Compare.{compareOf, word-some, front-differs}
 

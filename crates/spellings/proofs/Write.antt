@@ -10,7 +10,8 @@ use lib.ListN.{length, drop, getD, set, length-set}
 use lib.Seq.{drop-drop, getD-drop, drop-length, sets}
 use lib.Dec.{eqb}
 use Rattle.text.specs.Words.{wordOf}
-use Rattle.spellings.specs.Rows.{fitting, letteredIn, wordAhead}
+use Rattle.spellings.specs.Rows.{fitting}
+use Rattle.spellings.specs.Lookup.{letteredIn, wordAhead}
 use Rattle.spellings.proofs.Compare.{word-at, word-none}
 
 pub record Sought (t : List ℕ) (k rows from left : ℕ) : Type 0 where

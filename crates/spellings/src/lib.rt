@@ -7,7 +7,8 @@ ghost use lib.Seq.{sets};
 ghost use Rattle.lists.specs.Lists.{same};
 ghost use Rattle.text.specs.Words.{wordOf};
 ghost use Rattle.text.specs.Rest.{endOf};
-ghost use Rattle.spellings.specs.Rows.{fitting, foundIn, letteredIn, wordAhead, aheadIn};
+ghost use Rattle.spellings.specs.Rows.{fitting};
+ghost use Rattle.spellings.specs.Lookup.{foundIn, letteredIn, wordAhead, aheadIn};
 
 // A row: the spelling, blanks up to eleven bytes, the letter of its kind.
 pub const WIDTH: usize = 12;

@@ -8,7 +8,8 @@ use native.Mathlib.Omega.{arith}
 use borrow.Author.Tests.{eqb-true, ne-eqb}
 use Rattle.statements.specs.declared.Free.{Free}
 use Rattle.statements.specs.declared.Free.the-variants.{Curve, Curve2, Surface}
-use Rattle.statements.specs.Rules.{isSurface, inBody, outside, freeNumbered, rangeWords, fewestControls}
+use Rattle.statements.specs.Rules.{isSurface, inBody, outside, rangeWords, fewestControls}
+use Rattle.statements.specs.Numbered.{freeNumbered}
 
 pub few-words : (k : Free) → rangeWords k + fewestControls k ≤ 5
 few-words Curve = omega arith

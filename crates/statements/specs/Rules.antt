@@ -1,3 +1,4 @@
+-- Must be believed: a promise reaches every definition of this file.
 -- 01, "Words after the keyword", "Corner patterns" and "Bodies": one row of rules for each statement, which parsing, reading and the refusal of a line read.
 use Prim.Native.Nat.{ℕ, _+_, _%_}
 use mathlib.Core.Bool.{Bool, true, false, cond, _&&_, _||_, not}
@@ -45,10 +46,6 @@ allowedBy standing.Outside o v = outside o
 allowedBy standing.Body o v = inBody o (λ k. true)
 allowedBy standing.Surface o v = inBody o isSurface
 allowedBy standing.Parameters o v = inBody o (λ k. isSurface k || not v)
-
--- the kind of the element by its number, 0 for none
-abbrev pub freeNumbered : ℕ → Option Free
-freeNumbered kind = cond (eqb kind 0) none (some (cond (eqb kind 6) free.Surface (cond (eqb kind 5) free.Curve2 free.Curve)))
 
 -- ---- 5, "Words after the keyword"
 abbrev pub countedBy : Count → ℕ → Bool

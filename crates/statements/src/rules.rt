@@ -3,7 +3,8 @@ use crate::Free;
 use crate::Shape;
 use crate::VertexKind;
 ghost use mathlib.Core.Path.{_≡_};
-ghost use Rattle.statements.specs.Rules.{vertexCount, fewest, parts, rangeWords, fewestControls, controlForm, rulesOf, freeNumbered, allowedBy, countedBy, fewestBy, mostBy, formBy};
+ghost use Rattle.statements.specs.Rules.{vertexCount, fewest, parts, rangeWords, fewestControls, controlForm, rulesOf, allowedBy, countedBy, fewestBy, mostBy, formBy};
+ghost use Rattle.statements.specs.Numbered.{freeNumbered};
 
 // Which parts a corner may have besides v.
 pub struct Parts {

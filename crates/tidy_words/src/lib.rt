@@ -3,8 +3,9 @@ ghost use mathlib.Core.Path.{_≡_};
 ghost use mathlib.Core.List.{[], _∷_};
 ghost use Prim.Native.Nat.{_+_, min};
 ghost use Rattle.references.specs.Written.{writtenWhole, writtenNumber, writtenCorner};
-ghost use Rattle.keywords.specs.Keywords.{keywordTable, keywordOf};
-ghost use Rattle.keywords.specs.Arguments.{argumentTable, argumentBytes};
+ghost use Rattle.keywords.specs.Keywords.{keywordOf};
+ghost use Rattle.keywords.specs.Lookup.{keywordTable, argumentTable};
+ghost use Rattle.keywords.specs.Arguments.{argumentBytes};
 ghost use Rattle.tidy_words.specs.Emitting.{emission, emittedWhole, emittedSpaced};
 
 pub mod names;

@@ -5,7 +5,7 @@ ghost use Prim.Native.Nat.{_+_, _*_, _≤_};
 ghost use lib.ListN.{drop};
 ghost use Rattle.text.specs.Written.{writtenLine};
 ghost use Rattle.references.specs.Written.{writtenCorner};
-ghost use Rattle.keywords.specs.Keywords.{keywordTable};
+ghost use Rattle.keywords.specs.Lookup.{keywordTable};
 ghost use Rattle.tidy_words.specs.Emitting.{Emitted};
 ghost use Rattle.tidy_words.specs.Emitting.{spaced};
 ghost use Rattle.tidy_writer.specs.Rows.{kindKeyword, rangeCount, bodyIndex, cornersFrom, elementWords};

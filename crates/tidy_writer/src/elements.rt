@@ -2,8 +2,7 @@
 ghost use mathlib.Core.Path.{_≡_};
 ghost use Prim.Native.Nat.{_+_, _≤_};
 ghost use Rattle.text.specs.Written.{writtenLines};
-ghost use Rattle.keywords.specs.Keywords.{keywordTable};
-ghost use Rattle.keywords.specs.Arguments.{argumentTable};
+ghost use Rattle.keywords.specs.Lookup.{keywordTable, argumentTable};
 ghost use Rattle.tidy_form.specs.Agree.{wordsAt};
 ghost use Rattle.tidy_words.specs.Emitting.{Emitted};
 ghost use Rattle.tidy_writer.specs.TidyFrom.{changed, smoothed, namesLines, elementLines, elementsFrom};

@@ -7,7 +7,7 @@ ghost use lib.Dec.{eqb};
 ghost use Rattle.text.specs.Written.{writtenLines};
 ghost use Rattle.references.specs.Written.{writtenNumber, writtenWhole};
 ghost use Rattle.tables.specs.Records.{loopWidth, spanWidth};
-ghost use Rattle.keywords.specs.Keywords.{keywordTable};
+ghost use Rattle.keywords.specs.Lookup.{keywordTable};
 ghost use Rattle.tidy_form.specs.Printed.{loopKeyword};
 ghost use Rattle.tidy_words.specs.Emitting.{Emitted};
 ghost use Rattle.tidy_words.specs.Emitting.{spaced};

@@ -3,7 +3,7 @@ ghost use mathlib.Core.Path.{_≡_};
 ghost use Prim.Native.Nat.{_≤_, min};
 ghost use lib.ListN.{length};
 ghost use Rattle.text.specs.Written.{writtenLines};
-ghost use Rattle.keywords.specs.Keywords.{keywordTable};
+ghost use Rattle.keywords.specs.Lookup.{keywordTable};
 ghost use Rattle.tables.specs.Tables.{tables};
 ghost use Rattle.tidy_words.specs.Emitting.{emission, emittedWhole, Emitted};
 ghost use Rattle.tidy_writer.specs.TidyFrom.{verticesFrom, tidyFrom};

@@ -1,7 +1,8 @@
 -- Each arm's letter is computed through the rows; the last arm's is none of them.
 use mathlib.Core.Path.{_≡_, refl}
 use borrow.Author.Tests.{ne-eqb}
-use Rattle.keywords.specs.Arguments.{arguments, ofSign}
+use Rattle.keywords.specs.Arguments.{arguments}
+use Rattle.keywords.specs.Lookup.{ofSign}
 use Rattle.keywords.proofs.argument_of.Statement.{statement}
 use Rattle.keywords.proofs.argument_of.Tie as tie
 

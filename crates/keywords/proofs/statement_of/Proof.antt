@@ -1,7 +1,8 @@
 -- Each arm's letter is computed through the rows; the last arm's is none of them.
 use mathlib.Core.Path.{_≡_, refl}
 use borrow.Author.Tests.{ne-eqb}
-use Rattle.keywords.specs.Keywords.{keywords, ofLetter}
+use Rattle.keywords.specs.Keywords.{keywords}
+use Rattle.keywords.specs.Lookup.{ofLetter}
 use Rattle.keywords.proofs.statement_of.Statement.{statement}
 use Rattle.keywords.proofs.statement_of.Tie as tie
 

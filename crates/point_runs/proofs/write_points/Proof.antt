@@ -21,7 +21,8 @@ use Rattle.rounding.proofs.Bits.{read-back-small}
 use Rattle.point_exact.specs.Directions.{Direction}
 use Rattle.point_exact.specs.Sampled.{pyramid, partAt, gapAt}
 use Rattle.point_rows.specs.declared.BodyDirection.{BodyDirection}
-use Rattle.point_rows.specs.Places.{direction, Sound, On, Hint}
+use Rattle.point_rows.specs.Places.{direction}
+use Rattle.point_rows.specs.Finding.{Sound, On, Hint}
 use Rattle.point_rows.specs.Controls.{ControlsLent}
 use Rattle.point_rows.proofs.Searched.{limit-inside}
 use Rattle.point_rows.proofs.Grids.{held-part}

@@ -12,7 +12,8 @@ use mir.Facts.{toZ-ofZ}
 use Rattle.rounding.proofs.Bits.{read-back-given}
 use Rattle.rounding.proofs.Order.{yes-lt, not-less}
 use Rattle.point_exact.specs.Directions.{at}
-use Rattle.point_rows.specs.Places.{direction, limit, Sound, Hint}
+use Rattle.point_rows.specs.Places.{direction}
+use Rattle.point_rows.specs.Finding.{limit, Sound, Hint}
 use Rattle.point_rows.specs.declared.BodyDirection.{BodyDirection}
 use Rattle.point_rows.proofs.Searched.{limit-inside, ended, stopped, onward}
 use Rattle.point_rows.proofs.search.search.Statement.{statement}
