@@ -59,7 +59,7 @@ fn attribute(allowed: bool, values: &[i32], used: u32, first: u32, number: u32) 
     if first == 0 {
         return false;
     }
-    vertex(values, widths::VT, used, number)
+    vertex(values, widths::VT as u32, used, number)
 }
 
 fn point(used: Used, v: &[i32], vp: &[i32], kind: u32, number: u32) -> bool
@@ -68,7 +68,7 @@ fn point(used: Used, v: &[i32], vp: &[i32], kind: u32, number: u32) -> bool
     if kind == kinds::CURVE2 {
         return control(vp, used.vp, number);
     }
-    vertex(v, widths::V, used.v, number)
+    vertex(v, widths::V as u32, used.v, number)
 }
 
 fn corner_obeys(

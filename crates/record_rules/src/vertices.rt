@@ -1,5 +1,4 @@
 ghost use mathlib.Core.Path.{_≡_};
-ghost use Prim.Native.Nat.{_≤_};
 ghost use Rattle.record_rules.specs.Vertices.{vertexObeys, givenObeys, parameterVertexObeys, controlObeys};
 use crate::numbers::run_in_range;
 use crate::numbers::same;
@@ -8,8 +7,7 @@ use tables::vertices::lent_parameter_vertex;
 use tables::widths;
 
 // Whether record `number`, of `width` numbers, is used and lent, its numbers in range.
-pub fn vertex(values: &[i32], width: usize, used: u32, number: u32) -> bool
-    requires { ⌜ width ≤ 4294967295 ⌝ }
+pub fn vertex(values: &[i32], width: u32, used: u32, number: u32) -> bool
     ensures { λ r. ⌜ r ≡ vertexObeys width (now (values .entry)) used number ⌝ }
 {
     if number < 1 {
@@ -18,6 +16,7 @@ pub fn vertex(values: &[i32], width: usize, used: u32, number: u32) -> bool
     if used < number {
         return false;
     }
+    let width = width as usize;
     run_in_range(values, width * (number as usize - 1), width)
 }
 
@@ -46,7 +45,7 @@ fn given(count: i32, v: i32, w: i32) -> bool
 pub fn parameter_vertex(values: &[i32], used: u32, number: u32) -> bool
     ensures { λ r. ⌜ r ≡ parameterVertexObeys (now (values .entry)) used number ⌝ }
 {
-    if !vertex(values, widths::VP, used, number) {
+    if !vertex(values, widths::VP as u32, used, number) {
         return false;
     }
     let own = lent_parameter_vertex(values, number as usize - 1);

@@ -17,6 +17,9 @@ returns-3 : tie.Need-returns-3
 unfolding attributeObeys
 returns-3 c = rw (ne-eqb _ _ (c .before .before .if1 .left), not-false (c .before .before .before .args .allowed) (c .before .if2 .left), eq-eqb _ _ (c .if3 .taken))
 
+cast-vertex : tie.Need-cast-vertex
+cast-vertex c = search needs
+
 vertex-requires : tie.Need-vertex-requires
 vertex-requires c κs = search needs
 
@@ -25,4 +28,4 @@ unfolding attributeObeys
 returns-4 c = rw (ne-eqb _ _ (c .before .before .before .if1 .left), not-false (c .before .before .before .before .args .allowed) (c .before .before .if2 .left), ne-eqb _ _ (c .before .if3 .left)) (c .vertex .ensures)
 
 pub attribute-spec : {M : Type 1} → statement M
-attribute-spec = tie.close (tie.spec returns returns-2 returns-3 vertex-requires returns-4)
+attribute-spec = tie.close (tie.spec returns returns-2 returns-3 cast-vertex vertex-requires returns-4)

@@ -12,6 +12,9 @@ returns : tie.Need-returns
 unfolding pointObeys
 returns c = rw (eq-eqb _ _ (c .before .if1 .taken)) (c .control .ensures)
 
+cast-vertex : tie.Need-cast-vertex
+cast-vertex c = search needs
+
 vertex-requires : tie.Need-vertex-requires
 vertex-requires c κs = search needs
 
@@ -20,4 +23,4 @@ unfolding pointObeys
 returns-2 c = rw (ne-eqb _ _ (c .before .if1 .left)) (c .vertex .ensures)
 
 pub point-spec : {M : Type 1} → statement M
-point-spec = tie.close (tie.spec control-requires returns vertex-requires returns-2)
+point-spec = tie.close (tie.spec control-requires returns cast-vertex vertex-requires returns-2)

@@ -8,6 +8,9 @@ use native.Mathlib.Omega.{arith}
 use Rattle.record_rules.proofs.vertices.parameter_vertex.Statement.{statement}
 use Rattle.record_rules.proofs.vertices.parameter_vertex.Tie as tie
 
+cast-vertex : tie.Need-cast-vertex
+cast-vertex c = search needs
+
 vertex-requires : tie.Need-vertex-requires
 vertex-requires c κs = search needs
 
@@ -43,6 +46,7 @@ pub parameter-vertex-spec : {M : Type 1} → statement M
 parameter-vertex-spec =
     tie.close
     (tie.spec
+    cast-vertex
     vertex-requires
     returns
     sub-lent-parameter-vertex
