@@ -30,6 +30,40 @@ pub fn arguments() -> &'static [String] {
     WORDS.get_or_init(|| all(raw::argument))
 }
 
+/// The keywords besides those of elements (`Kind::keyword`) that host/ names, each by its row.
+#[derive(Clone, Copy)]
+pub enum Keyword {
+    V = 0,
+    Vt = 1,
+    Vn = 2,
+    Vp = 3,
+    Cstype = 4,
+    Deg = 5,
+    Parm = 14,
+    End = 19,
+}
+
+impl Keyword {
+    pub fn word(self) -> &'static str {
+        &keywords()[self as usize]
+    }
+}
+
+/// The fixed words besides the types (`Basis::word`) that host/ names, each by its row.
+#[derive(Clone, Copy)]
+pub enum Argument {
+    Rat = 0,
+    U = 6,
+    V = 7,
+    Off = 8,
+}
+
+impl Argument {
+    pub fn word(self) -> &'static str {
+        &arguments()[self as usize]
+    }
+}
+
 #[cfg(test)]
 mod tests {
     use super::*;
@@ -43,5 +77,14 @@ mod tests {
         );
         assert_eq!((arguments()[0].as_str(), arguments()[8].as_str()), ("rat", "off"));
         assert_eq!(raw::keyword(31, &mut [0; LONGEST - 1]), 0);
+    }
+
+    #[test]
+    fn every_name_is_that_of_its_row() {
+        use Keyword::*;
+        let words = [V, Vt, Vn, Vp, Cstype, Deg, Parm, End].map(Keyword::word);
+        assert_eq!(words, ["v", "vt", "vn", "vp", "cstype", "deg", "parm", "end"]);
+        let words = [Argument::Rat, Argument::U, Argument::V, Argument::Off].map(Argument::word);
+        assert_eq!(words, ["rat", "u", "v", "off"]);
     }
 }

@@ -1,23 +1,29 @@
 //! 6, 7, 8 and 9: a word and the form that it has to have.
 use super::line::{shown, types, words_from, Line};
 use super::{list, thousands};
-use crate::{Decimal, Form};
+use crate::words::{Argument, Keyword};
+use crate::{Decimal, Form, Kind};
 
 pub fn malformed(line: &Line) -> String {
     let (word, keyword, rules) = (line.word(), line.keyword(), line.rules());
     match rules.form() {
         Form::Number => number(line.bytes()),
         Form::Vertex | Form::Texture | Form::Corner => corner(line, rules.form()),
-        Form::Control => reference(line.bytes(), "vp"),
-        Form::Curve => reference(line.bytes(), "curv2"),
-        Form::Direction => format!("{keyword} takes u or v first, and not {word}"),
+        Form::Control => reference(line.bytes(), Keyword::Vp.word()),
+        Form::Curve => reference(line.bytes(), Kind::Curv2.keyword()),
+        Form::Direction => format!("{keyword} takes {} first, and not {word}", directions()),
         Form::Type => format!("{word} is no type: {} are", list(&types(), "and")),
-        Form::Rational => format!("of two words {keyword} takes rat first, and not {word}"),
+        Form::Rational => format!("of two words {keyword} takes {} first, and not {word}", Argument::Rat.word()),
         Form::Degree => format!("{word} is no degree: {} to {}, in digits alone", rules.low, rules.high),
-        Form::Smoothing => format!("{keyword} takes a number or off, and not {word}"),
+        Form::Smoothing => format!("{keyword} takes a number or {}, and not {word}", Argument::Off.word()),
         Form::Name => format!("a name has at most {} bytes, this has {}", rules.high, thousands(line.bytes().len())),
         Form::Anything => format!("{word} is malformed"),
     }
+}
+
+/// What a parm begins with.
+pub fn directions() -> String {
+    list(&[Argument::U.word(), Argument::V.word()], "or")
 }
 
 fn number(word: &[u8]) -> String {
@@ -68,13 +74,26 @@ fn reference(part: &[u8], kind: &str) -> String {
     format!("{name} names no {kind}: a reference is a whole number")
 }
 
-fn pattern(parts: &[&[u8]]) -> &'static str {
-    match parts {
-        [_] => "v",
-        [_, _] => "v/vt",
-        [_, b"", _] => "v//vn",
-        _ => "v/vt/vn",
-    }
+// The keywords of what a corner's parts refer to.
+fn part_keywords() -> [&'static str; 3] {
+    [Keyword::V, Keyword::Vt, Keyword::Vn].map(Keyword::word)
+}
+
+// A corner's pattern, as v//vn of 1//2.
+fn pattern(parts: &[&[u8]]) -> String {
+    let named = parts.iter().zip(part_keywords());
+    named.map(|(part, keyword)| if part.is_empty() { "" } else { keyword }).collect::<Vec<_>>().join("/")
+}
+
+// The patterns that a form allows.
+fn patterns(form: Form) -> Vec<String> {
+    let all: [&[u8]; 4] = [b"1", b"1/1", b"1//1", b"1/1/1"];
+    let many = match form {
+        Form::Vertex => 1,
+        Form::Texture => 2,
+        _ => 4,
+    };
+    all[..many].iter().map(|corner| pattern(&parts_of(corner))).collect()
 }
 
 fn parts_of(word: &[u8]) -> Vec<&[u8]> {
@@ -83,11 +102,7 @@ fn parts_of(word: &[u8]) -> Vec<&[u8]> {
 
 fn corner(line: &Line, form: Form) -> String {
     let (word, parts) = (line.word(), parts_of(line.bytes()));
-    let allowed: &[&str] = match form {
-        Form::Vertex => &["v"],
-        Form::Texture => &["v", "v/vt"],
-        _ => &["v", "v/vt", "v//vn", "v/vt/vn"],
-    };
+    let allowed = patterns(form);
     if parts.len() > 3 {
         return format!("{word} has {} parts, and a corner at most three", parts.len());
     }
@@ -100,16 +115,17 @@ fn corner(line: &Line, form: Form) -> String {
         return format!("{word} has no {which}");
     }
     if !allowed.contains(&pattern(&parts)) {
-        return format!("{} takes corners of {}, and not {word}", line.keyword(), list(allowed, "or"));
+        let allowed: Vec<&str> = allowed.iter().map(String::as_str).collect();
+        return format!("{} takes corners of {}, and not {word}", line.keyword(), list(&allowed, "or"));
     }
     // What is left has a part that is no whole number, or one of too many digits.
     let named: Vec<(&[u8], &str)> =
-        parts.into_iter().zip(["v", "vt", "vn"]).filter(|(part, _)| !part.is_empty()).collect();
+        parts.into_iter().zip(part_keywords()).filter(|(part, _)| !part.is_empty()).collect();
     let wrong = named
         .iter()
         .find(|(part, _)| !is_whole(part.strip_prefix(b"-").unwrap_or(part)))
         .or(named.iter().max_by_key(|(part, _)| part.len()));
-    let (part, kind) = wrong.copied().unwrap_or((line.bytes(), "v"));
+    let (part, kind) = wrong.copied().unwrap_or((line.bytes(), Keyword::V.word()));
     reference(part, kind)
 }
 
@@ -129,10 +145,10 @@ pub fn out_of_range(line: &Line) -> String {
 pub fn missing(line: &Line) -> String {
     let tally = line.advice.tally;
     let asked: Vec<(&[u8], &str, u32)> = match line.rules().form() {
-        Form::Control => vec![(line.bytes(), "vp", tally.vp)],
-        Form::Curve => vec![(line.bytes(), "curv2", tally.curves)],
+        Form::Control => vec![(line.bytes(), Keyword::Vp.word(), tally.vp)],
+        Form::Curve => vec![(line.bytes(), Kind::Curv2.keyword(), tally.curves)],
         _ => {
-            let kinds = [("v", tally.v), ("vt", tally.vt), ("vn", tally.vn)];
+            let kinds = part_keywords().into_iter().zip([tally.v, tally.vt, tally.vn]);
             parts_of(line.bytes()).into_iter().zip(kinds).map(|(part, (kind, many))| (part, kind, many)).collect()
         }
     };
@@ -152,7 +168,7 @@ fn nothing_there(part: &str, kind: &str, number: u64, many: u32) -> String {
     }
     let (are, many) = if many == 1 { ("is", "1".to_string()) } else { ("are", thousands(many as usize)) };
     let many = if many == "0" { "no".to_string() } else { many };
-    let ended = if kind == "curv2" { " with an end" } else { "" };
+    let ended = if kind == Kind::Curv2.keyword() { " with an end" } else { "" };
     format!("there is no {kind} {part}: there {are} {many} {kind}{ended} so far")
 }
 

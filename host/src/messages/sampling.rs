@@ -1,6 +1,6 @@
 //! 15 and 17 to 19: why an element is not sampled as asked.
 use super::list;
-use crate::{Decimal, Kind, Reason, Tables, MOST_STEPS};
+use crate::{Basis, Decimal, Kind, Reason, Tables, MOST_STEPS};
 
 /// What was asked of an element.
 #[derive(Clone, Copy, Debug, PartialEq, Eq)]
@@ -47,8 +47,9 @@ fn other_type(tables: &Tables, element: u32, asked: Asked) -> Option<String> {
     if asked == Asked::Cubic && basis.is_sampled() {
         let degree = body.u_degree;
         return Some(format!(
-            "element {element} is a {} of degree {degree}, and not a bezier of degree 3",
-            basis.word()
+            "element {element} is a {} of degree {degree}, and not a {} of degree 3",
+            basis.word(),
+            Basis::Bezier.word()
         ));
     }
     Some(format!("element {element} is a {}", basis.word()))
