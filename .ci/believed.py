@@ -3,10 +3,11 @@
     python3 .ci/believed.py             each file of specs/ with definitions that are reached: how many lines they have, and of how many
     python3 .ci/believed.py --rest      in those files, what no promise reaches
     python3 .ci/believed.py --mark      writes MARK on top of each of them, and takes it from every other file
+    python3 .ci/believed.py --table     writes these lines into the table of docs/PROMISES.md
 
 A promise is the `ensures` of an entry point (docs/PROMISES.md lists them: "No entry point has a `requires`"; and what C links) or the
 statement of a theorem of THEOREMS. From the names that it uses the definitions are followed through the `use` lines of specs/.
-A definition's lines are its signature, its clauses, its fields or cases, and the comment above it.
+A definition's lines are its signature, its clauses, its fields or cases; the comment above it is counted apart.
 A file whose first line is MARK holds such definitions alone, and every one of them stands in such a file (.ci/papers.py sees to it).
 """
 
@@ -16,6 +17,7 @@ from pathlib import Path
 
 ROOT = Path(__file__).resolve().parent.parent
 CRATES = ROOT / "crates"
+PROMISES = ROOT / "docs" / "PROMISES.md"
 HEAD = re.compile(r"^(?:(?:abbrev|unfoldable|opaque|pub)\s+)*(?:(record|data|module)\s+)?(«[^»]+»|[^\s(){}:,;]+)")
 MARK = "-- Must be believed: a promise reaches every definition of this file."
 # Entry points that the table of demand 1 does not list.
@@ -73,7 +75,7 @@ class Module:
     def __init__(self, file):
         self.text = file.read_text(encoding="utf-8")
         self.names, self.modules = uses_of(self.text)
-        self.lines, self.owner, self.order = {}, {}, []
+        self.lines, self.comments, self.owner, self.order = {}, {}, {}, []
         name, comment = None, []
         for number, line in enumerate(self.text.splitlines()):
             if line.startswith("--"):
@@ -85,19 +87,20 @@ class Module:
                 if not line.startswith(" "):
                     kind, name = HEAD.match(line).groups()
                     if name not in self.lines:
-                        self.lines[name], self.owner[name] = [], name
+                        self.lines[name], self.comments[name], self.owner[name] = [], 0, name
                         self.order.append(name)
                         self.kind = kind
                 elif self.kind == "data" and name:
                     for case in line.split(":")[0].split():
                         self.owner[case] = name
                 if name:
-                    self.lines[name] += comment + [number]
+                    self.lines[name].append(number)
+                    self.comments[name] += len(comment)
                 comment = []
 
     def body(self, name):
         rows = self.text.splitlines()
-        return "\n".join(rows[n] for n in self.lines[name] if not rows[n].startswith("--"))
+        return "\n".join(rows[n] for n in self.lines[name])
 
 
 MODULES = {}
@@ -152,7 +155,7 @@ def stated(text, theorem):
 
 def entry_points():
     """The functions that PROMISES lists as entry points, and those that C links."""
-    paper = (ROOT / "docs" / "PROMISES.md").read_text(encoding="utf-8")
+    paper = PROMISES.read_text(encoding="utf-8")
     listed = next(line for line in paper.splitlines() if "No entry point has a `requires`" in line)
     for names, path in re.findall(r"((?:`[^`]+`(?:, | and )?)+) \(([\w/]+\.rt)\)", listed):
         for name in re.findall(r"`([^`]+)`", names):
@@ -187,12 +190,13 @@ def believed():
 
 
 def counted():
-    """Each file with definitions that have to be believed: the lines of these, and the names of the others."""
+    """Each file with definitions that have to be believed: the lines of these, those of their comments, and the names of the others."""
     reached = believed()
     for file in sorted({file for file, _ in reached}):
         here = module(file)
         kept = {name for name in here.order if (file, name) in reached}
-        yield file, sum(len(set(here.lines[name])) for name in kept), [name for name in here.order if name not in kept]
+        rest = [name for name in here.order if name not in kept]
+        yield file, sum(len(here.lines[name]) for name in kept), sum(here.comments[name] for name in kept), rest
 
 
 def named(file):
@@ -205,7 +209,7 @@ def marked(file):
 
 def wrongly_marked():
     """Each file of specs/ that lacks the mark, has it without being reached, or has it and holds more than what is reached."""
-    reached = {file: rest for file, _, rest in counted()}
+    reached = {file: rest for file, _, _, rest in counted()}
     for file in sorted(CRATES.glob("*/specs/**/*.antt")):
         if marked(file) != (file in reached):
             yield file, "has the mark of what must be believed, and no promise reaches it" if marked(file) else "lacks the mark of what must be believed"
@@ -214,24 +218,50 @@ def wrongly_marked():
 
 
 def mark():
-    reached = {file for file, _, _ in counted()}
+    reached = {file for file, *_ in counted()}
     for file in sorted(CRATES.glob("*/specs/**/*.antt")):
         text = file.read_text(encoding="utf-8").removeprefix(MARK + "\n")
         file.write_text(f"{MARK}\n{text}" if file in reached else text, encoding="utf-8")
 
 
+def table():
+    """The numbers of the table in docs/PROMISES.md, those of each file and the sums, as they are counted."""
+    lines = {named(file): count for file, count, *_ in counted()}
+    head, title, rest = PROMISES.read_text(encoding="utf-8").partition("## What must be believed")
+    told, found, more = rest.partition("\n## ")
+    rows = told.split("\n")
+    for number, row in enumerate(rows):
+        cells = row.split("|")
+        if len(cells) != 5 or not re.fullmatch(r" [\d,]+ ", cells[3]):
+            continue
+        crate, total = None, 0
+
+        def counted_anew(match):
+            nonlocal crate, total
+            crate = match[1] or crate
+            total += lines.get(f"{crate}: {match[2]}", 0)
+            return f"{match[1] + ': ' if match[1] else ''}{match[2]} ({lines.get(f'{crate}: {match[2]}', 0)})"
+
+        cells[2] = re.sub(r"(?:\b([a-z_]+): )?\b([A-Z]\w+) \(\d+\)", counted_anew, cells[2])
+        cells[3] = f" {total if cells[2].strip() else sum(lines.values()):,} "
+        rows[number] = "|".join(cells)
+    PROMISES.write_text(head + title + "\n".join(rows) + found + more, encoding="utf-8")
+
+
 def main():
     if "--mark" in sys.argv:
         return mark()
-    total = files = 0
-    for file, lines, rest in counted():
-        total, files = total + lines, files + 1
+    if "--table" in sys.argv:
+        return table()
+    total = files = commented = 0
+    for file, lines, comments, rest in counted():
+        total, files, commented = total + lines, files + 1, commented + comments
         where = named(file)
         if "--rest" not in sys.argv:
             print(f"{lines:5} of {len(module(file).text.splitlines()):4}  {where}")
         elif rest:
             print(f"{where}: {', '.join(rest)}")
-    print(f"{total:,} lines in {files} files")
+    print(f"{total:,} lines in {files} files, and {commented:,} of comments above them")
 
 
 if __name__ == "__main__":

@@ -27,10 +27,7 @@ def crates_of(text):
 
 
 CRATES = crates_of((ROOT / "crates.txt").read_text())
-BELIEVED = {
-    believed.named(file): (lines, len(file.read_text(encoding="utf-8").splitlines()))
-    for file, lines, _ in believed.counted()
-}
+BELIEVED = {believed.named(file): lines for file, lines, *_ in believed.counted()}
 
 
 def found(path, below=None):
@@ -174,35 +171,35 @@ def check_entry_points(line, say):
 
 
 def check_lines(line, say):
-    """`Lists (17)` or `Rows (28 of 92)` in the table of what must be believed: so many lines of that file of specs/ are reached."""
+    """`Lists (17)` in the table of what must be believed: so many lines of that file of specs/ are reached."""
     cells = line.split("|")
     if len(cells) != 5 or not re.fullmatch(r"[\d,]+", cells[3].strip()):
         return
     total = 0
-    for crate, name, lines, all_lines in believed_in(cells[2]):
-        found_lines, has = BELIEVED.get(f"{crate}: {name}", (0, 0))
+    for crate, name, lines in believed_in(cells[2]):
+        found_lines = BELIEVED.get(f"{crate}: {name}", 0)
         total += lines
-        if (lines, all_lines or has) != (found_lines, has):
-            say(f"{crate}: {name} has {found_lines} lines of {has} that are reached, not {lines}")
+        if lines != found_lines:
+            say(f"{crate}: {name} has {found_lines} lines that are reached, not {lines}")
     if total and total != int(cells[3].replace(",", "")):
         say(f"the lines are {total} in all, not {cells[3].strip()}")
 
 
 def believed_in(cell):
-    """The files that a cell of that table names: crate, file, lines that are reached, and of how many where that is said."""
+    """The files that a cell of that table names: crate, file, lines that are reached."""
     crate = None
-    for group in re.finditer(r"(?:\b([a-z_]+): )?\b([A-Z]\w+) \((\d+)(?: of (\d+))?\)", cell):
+    for group in re.finditer(r"(?:\b([a-z_]+): )?\b([A-Z]\w+) \((\d+)\)", cell):
         crate = group[1] or crate
-        yield crate, group[2], int(group[3]), int(group[4] or 0)
+        yield crate, group[2], int(group[3])
 
 
 def check_believed(text, say):
     """The table of what must be believed names each file that a promise reaches, once, and its last row has the sum."""
     rows = [line.split("|") for line in text.split("## What must be believed")[1].split("## ")[0].splitlines() if line.count("|") == 4]
-    named = [f"{crate}: {name}" for row in rows for crate, name, _, _ in believed_in(row[2])]
+    named = [f"{crate}: {name}" for row in rows for crate, name, _ in believed_in(row[2])]
     for name in sorted(set(named) ^ set(BELIEVED)) + [name for name in set(named) if named.count(name) > 1]:
         say(f"docs/PROMISES.md: {name} is {'not among what must be believed' if name not in named else 'there without being reached, or twice'}")
-    total = sum(lines for lines, _ in BELIEVED.values())
+    total = sum(BELIEVED.values())
     if f"{total:,}" != rows[-1][3].strip():
         say(f"docs/PROMISES.md: {total:,} lines must be believed, not {rows[-1][3].strip()}")
 
@@ -265,7 +262,7 @@ WRONG = (
     ("| read_lines | `lines_of` | all; no `requires` |", "`lines_of` has a `requires`"),
     ("No entry point has a `requires`: `lines_of` (read_lines/src/lib.rt)", "has a requires"),
     ("| x | lists: Lists (1) | 1 |", "reached, not 1"),
-    ("| x | lists: Lists (17 of 18) | 17 |", "reached, not 17"),
+    ("| x | lists: Lists (14) | 14 |", "reached, not 14"),
     ("see DECISIONS 999", "no decision 999"),
 )
 
