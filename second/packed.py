@@ -2,7 +2,7 @@
 stdin and stdout of crates/reader_cases anew from cases/expected.txt and from
 seeded texts, valid and damaged, of crates/sampler_cases from seeded curves and
 surfaces and document 000's examples, and of crates/points from one of the
-files in examples/.
+files in examples/; and stdout of crates/word_cases for the words of its stdin.
 
 A case is a line (the text's length, the file's name and why) and then the
 text.  The answer to it is that name and reason, the answer, and one number for
@@ -16,9 +16,12 @@ from curves import requests, words
 from damage import cases
 from polyline import polyline
 from reader import read
-from records import CURV, CURV2, SURF, TABLES, Read, Refused, zeros
+from records import CURV, CURV2, SURF, TABLES, Fault, Read, Refused, zeros
 from rules import body_of, element_record
 from sampler import RefusedPoint, cubic_at, point_on_curve, point_on_surface, run_on_curve
+from statements import ALL_PATTERNS, LINE_PATTERNS, PLAIN
+from tidier import corner_word, decimal
+from words import corner, degree, name, number, reference, smoothing
 
 SECOND = Path(__file__).resolve().parent
 CASES = SECOND / "cases"
@@ -165,6 +168,58 @@ def run_of_points():
     return data, f"{RUN_ELEMENT}\n{RUN_STEPS}\n".encode(), "".join(lines).encode()
 
 
+# millionths that word_cases writes whatever words it is given: those about zero and about the range's ends
+WRITTEN = (
+    -2_147_483_648, 2_147_483_647, -2_000_000_001, 2_000_000_001, -2_000_000_000, 2_000_000_000,
+    -1, 0, 1, -999_999, 1_000_000, -10_000_000,
+)
+
+
+def written(value):
+    """A number as it is written, and what that word is."""
+    word = decimal(value)
+    try:
+        back = "read back" if number((0, word.encode())) == value else "another number"
+    except Fault as fault:
+        back = f"back {fault.refused.number}"
+    return f"{word}, {back}"
+
+
+def corner_shown(word, patterns):
+    """A corner of 4 v, 3 vt and 2 vn, and as it is written."""
+    found = corner(word, patterns, (4, 3, 2))
+    return f"{' '.join(map(str, found))}, {corner_word(*found)}"
+
+
+# by the letters of word_cases
+FORMS = {
+    "n": lambda word: written(number(word)),
+    "r": lambda word: reference(word, 4),
+    "R": lambda word: reference(word, 4_294_967_295),
+    "p": lambda word: corner_shown(word, PLAIN),
+    "l": lambda word: corner_shown(word, LINE_PATTERNS),
+    "f": lambda word: corner_shown(word, ALL_PATTERNS),
+    "d": degree,
+    "s": smoothing,
+    "g": lambda word: name(word) and "a name",
+}
+
+
+def said(form, letters):
+    """What the word is in that form."""
+    try:
+        return FORMS[form]((0, letters.encode()))
+    except Fault as fault:
+        return f"refused {fault.refused.number}"
+
+
+def word_answers():
+    """stdout of the program that reads words; at last its answers where no word is."""
+    pairs = [line.split() for line in (CRATES / "word_cases" / "stdin").read_text().splitlines()]
+    lines = [f"{form} {word}: {said(form, word)}" for form, word in pairs]
+    return "\n".join([*lines, *map(written, WRITTEN), "refused 6" * 6, ""]).encode()
+
+
 def files(rows):
     """Each stored file with what it must hold."""
     programs = {
@@ -174,8 +229,9 @@ def files(rows):
     for program, (given, wanted) in programs.items():
         yield CRATES / program / "stdin", given
         yield CRATES / program / "stdout", wanted
-    for name, data in zip(("stdin", "args", "stdout"), run_of_points()):
-        yield CRATES / "points" / name, data
+    for stored, data in zip(("stdin", "args", "stdout"), run_of_points()):
+        yield CRATES / "points" / stored, data
+    yield CRATES / "word_cases" / "stdout", word_answers()
 
 
 if __name__ == "__main__":

@@ -8,6 +8,7 @@ use lib.Dec.{leb}
 use lib.ListN.{length, take, drop}
 use Rattle.tables.specs.Asking.{askedElement, partOf, askedGroup, askedMaterial}
 use Rattle.tables.specs.declared.Used.{Used}
+use Rattle.tables.specs.declared.NameRun.{NameRun}
 use Rattle.tables.specs.declared.Element.{Element}
 use Rattle.c_tables.specs.Parts.{part, partIn, groupIn, materialIn, bytesIn}
 use Rattle.c_tables.specs.declared.Part.{Part}
@@ -16,29 +17,29 @@ bytes-by : (text : List ℕ) (place count : ℕ) (b : Bool) → bytesIn text (co
 bytes-by text place count true = refl
 bytes-by text place count false = refl
 
-module _ (text : List ℕ) (place count : ℕ) where
-  pub part-there : place + count ≤ length text → part place count ≡ partIn text place count
+module _ (text : List ℕ) (run : NameRun) where
+  pub part-there : run .place + run .length ≤ length text → part (run .place) (run .length) ≡ partIn text run
   unfolding partIn
-  part-there h = rw (le-leb (place + count) (length text) h) refl
+  part-there h = rw (le-leb (run .place + run .length) (length text) h) refl
 
-  pub part-past : length text < place + count → part 0 0 ≡ partIn text place count
+  pub part-past : length text < run .place + run .length → part 0 0 ≡ partIn text run
   unfolding partIn
-  part-past h = rw (lt-leb (place + count) (length text) h) refl
+  part-past h = rw (lt-leb (run .place + run .length) (length text) h) refl
 
-  bytes-in : bytesIn text (partIn text place count) ≡ partOf text place count
+  bytes-in : bytesIn text (partIn text run) ≡ partOf text run
   unfolding partIn partOf
-  bytes-in = bytes-by text place count (leb (place + count) (length text))
+  bytes-in = bytes-by text (run .place) (run .length) (leb (run .place + run .length) (length text))
 
 -- an element's record e, and the answer r that was made of it
 module _ (text : List ℕ) (used : Used) (elements : List ℕ) (number : ℕ) {e : Element} {r : Part} (p : e ≡ askedElement used elements number) where
-  pub group-placed : r ≡ partIn text (e .«group_place») (e .«group_length») → (r ≡ groupIn text used elements number) × (bytesIn text r ≡ askedGroup text used elements number)
+  pub group-placed : r ≡ partIn text (e .group) → (r ≡ groupIn text used elements number) × (bytesIn text r ≡ askedGroup text used elements number)
   unfolding groupIn askedGroup
   group-placed q =
-      let at : r ≡ partIn text (askedElement used elements number .«group_place») (askedElement used elements number .«group_length») = q ∙ ap (λ (e : Element). partIn text (e .«group_place») (e .«group_length»)) p in
-      (at, ap (λ (r : Part). bytesIn text r) at ∙ bytes-in text _ _)
+      let at : r ≡ partIn text (askedElement used elements number .group) = q ∙ ap (λ (e : Element). partIn text (e .group)) p in
+      (at, ap (λ (r : Part). bytesIn text r) at ∙ bytes-in text _)
 
-  pub material-placed : r ≡ partIn text (e .«material_place») (e .«material_length») → (r ≡ materialIn text used elements number) × (bytesIn text r ≡ askedMaterial text used elements number)
+  pub material-placed : r ≡ partIn text (e .material) → (r ≡ materialIn text used elements number) × (bytesIn text r ≡ askedMaterial text used elements number)
   unfolding materialIn askedMaterial
   material-placed q =
-      let at : r ≡ partIn text (askedElement used elements number .«material_place») (askedElement used elements number .«material_length») = q ∙ ap (λ (e : Element). partIn text (e .«material_place») (e .«material_length»)) p in
-      (at, ap (λ (r : Part). bytesIn text r) at ∙ bytes-in text _ _)
+      let at : r ≡ partIn text (askedElement used elements number .material) = q ∙ ap (λ (e : Element). partIn text (e .material)) p in
+      (at, ap (λ (r : Part). bytesIn text r) at ∙ bytes-in text _)

@@ -7,24 +7,21 @@ use lib.Dec.{leb}
 use lib.ListN.{length, take, drop}
 use Rattle.tables.specs.Asking.{askedElement}
 use Rattle.tables.specs.declared.Used.{Used}
+use Rattle.tables.specs.declared.NameRun.{NameRun}
 use Rattle.c_tables.specs.declared.Part.{Part}
 
 abbrev pub part : ℕ → ℕ → Part
 part place count = record { place = place; length = count }
 
 -- where that part of the caller's own text stands; "a run past the text's end, gives an empty part"
-unfoldable pub partIn : List ℕ → ℕ → ℕ → Part
-partIn text place count = cond (leb (place + count) (length text)) (part place count) (part 0 0)
+unfoldable pub partIn : List ℕ → NameRun → Part
+partIn text run = cond (leb (run .place + run .length) (length text)) (part (run .place) (run .length)) (part 0 0)
 
 unfoldable pub groupIn : List ℕ → Used → List ℕ → ℕ → Part
-groupIn text used elements number =
-    let e = askedElement used elements number in
-    partIn text (e .«group_place») (e .«group_length»)
+groupIn text used elements number = partIn text (askedElement used elements number .group)
 
 unfoldable pub materialIn : List ℕ → Used → List ℕ → ℕ → Part
-materialIn text used elements number =
-    let e = askedElement used elements number in
-    partIn text (e .«material_place») (e .«material_length»)
+materialIn text used elements number = partIn text (askedElement used elements number .material)
 
 -- the bytes of the text that a part names
 abbrev pub bytesIn : List ℕ → Part → List ℕ

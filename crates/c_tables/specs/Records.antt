@@ -10,14 +10,14 @@ abbrev pub elementRecord : Element → ElementRecord
 elementRecord e =
     record {
       kind = e .kind;
-      «first_corner» = e .first;
-      corners = e .count;
+      «first_corner» = e .corners .first;
+      corners = e .corners .count;
       body = e .body;
       smoothing = e .smoothing;
-      «group_place» = e .«group_place»;
-      «group_length» = e .«group_length»;
-      «material_place» = e .«material_place»;
-      «material_length» = e .«material_length»;
+      «group_place» = e .group .place;
+      «group_length» = e .group .length;
+      «material_place» = e .material .place;
+      «material_length» = e .material .length;
     }
 
 -- "A body holds type, rational or not, degrees, ranges, parameters (u, then v), loops; a curve's v entries are 0."

@@ -1,6 +1,7 @@
 // What C and Rust ask of the tables: an element and a body as records of numbers, the element of a curv2's number, and where a name stands.
 ghost use mathlib.Core.Path.{_≡_};
 ghost use Rattle.c_tables.specs.Parts.{partIn};
+use tables::NameRun;
 
 pub mod curve_numbers;
 pub mod records;
@@ -12,11 +13,11 @@ pub struct Part {
     pub length: usize,
 }
 
-pub fn part_of(text: &[u8], place: u32, count: u32) -> Part
-    ensures { λ r. ⌜ r ≡ partIn (now (text .entry)) place count ⌝ }
+pub fn part_of(text: &[u8], run: NameRun) -> Part
+    ensures { λ r. ⌜ r ≡ partIn (now (text .entry)) run ⌝ }
 {
-    let from = place as usize;
-    let many = count as usize;
+    let from = run.place as usize;
+    let many = run.length as usize;
     if from + many <= text.len() {
         return Part {
             place: from,

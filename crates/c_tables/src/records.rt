@@ -39,16 +39,19 @@ pub struct BodyRecord {
 pub fn element_record(e: Element) -> ElementRecord
     ensures { λ r. ⌜ r ≡ elementRecord e ⌝ }
 {
+    let run = e.corners;
+    let group = e.group;
+    let material = e.material;
     ElementRecord {
         kind: e.kind,
-        first_corner: e.first,
-        corners: e.count,
+        first_corner: run.first,
+        corners: run.count,
         body: e.body,
         smoothing: e.smoothing,
-        group_place: e.group_place,
-        group_length: e.group_length,
-        material_place: e.material_place,
-        material_length: e.material_length,
+        group_place: group.place,
+        group_length: group.length,
+        material_place: material.place,
+        material_length: material.length,
     }
 }
 

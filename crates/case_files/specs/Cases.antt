@@ -16,13 +16,13 @@ numberFrom n p (b ∷ bs) =
     cond (leb 48 b) (cond (leb b 57) (cond (leb n 4000000000) (numberFrom (n * 10 + (b - 48)) (p + 1) bs) (number n (p + 1))) (number n (p + 1))) (number n (p + 1))
 
 -- the whole number at `at`, and the place after the blank behind it
-abbrev pub numberAt : List ℕ → ℕ → Number
-numberAt s at = numberFrom 0 at (drop at s)
+abbrev pub caseNumberAt : List ℕ → ℕ → Number
+caseNumberAt s at = numberFrom 0 at (drop at s)
 
 -- where the line that the bytes from the place p on begin with ends: at its LF or with the bytes
 abbrev pub endFrom : ℕ → List ℕ → ℕ
 endFrom p [] = p
 endFrom p (b ∷ bs) = cond (eqb b 10) p (endFrom (p + 1) bs)
 
-abbrev pub lineEnd : List ℕ → ℕ → ℕ
-lineEnd s at = endFrom at (drop at s)
+abbrev pub caseLineEnd : List ℕ → ℕ → ℕ
+caseLineEnd s at = endFrom at (drop at s)

@@ -2,7 +2,7 @@
 ghost use mathlib.Core.Path.{_≡_};
 ghost use Prim.Native.Nat.{_≤_, min};
 ghost use lib.ListN.{length};
-ghost use Rattle.case_files.specs.Cases.{numberAt, lineEnd};
+ghost use Rattle.case_files.specs.Cases.{caseNumberAt, caseLineEnd};
 
 pub struct Number {
     pub value: usize,
@@ -18,7 +18,7 @@ pub fn least(a: usize, b: usize) -> usize
 // The whole number at `at`, and the place after the blank behind it.
 pub fn number_at(cases: &[u8], at: usize) -> Number
     requires { ⌜ at ≤ length (now cases) ⌝ }
-    ensures { λ r. ⌜ (r ≡ numberAt (now (cases .entry)) at) × (r .next ≤ length (now (cases .entry))) ⌝ }
+    ensures { λ r. ⌜ (r ≡ caseNumberAt (now (cases .entry)) at) × (r .next ≤ length (now (cases .entry))) ⌝ }
 {
     let mut value: usize = 0;
     let mut i = at;
@@ -45,7 +45,7 @@ pub fn number_at(cases: &[u8], at: usize) -> Number
 // Where the line at `at` ends: at its LF or with the bytes.
 pub fn line_end(cases: &[u8], at: usize) -> usize
     requires { ⌜ at ≤ length (now cases) ⌝ }
-    ensures { λ r. ⌜ (r ≡ lineEnd (now (cases .entry)) at) × (at ≤ r) × (r ≤ length (now (cases .entry))) ⌝ }
+    ensures { λ r. ⌜ (r ≡ caseLineEnd (now (cases .entry)) at) × (at ≤ r) × (r ≤ length (now (cases .entry))) ⌝ }
 {
     let mut i = at;
     while i < cases.len() {

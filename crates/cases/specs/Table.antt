@@ -15,7 +15,6 @@ use Rattle.model.specs.Room.{Rooms}
 use Rattle.model.specs.Read.{Answer, read, refused, readOf}
 use Rattle.point_exact.specs.Directions.{PointBasis, bezier, bspline, at}
 use Rattle.point_exact.specs.Sampled.{curveSampled}
-use Rattle.references.specs.Examples.{sameInt, sameSaid}
 
 pub data Case : Type 0 where
   -- the word is a number of so many millionths, or is refused
@@ -29,6 +28,18 @@ pub data Case : Type 0 where
   -- the curve with these parameters and controls has that point at t
   curve : PointBasis → ℕ → List ℤ → List ℤ → ℤ → ℤ → Case
 
+abbrev pub sameInt : ℤ → ℤ → Bool
+sameInt (pos a) (pos b) = eqb a b
+sameInt (pos a) (negsuc b) = false
+sameInt (negsuc a) (pos b) = false
+sameInt (negsuc a) (negsuc b) = eqb a b
+
+abbrev pub sameSaid : {A : Type 0} → (A → A → Bool) → Said A → Said A → Bool
+sameSaid f (says a) (says b) = f a b
+sameSaid f (says a) (wrong n) = false
+sameSaid f (wrong n) (says b) = false
+sameSaid f (wrong n) (wrong m) = eqb n m
+
 abbrev pub isRead : Answer → Bool
 isRead (read m) = true
 isRead (refused n p) = false
@@ -39,7 +50,7 @@ isRefused (refused i q) n p = eqb i n && eqb q p
 
 -- tables with room for a hundred numbers each
 abbrev pub roomy : Rooms
-roomy = record { v = 100; vt = 100; vn = 100; vp = 100; corners = 100; elements = 100; bodies = 100; ranges = 100; parameters = 100; loops = 100; spans = 100 }
+roomy = record { vertices = record { v = 100; vt = 100; vn = 100; vp = 100 }; elements = record { corners = 100; elements = 100 }; bodies = record { bodies = 100; ranges = 100; parameters = 100; loops = 100; spans = 100 } }
 
 abbrev pub holds : Case → Bool
 holds (number w a) = sameSaid sameInt (numberOf (bytes w)) a

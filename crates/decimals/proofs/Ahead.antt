@@ -4,9 +4,7 @@ use mathlib.Core.Path.{_≡_, refl, sym, ap, _∙_}
 use mathlib.Core.List.{List, _++_}
 use mathlib.Core.Bool.{Bool}
 use lib.ListN.{length, drop, length-append}
-use lib.Pow.{pow-add}
 use native.Mathlib.Omega.{arith}
-use native.Mathlib.Nat.{mul-lt-mul-of-pos-right, pow-le-pow-right}
 use Rattle.lists.proofs.Laws.{all-append}
 use Rattle.text.specs.Words.{wordOf}
 use Rattle.text.specs.Rest.{endOf}
@@ -14,7 +12,7 @@ use Rattle.digits.specs.Said.{says, wrong}
 use Rattle.digits.specs.Answers.{ended}
 use Rattle.digits.specs.Digits.{isDigit, natOf}
 use Rattle.digits.specs.Straight.{first, run, cap, WholeRead}
-use Rattle.digits.proofs.Rows.{run-digits, natOf-append, natOf-high, ten-pos}
+use Rattle.digits.proofs.Rows.{run-digits, natOf-append, natOf-padded}
 use Rattle.digits.proofs.Lengths.{ten-digits}
 use Rattle.decimals.specs.Straight.{magnitudeOf, exponentOf, scaledOf, movedOf, DecimalsAhead, MantissaAhead}
 use Rattle.decimals.proofs.Shifts.{shift-number}
@@ -54,27 +52,23 @@ module _ (s : List ℕ) (at n end : ℕ) (r : MantissaAhead s at n end) where
       let l = length-append b a in
       let k = r .whole in
       let f = r .few in
-      let p : natOf 0 (b ++ a) < (0 + 1) * 10 ^ length (b ++ a) = natOf-high 0 (b ++ a) (all-append isDigit b a (run-digits (drop at s)) (run-digits (drop (r .from) s))) in
-      let q : natOf 0 (b ++ a) * 10 ^ (7 - length a) < (0 + 1) * 10 ^ length (b ++ a) * 10 ^ (7 - length a) = mul-lt-mul-of-pos-right p (ten-pos (7 - length a)) in
-      let e : 10 ^ (length (b ++ a) + (7 - length a)) ≡ 10 ^ length (b ++ a) * 10 ^ (7 - length a) = pow-add 10 (length (b ++ a)) (7 - length a) in
-      let g : (0 + 1) * 10 ^ length (b ++ a) * 10 ^ (7 - length a) ≡ 10 ^ length (b ++ a) * 10 ^ (7 - length a) = ap (λ (x : ℕ). x * 10 ^ (7 - length a)) (let y : (0 + 1) * 10 ^ length (b ++ a) ≡ 10 ^ length (b ++ a) = omega arith in y) in
-      let c : 10 ^ (length (b ++ a) + (7 - length a)) ≤ 10 ^ 11 = pow-le-pow-right {n = 10} (omega arith) (let y : length (b ++ a) + (7 - length a) ≤ 11 = omega arith in y) in
       let v = r .value-is in
-      omega arith
+      let n : length (b ++ a) + (7 - length a) ≤ 11 = omega arith in
+      omega (arith, natOf-padded 11 (7 - length a) 0 (b ++ a) (all-append isDigit b a (run-digits (drop at s)) (run-digits (drop (r .from) s))) n)
 
   pub ahead-in : end < length s
-  ahead-in = end-in s at (r .point) (r .from) end (r .read) (first (drop end s)) refl (r .stops)
+  ahead-in = end-in (r .read) (first (drop end s)) refl (r .stops)
 
   pub ahead-no-decimal : wrong 6 ≡ ended (magnitudeOf (wordOf (drop at s))) (endOf s at)
-  ahead-no-decimal = no-decimal s at (r .point) (r .from) end (r .read) (first (drop end s)) refl (r .stops)
+  ahead-no-decimal = no-decimal (r .read) (first (drop end s)) refl (r .stops)
 
   pub shifted-malformed : wrong 6 ≡ ended (exponentOf (wordOf (drop (end + 1) s))) (endOf s (end + 1)) → wrong 6 ≡ ended (scaledOf (wordOf (drop at s))) (endOf s at)
-  shifted-malformed h = scaled-malformed s at (r .point) (r .from) end (r .read) (first (drop end s)) refl (r .stops) h
+  shifted-malformed h = scaled-malformed (r .read) (first (drop end s)) refl (r .stops) h
 
   pub shifted-read : (minus : Bool) (k last v : ℕ) → says ((minus, k), last) ≡ ended (exponentOf (wordOf (drop (end + 1) s))) (endOf s (end + 1))
       → v ≡ cap (movedOf minus (n * 10) k) → says (v, last) ≡ ended (scaledOf (wordOf (drop at s))) (endOf s at)
   shifted-read minus k last v h e =
       let f = r .few in
       let t : n * 10 ≡ natOf 0 (b ++ a) * 10 ^ (7 - length a) = (let y = r .value-is in omega arith) in
-      scaled-moved s at (r .point) (r .from) end (r .read) (first (drop end s)) refl (r .stops) (r .some) minus k last h v
+      scaled-moved (r .read) (first (drop end s)) refl (r .stops) (r .some) minus k last h v
       (e ∙ ap cap (sym (shift-number (natOf 0 (b ++ a)) (length a) (n * 10) (omega arith) t minus k)))

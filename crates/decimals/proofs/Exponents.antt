@@ -3,23 +3,22 @@ use Prim.Native.Nat.{ℕ, _+_, _-_, _*_, _^_, _≤_, _<_}
 use mathlib.Core.Path.{_≡_, refl, sym, ap, _∙_}
 use mathlib.Core.List.{List, _++_}
 use mathlib.Core.Bool.{Bool, true, false, cond, _&&_}
-use mathlib.Core.Logic.{⊎-elim}
 use lib.ListN.{length, take, drop, length-append}
 use lib.Seq.{take-append-le, take-append-add, take-all}
 use lib.Dec.{leb, eqb}
 use borrow.Author.Tests.{leb-true}
 use native.Mathlib.Omega.{arith}
-use native.Mathlib.Nat.{mul-one, pow-le-pow-right}
-use Rattle.lists.proofs.Tests.{and-left, and-right, test}
+use native.Mathlib.Nat.{mul-one}
+use Rattle.lists.proofs.Tests.{and-left, and-right}
 use Rattle.text.specs.Words.{wordOf}
 use Rattle.text.specs.Rest.{endOf}
 use Rattle.digits.specs.Said.{says, wrong}
 use Rattle.digits.specs.Answers.{ended}
 use Rattle.digits.specs.Digits.{digits, natOf, whole, negative}
-use Rattle.digits.specs.Straight.{first, run, cap, rowOf}
-use Rattle.digits.proofs.Rows.{natOf-append, natOf-high, cap-natOf, ten-pos}
-use Rattle.digits.proofs.Wholes.{row-false, row-true}
-use Rattle.digits.proofs.Saids.{said, ended-says, ended-wrong, must-says}
+use Rattle.digits.specs.Straight.{first, run, cap}
+use Rattle.digits.proofs.Rows.{natOf-append, natOf-below, cap-natOf, ten-pos}
+use Rattle.digits.proofs.Wholes.{RowRead, NoRow, row-digits, no-digits}
+use Rattle.digits.proofs.Saids.{said, ended-says, must-says, must-wrong}
 use Rattle.decimals.specs.Number.{isSign, exponent, after, unsigned}
 use Rattle.decimals.specs.Straight.{exponentOf, takenOf, MantissaRead}
 use Rattle.decimals.proofs.Shifts.{cap-times}
@@ -30,19 +29,16 @@ module _ (s : List ℕ) (at b n : ℕ) (h : at ≤ length s) (e : b ≡ first (d
   abbrev x : List ℕ
   x = wordOf (drop at s)
 
-  pub exponent-bad : wrong 6 ≡ ended (rowOf 3 (wordOf (drop (at + n) s))) (endOf s (at + n)) → wrong 6 ≡ ended (exponentOf x) (endOf s at)
+  pub exponent-bad : NoRow 3 s (at + n) → wrong 6 ≡ ended (exponentOf x) (endOf s at)
   unfolding exponentOf
-  exponent-bad r =
-      let q = row-false 3 (wordOf (drop (at + n) s)) (ended-wrong _ 6 (endOf s (at + n)) r) in
-      rw (ap (whole 3) (sym (unsigned-is s at b n h e k)) ∙ q) refl
+  exponent-bad r = rw (ap (whole 3) (sym (unsigned-is s at b n h e k)) ∙ no-digits s (at + n) 3 r) refl
 
-  pub exponent-read : (v end : ℕ) → says (v, end) ≡ ended (rowOf 3 (wordOf (drop (at + n) s))) (endOf s (at + n)) → says ((eqb b 45, v), end) ≡ ended (exponentOf x) (endOf s at)
+  pub exponent-read : (v end : ℕ) → RowRead 3 s (at + n) v end → says ((eqb b 45, v), end) ≡ ended (exponentOf x) (endOf s at)
   exponent-read v end r =
-      let q = ended-says (rowOf 3 (wordOf (drop (at + n) s))) v (endOf s (at + n)) end r in
-      let t = row-true 3 v (wordOf (drop (at + n) s)) (q .0) in
+      let t = row-digits s (at + n) 3 v end r in
       let u = unsigned-is s at b n h e k in
       let m : negative x ≡ eqb b 45 = signs s at b n h e k .negative-is ∙ ap (λ (y : ℕ). eqb y 45) (sym e) in
-      said (exponentOf x) (eqb b 45, v) (endOf s at) end (found (ap (whole 3) (sym u) ∙ t .0) (ap (natOf 0) (sym u) ∙ t .1) m) (q .1 ∙ ends s at b n h e k)
+      said (exponentOf x) (eqb b 45, v) (endOf s at) end (found (ap (whole 3) (sym u) ∙ t .0) (ap (natOf 0) (sym u) ∙ t .1) m) (t .2 ∙ ends s at b n h e k)
     where
       found : whole 3 (unsigned x) ≡ true → natOf 0 (unsigned x) ≡ v → negative x ≡ eqb b 45 → exponentOf x ≡ says (eqb b 45, v)
       found f g m = unfold exponentOf in rw (f, g, m) refl
@@ -57,11 +53,7 @@ exponent-true x minus v h =
 
 pub exponent-false : (x : List ℕ) → exponentOf x ≡ wrong 6 → whole 3 (unsigned x) ≡ false
 unfolding exponentOf
-exponent-false x h =
-    ⊎-elim
-    (λ (t : whole 3 (unsigned x) ≡ true). absurd (let z : _≡_ {A = ℕ} 0 1 = (let y = rw t at h in cc) in omega arith))
-    (λ (t : whole 3 (unsigned x) ≡ false). t)
-    (test (whole 3 (unsigned x)))
+exponent-false x h = must-wrong (whole 3 (unsigned x)) 6 (negative x, natOf 0 (unsigned x)) 6 h
 
 -- three digits
 pub exponent-small : (s : List ℕ) (at : ℕ) (minus : Bool) (v end : ℕ) → says ((minus, v), end) ≡ ended (exponentOf (wordOf (drop at s))) (endOf s at) → v < 1000
@@ -72,10 +64,8 @@ exponent-small s at minus v end r =
     let l = and-left (digits x && leb 1 (length x)) (leb (length x) 3) (t .0) in
     let f : digits x ≡ true = and-left (digits x) (leb 1 (length x)) l in
     let k : length x ≤ 3 = leb-true (length x) 3 (and-right (digits x && leb 1 (length x)) (leb (length x) 3) (t .0)) in
-    let p : natOf 0 x < (0 + 1) * 10 ^ length x = natOf-high 0 x f in
-    let q : 10 ^ length x ≤ 10 ^ 3 = pow-le-pow-right {n = 10} (omega arith) k in
     let r : natOf 0 x ≡ v = t .2 in
-    omega arith
+    omega (arith, natOf-below 3 0 x f k)
 
 -- ---- taken: the first q digits of two rows
 taken-both : (b a : List ℕ) (q : ℕ) → length b ≤ q → cap (natOf (cap (natOf 0 b)) (take (q - length b) a)) ≡ cap (natOf 0 (take q (b ++ a)))
@@ -114,7 +104,7 @@ module _ (b a : List ℕ) (q r : ℕ) where
         ∙ ap (λ (k : ℕ). cap (natOf 0 (take q (b ++ a)) * 10 ^ k)) (sym n)
 
 -- the same at a place
-module _ (s : List ℕ) (at point from end : ℕ) (m : MantissaRead s at point from end) (q r : ℕ) where
+module _ {s : List ℕ} {at point from end : ℕ} (m : MantissaRead s at point from end) (q r : ℕ) where
   abbrev b : List ℕ
   b = run (drop at s)
 

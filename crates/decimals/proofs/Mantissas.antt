@@ -1,7 +1,7 @@
 -- Digits and a point are no exponent: by the list, a byte at a time.
 use Prim.Native.Nat.{ℕ, _+_}
 use mathlib.Core.Path.{_≡_, refl, sym, ap, _∙_}
-use mathlib.Core.List.{List, [], _∷_, _++_}
+use mathlib.Core.List.{List, [], _∷_, _++_, append-nil}
 use mathlib.Core.Bool.{true, false, _&&_}
 use mathlib.Core.Logic.{⊎-elim}
 use lib.ListN.{length}
@@ -11,7 +11,6 @@ use native.Mathlib.Omega.{arith}
 use Rattle.lists.proofs.Tests.{and-left, and-right, test}
 use Rattle.text.specs.Bytes.{isWord}
 use Rattle.digits.specs.Digits.{isDigit, digits}
-use Rattle.digits.proofs.Fronts.{append-nil}
 use Rattle.decimals.specs.Number.{isE, mantissa, exponent, isExponent, before, after, decimal}
 use Rattle.decimals.specs.Straight.{hasExponent}
 

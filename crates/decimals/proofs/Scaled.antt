@@ -1,23 +1,23 @@
 -- The ways out of `scaled`: by the byte where the digits of the mantissa stop, and what stands after it.
 use Prim.Native.Nat.{ℕ, suc, _+_, _-_, _*_, _/_, _^_, _≤_, _<_}
 use mathlib.Core.Path.{_≡_, refl, sym, ap, ap₂, _∙_}
-use mathlib.Core.List.{List, [], _∷_, _++_}
+use mathlib.Core.List.{List, [], _∷_, _++_, append-nil}
 use mathlib.Core.Bool.{Bool, true, false, cond, _&&_}
 use mathlib.Core.Logic.{_⊎_, inl, inr, ⊎-elim}
 use lib.ListN.{length, length-drop, drop, length-append}
 use lib.Dec.{leb, eqb}
 use borrow.Author.Tests.{ne-eqb, eq-eqb, le-leb, lt-leb, eqb-true}
 use native.Mathlib.Omega.{arith}
-use Rattle.lists.proofs.Tests.{and-first, and-second, and-both, test, never}
+use Rattle.lists.proofs.Tests.{and-first, and-second, and-both, test}
 use Rattle.lists.proofs.Laws.{all-append}
 use Rattle.text.specs.Words.{wordOf}
 use Rattle.text.specs.Rest.{endOf}
 use Rattle.digits.specs.Said.{says, wrong}
 use Rattle.digits.specs.Answers.{ended}
 use Rattle.digits.specs.Digits.{isDigit, digits, natOf, whole, negative}
-use Rattle.digits.specs.Straight.{first, over, run, past, cap}
+use Rattle.digits.specs.Straight.{first, isEmpty, run, past, cap}
 use Rattle.digits.proofs.Rows.{run-short, run-digits}
-use Rattle.digits.proofs.Fronts.{past-at, next-at, past-digit, past-word, word-run, on-word, byte-word, byte-in, append-nil}
+use Rattle.digits.proofs.Fronts.{past-at, next-at, past-digit, past-word, word-run, on-word, byte-word, byte-in, run-nil, nothing-left}
 use Rattle.digits.proofs.Saids.{said, ended-says, ended-wrong}
 use Rattle.decimals.specs.Number.{isE, mantissa, exponent, before, after, decimal, numerator, denominator, raised, lowered, unsigned}
 use Rattle.decimals.specs.Straight.{magnitudeOf, exponentOf, hasExponent, shifted, scaledOf, placesOf, takenOf, MantissaRead}
@@ -35,10 +35,6 @@ not-decimal : (u : List ℕ) → (digits (before u) && digits (after u)) ≡ fal
 unfolding decimal
 not-decimal u h = and-first (leb 1 (length (before u) + length (after u))) h
 
-nothing-left : (l : List ℕ) → over l ≡ true → l ≡ []
-nothing-left [] h = refl
-nothing-left (b ∷ bs) h = never h
-
 -- ---- a mantissa of digits b, and a after a point
 module _ (b a : List ℕ) (hb : digits b ≡ true) (ha : digits a ≡ true) (u : List ℕ) (k : before u ≡ b) (l : after u ≡ a) where
   pub parts-decimal : decimal u ≡ leb 1 (length b + length a)
@@ -52,10 +48,6 @@ module _ (b a : List ℕ) (hb : digits b ≡ true) (ha : digits a ≡ true) (u :
   pub parts-denominator : denominator u ≡ 10 ^ length a
   unfolding denominator
   parts-denominator = rw l refl
-
-run-nil : (l : List ℕ) → isDigit (first l) ≡ false → run l ≡ []
-run-nil [] h = refl
-run-nil (c ∷ cs) h = rw h refl
 
 run-within : (s : List ℕ) (i : ℕ) → i ≤ length s → i + length (run (drop i s)) ≤ length s
 run-within s i h = let x = run-short (drop i s) in let y = length-drop i s in omega arith
@@ -86,7 +78,7 @@ module _ (s : List ℕ) (at : ℕ) where
       }
 
 -- ---- the word at a place
-module _ (s : List ℕ) (at point from end : ℕ) (m : MantissaRead s at point from end) where
+module _ {s : List ℕ} {at point from end : ℕ} (m : MantissaRead s at point from end) where
   abbrev b : List ℕ
   b = run (drop at s)
 
@@ -186,7 +178,7 @@ module _ (s : List ℕ) (at point from end : ℕ) (m : MantissaRead s at point f
       inr (t, ap mantissa (no-point t) ∙ mantissa-digits b rest (run-digits (drop at s)) ∙ ap (λ (l : List ℕ). b ++ l) h))
       (test (eqb (first (drop point s)) 46))
 
-  stop-decimal : isE (first (drop end s)) ≡ false → over rest ≡ false → decimal (mantissa u) ≡ false
+  stop-decimal : isE (first (drop end s)) ≡ false → isEmpty rest ≡ false → decimal (mantissa u) ≡ false
   stop-decimal n o =
       let c : ℕ = first (drop end s) in
       let y : List ℕ = wordOf (drop 1 (drop end s)) in
@@ -202,9 +194,9 @@ module _ (s : List ℕ) (at point from end : ℕ) (m : MantissaRead s at point f
   pub scaled-not : isE (first (drop end s)) ≡ false → wrong 6 ≡ ended (scaledOf u) (endOf s at)
   scaled-not n =
       ⊎-elim
-      (λ (o : over rest ≡ true). scaled-wrong (and-second (decimal (mantissa u)) (ap hasExponent (exponent-rest ∙ ap exponent (nothing-left rest o)))))
-      (λ (o : over rest ≡ false). scaled-wrong (and-first (hasExponent (exponent u)) (stop-decimal n o)))
-      (test (over rest))
+      (λ (o : isEmpty rest ≡ true). scaled-wrong (and-second (decimal (mantissa u)) (ap hasExponent (exponent-rest ∙ ap exponent (nothing-left rest o)))))
+      (λ (o : isEmpty rest ≡ false). scaled-wrong (and-first (hasExponent (exponent u)) (stop-decimal n o)))
+      (test (isEmpty rest))
 
   module _ (x : List ℕ) (e : ℕ) (ee : isE e ≡ true) (r : rest ≡ e ∷ x) where
     exponent-is : exponent u ≡ e ∷ x

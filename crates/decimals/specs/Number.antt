@@ -2,13 +2,14 @@
 -- 01: "Number: optional + or -, digits with at most one point, at least one digit, at most 64 bytes. Its exact decimal value is rounded once to the
 -- nearest millionth, ties away from zero. Beyond plus or minus 2,000,000,000 millionths after rounding: 7." In place of 01's "No exponent (house rule)",
 -- 02, Q-2: "A number may end in e or E, an optional sign and one to three digits. The value is still the exact decimal, rounded once."
-use Prim.Native.Nat.{ℕ, _+_, _*_, _/_, _^_}
+use Prim.Native.Nat.{ℕ, _+_, _*_, _^_}
 use mathlib.Core.List.{List, [], _∷_, _++_}
 use mathlib.Core.Bool.{Bool, true, false, cond, _&&_, _||_}
 use lib.ListN.{length}
 use lib.Dec.{leb, eqb}
 use lib.IntN.{ℤ}
 use Rattle.lists.specs.Signs.{withSign}
+use Rattle.rounding.specs.Round as round
 use Rattle.digits.specs.Said.{Said, says, wrong, must}
 use Rattle.digits.specs.Digits.{digits, natOf, whole, negative}
 
@@ -67,9 +68,9 @@ abbrev pub lowered : List ℕ → ℕ → ℕ
 lowered [] d = d
 lowered (e ∷ x) d = cond (negative x) (d * 10 ^ natOf 0 (unsigned x)) d
 
--- "rounded once to the nearest millionth, ties away from zero": the floor of 1000000 n / d + 1 / 2, the sign apart
+-- "rounded once to the nearest millionth, ties away from zero": the millionths of n / d, the sign apart
 unfoldable pub nearest : ℕ → ℕ → ℕ
-nearest n d = (2 * (1000000 * n) + d) / (2 * d)
+nearest n d = round.nearest (1000000 * n) d
 
 -- "Beyond plus or minus 2,000,000,000 millionths after rounding: 7"
 abbrev pub limited : Bool → ℕ → Said ℤ

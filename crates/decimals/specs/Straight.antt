@@ -82,9 +82,9 @@ abbrev pub movedOf : Bool → ℕ → ℕ → ℕ
 movedOf minus t k = cond minus (t / 10 ^ k) (t * 10 ^ k)
 
 -- without an exponent or with one
-abbrev pub orElse : Said ℕ → Said ℕ → Said ℕ
-orElse (says m) x = says m
-orElse (wrong n) x = x
+abbrev pub firstSaid : Said ℕ → Said ℕ → Said ℕ
+firstSaid (says m) x = says m
+firstSaid (wrong n) x = x
 
 abbrev pub sizeOf : List ℕ → Said ℕ
-sizeOf u = orElse (magnitudeOf u) (scaledOf u)
+sizeOf u = firstSaid (magnitudeOf u) (scaledOf u)

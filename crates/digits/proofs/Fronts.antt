@@ -1,7 +1,7 @@
 -- The front of the text at a place: its word, and the digits and signs that the word starts with. By the list.
 use Prim.Native.Nat.{ℕ, _+_, _≤_, _<_}
 use mathlib.Core.Path.{_≡_, refl, sym, ap, _∙_}
-use mathlib.Core.List.{List, [], _∷_, _++_}
+use mathlib.Core.List.{List, [], _∷_, _++_, append-nil}
 use mathlib.Core.Bool.{Bool, true, false, cond}
 use mathlib.Core.Logic.{⊎-elim}
 use lib.ListN.{length, drop, drop-of-length-le}
@@ -13,16 +13,25 @@ use Rattle.lists.proofs.Tests.{and-left, and-right, test, never}
 use Rattle.text.specs.Bytes.{isWord}
 use Rattle.text.specs.Words.{wordOf}
 use Rattle.digits.specs.Digits.{isDigit, digits}
-use Rattle.digits.specs.Straight.{first, over, run, past, front}
+use Rattle.digits.specs.Straight.{first, isEmpty, run, past, front}
 use Rattle.digits.proofs.Rows.{low-digit}
 
-pub word-on : (l : List ℕ) → isWord (first l) ≡ true → false ≡ over (wordOf l)
+pub word-on : (l : List ℕ) → isWord (first l) ≡ true → false ≡ isEmpty (wordOf l)
 word-on [] h = h
 word-on (b ∷ bs) h = rw h refl
 
-pub word-over : (l : List ℕ) → isWord (first l) ≡ false → true ≡ over (wordOf l)
+pub word-over : (l : List ℕ) → isWord (first l) ≡ false → true ≡ isEmpty (wordOf l)
 word-over [] h = refl
 word-over (b ∷ bs) h = rw h refl
+
+-- the other way round
+pub starts-word : (l : List ℕ) → false ≡ isEmpty (wordOf l) → isWord (first l) ≡ true
+starts-word [] h = never h
+starts-word (b ∷ bs) h = ⊎-elim (λ t. t) (λ (t : isWord b ≡ false). let q = rw t at h in never q) (test (isWord b))
+
+pub starts-none : (l : List ℕ) → true ≡ isEmpty (wordOf l) → isWord (first l) ≡ false
+starts-none [] h = refl
+starts-none (b ∷ bs) h = ⊎-elim (λ (t : isWord b ≡ true). let q = rw t at h in never (sym q)) (λ t. t) (test (isWord b))
 
 pub low-no-word : (b : ℕ) → b ≤ 32 → isWord b ≡ false
 low-no-word b h = rw (lt-leb 33 b (omega arith)) refl
@@ -46,13 +55,13 @@ past-digit [] = refl
 past-digit (b ∷ bs) =
     ⊎-elim (λ (t : isDigit b ≡ true). rw t (past-digit bs)) (λ (t : isDigit b ≡ false). rw t t) (test (isDigit b))
 
-pub append-nil : (l : List ℕ) → l ++ [] ≡ l
-append-nil [] = refl
-append-nil (b ∷ bs) = ap (λ (r : List ℕ). b ∷ r) (append-nil bs)
+pub run-nil : (l : List ℕ) → isDigit (first l) ≡ false → run l ≡ []
+run-nil [] h = refl
+run-nil (b ∷ bs) h = rw h refl
 
-over-nil : (l : List ℕ) → over l ≡ true → l ≡ []
-over-nil [] h = refl
-over-nil (b ∷ bs) h = never h
+pub nothing-left : (l : List ℕ) → isEmpty l ≡ true → l ≡ []
+nothing-left [] h = refl
+nothing-left (b ∷ bs) h = never h
 
 -- what passes a test that digits pass: the digits at the front, and what passes after them
 module _ (f : ℕ → Bool) (fd : (b : ℕ) → isDigit b ≡ true → f b ≡ true) where
@@ -64,10 +73,10 @@ module _ (f : ℕ → Bool) (fd : (b : ℕ) → isDigit b ≡ true → f b ≡ t
       (λ (t : isDigit b ≡ false). rw t refl)
       (test (isDigit b))
 
-  pub front-all : (l : List ℕ) → over (front f (past l)) ≡ true → front f l ≡ run l
-  front-all l o = front-run l ∙ ap (λ (r : List ℕ). run l ++ r) (over-nil (front f (past l)) o) ∙ append-nil (run l)
+  pub front-all : (l : List ℕ) → isEmpty (front f (past l)) ≡ true → front f l ≡ run l
+  front-all l o = front-run l ∙ ap (λ (r : List ℕ). run l ++ r) (nothing-left (front f (past l)) o) ∙ append-nil (run l)
 
-  pub front-not : (l : List ℕ) → over (front f (past l)) ≡ false → digits (front f l) ≡ false
+  pub front-not : (l : List ℕ) → isEmpty (front f (past l)) ≡ false → digits (front f l) ≡ false
   front-not [] o = o
   front-not (b ∷ bs) o =
       ⊎-elim
@@ -85,14 +94,14 @@ word-front (b ∷ bs) = ap (λ (r : List ℕ). cond (isWord b) (b ∷ r) []) (wo
 pub word-run : (l : List ℕ) → wordOf l ≡ run l ++ wordOf (past l)
 word-run l = word-front l ∙ front-run isWord digit-word l ∙ ap (λ (r : List ℕ). run l ++ r) (sym (word-front (past l)))
 
-pub word-all : (l : List ℕ) → over (wordOf (past l)) ≡ true → wordOf l ≡ run l
-word-all l o = word-front l ∙ front-all isWord digit-word l (ap over (sym (word-front (past l))) ∙ o)
+pub word-all : (l : List ℕ) → isEmpty (wordOf (past l)) ≡ true → wordOf l ≡ run l
+word-all l o = word-front l ∙ front-all isWord digit-word l (ap isEmpty (sym (word-front (past l))) ∙ o)
 
-pub word-not : (l : List ℕ) → over (wordOf (past l)) ≡ false → digits (wordOf l) ≡ false
-word-not l o = ap digits (word-front l) ∙ front-not isWord digit-word l (ap over (sym (word-front (past l))) ∙ o)
+pub word-not : (l : List ℕ) → isEmpty (wordOf (past l)) ≡ false → digits (wordOf l) ≡ false
+word-not l o = ap digits (word-front l) ∙ front-not isWord digit-word l (ap isEmpty (sym (word-front (past l))) ∙ o)
 
 -- a word byte at the front starts the word
-pub on-word : (l : List ℕ) → over (wordOf l) ≡ false → wordOf l ≡ first l ∷ wordOf (drop 1 l)
+pub on-word : (l : List ℕ) → isEmpty (wordOf l) ≡ false → wordOf l ≡ first l ∷ wordOf (drop 1 l)
 on-word [] o = never (sym o)
 on-word (b ∷ bs) o =
     ⊎-elim

@@ -103,28 +103,30 @@ digits-take (suc k) (b ∷ bs) h = and-both (and-left (isDigit b) (digits bs) h)
 pub run-short : (l : List ℕ) → length (run l) ≤ length l
 run-short l = let x = ap length (run-split l) in let y = length-append (run l) (drop (length (run l)) l) in omega arith
 
+-- at most k digits after those of a, the last j of them zeros
+pub natOf-padded : (k j a : ℕ) (t : List ℕ) → digits t ≡ true → length t + j ≤ k → natOf a t * 10 ^ j < (a + 1) * 10 ^ k
+natOf-padded k j a t h n =
+    let p : natOf a t * 10 ^ j < (a + 1) * 10 ^ length t * 10 ^ j = mul-lt-mul-of-pos-right (natOf-high a t h) (ten-pos j) in
+    let e : (a + 1) * 10 ^ length t * 10 ^ j ≡ (a + 1) * 10 ^ (length t + j) = mul-assoc (a + 1) (10 ^ length t) (10 ^ j) ∙ ap (λ (x : ℕ). (a + 1) * x) (sym (pow-add 10 (length t) j)) in
+    let b : 10 ^ (length t + j) ≤ 10 ^ k = pow-le-pow-right {n = 10} (omega arith) n in
+    let c : (a + 1) * 10 ^ (length t + j) ≤ (a + 1) * 10 ^ k = mul-le-mul-left (a + 1) b in
+    omega arith
+
+pub natOf-below : (k a : ℕ) (t : List ℕ) → digits t ≡ true → length t ≤ k → natOf a t < (a + 1) * 10 ^ k
+natOf-below k a t h n = let p = natOf-padded k 0 a t h (omega arith) in simp (pow-zero, mul-one) at p
+
 -- a few digits after a small number are far from 64 bits
 pub few-small : (most w : ℕ) (l : List ℕ) → (w + 1) * 10 ^ most ≤ 2 ^ 60 → natOf w (take most (run l)) < 2 ^ 60
 few-small most w l h =
-    let t : List ℕ = take most (run l) in
-    let a : natOf w t < (w + 1) * 10 ^ length t = natOf-high w t (digits-take most (run l) (run-digits l)) in
-    let n : length t ≤ most = (let z = length-take most (run l) in omega arith) in
-    let b : 10 ^ length t ≤ 10 ^ most = pow-le-pow-right {n = 10} (omega arith) n in
-    let c : (w + 1) * 10 ^ length t ≤ (w + 1) * 10 ^ most = mul-le-mul-left (w + 1) b in
-    omega arith
+    let n : length (take most (run l)) ≤ most = (let z = length-take most (run l) in omega arith) in
+    omega (arith, natOf-below most w (take most (run l)) (digits-take most (run l) (run-digits l)) n)
 
 -- nor are they where those that lack are zeros
 pub scaled-small : (w : ℕ) (l : List ℕ) → w ≤ 20000000005 → natOf w (take 7 (run l)) * 10 ^ (7 - length (take 7 (run l))) < 2 ^ 60
 scaled-small w l h =
     let t : List ℕ = take 7 (run l) in
-    let n : ℕ = length t in
-    let k : n ≤ 7 = (let z = length-take 7 (run l) in omega arith) in
-    let a : natOf w t < (w + 1) * 10 ^ n = natOf-high w t (digits-take 7 (run l) (run-digits l)) in
-    let b : natOf w t * 10 ^ (7 - n) < (w + 1) * 10 ^ n * 10 ^ (7 - n) = mul-lt-mul-of-pos-right a (ten-pos (7 - n)) in
-    let s : n + (7 - n) ≡ 7 = omega arith in
-    let e : (w + 1) * 10 ^ n * 10 ^ (7 - n) ≡ (w + 1) * 10000000 =
-    mul-assoc (w + 1) (10 ^ n) (10 ^ (7 - n)) ∙ ap (λ (x : ℕ). (w + 1) * x) (sym (pow-add 10 n (7 - n)) ∙ ap (λ (x : ℕ). 10 ^ x) s) in
-    omega arith
+    let k : length t + (7 - length t) ≤ 7 = (let z = length-take 7 (run l) in omega arith) in
+    omega (arith, natOf-padded 7 (7 - length t) w t (digits-take 7 (run l) (run-digits l)) k)
 
 -- the first k digits and those after them are all
 pub run-rest : (k : ℕ) (l : List ℕ) → length (run l) ≡ length (take k (run l)) + length (run (drop (length (take k (run l))) l))

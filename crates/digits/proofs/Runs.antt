@@ -74,7 +74,7 @@ pub record Going (s : List ℕ) (at i a : ℕ) : Type 0 where
   pub end-is : i + length (run (drop i s)) ≡ at + length (run (drop at s))
   pub value-is : cap (natOf a (run (drop i s))) ≡ cap (natOf 0 (run (drop at s)))
 
-module _ (s : List ℕ) (at i a : ℕ) (g : Going s at i a) where
+module _ {s : List ℕ} {at i a : ℕ} (g : Going s at i a) where
   pub whole-stop : run (drop i s) ≡ [] → WholeRead s at i a
   whole-stop r =
       record {
@@ -107,7 +107,7 @@ pub record Few (most : ℕ) (s : List ℕ) (at w i a room : ℕ) : Type 0 where
   pub end-is : i + length (take room (run (drop i s))) ≡ at + length (take most (run (drop at s)))
   pub value-is : natOf a (take room (run (drop i s))) ≡ natOf w (take most (run (drop at s)))
 
-module _ (most : ℕ) (s : List ℕ) (at w i a room : ℕ) (g : Few most s at w i a room) where
+module _ {most : ℕ} {s : List ℕ} {at w i a room : ℕ} (g : Few most s at w i a room) where
   stops : take room (run (drop i s)) ≡ [] → UptoRead most s at w i a
   stops r =
       record {
@@ -153,7 +153,7 @@ pub record FirstDigits (most : ℕ) (s : List ℕ) (at w i a room : ℕ) : Type 
   pub small : a ≤ 20000000005
   pub value-is : cap (natOf a (take room (run (drop i s)))) ≡ cap (natOf w (take most (run (drop at s))))
 
-module _ (most : ℕ) (s : List ℕ) (at w i a room : ℕ) (g : FirstDigits most s at w i a room) where
+module _ {most : ℕ} {s : List ℕ} {at w i a room : ℕ} (g : FirstDigits most s at w i a room) where
   first-stops : take room (run (drop i s)) ≡ [] → a ≡ cap (natOf w (take most (run (drop at s))))
   first-stops r = let q = rw r at (g .value-is) in let k = g .small in omega arith
 
@@ -186,12 +186,12 @@ digit-in (suc n) (b ∷ bs) h =
     (λ (t : isDigit b ≡ false). let q = rw t at h in absurd (omega arith))
     (test (isDigit b))
 
-pub few-near : (most : ℕ) (s : List ℕ) (at a end value : ℕ) → UptoRead most s at a end value → end ≤ at + most
-few-near most s at a end value f = let x = f .end-is in let y = length-take most (run (drop at s)) in omega arith
+pub few-near : {most : ℕ} {s : List ℕ} {at a end value : ℕ} → UptoRead most s at a end value → end ≤ at + most
+few-near {most} {s} {at} f = let x = f .end-is in let y = length-take most (run (drop at s)) in omega arith
 
 -- where no digit follows them they are all there are
-pub few-all : (most : ℕ) (s : List ℕ) (at a end value : ℕ) → UptoRead most s at a end value → isDigit (first (drop end s)) ≡ false → length (run (drop at s)) ≤ most
-few-all most s at a end value f o =
+pub few-all : {most : ℕ} {s : List ℕ} {at a end value : ℕ} → UptoRead most s at a end value → isDigit (first (drop end s)) ≡ false → length (run (drop at s)) ≤ most
+few-all {most} {s} {at} {a} {end} f o =
     ⊎-elim
     (λ (t : leb (length (run (drop at s))) most ≡ true). leb-true (length (run (drop at s))) most t)
     (λ (t : leb (length (run (drop at s))) most ≡ false).
@@ -205,8 +205,8 @@ few-all most s at a end value f o =
     (test (leb (length (run (drop at s))) most))
 
 -- all of them, far below the cap
-pub all-whole : (most : ℕ) (s : List ℕ) (at end value : ℕ) → UptoRead most s at 0 end value → length (run (drop at s)) ≤ most → length (run (drop at s)) ≤ 10 → WholeRead s at end value
-all-whole most s at end value f m z =
+pub all-whole : {most : ℕ} {s : List ℕ} {at end value : ℕ} → UptoRead most s at 0 end value → length (run (drop at s)) ≤ most → length (run (drop at s)) ≤ 10 → WholeRead s at end value
+all-whole {most} {s} {at} f m z =
     let e : take most (run (drop at s)) ≡ run (drop at s) = take-all most (run (drop at s)) m in
     record {
       to = f .to;
@@ -215,12 +215,12 @@ all-whole most s at end value f m z =
     }
 
 -- few digits, and not as many as were allowed
-pub few-whole : (s : List ℕ) (at end value : ℕ) → UptoRead 11 s at 0 end value → end - at < 11 → WholeRead s at end value
-few-whole s at end value f h =
+pub few-whole : {s : List ℕ} {at end value : ℕ} → UptoRead 11 s at 0 end value → end - at < 11 → WholeRead s at end value
+few-whole {s} {at} f h =
     let x = f .end-is in
     let y = length-take 11 (run (drop at s)) in
     let z : length (run (drop at s)) ≤ 10 = omega arith in
-    all-whole 11 s at end value f (omega arith) z
+    all-whole f (omega arith) z
 
 -- fewer bytes are left than seven: their digits are all there are
 pub few-seven : (s : List ℕ) (at w left end value : ℕ) → left ≡ length s - at → left < 7 → UptoRead left s at w end value → UptoRead 7 s at w end value

@@ -24,3 +24,13 @@ module _ {A : Type 0} where
   pub must-says : (t : Bool) (n : ℕ) (x : Said A) (a : A) → must t n x ≡ says a → (t ≡ true) × (x ≡ says a)
   must-says true n x a h = (refl, h)
   must-says false n x a h = absurd (let z : _≡_ {A = ℕ} 0 1 = cc in omega arith)
+
+  pub must-both : (t u : Bool) (n m : ℕ) (a b : A) → must t n (must u m (says a)) ≡ says b → (t ≡ true) × (u ≡ true) × (a ≡ b)
+  must-both t u n m a b h =
+      let p = must-says t n (must u m (says a)) b h in
+      let q = must-says u m (says a) b (p .1) in
+      (p .0, q .0, (let y = q .1 in cc))
+
+  pub must-wrong : (t : Bool) (n : ℕ) (a : A) (m : ℕ) → must t n (says a) ≡ wrong m → t ≡ false
+  must-wrong true n a m h = absurd (let z : _≡_ {A = ℕ} 0 1 = cc in omega arith)
+  must-wrong false n a m h = refl

@@ -14,9 +14,9 @@ first [] = 10
 first (b ∷ bs) = b
 
 -- nothing is left
-abbrev pub over : List ℕ → Bool
-over [] = true
-over (b ∷ bs) = false
+abbrev pub isEmpty : List ℕ → Bool
+isEmpty [] = true
+isEmpty (b ∷ bs) = false
 
 -- a digit's number, above 9 for every other byte: the byte less 48, in eight bits
 abbrev pub digitOf : ℕ → ℕ
@@ -47,8 +47,8 @@ pub record UptoRead (most : ℕ) (s : List ℕ) (at a end value : ℕ) : Type 0 
   pub value-is : value ≡ natOf a (take most (run (drop at s)))
 
 -- 1 to k digits
-unfoldable pub rowOf : ℕ → List ℕ → Said ℕ
-rowOf k w = must (whole k w) 6 (says (natOf 0 w))
+unfoldable pub wholeOf : ℕ → List ℕ → Said ℕ
+wholeOf k w = must (whole k w) 6 (says (natOf 0 w))
 
 -- the bytes at the front that pass the test
 abbrev pub front : (ℕ → Bool) → List ℕ → List ℕ

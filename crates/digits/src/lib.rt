@@ -7,7 +7,7 @@ ghost use Prim.Native.Nat.{_+_, _*_, _^_, _≤_, _<_};
 ghost use lib.ListN.{length, take, drop};
 ghost use Rattle.text.specs.Words.{wordOf};
 ghost use Rattle.digits.specs.Digits.{natOf};
-ghost use Rattle.digits.specs.Straight.{first, over, digitOf, cap, run, WholeRead, UptoRead};
+ghost use Rattle.digits.specs.Straight.{first, isEmpty, digitOf, cap, run, WholeRead, UptoRead};
 
 pub struct Run {
     pub end: usize,
@@ -36,7 +36,7 @@ pub fn byte_in(text: &[u8], at: usize) -> u8
 
 // Whether the word ends at `at`; most often a blank or a line's end tells.
 pub fn word_ends(text: &[u8], at: usize) -> bool
-    ensures { λ r. ⌜ r ≡ over (wordOf (drop at (now (text .entry)))) ⌝ }
+    ensures { λ r. ⌜ r ≡ isEmpty (wordOf (drop at (now (text .entry)))) ⌝ }
 {
     let b = byte_at(text, at);
     if b <= 32 {

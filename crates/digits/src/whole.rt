@@ -8,7 +8,7 @@ ghost use Rattle.text.specs.Words.{wordOf};
 ghost use Rattle.text.specs.Rest.{endOf};
 ghost use Rattle.digits.specs.Degree.{degreeOf, smoothingOf};
 ghost use Rattle.digits.specs.Answers.{saidWhole, saidRow, ended};
-ghost use Rattle.digits.specs.Straight.{rowOf};
+ghost use Rattle.digits.specs.Straight.{wholeOf};
 
 pub enum Whole {
     Value { value: u32, end: usize },
@@ -24,7 +24,7 @@ pub enum DigitRow {
 // The number of a word of 1 to `most` digits.
 pub fn row_at(text: &[u8], at: usize, most: usize) -> DigitRow
     requires { ⌜ (at ≤ length (now text)) × (most ≤ 10) ⌝ }
-    ensures { λ r. ⌜ saidRow r ≡ ended (rowOf most (wordOf (drop at (now (text .entry))))) (endOf (now (text .entry)) at) ⌝ }
+    ensures { λ r. ⌜ saidRow r ≡ ended (wholeOf most (wordOf (drop at (now (text .entry))))) (endOf (now (text .entry)) at) ⌝ }
 {
     let w = whole_run(text, at);
     let end = w.end;

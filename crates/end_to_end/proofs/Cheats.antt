@@ -55,7 +55,7 @@ use Rattle.end_to_end.specs.Cheats.{TurnsAllDown, FixedTables, TouchesNo
 
 -- tables with room for one v
 abbrev lent : Tables
-lent = record { v = pos 0 ∷ pos 0 ∷ pos 0 ∷ pos 0 ∷ []; vt = []; vn = []; vp = []; corners = []; elements = []; bodies = []; ranges = []; parameters = []; loops = []; spans = [] }
+lent = record { vertices = record { v = pos 0 ∷ pos 0 ∷ pos 0 ∷ pos 0 ∷ []; vt = []; vn = []; vp = [] }; elements = record { corners = []; elements = [] }; bodies = record { bodies = []; ranges = []; parameters = []; loops = []; spans = [] } }
 
 -- the file of one v at z 0 0
 abbrev at : ℤ → Model
@@ -93,7 +93,7 @@ turns-all-down reads tidies h d =
 
 -- the x of the first v
 abbrev first-x : Tables → ℕ
-first-x t = natAbs (getD (t .v) 0 (pos 0))
+first-x t = natAbs (getD (t .vertices .v) 0 (pos 0))
 
 fixed-tables : (reads : Reader) (tidies : Tidier) → FixedTables reads → Demand2 reads tidies → ⊥
 unfolding tablesOf
@@ -136,17 +136,9 @@ used = record { v = 2; vt = 0; vn = 0; vp = 0; corners = 6; elements = 1; bodies
 abbrev line : Tables
 line =
     record {
-      v = pos 0 ∷ pos 0 ∷ pos 0 ∷ pos 1000000 ∷ pos 2 ∷ pos 0 ∷ pos 0 ∷ pos 1000000 ∷ [];
-      vt = [];
-      vn = [];
-      vp = [];
-      corners = 1 ∷ 0 ∷ 0 ∷ 2 ∷ 0 ∷ 0 ∷ [];
-      elements = 4 ∷ 0 ∷ 2 ∷ 1 ∷ 0 ∷ 0 ∷ 0 ∷ 0 ∷ 0 ∷ [];
-      bodies = 1 ∷ 0 ∷ 1 ∷ 0 ∷ 0 ∷ 2 ∷ 0 ∷ 0 ∷ 0 ∷ [];
-      ranges = pos 0 ∷ pos 1 ∷ pos 0 ∷ pos 0 ∷ [];
-      parameters = pos 0 ∷ pos 1 ∷ [];
-      loops = [];
-      spans = [];
+      vertices = record { v = pos 0 ∷ pos 0 ∷ pos 0 ∷ pos 1000000 ∷ pos 2 ∷ pos 0 ∷ pos 0 ∷ pos 1000000 ∷ []; vt = []; vn = []; vp = [] };
+      elements = record { corners = 1 ∷ 0 ∷ 0 ∷ 2 ∷ 0 ∷ 0 ∷ []; elements = 4 ∷ 0 ∷ 2 ∷ 1 ∷ 0 ∷ 0 ∷ 0 ∷ 0 ∷ 0 ∷ [] };
+      bodies = record { bodies = 1 ∷ 0 ∷ 1 ∷ 0 ∷ 0 ∷ 2 ∷ 0 ∷ 0 ∷ 0 ∷ []; ranges = pos 0 ∷ pos 1 ∷ pos 0 ∷ pos 0 ∷ []; parameters = pos 0 ∷ pos 1 ∷ []; loops = []; spans = [] };
     }
 
 line-obeys : obeys used line 0 0 ≡ true

@@ -42,7 +42,7 @@ Known n = (n ≡ 0) ⊎ Between 15 19 n
 refusal-known : (surface : Bool) (used : Used) (t : Tables) (number : ℕ) → Known (refusalOf surface used t number)
 unfolding refusalOf
 refusal-known surface used t number =
-    by-tests (leb 1 number && leb number (used .elements)) (leb (elementWidth * number) (length (t .elements))) (wanted surface (elementOf t number .kind))
+    by-tests (leb 1 number && leb number (used .elements)) (leb (elementWidth * number) (length (t .elements .elements))) (wanted surface (elementOf t number .kind))
     (obeys used t (curvesBefore t (number - 1)) (number - 1)) (carried (bodyOf t number .rational) (bodyOf t number .basis))
   where
     by-tests : (a b w o c : Bool) → Known (cond a (cond b (cond w (cond o (cond c 0 18) 15) 17) 15) 17)

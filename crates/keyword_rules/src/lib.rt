@@ -1,6 +1,7 @@
 // A keyword's row of rules as numbers, for other languages.
 use statements::Carried;
 use statements::Statement;
+use statements::rows::rules_of;
 use statements::rules::Count;
 use statements::rules::Forms;
 use statements::rules::Parts;
@@ -9,7 +10,6 @@ use statements::rules::WordForm;
 use statements::rules::fewest_words;
 use statements::rules::form_at;
 use statements::rules::most_words;
-use statements::rules::rules_of;
 ghost use mathlib.Core.Path.{_≡_};
 ghost use lib.ListN.{drop};
 ghost use Rattle.text.specs.Words.{wordOf};

@@ -1,14 +1,13 @@
 -- Must be believed: a promise reaches every definition of this file.
 -- The words after a keyword that have a fixed spelling: cstype's rat and types, the directions of parm, smoothing's off, as 000 comes to them.
 use Prim.Native.Nat.{ℕ}
-use Prim.Native.String.{String}
 use mathlib.Core.List.{List, [], _∷_}
 use mathlib.Core.Bool.{Bool, true, false, cond}
 use lib.ListN.{drop}
 use lib.Dec.{eqb}
 use Rattle.lists.specs.Lists.{flat}
 use Rattle.text.specs.Words.{wordOf}
-use Rattle.spellings.specs.Rows.{Row, rowOf, kindAt, spellingOf}
+use Rattle.spellings.specs.Rows.{Row, spells, rowOf, kindAt, spellingOf}
 use Rattle.spellings.specs.Lookup.{kindBy, line}
 use Rattle.keywords.specs.declared.Argument.{Argument}
 use Rattle.keywords.specs.declared.Argument.the-variants.{Rational, BasisMatrix, Bezier, Bspline, Cardinal, Taylor, DirectionU, DirectionV, Off, Other}
@@ -26,21 +25,18 @@ signOf DirectionV = 72
 signOf Off = 73
 signOf Other = 32
 
-abbrev row : String → Argument → Row Argument
-row s k = record { spelling = s; kind = k }
-
 -- the form, and the types: "bezier, bspline, cardinal, taylor" are stored, "the type bmatrix" is refused; "parm u or v"; "Smoothing: off (0)"
 unfoldable pub arguments : List (Row Argument)
 arguments =
-    row "rat" Rational
-    ∷ row "bmatrix" BasisMatrix
-    ∷ row "bezier" Bezier
-    ∷ row "bspline" Bspline
-    ∷ row "cardinal" Cardinal
-    ∷ row "taylor" Taylor
-    ∷ row "u" DirectionU
-    ∷ row "v" DirectionV
-    ∷ row "off" Off
+    spells "rat" Rational
+    ∷ spells "bmatrix" BasisMatrix
+    ∷ spells "bezier" Bezier
+    ∷ spells "bspline" Bspline
+    ∷ spells "cardinal" Cardinal
+    ∷ spells "taylor" Taylor
+    ∷ spells "u" DirectionU
+    ∷ spells "v" DirectionV
+    ∷ spells "off" Off
     ∷ []
 
 unfoldable pub argumentOf : List ℕ → Argument

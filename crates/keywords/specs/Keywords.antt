@@ -9,7 +9,7 @@ use lib.Dec.{eqb}
 use Rattle.lists.specs.Lists.{flat}
 use Rattle.text.specs.Words.{wordOf}
 use Rattle.text.specs.Rest.{endOf}
-use Rattle.spellings.specs.Rows.{Row, rowOf, kindAt, spellingOf, foundBy}
+use Rattle.spellings.specs.Rows.{Row, spells, rowOf, kindAt, spellingOf, foundBy}
 use Rattle.spellings.specs.Lookup.{kindBy, line}
 use Rattle.keywords.specs.declared.Keyword.{Keyword}
 use Rattle.statements.specs.declared.VertexKind.the-variants.{Geometric, Texture, Normal, Parametric}
@@ -45,11 +45,8 @@ letterOf (Carried PassedOver) = 45
 letterOf Refused = 33
 letterOf Unknown = 32
 
-abbrev row : String → Statement → Row Statement
-row s k = record { spelling = s; kind = k }
-
 abbrev carries : String → carried.Carried → Row Statement
-carries s k = row s (Carried k)
+carries s k = spells s (Carried k)
 
 -- every keyword of 01, with the kind of its statement
 unfoldable pub keywords : List (Row Statement)
@@ -60,8 +57,8 @@ keywords =
     ∷ carries "vp" (Vertex Parametric)
     ∷ carries "cstype" BodyType
     ∷ carries "deg" Degree
-    ∷ row "bmat" Refused
-    ∷ row "step" Refused
+    ∷ spells "bmat" Refused
+    ∷ spells "step" Refused
     ∷ carries "p" (Element Point)
     ∷ carries "l" (Element Line)
     ∷ carries "f" (Element Face)
@@ -71,10 +68,10 @@ keywords =
     ∷ carries "parm" Parameters
     ∷ carries "trim" Trim
     ∷ carries "hole" Hole
-    ∷ row "scrv" Refused
-    ∷ row "sp" Refused
+    ∷ spells "scrv" Refused
+    ∷ spells "sp" Refused
     ∷ carries "end" End
-    ∷ row "con" Refused
+    ∷ spells "con" Refused
     ∷ carries "g" Group
     ∷ carries "s" Smoothing
     ∷ carries "mg" PassedOver
@@ -89,15 +86,15 @@ keywords =
     ∷ carries "trace_obj" PassedOver
     ∷ carries "ctech" PassedOver
     ∷ carries "stech" PassedOver
-    ∷ row "call" Refused
-    ∷ row "csh" Refused
-    ∷ row "fo" Refused
+    ∷ spells "call" Refused
+    ∷ spells "csh" Refused
+    ∷ spells "fo" Refused
     ∷ carries "usemap" PassedOver
-    ∷ row "bsp" Refused
-    ∷ row "bzp" Refused
-    ∷ row "cdc" Refused
-    ∷ row "cdp" Refused
-    ∷ row "res" Refused
+    ∷ spells "bsp" Refused
+    ∷ spells "bzp" Refused
+    ∷ spells "cdc" Refused
+    ∷ spells "cdp" Refused
+    ∷ spells "res" Refused
     ∷ []
 
 -- "keyword unknown" where no row is spelled so

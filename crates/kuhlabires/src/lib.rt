@@ -206,7 +206,7 @@ pub extern "C" fn kuhlabires_group_of(
     ensures { λ r. ⌜ (r ≡ groupIn (now (text .entry)) used (now (elements .entry)) element) × (bytesIn (now (text .entry)) r ≡ askedGroup (now (text .entry)) used (now (elements .entry)) element) ⌝ }
 {
     let e = table_asking::element_of(used, elements, element);
-    c_tables::part_of(text, e.group_place, e.group_length)
+    c_tables::part_of(text, e.group)
 }
 
 // The same of its material's name.
@@ -220,7 +220,7 @@ pub extern "C" fn kuhlabires_material_of(
     ensures { λ r. ⌜ (r ≡ materialIn (now (text .entry)) used (now (elements .entry)) element) × (bytesIn (now (text .entry)) r ≡ askedMaterial (now (text .entry)) used (now (elements .entry)) element) ⌝ }
 {
     let e = table_asking::element_of(used, elements, element);
-    c_tables::part_of(text, e.material_place, e.material_length)
+    c_tables::part_of(text, e.material)
 }
 
 // The point at t of the curv or curv2 of that number, counted from 1 over all elements.

@@ -53,14 +53,14 @@ parametersIn bs = summed (λ (b : Body). length (b .us) + length (b .vs)) bs
 
 pub record BodyRow (u : Used) (t : Tables) (j p l : ℕ) (b : Body) : Type 0 where
   pub used : suc j ≤ u .bodies
-  pub lent-body : bodyWidth * suc j ≤ length (t .bodies)
-  pub lent-range : rangeWidth * suc j ≤ length (t .ranges)
+  pub lent-body : bodyWidth * suc j ≤ length (t .bodies .bodies)
+  pub lent-range : rangeWidth * suc j ≤ length (t .bodies .ranges)
   pub is : bodyAt t j ≡ laidBody p l b
   pub used-parameters : p + (length (b .us) + length (b .vs)) ≤ u .parameters
   pub used-loops : l + partCount b ≤ u .loops
-  pub parameters : Stands (t .parameters) p (b .us ++ b .vs)
-  pub loops : Stands (t .loops) (loopWidth * l) (loopRows b)
-  pub spans : Stands (t .spans) (spanWidth * l) (spanRows b)
+  pub parameters : Stands (t .bodies .parameters) p (b .us ++ b .vs)
+  pub loops : Stands (t .bodies .loops) (loopWidth * l) (loopRows b)
+  pub spans : Stands (t .bodies .spans) (spanWidth * l) (spanRows b)
 
 module _ (u : Used) (t : Tables) (m : Model) (L : Laid u t m) (j : ℕ) (a : Among (bodiesOf (m .elements)) j) where
   abbrev bs : List Body
@@ -75,20 +75,20 @@ module _ (u : Used) (t : Tables) (m : Model) (L : Laid u t m) (j : ℕ) (a : Amo
   abbrev N : ℕ
   N = 0 + summed partCount (a .before)
 
-  numbers : Stands (t .bodies) (bodyWidth * j) (bodyRow P N b)
+  numbers : Stands (t .bodies .bodies) (bodyWidth * j) (bodyRow P N b)
   numbers =
-      let s = subst (Stands (t .bodies) 0) (ap (bodyRows 0 0) (a .is) ∙ bodyRows-append 0 0 (a .before) (b ∷ a .after)) (L .bodies) in
-      stands-is (t .bodies) (0 + length (bodyRows 0 0 (a .before))) (bodyWidth * j) (bodyRow P N b) (let k = bodyRows-length 0 0 (a .before) in let i = a .many in omega arith)
-      (stands-part (t .bodies) 0 (bodyRows 0 0 (a .before)) (bodyRow P N b) (bodyRows (P + (length (b .us) + length (b .vs))) (N + partCount b) (a .after)) s)
+      let s = subst (Stands (t .bodies .bodies) 0) (ap (bodyRows 0 0) (a .is) ∙ bodyRows-append 0 0 (a .before) (b ∷ a .after)) (L .bodies) in
+      stands-is (t .bodies .bodies) (0 + length (bodyRows 0 0 (a .before))) (bodyWidth * j) (bodyRow P N b) (let k = bodyRows-length 0 0 (a .before) in let i = a .many in omega arith)
+      (stands-part (t .bodies .bodies) 0 (bodyRows 0 0 (a .before)) (bodyRow P N b) (bodyRows (P + (length (b .us) + length (b .vs))) (N + partCount b) (a .after)) s)
 
-  range : Stands (t .ranges) (rangeWidth * j) (rangeRow b)
-  range = stands-is (t .ranges) (0 + rangeWidth * j) (rangeWidth * j) (rangeRow b) (omega arith) (stands-record rangeRow rangeWidth (λ b. refl) (t .ranges) 0 bs j a (L .ranges))
+  range : Stands (t .bodies .ranges) (rangeWidth * j) (rangeRow b)
+  range = stands-is (t .bodies .ranges) (0 + rangeWidth * j) (rangeWidth * j) (rangeRow b) (omega arith) (stands-record rangeRow rangeWidth (λ b. refl) (t .bodies .ranges) 0 bs j a (L .ranges))
 
-  number-at : (k : ℕ) → k < bodyWidth → numberAt bodyWidth (t .bodies) j k ≡ getD (bodyRow P N b) k 0
-  number-at k h = stands-at (t .bodies) (bodyWidth * j) (bodyRow P N b) k 0 numbers (omega arith)
+  number-at : (k : ℕ) → k < bodyWidth → numberAt bodyWidth (t .bodies .bodies) j k ≡ getD (bodyRow P N b) k 0
+  number-at k h = stands-at (t .bodies .bodies) (bodyWidth * j) (bodyRow P N b) k 0 numbers (omega arith)
 
-  value-at : (k : ℕ) → k < rangeWidth → valueAt rangeWidth (t .ranges) j k ≡ getD (rangeRow b) k (pos 0)
-  value-at k h = stands-at (t .ranges) (rangeWidth * j) (rangeRow b) k (pos 0) range (omega arith)
+  value-at : (k : ℕ) → k < rangeWidth → valueAt rangeWidth (t .bodies .ranges) j k ≡ getD (rangeRow b) k (pos 0)
+  value-at k h = stands-at (t .bodies .ranges) (rangeWidth * j) (rangeRow b) k (pos 0) range (omega arith)
 
   body-is : bodyAt t j ≡ laidBody P N b
   body-is =
@@ -125,19 +125,19 @@ module _ (u : Used) (t : Tables) (m : Model) (L : Laid u t m) (j : ℕ) (a : Amo
         is = body-is;
         used-parameters = (let k = L .used-parameters in omega arith);
         used-loops = (let k = L .used-loops in omega arith);
-        parameters = stands-is (t .parameters) (0 + length (flat parameterRow (a .before))) P (b .us ++ b .vs) (let k = parameterRows-length (a .before) in omega arith)
-            (stands-flat parameterRow (t .parameters) 0 bs j a (L .parameters));
-        loops = stands-is (t .loops) (0 + length (flat loopRows (a .before))) (loopWidth * N) (loopRows b) (let k = loopRows-length (a .before) in omega arith)
-            (stands-flat loopRows (t .loops) 0 bs j a (L .loops));
-        spans = stands-is (t .spans) (0 + length (flat spanRows (a .before))) (spanWidth * N) (spanRows b) (let k = spanRows-length (a .before) in omega arith)
-            (stands-flat spanRows (t .spans) 0 bs j a (L .spans));
+        parameters = stands-is (t .bodies .parameters) (0 + length (flat parameterRow (a .before))) P (b .us ++ b .vs) (let k = parameterRows-length (a .before) in omega arith)
+            (stands-flat parameterRow (t .bodies .parameters) 0 bs j a (L .parameters));
+        loops = stands-is (t .bodies .loops) (0 + length (flat loopRows (a .before))) (loopWidth * N) (loopRows b) (let k = loopRows-length (a .before) in omega arith)
+            (stands-flat loopRows (t .bodies .loops) 0 bs j a (L .loops));
+        spans = stands-is (t .bodies .spans) (0 + length (flat spanRows (a .before))) (spanWidth * N) (spanRows b) (let k = spanRows-length (a .before) in omega arith)
+            (stands-flat spanRows (t .bodies .spans) 0 bs j a (L .spans));
       }
 
 module _ (u : Used) (t : Tables) (j p l : ℕ) (b : Body) (r : BodyRow u t j p l b) where
   -- its parameters, read back
   pub us-are : parametersU t (laidBody p l b) ≡ b .us
-  us-are = (stands-is (t .parameters) (p + 0) p (b .us) (omega arith) (stands-part (t .parameters) p [] (b .us) (b .vs) (r .parameters))) .run
+  us-are = (stands-is (t .bodies .parameters) (p + 0) p (b .us) (omega arith) (stands-part (t .bodies .parameters) p [] (b .us) (b .vs) (r .parameters))) .run
 
   pub vs-are : parametersV t (laidBody p l b) ≡ b .vs
   vs-are =
-      (stands-part (t .parameters) p (b .us) (b .vs) [] (subst (λ (q : List ℤ). Stands (t .parameters) p (b .us ++ q)) (sym (append-nil (b .vs))) (r .parameters))) .run
+      (stands-part (t .bodies .parameters) p (b .us) (b .vs) [] (subst (λ (q : List ℤ). Stands (t .bodies .parameters) p (b .us ++ q)) (sym (append-nil (b .vs))) (r .parameters))) .run

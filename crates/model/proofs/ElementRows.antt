@@ -7,7 +7,8 @@ use lib.ListN.{length, getD}
 use Rattle.lists.specs.Lists.{flat}
 use Rattle.references.specs.Corner.{Corner}
 use Rattle.tables.specs.Tables.{Tables}
-use Rattle.tables.specs.Records.{elementWidth, cornerWidth, elementAt, cornerAt, numberAt}
+use Rattle.tables.specs.Records.{elementWidth, cornerWidth, elementAt, cornerPlace, cornerAt, numberAt}
+use Rattle.tables.specs.declared.CornerRun.{CornerRun}
 use Rattle.tables.specs.declared.Element as records-element
 use Rattle.tables.specs.declared.Corner as records-corner
 use Rattle.model.specs.Model.{Element}
@@ -21,31 +22,32 @@ abbrev pub cornersIn : List Element → ℕ
 cornersIn es = cornerWidth * summed (λ (e : Element). length (e .corners)) es
 
 -- ---- its record: c numbers of corners and b bodies stand before its own
+abbrev pub laidRun : ℕ → List Corner → CornerRun
+laidRun first cs = record { first = first; count = length cs }
+
 abbrev pub laidElement : ℕ → ℕ → Element → records-element.Element
 laidElement c b e =
     record {
       kind = kindNumber (e .kind);
-      first = c;
-      count = length (e .corners);
+      corners = laidRun c (e .corners);
       body = bodyNumber (e .kind) b;
       smoothing = e .names .smoothing;
-      «group_place» = runOf (e .names .group) .place;
-      «group_length» = runOf (e .names .group) .length;
-      «material_place» = runOf (listed (e .names .material)) .place;
-      «material_length» = runOf (listed (e .names .material)) .length;
+      group = runOf (e .names .group);
+      material = runOf (listed (e .names .material));
     }
 
 pub record Row (t : Tables) (es : List Element) (i : ℕ) (a : Among es i) : Type 0 where
-  pub lent : elementWidth * i + elementWidth ≤ length (t .elements)
+  pub lent : elementWidth * i + elementWidth ≤ length (t .elements .elements)
   pub is : elementAt t i ≡ laidElement (cornersIn (a .before)) (length (bodiesOf (a .before))) (a .one)
   pub kind : elementAt t i .kind ≡ kindNumber (a .one .kind)
-  pub first : elementAt t i .first ≡ cornersIn (a .before)
-  pub count : elementAt t i .count ≡ length (a .one .corners)
+  pub run : elementAt t i .corners ≡ laidRun (cornersIn (a .before)) (a .one .corners)
+  pub first : elementAt t i .corners .first ≡ cornersIn (a .before)
+  pub count : elementAt t i .corners .count ≡ length (a .one .corners)
   pub body : elementAt t i .body ≡ bodyNumber (a .one .kind) (length (bodiesOf (a .before)))
 
-pub row-of : (t : Tables) (es : List Element) (i : ℕ) → Stands (t .elements) 0 (elementRows 0 0 es) → (a : Among es i) → Row t es i a
+pub row-of : (t : Tables) (es : List Element) (i : ℕ) → Stands (t .elements .elements) 0 (elementRows 0 0 es) → (a : Among es i) → Row t es i a
 row-of t es i s a =
-    let l = t .elements in
+    let l = t .elements .elements in
     let qs = a .before in
     let e = a .one in
     let c = 0 + cornersIn qs in
@@ -74,18 +76,19 @@ row-of t es i s a =
       lent = (let k = w .lent in omega arith);
       is = whole;
       kind = ap (λ (r : records-element.Element). r .kind) whole;
-      first = ap (λ (r : records-element.Element). r .first) whole;
-      count = ap (λ (r : records-element.Element). r .count) whole;
+      run = ap (λ (r : records-element.Element). r .corners) whole;
+      first = ap (λ (r : records-element.Element). r .corners .first) whole;
+      count = ap (λ (r : records-element.Element). r .corners .count) whole;
       body = ap (λ (r : records-element.Element). r .body) whole;
     }
 
 -- ---- its corners stand where the row says
-pub corners-stand : (t : Tables) (es : List Element) (i : ℕ) → Stands (t .corners) 0 (flat cornerRows es) → (a : Among es i)
-    → Stands (t .corners) (cornersIn (a .before)) (flat cornerRow (a .one .corners))
+pub corners-stand : (t : Tables) (es : List Element) (i : ℕ) → Stands (t .elements .corners) 0 (flat cornerRows es) → (a : Among es i)
+    → Stands (t .elements .corners) (cornersIn (a .before)) (flat cornerRow (a .one .corners))
 corners-stand t es i s a =
     let k = cornerRows-length (a .before) in
-    stands-is (t .corners) (0 + length (flat cornerRows (a .before))) (cornersIn (a .before)) (flat cornerRow (a .one .corners)) (omega arith)
-    (stands-flat cornerRows (t .corners) 0 es i a s)
+    stands-is (t .elements .corners) (0 + length (flat cornerRows (a .before))) (cornersIn (a .before)) (flat cornerRow (a .one .corners)) (omega arith)
+    (stands-flat cornerRows (t .elements .corners) 0 es i a s)
 
 abbrev pub laidCorner : Corner → records-corner.Corner
 laidCorner c = record { v = c .v; vt = c .vt; vn = c .vn }
@@ -93,19 +96,19 @@ laidCorner c = record { v = c .v; vt = c .vt; vn = c .vn }
 abbrev pub noCorner : Corner
 noCorner = record { v = 0; vt = 0; vn = 0 }
 
-pub corner-among : (t : Tables) (first : ℕ) (cs : List Corner) → Stands (t .corners) first (flat cornerRow cs) → (k : ℕ) (a : Among cs k) → cornerAt t first k ≡ laidCorner (a .one)
-corner-among t first cs s k a =
-    let l = t .corners in
-    let at = first + cornerWidth * k in
+pub corner-among : (t : Tables) (run : CornerRun) (cs : List Corner) → Stands (t .elements .corners) (run .first) (flat cornerRow cs) → (k : ℕ) (a : Among cs k) → cornerAt t run k ≡ laidCorner (a .one)
+corner-among t run cs s k a =
+    let l = t .elements .corners in
+    let at = cornerPlace run k in
     let c = a .one in
-    let w = stands-record cornerRow cornerWidth (λ c. refl) l first cs k a s in
+    let w = stands-record cornerRow cornerWidth (λ c. refl) l (run .first) cs k a s in
     let z : at ≡ at + 0 = omega arith in
     let e₁ : getD l at 0 ≡ c .v = ap (λ (q : ℕ). getD l q 0) z ∙ stands-at l at (cornerRow c) 0 0 w (omega arith) in
     let e₂ : getD l (at + 1) 0 ≡ c .vt = stands-at l at (cornerRow c) 1 0 w (omega arith) in
     let e₃ : getD l (at + 2) 0 ≡ c .vn = stands-at l at (cornerRow c) 2 0 w (omega arith) in
     rw (e₁, e₂, e₃) refl
 
-pub corner-at : (t : Tables) (first : ℕ) (cs : List Corner) → Stands (t .corners) first (flat cornerRow cs) → (k : ℕ) → k < length cs → cornerAt t first k ≡ laidCorner (getD cs k noCorner)
-corner-at t first cs s k h =
+pub corner-at : (t : Tables) (run : CornerRun) (cs : List Corner) → Stands (t .elements .corners) (run .first) (flat cornerRow cs) → (k : ℕ) → k < length cs → cornerAt t run k ≡ laidCorner (getD cs k noCorner)
+corner-at t run cs s k h =
     let a = among cs k h in
-    corner-among t first cs s k a ∙ ap laidCorner (sym (among-at cs k a noCorner))
+    corner-among t run cs s k a ∙ ap laidCorner (sym (among-at cs k a noCorner))

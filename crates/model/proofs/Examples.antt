@@ -26,29 +26,29 @@ use Rattle.tables.specs.declared.parts.LoopPart.{LoopPart}
 use Rattle.tables.specs.Asking.{partOf}
 
 many : Rooms
-many = record { v = 100; vt = 100; vn = 100; vp = 100; corners = 100; elements = 100; bodies = 100; ranges = 100; parameters = 100; loops = 100; spans = 100 }
+many = record { vertices = record { v = 100; vt = 100; vn = 100; vp = 100 }; elements = record { corners = 100; elements = 100 }; bodies = record { bodies = 100; ranges = 100; parameters = 100; loops = 100; spans = 100 } }
 
 ex1 : readOf many (bytes "v 0 0 0\nf 1 1 2\n") ≡ refused 8 14
 unfolding readOf linesOf numberOf decimal numerator denominator nearest whole isReference refer referenceOf cornerOf degreeOf smoothingOf nameOf statementOf keywords argumentOf arguments argumentBytes inOrder curveCount surfaceCount fits parse statement many
 ex1 = refl
 
 small : Rooms
-small = record { v = 8; vt = 3; vn = 0; vp = 0; corners = 12; elements = 18; bodies = 9; ranges = 4; parameters = 4; loops = 0; spans = 0 }
+small = record { vertices = record { v = 8; vt = 3; vn = 0; vp = 0 }; elements = record { corners = 12; elements = 18 }; bodies = record { bodies = 9; ranges = 4; parameters = 4; loops = 0; spans = 0 } }
 
 tab : Answer → Tables
 tab (read m) = tablesOf small m
 tab (refused n p) = tablesOf small (start .model)
 
-ex2 : tab (readOf small (bytes "cstype bezier\ndeg 1\nv 0 0 0\nv 1.5 0 0\ng top side\ncurv 0 1 -2 -1\nparm u 0 1\nend\n")) .elements ≡ 4 ∷ 0 ∷ 2 ∷ 1 ∷ 0 ∷ 40 ∷ 8 ∷ 0 ∷ 0 ∷ 0 ∷ 0 ∷ 0 ∷ 0 ∷ 0 ∷ 0 ∷ 0 ∷ 0 ∷ 0 ∷ []
+ex2 : tab (readOf small (bytes "cstype bezier\ndeg 1\nv 0 0 0\nv 1.5 0 0\ng top side\ncurv 0 1 -2 -1\nparm u 0 1\nend\n")) .elements .elements ≡ 4 ∷ 0 ∷ 2 ∷ 1 ∷ 0 ∷ 40 ∷ 8 ∷ 0 ∷ 0 ∷ 0 ∷ 0 ∷ 0 ∷ 0 ∷ 0 ∷ 0 ∷ 0 ∷ 0 ∷ 0 ∷ []
 unfolding tab tablesOf readOf linesOf numberOf decimal numerator denominator nearest whole isReference refer referenceOf cornerOf degreeOf smoothingOf nameOf statementOf keywords argumentOf arguments argumentBytes inOrder curveCount surfaceCount fits parse statement small
 ex2 = refl
 
-ex3 : tab (readOf small (bytes "cstype bezier\ndeg 1\nv 0 0 0\nv 1.5 0 0\ng top side\ncurv 0 1 -2 -1\nparm u 0 1\nend\n")) .bodies ≡ 1 ∷ 0 ∷ 1 ∷ 0 ∷ 0 ∷ 2 ∷ 0 ∷ 0 ∷ 0 ∷ []
+ex3 : tab (readOf small (bytes "cstype bezier\ndeg 1\nv 0 0 0\nv 1.5 0 0\ng top side\ncurv 0 1 -2 -1\nparm u 0 1\nend\n")) .bodies .bodies ≡ 1 ∷ 0 ∷ 1 ∷ 0 ∷ 0 ∷ 2 ∷ 0 ∷ 0 ∷ 0 ∷ []
 unfolding tab tablesOf readOf linesOf numberOf decimal numerator denominator nearest whole isReference refer referenceOf cornerOf degreeOf smoothingOf nameOf statementOf keywords argumentOf arguments argumentBytes inOrder curveCount surfaceCount fits parse statement small
 ex3 = refl
 
 -- "-1 the last so far": a vertex below the line does not count
-ex4 : tab (readOf small (bytes "v 0 0 0\np -1\nv 1 0 0\n")) .corners ≡ 1 ∷ 0 ∷ 0 ∷ 0 ∷ 0 ∷ 0 ∷ 0 ∷ 0 ∷ 0 ∷ 0 ∷ 0 ∷ 0 ∷ []
+ex4 : tab (readOf small (bytes "v 0 0 0\np -1\nv 1 0 0\n")) .elements .corners ≡ 1 ∷ 0 ∷ 0 ∷ 0 ∷ 0 ∷ 0 ∷ 0 ∷ 0 ∷ 0 ∷ 0 ∷ 0 ∷ 0 ∷ []
 unfolding tab tablesOf readOf linesOf numberOf decimal numerator denominator nearest whole isReference refer referenceOf cornerOf degreeOf smoothingOf nameOf statementOf keywords argumentOf arguments argumentBytes inOrder curveCount surfaceCount fits parse statement small
 ex4 = refl
 

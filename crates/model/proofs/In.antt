@@ -13,6 +13,7 @@ use Rattle.text.specs.Words.{Word}
 use Rattle.references.specs.Corner.{Corner}
 use Rattle.tables.specs.Tables.{Tables}
 use Rattle.tables.specs.Records.{vWidth, vtWidth, vnWidth, vpWidth, curveKind, cornerAt, elementAt, bodyAt}
+use Rattle.tables.specs.declared.CornerRun.{CornerRun}
 use Rattle.tables.specs.declared.Used.{Used}
 use Rattle.tables.proofs.Types.{basis-back}
 use Rattle.model.specs.Model.{Names, Shape, point, line, face, Free, curve, curve2, surface, Body, Kind, plain, free, Element, Model}
@@ -55,9 +56,9 @@ rows-back w n l zs h e s =
     (λ k a. ap (λ (x : ℕ). take x (drop (w * k) l)) (sym (each-among (λ (z : List ℤ). length z ≡ w) zs k a h .1)) ∙ wide-stands w l zs k a h s .run)
 
 -- ---- an element
-pub corners-back : (t : Tables) (first : ℕ) (cs : List Corner) → Stands (t .corners) first (flat cornerRow cs) → each (λ k. cornerFrom (cornerAt t first k)) (length cs) 0 ≡ cs
-corners-back t first cs s =
-    each-all (λ k. cornerFrom (cornerAt t first k)) (length cs) cs refl (λ k a. ap cornerFrom (corner-among t first cs s k a))
+pub corners-back : (t : Tables) (run : CornerRun) (cs : List Corner) → Stands (t .elements .corners) (run .first) (flat cornerRow cs) → each (λ k. cornerFrom (cornerAt t run k)) (length cs) 0 ≡ cs
+corners-back t run cs s =
+    each-all (λ k. cornerFrom (cornerAt t run k)) (length cs) cs refl (λ k a. ap cornerFrom (corner-among t run cs s k a))
 
 material-back : (o : Option Word) → firstOf (listed o) ≡ o
 material-back none = refl
@@ -100,7 +101,7 @@ module _ (s : List ℕ) (u : Used) (t : Tables) (m : Model) (L : Laid u t m) whe
       let h = each-among (λ (x : Element). NamesStand s (x .names)) (m .elements) i a (p .names) .1 in
       ap (elementFrom s t) (row-of t (m .elements) i (L .elements) a .is)
       ∙ ap₂ (λ (k : Kind) (cs : List Corner). record { kind = k; corners = cs; names = namesFrom s (laidElement c b e) })
-      (kind-back c i a g) (corners-back t c (e .corners) (corners-stand t (m .elements) i (L .corners) a))
+      (kind-back c i a g) (corners-back t (laidElement c b e .corners) (e .corners) (corners-stand t (m .elements) i (L .corners) a))
       ∙ ap (λ (n : Names). record { kind = e .kind; corners = e .corners; names = n }) (names-back s c b e h)
 
   -- of tables that begin with the rows of a model
@@ -109,10 +110,10 @@ module _ (s : List ℕ) (u : Used) (t : Tables) (m : Model) (L : Laid u t m) whe
   laid-back p =
       let x = m .vertices in
       let w = p .rows in
-      let v₁ = rows-back vWidth (u .v) (t .v) (x .v) (w .0) (L .used-v) (L .v) in
-      let v₂ = rows-back vtWidth (u .vt) (t .vt) (x .vt) (w .1) (L .used-vt) (L .vt) in
-      let v₃ = rows-back vnWidth (u .vn) (t .vn) (x .vn) (w .2) (L .used-vn) (L .vn) in
-      let v₄ = rows-back vpWidth (u .vp) (t .vp) (x .vp) (w .3) (L .used-vp) (L .vp) in
+      let v₁ = rows-back vWidth (u .v) (t .vertices .v) (x .v) (w .0) (L .used-v) (L .v) in
+      let v₂ = rows-back vtWidth (u .vt) (t .vertices .vt) (x .vt) (w .1) (L .used-vt) (L .vt) in
+      let v₃ = rows-back vnWidth (u .vn) (t .vertices .vn) (x .vn) (w .2) (L .used-vn) (L .vn) in
+      let v₄ = rows-back vpWidth (u .vp) (t .vertices .vp) (x .vp) (w .3) (L .used-vp) (L .vp) in
       let es =
       each-all (λ i. elementFrom s t (elementAt t i)) (u .elements) (m .elements) (L .used-elements) (element-back p) in
       rw (v₁, v₂, v₃, v₄, es) refl

@@ -10,3 +10,4 @@ pub mod ElementRows
 pub mod BodyRows
 pub mod Parts
 pub mod In
+pub mod Rooms

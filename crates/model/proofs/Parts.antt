@@ -78,16 +78,16 @@ parts-count (l ∷ ls) =
     omega arith
 
 -- ---- read back by index
-pub part-among : (t : Tables) (l : ℕ) (qs : List LoopPart) → Stands (t .loops) (loopWidth * l) (flat rowOf qs) → Stands (t .spans) (spanWidth * l) (flat spanOf qs)
+pub part-among : (t : Tables) (l : ℕ) (qs : List LoopPart) → Stands (t .bodies .loops) (loopWidth * l) (flat rowOf qs) → Stands (t .bodies .spans) (spanWidth * l) (flat spanOf qs)
     → (k : ℕ) (a : Among qs k) → partAt t (l + k) ≡ a .one
 part-among t l qs s r k a =
     let q = a .one in
-    let v = stands-record rowOf loopWidth (λ q. refl) (t .loops) (loopWidth * l) qs k a s in
-    let w = stands-record spanOf spanWidth (λ q. refl) (t .spans) (spanWidth * l) qs k a r in
-    let n : (j : ℕ) → j < loopWidth → numberAt loopWidth (t .loops) (l + k) j ≡ getD (rowOf q) j 0 =
-    λ j h. ap (λ (i : ℕ). getD (t .loops) i 0) (let e : loopWidth * (l + k) + j ≡ loopWidth * l + loopWidth * k + j = omega arith in e) ∙ stands-at (t .loops) (loopWidth * l + loopWidth * k) (rowOf q) j 0 v (omega arith) in
-    let z : (j : ℕ) → j < spanWidth → valueAt spanWidth (t .spans) (l + k) j ≡ getD (spanOf q) j (pos 0) =
-    λ j h. ap (λ (i : ℕ). getD (t .spans) i (pos 0)) (let e : spanWidth * (l + k) + j ≡ spanWidth * l + spanWidth * k + j = omega arith in e) ∙ stands-at (t .spans) (spanWidth * l + spanWidth * k) (spanOf q) j (pos 0) w (omega arith) in
+    let v = stands-record rowOf loopWidth (λ q. refl) (t .bodies .loops) (loopWidth * l) qs k a s in
+    let w = stands-record spanOf spanWidth (λ q. refl) (t .bodies .spans) (spanWidth * l) qs k a r in
+    let n : (j : ℕ) → j < loopWidth → numberAt loopWidth (t .bodies .loops) (l + k) j ≡ getD (rowOf q) j 0 =
+    λ j h. ap (λ (i : ℕ). getD (t .bodies .loops) i 0) (let e : loopWidth * (l + k) + j ≡ loopWidth * l + loopWidth * k + j = omega arith in e) ∙ stands-at (t .bodies .loops) (loopWidth * l + loopWidth * k) (rowOf q) j 0 v (omega arith) in
+    let z : (j : ℕ) → j < spanWidth → valueAt spanWidth (t .bodies .spans) (l + k) j ≡ getD (spanOf q) j (pos 0) =
+    λ j h. ap (λ (i : ℕ). getD (t .bodies .spans) i (pos 0)) (let e : spanWidth * (l + k) + j ≡ spanWidth * l + spanWidth * k + j = omega arith in e) ∙ stands-at (t .bodies .spans) (spanWidth * l + spanWidth * k) (spanOf q) j (pos 0) w (omega arith) in
     rw (n 0 (omega arith), n 1 (omega arith), z 0 (omega arith), z 1 (omega arith)) refl
 
 -- ---- cut into loops again
@@ -114,11 +114,11 @@ pub each-first : {A : Type 0} (f : ℕ → A) (k l : ℕ) → each f k (firstPar
 each-first f zero l = refl
 each-first f (suc k) l = ap (λ (x : Bool). each f (suc k) (cond x 0 l)) (ne-eqb (suc k) 0 (λ j. omega arith))
 
-pub loops-back : (t : Tables) (l : ℕ) (ls : List Loop) → Stands (t .loops) (loopWidth * l) (flat loopRow ls) → Stands (t .spans) (spanWidth * l) (flat (λ (x : Loop). flat spanRow (x .parts)) ls)
+pub loops-back : (t : Tables) (l : ℕ) (ls : List Loop) → Stands (t .bodies .loops) (loopWidth * l) (flat loopRow ls) → Stands (t .bodies .spans) (spanWidth * l) (flat (λ (x : Loop). flat spanRow (x .parts)) ls)
     → Parted ls → (k : ℕ) → k ≡ summed (λ (x : Loop). length (x .parts)) ls → begunIn (each (partAt t) k (firstPart l k)) .loops ≡ ls
 loops-back t l ls s r g k e =
-    let s' = subst (Stands (t .loops) (loopWidth * l)) (parts-rows ls) s in
-    let r' = subst (Stands (t .spans) (spanWidth * l)) (parts-spans ls) r in
+    let s' = subst (Stands (t .bodies .loops) (loopWidth * l)) (parts-rows ls) s in
+    let r' = subst (Stands (t .bodies .spans) (spanWidth * l)) (parts-spans ls) r in
     let n : k ≡ length (laidParts ls) = e ∙ sym (parts-count ls) in
     let b : each (partAt t) k (firstPart l k) ≡ laidParts ls =
     each-first (partAt t) k l ∙ ap (λ (i : ℕ). each (partAt t) i l) n ∙ each-is (partAt t) (laidParts ls) l (part-among t l (laidParts ls) s' r') in

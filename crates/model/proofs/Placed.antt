@@ -59,7 +59,7 @@ PartedAll es = Each (λ (e : Element). PartedKind (e .kind)) es
 -- ---- names: the words of the part of the text t that their run gives
 module _ (t : List ℕ) where
   abbrev pub WordsStand : List Word → Type 0
-  WordsStand ws = wordsIn t (runOf ws .place) (runOf ws .length) ≡ ws
+  WordsStand ws = wordsIn t (runOf ws) ≡ ws
 
   pub record NamesStand (n : Names) : Type 0 where
     pub group : WordsStand (n .group)

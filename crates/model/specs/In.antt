@@ -32,10 +32,10 @@ rowAt w l i = take w (drop (w * i) l)
 abbrev pub verticesFrom : Used → Tables → Vertices
 verticesFrom u t =
     record {
-      v = each (rowAt vWidth (t .v)) (u .v) 0;
-      vt = each (rowAt vtWidth (t .vt)) (u .vt) 0;
-      vn = each (rowAt vnWidth (t .vn)) (u .vn) 0;
-      vp = each (rowAt vpWidth (t .vp)) (u .vp) 0;
+      v = each (rowAt vWidth (t .vertices .v)) (u .v) 0;
+      vt = each (rowAt vtWidth (t .vertices .vt)) (u .vt) 0;
+      vn = each (rowAt vnWidth (t .vertices .vn)) (u .vn) 0;
+      vp = each (rowAt vpWidth (t .vertices .vp)) (u .vp) 0;
     }
 
 -- ---- names: "the place and length of its group run and material in the text", as words where they stand
@@ -46,17 +46,17 @@ firstOf (w ∷ ws) = some w
 abbrev pub namesFrom : List ℕ → records-element.Element → Names
 namesFrom s e =
     record {
-      group = wordsIn s (e .«group_place») (e .«group_length»);
+      group = wordsIn s (e .group);
       smoothing = e .smoothing;
-      material = firstOf (wordsIn s (e .«material_place») (e .«material_length»));
+      material = firstOf (wordsIn s (e .material));
     }
 
--- ---- corners, from the element's first and count
+-- ---- corners, from the element's run of them
 abbrev pub cornerFrom : records-corner.Corner → Corner
 cornerFrom c = record { v = c .v; vt = c .vt; vn = c .vn }
 
 abbrev pub cornersFrom : Tables → records-element.Element → List Corner
-cornersFrom t e = each (λ k. cornerFrom (cornerAt t (e .first) k)) (e .count) 0
+cornersFrom t e = each (λ k. cornerFrom (cornerAt t (e .corners) k)) (e .corners .count) 0
 
 -- ---- loops: what begins with a part is 1 a trim, 2 a hole, 0 nothing; a part before the first that begins a loop belongs to none
 abbrev pub partFrom : LoopPart → Part

@@ -5,28 +5,28 @@ use mathlib.Core.List.{List, [], _∷_, _++_}
 use mathlib.Core.Bool.{Bool, true, false, cond}
 use mathlib.Core.Option.{Option, none, some}
 use lib.ListN.{length}
-use lib.IntN.{ℤ, pos}
-use Rattle.lists.specs.Lists.{flat, filled}
+use lib.IntN.{ℤ}
+use Rattle.lists.specs.Lists.{flat}
 use Rattle.text.specs.Words.{Word, wordsOf}
 use Rattle.references.specs.Corner.{Corner}
+use Rattle.tables.specs.VertexTables.{VertexTables, vertexTables, VertexRooms, vertexFilled}
+use Rattle.tables.specs.ElementTables.{ElementTables, elementTables, ElementRooms, elementFilled}
+use Rattle.tables.specs.BodyTables.{BodyTables, bodyTables, BodyRooms, bodyFilled}
 use Rattle.tables.specs.Tables.{Tables}
 use Rattle.tables.specs.Bodies.{basisNumber}
 use Rattle.tables.specs.Records.{cornerWidth, pointKind, lineKind, faceKind, curveKind, curve2Kind, surfaceKind}
 use Rattle.tables.specs.Asking.{partOf}
+use Rattle.tables.specs.declared.NameRun.{NameRun}
 use Rattle.tables.specs.declared.Used.{Used}
-use Rattle.model.specs.Model.{Shape, point, line, face, Free, curve, curve2, surface, Part, Loop, Body, Kind, plain, free, Element, Model}
+use Rattle.model.specs.Model.{Shape, point, line, face, Free, curve, curve2, surface, Vertices, Part, Loop, Body, Kind, plain, free, Element, Model}
 use Rattle.model.specs.Room.{Rooms, summed, ofKind, partCount}
 
 -- ---- names: "the place and length of its group run and material in the text", "from the first name to the last"; "0 where none is set and after a bare `g`"
-pub record Run : Type 0 where
-  pub place : ℕ
-  pub length : ℕ
-
 abbrev pub lastEnd : Word → List Word → ℕ
 lastEnd w [] = w .place + length (w .bytes)
 lastEnd w (x ∷ xs) = lastEnd x xs
 
-abbrev pub runOf : List Word → Run
+abbrev pub runOf : List Word → NameRun
 runOf [] = record { place = 0; length = 0 }
 runOf (w ∷ ws) = record { place = w .place; length = lastEnd w ws - w .place }
 
@@ -35,8 +35,8 @@ listed none = []
 listed (some w) = w ∷ []
 
 -- the words that a run shows in the text s, where they stand
-abbrev pub wordsIn : List ℕ → ℕ → ℕ → List Word
-wordsIn s place count = wordsOf (record { place = place; bytes = partOf s place count })
+abbrev pub wordsIn : List ℕ → NameRun → List Word
+wordsIn s run = wordsOf (record { place = run .place; bytes = partOf s run })
 
 -- ---- corners
 abbrev pub cornerRow : Corner → List ℕ
@@ -134,20 +134,21 @@ spanRows b = flat (λ l. flat spanRow (l .parts)) (b .loops)
 abbrev pub itself : {A : Type 0} → List A → List A
 itself l = l
 
+abbrev pub vertexTablesOf : VertexRooms → Vertices → VertexTables
+vertexTablesOf R x = vertexFilled R (vertexTables (flat itself (x .v)) (flat itself (x .vt)) (flat itself (x .vn)) (flat itself (x .vp)))
+
+abbrev pub elementTablesOf : ElementRooms → List Element → ElementTables
+elementTablesOf R es = elementFilled R (elementTables (flat cornerRows es) (elementRows 0 0 es))
+
+abbrev pub bodyTablesOf : BodyRooms → List Body → BodyTables
+bodyTablesOf R bs = bodyFilled R (bodyTables (bodyRows 0 0 bs) (flat rangeRow bs) (flat parameterRow bs) (flat loopRows bs) (flat spanRows bs))
+
 unfoldable pub tablesOf : Rooms → Model → Tables
 tablesOf R m =
     record {
-      v = filled (R .v) (pos 0) (flat itself (m .vertices .v));
-      vt = filled (R .vt) (pos 0) (flat itself (m .vertices .vt));
-      vn = filled (R .vn) (pos 0) (flat itself (m .vertices .vn));
-      vp = filled (R .vp) (pos 0) (flat itself (m .vertices .vp));
-      corners = filled (R .corners) 0 (flat cornerRows (m .elements));
-      elements = filled (R .elements) 0 (elementRows 0 0 (m .elements));
-      bodies = filled (R .bodies) 0 (bodyRows 0 0 (bodiesOf (m .elements)));
-      ranges = filled (R .ranges) (pos 0) (flat rangeRow (bodiesOf (m .elements)));
-      parameters = filled (R .parameters) (pos 0) (flat parameterRow (bodiesOf (m .elements)));
-      loops = filled (R .loops) 0 (flat loopRows (bodiesOf (m .elements)));
-      spans = filled (R .spans) (pos 0) (flat spanRows (bodiesOf (m .elements)));
+      vertices = vertexTablesOf (R .vertices) (m .vertices);
+      elements = elementTablesOf (R .elements) (m .elements);
+      bodies = bodyTablesOf (R .bodies) (bodiesOf (m .elements));
     }
 
 -- "every count" after a refusal

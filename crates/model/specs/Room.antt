@@ -5,23 +5,17 @@ use mathlib.Core.List.{List, [], _∷_}
 use mathlib.Core.Bool.{Bool, _&&_}
 use mathlib.Core.Option.{Option, none, some}
 use lib.ListN.{length}
-use lib.Dec.{leb}
+use Rattle.tables.specs.VertexTables.{VertexRooms, vertexWithin}
+use Rattle.tables.specs.ElementTables.{ElementRooms, elementWithin}
+use Rattle.tables.specs.BodyTables.{BodyRooms, bodyWithin}
 use Rattle.tables.specs.Records.{vWidth, vtWidth, vnWidth, vpWidth, cornerWidth, elementWidth, bodyWidth, rangeWidth, loopWidth, spanWidth}
-use Rattle.model.specs.Model.{Body, Kind, plain, free, Open, State}
+use Rattle.model.specs.Model.{Vertices, Body, Kind, plain, free, Open, State}
 
 -- how many entries each table has, or how many are needed
 pub record Rooms : Type 0 where
-  pub v : ℕ
-  pub vt : ℕ
-  pub vn : ℕ
-  pub vp : ℕ
-  pub corners : ℕ
-  pub elements : ℕ
-  pub bodies : ℕ
-  pub ranges : ℕ
-  pub parameters : ℕ
-  pub loops : ℕ
-  pub spans : ℕ
+  pub vertices : VertexRooms
+  pub elements : ElementRooms
+  pub bodies : BodyRooms
 
 abbrev pub summed : {A : Type 0} → (A → ℕ) → List A → ℕ
 summed f [] = 0
@@ -55,15 +49,15 @@ parameterCount x = summed (λ e. ofKind (λ b. length (b .us) + length (b .vs)) 
 abbrev pub loopPartCount : State → ℕ
 loopPartCount x = summed (λ e. ofKind partCount (e .kind)) (x .model .elements) + ofOpen (λ o. partCount (o .body)) (x .open-body)
 
-abbrev pub needed : State → Rooms
-needed x =
+abbrev pub neededVertices : Vertices → VertexRooms
+neededVertices x = record { v = vWidth * length (x .v); vt = vtWidth * length (x .vt); vn = vnWidth * length (x .vn); vp = vpWidth * length (x .vp) }
+
+abbrev pub neededElements : State → ElementRooms
+neededElements x = record { corners = cornerWidth * cornerCount x; elements = elementWidth * elementCount x }
+
+abbrev pub neededBodies : State → BodyRooms
+neededBodies x =
     record {
-      v = vWidth * length (x .model .vertices .v);
-      vt = vtWidth * length (x .model .vertices .vt);
-      vn = vnWidth * length (x .model .vertices .vn);
-      vp = vpWidth * length (x .model .vertices .vp);
-      corners = cornerWidth * cornerCount x;
-      elements = elementWidth * elementCount x;
       bodies = bodyWidth * bodyCount x;
       ranges = rangeWidth * bodyCount x;
       parameters = parameterCount x;
@@ -71,11 +65,11 @@ needed x =
       spans = spanWidth * loopPartCount x;
     }
 
+abbrev pub needed : State → Rooms
+needed x = record { vertices = neededVertices (x .model .vertices); elements = neededElements x; bodies = neededBodies x }
+
 abbrev pub within : Rooms → Rooms → Bool
-within a b =
-    leb (a .v) (b .v) && leb (a .vt) (b .vt) && leb (a .vn) (b .vn) && leb (a .vp) (b .vp) && leb (a .corners) (b .corners)
-    && leb (a .elements) (b .elements) && leb (a .bodies) (b .bodies) && leb (a .ranges) (b .ranges) && leb (a .parameters) (b .parameters)
-    && leb (a .loops) (b .loops) && leb (a .spans) (b .spans)
+within a b = vertexWithin (a .vertices) (b .vertices) && elementWithin (a .elements) (b .elements) && bodyWithin (a .bodies) (b .bodies)
 
 unfoldable pub fits : Rooms → State → Bool
 fits R x = within (needed x) R

@@ -61,7 +61,7 @@ module _ {used : Used} {t : Tables} {number : ℕ} (c : Curve used t number) whe
       let f = controlOf t (elementOf t number) axis in
       record {
         outline = curve-within d p o f;
-        block = curve-block d p o (elementOf t number .count) (curve-facts c .counted) f;
+        block = curve-block d p o (elementOf t number .corners .count) (curve-facts c .counted) f;
         exact = λ g h. curve-ends d p o g h f;
       }
 
@@ -93,7 +93,7 @@ module _ {used : Used} {t : Tables} {number : ℕ} (c : Surface used t number) (
       let b = surface-rules-v c p q p-from p-upto q-from q-upto in
       record {
         outline = surface-within u v p q a b (gridOf t (elementOf t number) (bodyOf t number) axis);
-        block = surface-block u v p q a b (elementOf t number .count) (surface-facts c .counted) (controlOf t (elementOf t number) axis);
+        block = surface-block u v p q a b (elementOf t number .corners .count) (surface-facts c .counted) (controlOf t (elementOf t number) axis);
         exact = λ g h i j. surface-ends u v p q a b g h i j (gridOf t (elementOf t number) (bodyOf t number) axis);
       }
 

@@ -17,7 +17,7 @@ use Rattle.polyline.specs.Answers.{parametersOf, polylineInto}
 
 -- "The operator clamps the block by the control points' outline": z lies within all of the element's controls on that axis
 abbrev pub InBlock : Tables → (number axis : ℕ) → ℤ → Type 0
-InBlock t number axis z = Within (elementOf t number .count - 1) (controlOf t (elementOf t number) axis) z
+InBlock t number axis z = Within (elementOf t number .corners .count - 1) (controlOf t (elementOf t number) axis) z
 
 -- ---- a curve: z is a coordinate of its point at p
 pub record InsideCurve (t : Tables) (number : ℕ) (p : ℤ) (axis : ℕ) (z : ℤ) : Type 0 where

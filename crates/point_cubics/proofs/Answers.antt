@@ -39,18 +39,18 @@ unfolding cubicSampled
 same-controls g j c d h = rw (h (g * 3), h (g * 3 + 1), h (g * 3 + 2), h (g * 3 + 3))
 
 module _ (t : Tables) (e : Element) (b : Body) (g j : ℕ) where
-  plane : eqb (e .kind) 5 ≡ true → (axis : ℕ) → axisBy (t .vp) (t .corners) (e .first) g j (1 + axis) ≡ cubicSampled g j (controlOf t e axis)
-  plane h axis = same-controls g j (controlAt (t .vp) (t .corners) (e .first) (1 + axis)) (controlOf t e axis) (plane-control t e b (pos 0) axis h)
+  plane : eqb (e .kind) 5 ≡ true → (axis : ℕ) → axisBy (t .vertices .vp) (t .elements .corners) (e .corners .first) g j (1 + axis) ≡ cubicSampled g j (controlOf t e axis)
+  plane h axis = same-controls g j (controlAt (t .vertices .vp) (t .elements .corners) (e .corners .first) (1 + axis)) (controlOf t e axis) (plane-control t e b (pos 0) axis h)
 
-  space : eqb (e .kind) 5 ≡ false → (axis : ℕ) → axisBy (t .v) (t .corners) (e .first) g j axis ≡ cubicSampled g j (controlOf t e axis)
-  space h axis = same-controls g j (controlAt (t .v) (t .corners) (e .first) axis) (controlOf t e axis) (space-control t e b (pos 0) axis h)
+  space : eqb (e .kind) 5 ≡ false → (axis : ℕ) → axisBy (t .vertices .v) (t .elements .corners) (e .corners .first) g j axis ≡ cubicSampled g j (controlOf t e axis)
+  space h axis = same-controls g j (controlAt (t .vertices .v) (t .elements .corners) (e .corners .first) axis) (controlOf t e axis) (space-control t e b (pos 0) axis h)
 
-  by-kind : (q : Bool) → eqb (e .kind) 5 ≡ q → pointAnswer (pointBy (e .kind) (t .v) (t .vp) (t .corners) (e .first) g j) ≡ cubicPoint t e g j
+  by-kind : (q : Bool) → eqb (e .kind) 5 ≡ q → pointAnswer (pointBy (e .kind) (t .vertices .v) (t .vertices .vp) (t .elements .corners) (e .corners .first) g j) ≡ cubicPoint t e g j
   unfolding pointBy cubicPoint
   by-kind true h = rw h (ap pointAnswer (ap₂ sampled.Plane (plane h 0) (plane h 1)))
   by-kind false h = rw h (ap pointAnswer (space-eq (space h 0) (space h 1) (space h 2)))
 
-  pub point-is : pointAnswer (pointBy (e .kind) (t .v) (t .vp) (t .corners) (e .first) g j) ≡ cubicPoint t e g j
+  pub point-is : pointAnswer (pointBy (e .kind) (t .vertices .v) (t .vertices .vp) (t .elements .corners) (e .corners .first) g j) ≡ cubicPoint t e g j
   point-is = by-kind (eqb (e .kind) 5) refl
 
 -- ---- the answers
@@ -122,7 +122,7 @@ module _ {t : Tables} {e : Element} {b : Body} (c : Curved t e b) (type : b .bas
       go : (k p : ℕ) → g + 2 ≤ p → k ≡ 3 * (p - 1) + 1 → g * 3 + 4 ≤ k
       go k p l h = omega arith
 
-  pub controls-held : (g : ℕ) → g + 2 ≤ length (parametersU t b) → ControlsLent (cond (eqb (e .kind) 5) (t .vp) (t .v)) (t .corners) (e .first) 0 (g * 3 + 4)
+  pub controls-held : (g : ℕ) → g + 2 ≤ length (parametersU t b) → ControlsLent (cond (eqb (e .kind) 5) (t .vertices .vp) (t .vertices .v)) (t .elements .corners) (e .corners .first) 0 (g * 3 + 4)
   controls-held g l = held-part 0 (g * 3 + 4) (c .held) (omega arith) (controls-there g l)
 
 pub small-parameters : {t : Tables} {e : Element} {b : Body} → Curved t e b → (i : ℕ) → i < length (parametersU t b) → InRange (at (parametersU t b) i)

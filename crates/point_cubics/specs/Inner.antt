@@ -6,7 +6,7 @@ use lib.Dec.{eqb}
 use lib.ListN.{length}
 use lib.IntN.{ℤ}
 use Rattle.tables.specs.Tables.{Tables}
-use Rattle.tables.specs.Records.{parametersU}
+use Rattle.tables.specs.Records.{parametersU, curve2Kind}
 use Rattle.tables.specs.declared.Element.{Element}
 use Rattle.tables.specs.declared.Body.{Body}
 use Rattle.sampler.specs.Answers.{PointAnswer, refusedPoint}
@@ -17,7 +17,7 @@ use Rattle.point_cubics.specs.Answers.{cubic, reached, cubicPoint}
 
 unfoldable pub pointBy : (kind : ℕ) → List ℤ → List ℤ → List ℕ → (first g j : ℕ) → PointResult
 pointBy kind v vp corners first g j =
-    cond (eqb kind 5)
+    cond (eqb kind curve2Kind)
     (sampled.Plane (axisBy vp corners first g j 1) (axisBy vp corners first g j 2))
     (sampled.Space (axisBy v corners first g j 0) (axisBy v corners first g j 1) (axisBy v corners first g j 2))
 

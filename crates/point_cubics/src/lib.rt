@@ -42,7 +42,8 @@ fn step_at(
     if !is_reached(x, body.start_u, body.end_u, segment, j) {
         return PointResult::Refused { number: 19 };
     }
-    point(element.kind, v, vp, corners, element.first, segment, j)
+    let first = element.corners.first;
+    point(element.kind, v, vp, corners, first, segment, j)
 }
 
 // The point at j/64 of a segment of the curv or curv2 of that number; segments count from 0.

@@ -7,12 +7,12 @@ use lib.Dec.{eqb}
 use lib.ListN.{length}
 use lib.IntN.{ℤ}
 use Rattle.rounding.specs.Range.{InRange}
-use Rattle.tables.specs.Records.{valueAt, vWidth, cornersEnd, cornerIn}
+use Rattle.tables.specs.Records.{valueAt, vWidth, cornerStart, cornerIn}
 use Rattle.point_rows.specs.declared.BodyDirection.{BodyDirection}
 
 -- the vertex that corner i names, of the corners from the number `first` on
 abbrev pub vertexOf : List ℕ → (first i : ℕ) → ℕ
-vertexOf corners first i = cornerIn corners (cornersEnd first i) .v
+vertexOf corners first i = cornerIn corners (cornerStart first i) .v
 
 -- number `entry` of that vertex; v and vp both have four to a record
 unfoldable pub controlAt : List ℤ → List ℕ → (first entry i : ℕ) → ℤ
@@ -20,7 +20,7 @@ controlAt values corners first entry i = valueAt vWidth values (vertexOf corners
 
 -- corners from to end, end not included, are lent, and each names a vertex that is lent, its numbers small
 pub record ControlsLent (values : List ℤ) (corners : List ℕ) (first from end : ℕ) : Type 0 where
-  pub within : cornersEnd first end ≤ length corners
+  pub within : cornerStart first end ≤ length corners
   pub named : (i : ℕ) → from ≤ i → i < end → 1 ≤ vertexOf corners first i
   pub there : (i : ℕ) → from ≤ i → i < end → vWidth * (vertexOf corners first i - 1) + vWidth ≤ length values
   pub small : (i k : ℕ) → from ≤ i → i < end → k < vWidth → InRange (controlAt values corners first k i)

@@ -12,7 +12,7 @@ pub fn control(values: &[i32], corners: &[u32], first: u32, axis: usize, i: usiz
     requires { ⌜ ControlsLent (now values) (now corners) first i (i + 1) × (axis < vWidth) ⌝ }
     ensures { λ z. ⌜ (z ≡ controlAt (now (values .entry)) (now (corners .entry)) first axis i) × InRange z ⌝ }
 {
-    let vertex = tables::lent_corner(corners, first, i).v as usize;
+    let vertex = tables::lent_corner_from(corners, first, i).v as usize;
     lent_number(values, vertex - 1, axis)
 }
 

@@ -5,6 +5,7 @@ use Prim.Native.Nat.{ℕ, zero, suc, _+_}
 use lib.Dec.{eqb}
 use lib.IntN.{ℤ}
 use lib.Signed.{_≤ℤ_}
+use Rattle.tables.specs.Records.{curve2Kind}
 use Rattle.rounding.specs.Range.{InRange}
 use Rattle.point_exact.specs.Sampled.{curveSampled}
 use Rattle.point_rows.specs.Places.{direction}
@@ -35,11 +36,11 @@ pub record Ranged (a : BodyDirection) (x : List ℤ) (start end : ℤ) : Type 0 
 
 -- a curv2 has u v, every other kind x y z
 abbrev pub axesBy : (kind : ℕ) → ℕ
-axesBy kind = cond (eqb kind 5) 2 3
+axesBy kind = cond (eqb kind curve2Kind) 2 3
 
 -- the numbers of a run on a curv, or on a curv2 where the kind is 5
 unfoldable pub runBy : (kind : ℕ) → List ℤ → List ℤ → List ℕ → (first : ℕ) → BodyDirection → List ℤ → (start end : ℤ) (steps : ℕ) → List ℤ
 runBy kind v vp corners first along x start end steps =
-    cond (eqb kind 5)
+    cond (eqb kind curve2Kind)
     (pointsUpto vp corners first 1 2 along x start end steps (steps + 1))
     (pointsUpto v corners first 0 3 along x start end steps (steps + 1))

@@ -93,7 +93,7 @@ module _ {used : Used} {t : Tables} {number : ℕ} (c : Curve used t number) whe
       let g = granted false used t number passed in
       let k = curve-kinds (e .kind) (g .kind) in
       let h = body-of (obeys-facts used t n (number - 1) (g .obeyed)) (k .0) in
-      let q = curve-of used t n (e .kind) (e .count) (e .body) h (k .1) .in-order in
+      let q = curve-of used t n (e .kind) (e .corners .count) (e .body) h (k .1) .in-order in
       let x = parametersU t b in
       let type = basisOf (b .basis) in
       let d = b .«degree_u» in

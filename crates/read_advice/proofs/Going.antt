@@ -20,6 +20,7 @@ use Rattle.text.proofs.Scans.{scan-good, scan-fault}
 use Rattle.keywords.specs.Keywords.{statementOf}
 use Rattle.keywords.specs.Lookup.{keywordAt}
 use Rattle.keywords.specs.declared.Keyword.{Keyword}
+use Rattle.tables.specs.Records.{curve2Kind}
 use Rattle.statements.specs.declared.VertexKind.{VertexKind}
 use Rattle.statements.specs.declared.VertexKind.the-variants.{Geometric, Texture, Normal, Parametric}
 use Rattle.statements.specs.declared.Carried.{Carried}
@@ -35,7 +36,7 @@ one-more true n = omega arith
 one-more false n = omega arith
 
 ending-few : (t : Tally) → vertexTotal (ending t) ≤ vertexTotal t + 1
-ending-few t = let x = one-more (lib.Dec.eqb (t .kind) 5) (t .curves) in omega arith
+ending-few t = let x = one-more (lib.Dec.eqb (t .kind) curve2Kind) (t .curves) in omega arith
 
 vertex-few : (k : VertexKind) (t : Tally) → vertexTotal (afterVertex k t) ≤ vertexTotal t + 1
 vertex-few Geometric t = omega arith

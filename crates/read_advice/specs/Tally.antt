@@ -9,6 +9,7 @@ use lib.Dec.{leb, ltb, eqb}
 use Rattle.text.specs.Lines.{Line as JoinedLine, linesOf}
 use Rattle.text.specs.Words.{Word, wordsOf, badOf}
 use Rattle.keywords.specs.Keywords.{statementOf}
+use Rattle.tables.specs.Records.{curve2Kind}
 use Rattle.statements.specs.declared.VertexKind.{VertexKind}
 use Rattle.statements.specs.declared.VertexKind.the-variants.{Geometric, Texture, Normal, Parametric}
 use Rattle.statements.specs.declared.Carried.{Carried}
@@ -39,7 +40,7 @@ opening t kind key =
 -- a curv2 may be named from its end on
 abbrev pub ending : Tally → Tally
 ending t =
-    record { v = t .v; vt = t .vt; vn = t .vn; vp = t .vp; curves = cond (eqb (t .kind) 5) (t .curves + 1) (t .curves); kind = 0; «opened» = 0 }
+    record { v = t .v; vt = t .vt; vn = t .vn; vp = t .vp; curves = cond (eqb (t .kind) curve2Kind) (t .curves + 1) (t .curves); kind = 0; «opened» = 0 }
 
 -- after a line of that statement, its keyword at key
 abbrev pub afterLine : Carried → ℕ → Tally → Tally

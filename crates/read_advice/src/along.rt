@@ -9,6 +9,7 @@ use read_bodies::numbers::Counted;
 use read_bodies::numbers::Step;
 use read_bodies::numbers::count_numbers;
 use read_bodies::numbers::next_number;
+use tables::bases;
 ghost use mathlib.Core.Path.{_≡_};
 ghost use Prim.Native.Nat.{_-_, _≤_};
 ghost use lib.ListN.{length};
@@ -47,13 +48,13 @@ fn needed(basis: u32, n: u32, p: u32) -> usize
 {
     let n = n as usize;
     let p = p as usize;
-    if basis == 1 {
+    if basis == bases::BEZIER {
         return n * less(p, 1) + 1;
     }
-    if basis == 2 {
+    if basis == bases::BSPLINE {
         return less(less(p, n), 1);
     }
-    if basis == 3 {
+    if basis == bases::CARDINAL {
         return p + 2;
     }
     (n + 1) * less(p, 1)

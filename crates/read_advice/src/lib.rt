@@ -11,6 +11,7 @@ use crate::lines_before::Tally;
 use crate::lines_before::said_before;
 use crate::lines_before::start_tally;
 use keyword_rules::words_of_range;
+use tables::kinds;
 use text::AfterBlanks;
 use text::Scan;
 ghost use mathlib.Core.Path.{_≡_};
@@ -111,7 +112,7 @@ pub fn explain(text: &[u8], place: usize) -> Advice
     let form = said.form;
     let line = keyword_of(text, before.line);
     let range = range_from(text, tally.opened);
-    let widest = tally.kind == 5;
+    let widest = tally.kind == kinds::CURVE2;
     Advice {
         key: line.key,
         words: line.words,

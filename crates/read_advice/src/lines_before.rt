@@ -6,9 +6,11 @@ use read_settings::TakenForm;
 use read_settings::take_degree;
 use read_settings::take_type;
 use read_state::Form;
+use read_state::kind_of;
 use statements::Carried;
 use statements::Free;
 use statements::VertexKind;
+use tables::kinds;
 use text::AfterBlanks;
 use text::Scan;
 ghost use mathlib.Core.Path.{_≡_};
@@ -92,7 +94,7 @@ fn ending(tally: Tally) -> Tally
     let mut after = tally;
     after.kind = 0;
     after.opened = 0;
-    if tally.kind == 5 {
+    if tally.kind == kinds::CURVE2 {
         after.curves = tally.curves + 1;
         return after;
     }
@@ -114,11 +116,7 @@ fn after_vertex(kind: VertexKind, tally: Tally) -> Tally
 fn after_body(free: Free, key: usize, tally: Tally) -> Tally
     ensures { λ r. ⌜ r ≡ opening tally (freeNumber free) key ⌝ }
 {
-    match free {
-        Free::Curve => opening(tally, 4, key),
-        Free::Curve2 => opening(tally, 5, key),
-        Free::Surface => opening(tally, 6, key),
-    }
+    opening(tally, kind_of(free), key)
 }
 
 // The tally after a line of that statement, its keyword at `key`.

@@ -24,7 +24,8 @@ use Rattle.model.specs.Statements.{settled}
 use Rattle.model.specs.Parse.{some?, complete, countsAgree, rangeWithin}
 use Rattle.read_state.specs.declared.Form.{Form}
 use Rattle.read_bodies.specs.Numbers.{numbersAt, NumberMet}
-use Rattle.read_bodies.specs.Types.{freeOf}
+use Rattle.statements.specs.Numbered.{freeOf}
+use Rattle.tables.specs.Records.{curve2Kind, surfaceKind}
 use Rattle.read_bodies.specs.Closing.{parmOf, completeOf, agreeOf, heldOf, bodyFor, settledIs, storedIs, bodyCheckIs}
 use Rattle.read_bodies.specs.declared.closing.BodyCheck.{BodyCheck}
 use Rattle.read_bodies.specs.declared.closing.BodyCheck.the-variants as judged
@@ -54,11 +55,11 @@ nonzero u h = let f = eqb-false u 0 (not-true (eqb u 0) h) in go u f
 
 module _ (kind u v : ℕ) where
   pub u-there : completeOf kind u v ≡ true → 1 ≤ u
-  u-there h = nonzero u (and-left (not (eqb u 0)) (cond (eqb kind 6) (not (eqb v 0)) true) h)
+  u-there h = nonzero u (and-left (not (eqb u 0)) (cond (eqb kind surfaceKind) (not (eqb v 0)) true) h)
 
-  pub both-there : kind ≡ 6 → completeOf kind u v ≡ true → (1 ≤ u) × (1 ≤ v)
+  pub both-there : kind ≡ surfaceKind → completeOf kind u v ≡ true → (1 ≤ u) × (1 ≤ v)
   both-there k h =
-      (u-there h, nonzero v (sym (ap (λ (b : Bool). cond b (not (eqb v 0)) true) (eq-eqb kind 6 k)) ∙ and-right (not (eqb u 0)) (cond (eqb kind 6) (not (eqb v 0)) true) h))
+      (u-there h, nonzero v (sym (ap (λ (b : Bool). cond b (not (eqb v 0)) true) (eq-eqb kind surfaceKind k)) ∙ and-right (not (eqb u 0)) (cond (eqb kind surfaceKind) (not (eqb v 0)) true) h))
 
 -- ---- `store`
 pub record Storing (s : List ℕ) (at count : ℕ) (a : Requirement) (l : List ℤ) (first i done : ℕ) (o : Order) (t : List ℤ) : Type 0 where
@@ -167,8 +168,8 @@ settled-rest curve b = (refl, refl)
 settled-rest curve2 b = (refl, refl)
 settled-rest surface b = (refl, refl)
 
-one-kind : (kind : ℕ) → eqb kind 6 ≡ true → eqb kind 5 ≡ false
-one-kind kind h = ne-eqb kind 5 (λ e. let f = eqb-true kind 6 h in absurd (omega arith))
+one-kind : (kind : ℕ) → eqb kind surfaceKind ≡ true → eqb kind curve2Kind ≡ false
+one-kind kind h = ne-eqb kind curve2Kind (λ e. let f = eqb-true kind surfaceKind h in absurd (omega arith))
 
 -- ---- the places of parameters that are there
 pub parm-there : (s : List ℕ) (at : ℕ) → 1 ≤ length (parmOf s at) → parmOf s at ≡ numbersAt s at
@@ -179,22 +180,22 @@ parm-there s at h =
     (test (eqb at 0))
 
 -- ---- `settle`
-module _ (kind u v : ℕ) (o p : Order) (a b c d : ℤ) {s e : ℤ} (hs : s ≡ cond (eqb kind 5) (o .low) a) (he : e ≡ cond (eqb kind 5) (o .high) b) where
-  held : heldOf kind o p (cond (eqb kind 5) (o .low) a) (cond (eqb kind 5) (o .high) b) c d ≡ heldOf kind o p s e c d
+module _ (kind u v : ℕ) (o p : Order) (a b c d : ℤ) {s e : ℤ} (hs : s ≡ cond (eqb kind curve2Kind) (o .low) a) (he : e ≡ cond (eqb kind curve2Kind) (o .high) b) where
+  held : heldOf kind o p (cond (eqb kind curve2Kind) (o .low) a) (cond (eqb kind curve2Kind) (o .high) b) c d ≡ heldOf kind o p s e c d
   held = ap₂ (λ (s e : ℤ). heldOf kind o p s e c d) (sym hs) (sym he)
 
   pub not-held : holdsIn o s e ≡ false → settledIs kind u v o p a b c d (judged.Refused 13)
-  not-held h = (refl, held ∙ and-first (cond (eqb kind 6) (holdsIn p c d) true) h)
+  not-held h = (refl, held ∙ and-first (cond (eqb kind surfaceKind) (holdsIn p c d) true) h)
 
   module _ (h : holdsIn o s e ≡ true) where
-    pub not-along-v : kind ≡ 6 → holdsIn p c d ≡ false → settledIs kind u v o p a b c d (judged.Refused 13)
-    not-along-v k i = (refl, held ∙ rw (h, eq-eqb kind 6 k, i) refl)
+    pub not-along-v : kind ≡ surfaceKind → holdsIn p c d ≡ false → settledIs kind u v o p a b c d (judged.Refused 13)
+    not-along-v k i = (refl, held ∙ rw (h, eq-eqb kind surfaceKind k, i) refl)
 
-    pub along-both : kind ≡ 6 → holdsIn p c d ≡ true → settledIs kind u v o p a b c d (judged.Valid u v s e)
-    along-both k i = (refl, refl, record { start-is = hs; end-is = he; held = rw (h, eq-eqb kind 6 k, i) refl })
+    pub along-both : kind ≡ surfaceKind → holdsIn p c d ≡ true → settledIs kind u v o p a b c d (judged.Valid u v s e)
+    along-both k i = (refl, refl, record { start-is = hs; end-is = he; held = rw (h, eq-eqb kind surfaceKind k, i) refl })
 
-    pub along-one : (kind ≡ 6 → ⊥) → settledIs kind u v o p a b c d (judged.Valid u v s e)
-    along-one k = (refl, refl, record { start-is = hs; end-is = he; held = rw (h, ne-eqb kind 6 k) refl })
+    pub along-one : (kind ≡ surfaceKind → ⊥) → settledIs kind u v o p a b c d (judged.Valid u v s e)
+    along-one k = (refl, refl, record { start-is = hs; end-is = he; held = rw (h, ne-eqb kind surfaceKind k) refl })
 
 -- ---- `judge`
 module _ (f : Form) (kind : ℕ) (us vs : List ℤ) (a b c d : ℤ) (k u v : ℕ) (hu : u ≡ length us) (hv : v ≡ length vs) where
@@ -202,10 +203,10 @@ module _ (f : Form) (kind : ℕ) (us vs : List ℤ) (a b c d : ℤ) (k u v : ℕ
   B = bodyFor f kind us vs a b c d
 
   whole : complete (freeOf kind) B ≡ completeOf kind u v
-  whole = complete-is (eqb kind 6) (eqb kind 5) B ∙ ap₂ (λ (m n : ℕ). completeOf kind m n) (sym hu) (sym hv)
+  whole = complete-is (eqb kind surfaceKind) (eqb kind curve2Kind) B ∙ ap₂ (λ (m n : ℕ). completeOf kind m n) (sym hu) (sym hv)
 
   counts : countsAgree (freeOf kind) B k ≡ agreeOf kind f u v k
-  counts = agree-is (eqb kind 6) (eqb kind 5) B k ∙ ap₂ (λ (m n : ℕ). agreeOf kind f m n k) (sym hu) (sym hv)
+  counts = agree-is (eqb kind surfaceKind) (eqb kind curve2Kind) B k ∙ ap₂ (λ (m n : ℕ). agreeOf kind f m n k) (sym hu) (sym hv)
 
   pub refuse-11 : completeOf kind u v ≡ false → bodyCheckIs B k (judged.Refused 11)
   refuse-11 h = (rw (whole ∙ h) refl, omega arith)
@@ -216,16 +217,16 @@ module _ (f : Form) (kind : ℕ) (us vs : List ℤ) (a b c d : ℤ) (k u v : ℕ
 
     -- the parameters along u came to o, along v to p
     module _ (i : agreeOf kind f u v k ≡ true) {o p : Order} (x : o ≡ walked (requirementOf (f .basis) (f .«degree_u») u) us) (y : p ≡ walked (requirementOf (f .basis) (f .«degree_v») v) vs) where
-      agrees : (t : Bool) → eqb kind 6 ≡ t → cond t (surfaceCount (basisOf (f .basis)) (f .«degree_u») u (f .«degree_v») v k) (curveCount (basisOf (f .basis)) (f .«degree_u») u k) ≡ true
+      agrees : (t : Bool) → eqb kind surfaceKind ≡ t → cond t (surfaceCount (basisOf (f .basis)) (f .«degree_u») u (f .«degree_v») v k) (curveCount (basisOf (f .basis)) (f .«degree_u») u k) ≡ true
       agrees t e = sym (ap (λ (t : Bool). cond t (surfaceCount (basisOf (f .basis)) (f .«degree_u») u (f .«degree_v») v k) (curveCount (basisOf (f .basis)) (f .«degree_u») u k)) e) ∙ i
 
       enough-u : enough (basisOf (f .basis)) (f .«degree_u») (length us) ≡ true
       enough-u =
           ap (enough (basisOf (f .basis)) (f .«degree_u»)) (sym hu)
           ∙ ⊎-elim
-          (λ (e : eqb kind 6 ≡ true). surface-enough-u (basisOf (f .basis)) (f .«degree_u») u (f .«degree_v») v k (agrees true e))
-          (λ (e : eqb kind 6 ≡ false). curve-enough (basisOf (f .basis)) (f .«degree_u») u k (agrees false e))
-          (test (eqb kind 6))
+          (λ (e : eqb kind surfaceKind ≡ true). surface-enough-u (basisOf (f .basis)) (f .«degree_u») u (f .«degree_v») v k (agrees true e))
+          (λ (e : eqb kind surfaceKind ≡ false). curve-enough (basisOf (f .basis)) (f .«degree_u») u k (agrees false e))
+          (test (eqb kind surfaceKind))
 
       some-u : 1 ≤ length us
       some-u = let n = u-there kind u v h in omega arith
@@ -236,26 +237,26 @@ module _ (f : Form) (kind : ℕ) (us vs : List ℤ) (a b c d : ℤ) (k u v : ℕ
       law-u : (s e : ℤ) → holdsIn o s e ≡ inOrder (basisOf (f .basis)) (f .«degree_u») us s e
       law-u s e = ap (λ (q : Order). holdsIn q s e) along-u ∙ walk-holds (f .basis) (f .«degree_u») us s e some-u enough-u
 
-      law-v : eqb kind 6 ≡ true → holdsIn p c d ≡ inOrder (basisOf (f .basis)) (f .«degree_v») vs c d
+      law-v : eqb kind surfaceKind ≡ true → holdsIn p c d ≡ inOrder (basisOf (f .basis)) (f .«degree_v») vs c d
       law-v e =
-          let n = both-there kind u v (eqb-true kind 6 e) h .1 in
+          let n = both-there kind u v (eqb-true kind surfaceKind e) h .1 in
           ap (λ (q : Order). holdsIn q c d) (y ∙ ap (λ (n : ℕ). walked (requirementOf (f .basis) (f .«degree_v») n) vs) hv)
           ∙ walk-holds (f .basis) (f .«degree_v») vs c d (omega arith) (ap (enough (basisOf (f .basis)) (f .«degree_v»)) (sym hv) ∙ surface-enough-v (basisOf (f .basis)) (f .«degree_u») u (f .«degree_v») v k (agrees true e))
 
-      other : (t : Bool) → eqb kind 6 ≡ t → cond t (holdsIn p c d) true ≡ cond t (inOrder (basisOf (f .basis)) (f .«degree_v») vs c d) true
+      other : (t : Bool) → eqb kind surfaceKind ≡ t → cond t (holdsIn p c d) true ≡ cond t (inOrder (basisOf (f .basis)) (f .«degree_v») vs c d) true
       other true e = law-v e
       other false e = refl
 
-      starts : cond (eqb kind 5) (o .low) a ≡ startIn (eqb kind 5) B
-      starts = ap (λ (z : ℤ). cond (eqb kind 5) z a) (ap (λ (q : Order). q .low) along-u ∙ walk-is (f .basis) (f .«degree_u») us some-u enough-u .1)
+      starts : cond (eqb kind curve2Kind) (o .low) a ≡ startIn (eqb kind curve2Kind) B
+      starts = ap (λ (z : ℤ). cond (eqb kind curve2Kind) z a) (ap (λ (q : Order). q .low) along-u ∙ walk-is (f .basis) (f .«degree_u») us some-u enough-u .1)
 
-      ends : cond (eqb kind 5) (o .high) b ≡ endIn (eqb kind 5) B
-      ends = ap (λ (z : ℤ). cond (eqb kind 5) z b) (ap (λ (q : Order). q .high) along-u ∙ walk-is (f .basis) (f .«degree_u») us some-u enough-u .2)
+      ends : cond (eqb kind curve2Kind) (o .high) b ≡ endIn (eqb kind curve2Kind) B
+      ends = ap (λ (z : ℤ). cond (eqb kind curve2Kind) z b) (ap (λ (q : Order). q .high) along-u ∙ walk-is (f .basis) (f .«degree_u») us some-u enough-u .2)
 
-      in-range : rangeWithin (freeOf kind) B ≡ heldOf kind o p (cond (eqb kind 5) (o .low) a) (cond (eqb kind 5) (o .high) b) c d
+      in-range : rangeWithin (freeOf kind) B ≡ heldOf kind o p (cond (eqb kind curve2Kind) (o .low) a) (cond (eqb kind curve2Kind) (o .high) b) c d
       in-range =
-          range-is (eqb kind 6) (eqb kind 5) (one-kind kind) B
-          ∙ sym (ap₂ (λ (s t : Bool). s && t) (law-u (cond (eqb kind 5) (o .low) a) (cond (eqb kind 5) (o .high) b) ∙ ap₂ (λ (s e : ℤ). inOrder (basisOf (f .basis)) (f .«degree_u») us s e) starts ends) (other (eqb kind 6) refl))
+          range-is (eqb kind surfaceKind) (eqb kind curve2Kind) (one-kind kind) B
+          ∙ sym (ap₂ (λ (s t : Bool). s && t) (law-u (cond (eqb kind curve2Kind) (o .low) a) (cond (eqb kind curve2Kind) (o .high) b) ∙ ap₂ (λ (s e : ℤ). inOrder (basisOf (f .basis)) (f .«degree_u») us s e) starts ends) (other (eqb kind surfaceKind) refl))
 
       pub settled-judged : u ≤ 16777216 → v ≤ 16777216 → (r : BodyCheck) → settledIs kind u v o p a b c d r → bodyCheckIs B k r
       settled-judged m n (judged.Refused z) g =
@@ -263,7 +264,7 @@ module _ (f : Form) (kind : ℕ) (us vs : List ℤ) (a b c d : ℤ) (k u v : ℕ
           (rw (whole ∙ h, counts ∙ i, in-range ∙ g .1) (sym e), omega arith)
       settled-judged m n (judged.Valid u₂ v₂ s e) g =
           let q = g .2 in
-          let t : heldOf kind o p (cond (eqb kind 5) (o .low) a) (cond (eqb kind 5) (o .high) b) c d ≡ true = ap₂ (λ (s e : ℤ). heldOf kind o p s e c d) (sym (q .start-is)) (sym (q .end-is)) ∙ q .held in
+          let t : heldOf kind o p (cond (eqb kind curve2Kind) (o .low) a) (cond (eqb kind curve2Kind) (o .high) b) c d ≡ true = ap₂ (λ (s e : ℤ). heldOf kind o p s e c d) (sym (q .start-is)) (sym (q .end-is)) ∙ q .held in
           let x₁ = g .0 in
           let x₂ = g .1 in
           record {
@@ -272,8 +273,8 @@ module _ (f : Form) (kind : ℕ) (us vs : List ℤ) (a b c d : ℤ) (k u v : ℕ
             count-v = x₂ ∙ hv;
             small-u = omega arith;
             small-v = omega arith;
-            starts = q .start-is ∙ starts ∙ start-is (eqb kind 6) (eqb kind 5) (one-kind kind) B;
-            ends = q .end-is ∙ ends ∙ end-is (eqb kind 6) (eqb kind 5) (one-kind kind) B;
+            starts = q .start-is ∙ starts ∙ start-is (eqb kind surfaceKind) (eqb kind curve2Kind) (one-kind kind) B;
+            ends = q .end-is ∙ ends ∙ end-is (eqb kind surfaceKind) (eqb kind curve2Kind) (one-kind kind) B;
           }
 
 -- whatever 13 says, both runs are in the table

@@ -24,7 +24,7 @@ use Rattle.model.specs.Layout.{flag, freeNumber, bodyRow, rangeRow, parameterRo
 use Rattle.read_state.specs.declared.Form.{Form}
 use Rattle.read_state.specs.declared.Open.{Open}
 use Rattle.read_state.specs.State.{ParmAt}
-use Rattle.read_bodies.specs.Types.{freeOf}
+use Rattle.statements.specs.Numbered.{freeOf}
 use Rattle.read_bodies.specs.Closing.{parmOf, bodyIn, refusalOf, bodyRecordOf, Stored, NotStored}
 use Rattle.read_bodies.proofs.Closings.{parm-none, parm-some}
 use Rattle.read_bodies.proofs.Parms.{kept-is}

@@ -1,5 +1,5 @@
 -- The loop that stores a line's parts keeps those done, and what is left of the line.
-use Prim.Native.Nat.{ℕ, suc, _+_, _*_, _≤_, _<_}
+use Prim.Native.Nat.{ℕ, zero, suc, _+_, _*_, _%_, _≤_, _<_}
 use native.Mathlib.Nat.{add-zero}
 use native.Mathlib.Omega.{arith}
 use mathlib.Core.Path.{_≡_, refl, sym, ap, ap₂, _∙_}
@@ -7,10 +7,13 @@ use mathlib.Core.List.{List, [], _∷_, _++_, append-nil, append-assoc}
 use mathlib.Core.Bool.{Bool, true, false, cond}
 use mathlib.Core.Logic.{inl, inr}
 use mathlib.Core.Option.{some}
-use borrow.Author.Tests.{leb-true, leb-false}
+use borrow.Author.Tests.{leb-true, leb-false, ltb-true, lt-ltb, eq-eqb}
+use Rattle.lists.proofs.Tests.{and-left, and-both, never}
+use Rattle.statements.specs.declared.Carried.the-variants.{Trim}
+use Rattle.statements.specs.Rules.{rulesOf, countedBy}
 use lib.ListN.{length, set, length-append}
 use lib.Seq.{sets, length-sets}
-use lib.Dec.{leb, eqb·suc-zero}
+use lib.Dec.{leb, ltb, eqb, eqb·suc-zero}
 use lib.IntN.{ℤ}
 use Rattle.lists.specs.Lists.{flat}
 use Rattle.text.specs.Rest.{Rest, restAt, EndMet}
@@ -20,6 +23,21 @@ use Rattle.model.specs.Layout.{beginning, partRow, partRows, spanRow}
 use Rattle.read_bodies.specs.Loops.{parts, partsAt, PartFound, NoPart, begins, LoopLine, LoopTaken, LoopLeft}
 use Rattle.lists.proofs.Laws.{sets-append}
 use Rattle.model.proofs.Rows.{partRows-length, spans-length}
+
+-- ---- parts of three words held against the row of trim and hole
+three-parts : (n : ℕ) → 0 < n → countedBy (rulesOf Trim .count) (3 * n) ≡ true
+three-parts n l =
+    let d : (3 * n) % 3 ≡ 0 = omega arith in
+    and-both (lt-ltb 0 (3 * n) (omega arith)) (eq-eqb ((3 * n) % 3) 0 d)
+
+pub no-parts : (n : ℕ) → false ≡ countedBy (rulesOf Trim .count) (3 * n) → n ≡ 0
+no-parts zero h = refl
+no-parts (suc n) h = never (h ∙ three-parts (suc n) (omega arith))
+
+pub some-parts : (n : ℕ) → true ≡ countedBy (rulesOf Trim .count) (3 * n) → n ≡ 0 → ⊥
+some-parts n h e =
+    let a = ltb-true 0 (3 * n) (and-left (ltb 0 (3 * n)) (eqb ((3 * n) % 3) 0) (sym h)) in
+    omega arith
 
 -- ---- rows laid one after the other
 rows-more : (hole : Bool) (ps : List Part) (p : Part) → partRows (beginning hole) (ps ++ p ∷ []) ≡ partRows (beginning hole) ps ++ begins hole (length ps) ∷ p .curve ∷ []

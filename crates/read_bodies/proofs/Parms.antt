@@ -1,5 +1,5 @@
 -- A parm line: its direction, then its numbers; and the walk of `state`, which says the same of the numbers.
-use Prim.Native.Nat.{ℕ, zero, suc, _≤_, _<_}
+use Prim.Native.Nat.{ℕ, zero, suc, _+_, _≤_, _<_}
 use mathlib.Core.Path.{_≡_, refl, sym, ap, subst, _∙_}
 use mathlib.Core.List.{List, [], _∷_}
 use mathlib.Core.Bool.{Bool, true, false, _||_, not}
@@ -7,6 +7,7 @@ use mathlib.Core.Option.{Option, none, some}
 use native.Mathlib.Omega.{arith}
 use lib.ListN.{length, drop}
 use lib.IntN.{ℤ}
+use borrow.Author.Tests.{leb-true, leb-false}
 use Rattle.lists.proofs.Tests.{never}
 use Rattle.text.specs.Words.{Word, wordOf}
 use Rattle.text.specs.Rest.{Rest, restAt, wordAt, endOf, WordMet, EndMet}
@@ -16,6 +17,8 @@ use Rattle.keywords.specs.declared.Argument.{Argument}
 use Rattle.keywords.specs.declared.Argument.the-variants.{Rational, BasisMatrix, Bezier, Bspline, Cardinal, Taylor, DirectionU, DirectionV, Off, Other}
 use Rattle.keywords.specs.Arguments.{argumentOf}
 use Rattle.keywords.specs.Lookup.{argumentAt}
+use Rattle.statements.specs.declared.Carried.the-variants.{Parameters}
+use Rattle.statements.specs.Rules.{rulesOf, countedBy}
 use Rattle.model.specs.Model.{ParmDirection, along-u, along-v}
 use Rattle.model.specs.Parse.{directionOf, isV}
 use Rattle.read_state.specs.Numbers.{Walk, ended, full, stuck, onto, onNumber, numbersFrom}
@@ -97,13 +100,14 @@ kept-is s at zs k h = walk-ended (suc (length s)) ((restAt s at) .words) ((restA
 
 -- ---- `take_row`
 module _ (s : List ℕ) (at : ℕ) (v : Bool) where
-  pub row-taken : {n q : ℕ} → AllNumbers s at n q → 2 ≤ n → rowIs s at v (Accepted v at q)
+  pub row-taken : {n q : ℕ} → AllNumbers s at n q → true ≡ countedBy (rulesOf Parameters .count) (n + 1) → rowIs s at v (Accepted v at q)
   row-taken {n} {q} a h =
       let c = a .count in
+      let d = leb-true 3 (n + 1) (sym h) in
       record { along = refl; here = refl; two = omega arith; all = subst (λ (k : ℕ). AllNumbers s at k q) c a }
 
-  pub row-few : {n q : ℕ} → AllNumbers s at n q → n < 2 → rowIs s at v Rejected
-  row-few a h = λ b e. let c = a .count in omega arith
+  pub row-few : {n q : ℕ} → AllNumbers s at n q → false ≡ countedBy (rulesOf Parameters .count) (n + 1) → rowIs s at v Rejected
+  row-few {n} a h = λ b e. let c = a .count in let d = leb-false 3 (n + 1) (sym h) in omega arith
 
   pub row-stopped : {n : ℕ} → NotAll s at n → rowIs s at v Rejected
   row-stopped a = λ b e. let c = a .count in let f = a .fewer b in absurd (omega arith)

@@ -3,15 +3,14 @@ use Prim.Native.Nat.{ℕ, _+_, _≤_}
 use mathlib.Core.Path.{_≡_, refl, sym, ap, _∙_}
 use mathlib.Core.List.{List, [], _∷_}
 use native.Mathlib.Omega.{arith}
-use lib.ListN.{length, take, drop, length-take}
+use lib.ListN.{length, drop}
 use lib.IntN.{ℤ}
-use Rattle.text.specs.Lines.{gap, extent, ending}
 use Rattle.text.specs.Words.{wordOf}
 use Rattle.text.specs.Rest.{Rest, restAt, push, wordAt, endOf, WordMet, EndMet, BadMet, afterBlanksIs}
 use Rattle.text.specs.declared.AfterBlanks.{AfterBlanks}
 use Rattle.text.specs.declared.AfterBlanks.the-variants as met
 use Rattle.text.proofs.LineByLine.{next-to}
-use Rattle.text.proofs.Tokens.{few}
+pub use Rattle.text.proofs.LineByLine.{words-within}
 use Rattle.digits.specs.Said.{Said, says, wrong}
 use Rattle.digits.specs.Answers.{ended}
 use Rattle.decimals.specs.Number.{numberOf}
@@ -107,16 +106,6 @@ module _ (s : List ℕ) (at : ℕ) where
   pub numbers-over : {q : ℕ} → EndMet s at q → numbersAt s at ≡ []
   unfolding numbersAt
   numbers-over m = ap (λ (r : Rest). leading (r .words)) (m .rest)
-
--- ---- a line has no more words than bytes
-pub words-within : (s : List ℕ) (at : ℕ) → at + length ((restAt s at) .words) ≤ (restAt s at) .next
-unfolding restAt
-words-within s at =
-    let e : ℕ = extent gap (drop at s) in
-    let a = few gap at (take e (drop at s)) in
-    let b : length (take e (drop at s)) ≡ Prim.Native.Nat.min e (length (drop at s)) = length-take e (drop at s) in
-    let c : ℕ = ending (drop e (drop at s)) in
-    omega arith
 
 -- ---- `count_each`
 pub record Counting (s : List ℕ) (at i count : ℕ) : Type 0 where

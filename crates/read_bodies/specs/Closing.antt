@@ -10,6 +10,7 @@ use lib.IntN.{ℤ, pos}
 use Rattle.tables.specs.Bodies.{curveCount, surfaceCount, basisOf}
 use Rattle.parameter_order.specs.declared.Order.{Order}
 use Rattle.parameter_order.specs.Stepping.{holdsIn}
+use Rattle.tables.specs.Records.{curve2Kind, surfaceKind}
 use Rattle.tables.specs.declared.Used.{Used}
 use Rattle.model.specs.Model.{Body}
 use Rattle.model.specs.Statements.{settled}
@@ -17,7 +18,7 @@ use Rattle.model.specs.Parse.{complete, countsAgree, rangeWithin}
 use Rattle.model.specs.Layout.{firstPart, rangeRow}
 use Rattle.read_state.specs.declared.Form.{Form}
 use Rattle.read_state.specs.declared.Open.{Open}
-use Rattle.read_bodies.specs.Types.{freeOf}
+use Rattle.statements.specs.Numbered.{freeOf}
 use Rattle.read_bodies.specs.Numbers.{numbersAt}
 use Rattle.read_bodies.specs.declared.closing.BodyCheck.{BodyCheck}
 use Rattle.read_bodies.specs.declared.closing.BodyCheck.the-variants as judged
@@ -30,17 +31,17 @@ parmOf s at = cond (eqb at 0) [] (numbersAt s at)
 
 -- ---- 11 and 12, from the counts
 abbrev pub completeOf : ℕ → ℕ → ℕ → Bool
-completeOf kind u v = not (eqb u 0) && cond (eqb kind 6) (not (eqb v 0)) true
+completeOf kind u v = not (eqb u 0) && cond (eqb kind surfaceKind) (not (eqb v 0)) true
 
 abbrev pub agreeOf : ℕ → Form → ℕ → ℕ → ℕ → Bool
 agreeOf kind f u v k =
-    cond (eqb kind 6)
+    cond (eqb kind surfaceKind)
     (surfaceCount (basisOf (f .basis)) (f .«degree_u») u (f .«degree_v») v k)
     (curveCount (basisOf (f .basis)) (f .«degree_u») u k)
 
 -- 13 along u, on a surface along v too: from what the parameters of each came to
 abbrev pub heldOf : ℕ → Order → Order → ℤ → ℤ → ℤ → ℤ → Bool
-heldOf kind along-u along-v a b c d = holdsIn along-u a b && cond (eqb kind 6) (holdsIn along-v c d) true
+heldOf kind along-u along-v a b c d = holdsIn along-u a b && cond (eqb kind surfaceKind) (holdsIn along-v c d) true
 
 -- ---- the body that the numbers stand for, its loops aside
 abbrev pub bodyFor : Form → ℕ → List ℤ → List ℤ → ℤ → ℤ → ℤ → ℤ → Body
@@ -75,13 +76,13 @@ pub record Passed (b : Body) (k u v : ℕ) (start end : ℤ) : Type 0 where
 
 -- with the ends of the range along u: a curv2's are the widest
 pub record Settled (kind : ℕ) (along-u along-v : Order) (a b c d start end : ℤ) : Type 0 where
-  pub start-is : start ≡ cond (eqb kind 5) (along-u .low) a
-  pub end-is : end ≡ cond (eqb kind 5) (along-u .high) b
+  pub start-is : start ≡ cond (eqb kind curve2Kind) (along-u .low) a
+  pub end-is : end ≡ cond (eqb kind curve2Kind) (along-u .high) b
   pub held : heldOf kind along-u along-v start end c d ≡ true
 
 abbrev pub settledIs : ℕ → ℕ → ℕ → Order → Order → ℤ → ℤ → ℤ → ℤ → BodyCheck → Type 0
 settledIs kind u v along-u along-v a b c d (judged.Refused n) =
-    (n ≡ 13) × (heldOf kind along-u along-v (cond (eqb kind 5) (along-u .low) a) (cond (eqb kind 5) (along-u .high) b) c d ≡ false)
+    (n ≡ 13) × (heldOf kind along-u along-v (cond (eqb kind curve2Kind) (along-u .low) a) (cond (eqb kind curve2Kind) (along-u .high) b) c d ≡ false)
 settledIs kind u v along-u along-v a b c d (judged.Valid m n start end) = (m ≡ u) × (n ≡ v) × Settled kind along-u along-v a b c d start end
 
 -- the table p of parameters, and x after it: the parameters zs are stored where nothing is wrong

@@ -17,6 +17,7 @@ use table_store::put_i32;
 use table_store::put4_i32;
 use table_store::put9_u32;
 use tables::Used;
+use tables::kinds;
 ghost use mathlib.Core.Path.{_≡_};
 ghost use mathlib.Core.List.{[], _∷_, _++_};
 ghost use mathlib.Core.Bool.{true, cond};
@@ -26,6 +27,7 @@ ghost use lib.Dec.{eqb};
 ghost use lib.IntN.{pos};
 ghost use lib.Seq.{sets};
 ghost use Rattle.parameter_order.specs.Stepping.{walked};
+ghost use Rattle.tables.specs.Records.{curve2Kind};
 ghost use Rattle.model.specs.Layout.{firstPart};
 ghost use Rattle.read_bodies.specs.Numbers.{numbersAt};
 ghost use Rattle.read_bodies.specs.Closing.{parmOf, completeOf, agreeOf, bodyFor, bodyIn, settledIs, bodyCheckIs, storedIs, bodyRecordOf, closedIs};
@@ -66,7 +68,7 @@ fn complete(kind: u32, u: u32, v: u32) -> bool
     if u == 0 {
         return false;
     }
-    if kind == 6 {
+    if kind == kinds::SURFACE {
         return v != 0;
     }
     true
@@ -77,7 +79,7 @@ fn counts_agree(kind: u32, form: Form, u: u32, v: u32, controls: u32) -> bool
     requires { ⌜ completeOf kind u v ≡ true ⌝ }
     ensures { λ r. ⌜ r ≡ agreeOf kind form u v controls ⌝ }
 {
-    if kind == 6 {
+    if kind == kinds::SURFACE {
         return surface_count(form.basis, form.degree_u, u, form.degree_v, v, controls);
     }
     curve_count(form.basis, form.degree_u, u, controls)
@@ -120,9 +122,9 @@ fn store(
 
 // A curv2's range is the widest; other kinds state theirs.
 fn end_of(kind: u32, widest: i32, stated: i32) -> i32
-    ensures { λ r. ⌜ r ≡ cond (eqb kind 5) widest stated ⌝ }
+    ensures { λ r. ⌜ r ≡ cond (eqb kind curve2Kind) widest stated ⌝ }
 {
-    if kind == 5 {
+    if kind == kinds::CURVE2 {
         return widest;
     }
     stated
@@ -147,7 +149,7 @@ fn settle(
     if !holds(along_u, start, end) {
         return BodyCheck::Refused(13);
     }
-    if kind == 6 {
+    if kind == kinds::SURFACE {
         if !holds(along_v, start_v, end_v) {
             return BodyCheck::Refused(13);
         }

@@ -3,13 +3,18 @@ use crate::numbers::Step;
 use crate::numbers::next_number;
 use references::reference::Reference;
 use references::reference::reference_at;
+use statements::rows::loop_rules;
+use statements::rules::counted;
 use table_store::put2_i32;
 use table_store::put2_u32;
+use tables::parts;
 use text::AfterBlanks;
 use text::skip_blanks;
 ghost use mathlib.Core.Path.{_≡_};
 ghost use Prim.Native.Nat.{_+_, _*_, _≤_, _<_};
 ghost use lib.ListN.{length};
+ghost use Rattle.statements.specs.declared.Carried.the-variants.{Trim};
+ghost use Rattle.statements.specs.Rules.{rulesOf, countedBy};
 ghost use Rattle.read_bodies.specs.Loops.{curveIs, partIs, loopIs, begins};
 
 pub enum Curve {
@@ -87,9 +92,18 @@ fn begins_with(hole: bool, part: u32) -> u32
         return 0;
     }
     if hole {
-        return 2;
+        return parts::HOLE;
     }
-    1
+    parts::TRIM
+}
+
+// Whether a trim or a hole may have as many parts, each of three words.
+fn loop_counted(parts: u32) -> bool
+    ensures { λ r. ⌜ r ≡ countedBy (rulesOf Trim .count) (3 * parts) ⌝ }
+{
+    let rules = loop_rules();
+    let allowed = rules.count;
+    counted(allowed, 3 * parts as usize)
 }
 
 // A trim or hole line of an open surface, `at` just after the keyword; its parts are stored after the `used` ones.
@@ -114,7 +128,7 @@ pub fn take_loop(
                 return Loop::Rejected;
             }
             PartMet::End(q) => {
-                if count == 0 {
+                if !loop_counted(count) {
                     return Loop::Rejected;
                 }
                 return Loop::Accepted {

@@ -1,8 +1,10 @@
-// A parm line: a direction, then two numbers or more. They are stored at the body's end.
+// A parm line: a direction, then numbers, as many as its row lets in. They are stored at the body's end.
 use crate::numbers::Counted;
 use crate::numbers::count_numbers;
 use keywords::Argument;
 use keywords::argument_at;
+use statements::rows::parameter_rules;
+use statements::rules::counted;
 use text::AfterBlanks;
 use text::skip_blanks;
 use text::word_end;
@@ -39,7 +41,7 @@ fn way(a: Argument) -> u32
     }
 }
 
-// The numbers after the direction.
+// The numbers after the direction, which is a word of the line as they are.
 fn take_row(text: &[u8], at: usize, along_v: bool) -> Parm
     requires { ⌜ at ≤ length (now text) ⌝ }
     ensures { λ r. ⌜ rowIs (now (text .entry)) at «along_v» r ⌝ }
@@ -47,7 +49,9 @@ fn take_row(text: &[u8], at: usize, along_v: bool) -> Parm
     match count_numbers(text, at) {
         Counted::Stopped(_) => Parm::Rejected,
         Counted::Ended { count, next } => {
-            if count < 2 {
+            let rules = parameter_rules();
+            let allowed = rules.count;
+            if !counted(allowed, count + 1) {
                 return Parm::Rejected;
             }
             Parm::Accepted {

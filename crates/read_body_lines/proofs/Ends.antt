@@ -36,7 +36,7 @@ use Rattle.model.proofs.Rows.{summed-append, bodyRows-length, rangeRows-length,
 use Rattle.read_state.specs.Bounds.{Bounded}
 use Rattle.read_state.specs.Changed.{state, bodyStored}
 use Rattle.read_state.proofs.Ends.{end-image, settled-us, settled-vs, settled-loops}
-use Rattle.read_state.proofs.Rooms.{fits-parts, parts-fit}
+use Rattle.model.proofs.Rooms.{fits-parts, parts-fit}
 use Rattle.read_bodies.specs.Closing.{bodyIn, refusalOf, Stored, NotStored}
 use Rattle.read_bodies.proofs.Ends.{Stands, finished-is, refusal-is, kept-says, kept-counts, kept-room, kept-parameters, kept-body, kept-range, left-room}
 use Rattle.read_body_lines.specs.OpenBody.{formFor, curvesWith, closedWith}
@@ -65,34 +65,34 @@ module _ (R : Rooms) (s : List ℕ) (p at : ℕ) {read : ℕ} (m : Model) (n : m
   used-parameters : c .used .parameters ≡ parametersIn
   used-parameters = ap (λ (u : Used). u .parameters) (h .state .used) ∙ sym (bodies-summed (λ b. length (b .us) + length (b .vs)) (m .elements))
 
-  pub bodies-room : 9 * length bodies + 9 ≤ R .bodies
-  bodies-room = let r = fits-parts R x (h .room) .bodies in let e = bodies-length (m .elements) in omega arith
+  pub bodies-room : 9 * length bodies + 9 ≤ R .bodies .bodies
+  bodies-room = let r = fits-parts R x (h .room) .bodies .bodies in let e = bodies-length (m .elements) in omega arith
 
-  pub ranges-room : 4 * length bodies + 4 ≤ R .ranges
-  ranges-room = let r = fits-parts R x (h .room) .ranges in let e = bodies-length (m .elements) in omega arith
+  pub ranges-room : 4 * length bodies + 4 ≤ R .bodies .ranges
+  ranges-room = let r = fits-parts R x (h .room) .bodies .ranges in let e = bodies-length (m .elements) in omega arith
 
-  pub bodies-lent : length (t .bodies) ≡ R .bodies
+  pub bodies-lent : length (t .bodies .bodies) ≡ R .bodies .bodies
   unfolding imageOf
   bodies-lent =
       let r = bodies-room in
       let l = bodyRows-length 0 0 bodies in
-      ap (λ (u : Tables). length (u .bodies)) (h .image) ∙ length-filled (R .bodies) 0 (bodyRows 0 0 bodies) (omega arith)
+      ap (λ (u : Tables). length (u .bodies .bodies)) (h .image) ∙ length-filled (R .bodies .bodies) 0 (bodyRows 0 0 bodies) (omega arith)
 
-  pub ranges-lent : length (t .ranges) ≡ R .ranges
+  pub ranges-lent : length (t .bodies .ranges) ≡ R .bodies .ranges
   unfolding imageOf
   ranges-lent =
       let r = ranges-room in
       let l = rangeRows-length (bodies ++ o .body ∷ []) in
       let e = length-append bodies (o .body ∷ []) in
-      ap (λ (u : Tables). length (u .ranges)) (h .image) ∙ length-filled (R .ranges) (pos 0) (flat rangeRow (bodies ++ o .body ∷ [])) (omega arith)
+      ap (λ (u : Tables). length (u .bodies .ranges)) (h .image) ∙ length-filled (R .bodies .ranges) (pos 0) (flat rangeRow (bodies ++ o .body ∷ [])) (omega arith)
 
-  parameters-lent : length (t .parameters) ≡ R .parameters
+  parameters-lent : length (t .bodies .parameters) ≡ R .bodies .parameters
   unfolding imageOf
   parameters-lent =
-      let r = fits-parts R x (h .room) .parameters in
+      let r = fits-parts R x (h .room) .bodies .parameters in
       let l = parameterRows-length bodies in
       let e = bodies-summed (λ b. length (b .us) + length (b .vs)) (m .elements) in
-      ap (λ (u : Tables). length (u .parameters)) (h .image) ∙ length-filled (R .parameters) (pos 0) (flat parameterRow bodies) (omega arith)
+      ap (λ (u : Tables). length (u .bodies .parameters)) (h .image) ∙ length-filled (R .bodies .parameters) (pos 0) (flat parameterRow bodies) (omega arith)
 
   -- ---- the open body is the one that the numbers stand for
   before-it : c .used .bodies - 1 ≡ length bodies
@@ -103,12 +103,12 @@ module _ (R : Rooms) (s : List ℕ) (p at : ℕ) {read : ℕ} (m : Model) (n : m
       ap (λ (i : ℕ). getD (bodies ++ o .body ∷ []) i (o .body)) (let e : length bodies ≡ length bodies + 0 = omega arith in e)
       ∙ getD-append-add bodies (o .body ∷ []) 0 (o .body)
 
-  range-at : (k : ℕ) → k < 4 → getD (t .ranges) (4 * (c .used .bodies - 1) + k) (pos 0) ≡ getD (rangeRow (o .body)) k (pos 0)
+  range-at : (k : ℕ) → k < 4 → getD (t .bodies .ranges) (4 * (c .used .bodies - 1) + k) (pos 0) ≡ getD (rangeRow (o .body)) k (pos 0)
   unfolding imageOf
   range-at k l =
       let e = length-append bodies (o .body ∷ []) in
-      ap₂ (λ (r : List ℤ) (i : ℕ). getD r (4 * i + k) (pos 0)) (ap (λ (u : Tables). u .ranges) (h .image)) before-it
-      ∙ getD-table rangeRow 4 (λ b. refl) (R .ranges) (pos 0) (bodies ++ o .body ∷ []) (length bodies) k (o .body) (omega arith) l
+      ap₂ (λ (r : List ℤ) (i : ℕ). getD r (4 * i + k) (pos 0)) (ap (λ (u : Tables). u .bodies .ranges) (h .image)) before-it
+      ∙ getD-table rangeRow 4 (λ b. refl) (R .bodies .ranges) (pos 0) (bodies ++ o .body ∷ []) (length bodies) k (o .body) (omega arith) l
       ∙ ap (λ (b : Body). getD (rangeRow b) k (pos 0)) last-one
 
   abbrev form : Form
@@ -117,7 +117,7 @@ module _ (R : Rooms) (s : List ℕ) (p at : ℕ) {read : ℕ} (m : Model) (n : m
   form-there : form ≡ formFor (freeNumber (o .body .free)) (formIn f)
   form-there = ap₂ formFor (h .state .open-body .kind) (h .state .form)
 
-  pub stands : Stands s s form (c .«open») (c .used) (t .ranges) o
+  pub stands : Stands s s form (c .«open») (c .used) (t .bodies .ranges) o
   stands =
       let i = form-is (o .body .free) f (h .body .numbers) in
       record {
@@ -130,7 +130,7 @@ module _ (R : Rooms) (s : List ℕ) (p at : ℕ) {read : ℕ} (m : Model) (n : m
         parts = h .state .open-body .parts;
         u = h .state .open-body .u;
         v = h .state .open-body .v;
-        start-u = ap (λ (i : ℕ). getD (t .ranges) i (pos 0)) (let e : 4 * (c .used .bodies - 1) ≡ 4 * (c .used .bodies - 1) + 0 = omega arith in e) ∙ range-at 0 (omega arith);
+        start-u = ap (λ (i : ℕ). getD (t .bodies .ranges) i (pos 0)) (let e : 4 * (c .used .bodies - 1) ≡ 4 * (c .used .bodies - 1) + 0 = omega arith in e) ∙ range-at 0 (omega arith);
         end-u = range-at 1 (omega arith);
         start-v = range-at 2 (omega arith);
         end-v = range-at 3 (omega arith);
@@ -160,7 +160,7 @@ module _ (R : Rooms) (s : List ℕ) (p at : ℕ) {read : ℕ} (m : Model) (n : m
       let l : partCount last ≡ partCount (o .body) = ap (summed (λ l. length (l .parts))) (settled-loops (o .body) (o .body .free)) in
       omega arith
 
-  roomy : parametersIn + (length (o .body .us) + length (o .body .vs)) ≤ R .parameters → fits R (apply end x) ≡ true
+  roomy : parametersIn + (length (o .body .us) + length (o .body .vs)) ≤ R .bodies .parameters → fits R (apply end x) ≡ true
   roomy a =
       let w = fits-parts R x (h .room) in
       let i = corners-after in
@@ -169,10 +169,10 @@ module _ (R : Rooms) (s : List ℕ) (p at : ℕ) {read : ℕ} (m : Model) (n : m
       let r = parts-more in
       let l = longer in
       parts-fit R (apply end x)
-      (record { v = w .v; vt = w .vt; vn = w .vn; vp = w .vp; corners = omega (arith, w .corners); elements = omega (arith, w .elements); bodies = omega (arith, w .bodies); ranges = omega (arith, w .ranges); parameters = omega arith; loops = omega (arith, w .loops); spans = omega (arith, w .spans) })
+      (record { vertices = w .vertices; elements = omega (arith, w .elements); bodies = omega (arith, w .bodies) })
 
-  tight : fits R (apply end x) ≡ true → parametersIn + (length (o .body .us) + length (o .body .vs)) ≤ R .parameters
-  tight y = let w = fits-parts R (apply end x) y in let q = parameters-more in omega (arith, w .parameters)
+  tight : fits R (apply end x) ≡ true → parametersIn + (length (o .body .us) + length (o .body .vs)) ≤ R .bodies .parameters
+  tight y = let w = fits-parts R (apply end x) y in let q = parameters-more in omega (arith, w .bodies .parameters)
 
   used-after : (u v : ℕ) → u ≡ length (o .body .us) → v ≡ length (o .body .vs) → closedWith u v c .used ≡ usedIn (apply end x)
   used-after u v a b =
@@ -200,10 +200,10 @@ module _ (R : Rooms) (s : List ℕ) (p at : ℕ) {read : ℕ} (m : Model) (n : m
         open-body = refl;
       }
 
-  range-after : sets (t .ranges) (4 * length bodies) (rangeRow last) ≡ filled (R .ranges) (pos 0) (flat rangeRow (bodies ++ last ∷ []))
+  range-after : sets (t .bodies .ranges) (4 * length bodies) (rangeRow last) ≡ filled (R .bodies .ranges) (pos 0) (flat rangeRow (bodies ++ last ∷ []))
   unfolding imageOf
   range-after =
-      ap (λ (u : Tables). sets (u .ranges) (4 * length bodies) (rangeRow last)) (h .image) ∙ range-anew (R .ranges) bodies ranges-room (o .body) last
+      ap (λ (u : Tables). sets (u .bodies .ranges) (4 * length bodies) (rangeRow last)) (h .image) ∙ range-anew (R .bodies .ranges) bodies ranges-room (o .body) last
 
   -- ---- a line that ends after the keyword
   module _ (w : Word) (begins : restAt s p ≡ push w (restAt s at)) (keyword : keywordOf (statementOf (w .bytes)) (w .place) ≡ fine ends) (q : ℕ) (met : EndMet s at q) where
@@ -215,32 +215,32 @@ module _ (R : Rooms) (s : List ℕ) (p at : ℕ) {read : ℕ} (m : Model) (n : m
     parsed = ap (λ (r : Rest). parse ends x (w .place) (r .words)) (met .rest)
 
     module _ (b : List ℕ) (r y : List ℤ) where
-      pub end-next : (u v : ℕ) → Stored form (c .«open») (c .used) (bodyIn form (c .«open») (c .used) s s (t .ranges)) (t .bodies) b (t .ranges) r (t .parameters) y u v
+      pub end-next : (u v : ℕ) → Stored form (c .«open») (c .used) (bodyIn form (c .«open») (c .used) s s (t .bodies .ranges)) (t .bodies .bodies) b (t .bodies .ranges) r (t .bodies .parameters) y u v
           → NextLine R s p read x (closedWith u v c) (bodyStored b r y t) q × (q ≡ (restAt s p) .next)
       end-next u v k =
-          let fin = kept-says s s form (c .«open») (c .used) (t .ranges) o stands (t .bodies) b r (t .parameters) y (w .place) k in
-          let counts = kept-counts s s form (c .«open») (c .used) (t .ranges) o stands (t .bodies) b r (t .parameters) y (w .place) k in
+          let fin = kept-says s s form (c .«open») (c .used) (t .bodies .ranges) o stands (t .bodies .bodies) b r (t .bodies .parameters) y (w .place) k in
+          let counts = kept-counts s s form (c .«open») (c .used) (t .bodies .ranges) o stands (t .bodies .bodies) b r (t .bodies .parameters) y (w .place) k in
           let fine-end : parse ends x (w .place) ((restAt s at) .words) ≡ fine end = parsed ∙ fin in
           let next : q ≡ (restAt s at) .next = sym (ap (λ (r : Rest). r .next) (met .rest)) in
           let up = used-parameters in
           let ul = used-loops R s p at m n f o c t h in
-          let room : parametersIn + (length (o .body .us) + length (o .body .vs)) ≤ R .parameters =
-          (let i = kept-room s s form (c .«open») (c .used) (t .ranges) o stands (t .bodies) b r (t .parameters) y (w .place) k in let j = parameters-lent in omega arith) in
+          let room : parametersIn + (length (o .body .us) + length (o .body .vs)) ≤ R .bodies .parameters =
+          (let i = kept-room s s form (c .«open») (c .used) (t .bodies .ranges) o stands (t .bodies .bodies) b r (t .bodies .parameters) y (w .place) k in let j = parameters-lent in omega arith) in
           let fit = roomy room in
           let row : bodyRow (c .used .parameters) (c .used .loops - partCount (o .body)) (o .body) ≡ bodyRow parametersIn (summed partCount bodies) last =
           ap₂ (λ (i j : ℕ). bodyRow i j (o .body)) up (let e : c .used .loops - partCount (o .body) ≡ summed partCount bodies = omega arith in e) ∙ sym (row-settled parametersIn (summed partCount bodies) (o .body) (o .body .free)) in
-          let b′ : b ≡ sets (imageOf R x .bodies) (9 * length bodies) (bodyRow parametersIn (summed partCount bodies) last) =
-          kept-body s s form (c .«open») (c .used) (t .ranges) o stands (t .bodies) b r (t .parameters) y (w .place) k
-          ∙ ap₂ (λ (i : ℕ) (l : List ℕ). sets (t .bodies) (9 * i) l) before-it row
-          ∙ ap (λ (a : Tables). sets (a .bodies) (9 * length bodies) (bodyRow parametersIn (summed partCount bodies) last)) (h .image) in
-          let y′ : y ≡ sets (imageOf R x .parameters) parametersIn (parameterRow last) =
-          kept-parameters s s form (c .«open») (c .used) (t .ranges) o stands (t .bodies) b r (t .parameters) y (w .place) k
-          ∙ ap₂ (λ (i : ℕ) (l : List ℤ). sets (t .parameters) i l) up (sym (parameters-settled (o .body) (o .body .free)))
-          ∙ ap (λ (a : Tables). sets (a .parameters) parametersIn (parameterRow last)) (h .image) in
-          let r′ : r ≡ filled (R .ranges) (pos 0) (flat rangeRow (bodies ++ last ∷ [])) =
-          kept-range s s form (c .«open») (c .used) (t .ranges) o stands (t .bodies) b r (t .parameters) y (w .place) k
-          ∙ ap (λ (i : ℕ). sets (t .ranges) (4 * i) (rangeRow last)) before-it ∙ range-after in
-          let long : parametersIn + length (parameterRow last) ≤ R .parameters =
+          let b′ : b ≡ sets (imageOf R x .bodies .bodies) (9 * length bodies) (bodyRow parametersIn (summed partCount bodies) last) =
+          kept-body s s form (c .«open») (c .used) (t .bodies .ranges) o stands (t .bodies .bodies) b r (t .bodies .parameters) y (w .place) k
+          ∙ ap₂ (λ (i : ℕ) (l : List ℕ). sets (t .bodies .bodies) (9 * i) l) before-it row
+          ∙ ap (λ (a : Tables). sets (a .bodies .bodies) (9 * length bodies) (bodyRow parametersIn (summed partCount bodies) last)) (h .image) in
+          let y′ : y ≡ sets (imageOf R x .bodies .parameters) parametersIn (parameterRow last) =
+          kept-parameters s s form (c .«open») (c .used) (t .bodies .ranges) o stands (t .bodies .bodies) b r (t .bodies .parameters) y (w .place) k
+          ∙ ap₂ (λ (i : ℕ) (l : List ℤ). sets (t .bodies .parameters) i l) up (sym (parameters-settled (o .body) (o .body .free)))
+          ∙ ap (λ (a : Tables). sets (a .bodies .parameters) parametersIn (parameterRow last)) (h .image) in
+          let r′ : r ≡ filled (R .bodies .ranges) (pos 0) (flat rangeRow (bodies ++ last ∷ [])) =
+          kept-range s s form (c .«open») (c .used) (t .bodies .ranges) o stands (t .bodies .bodies) b r (t .bodies .parameters) y (w .place) k
+          ∙ ap (λ (i : ℕ). sets (t .bodies .ranges) (4 * i) (rangeRow last)) before-it ∙ range-after in
+          let long : parametersIn + length (parameterRow last) ≤ R .bodies .parameters =
           (let e = ap length (parameters-settled (o .body) (o .body .free)) in let l = length-append (o .body .us) (o .body .vs) in omega arith) in (
             record {
               after = apply end x;
@@ -249,7 +249,7 @@ module _ (R : Rooms) (s : List ℕ) (p at : ℕ) {read : ℕ} (m : Model) (n : m
                 state = state-after u v (counts .0) (counts .1);
                 image =
                     ap₂ (λ (i : List ℕ) (j : List ℤ). bodyStored i r j t) b′ y′
-                    ∙ ap (bodyStored (sets (imageOf R x .bodies) (9 * length bodies) (bodyRow parametersIn (summed partCount bodies) last)) r (sets (imageOf R x .parameters) parametersIn (parameterRow last))) (h .image)
+                    ∙ ap (bodyStored (sets (imageOf R x .bodies .bodies) (9 * length bodies) (bodyRow parametersIn (summed partCount bodies) last)) r (sets (imageOf R x .bodies .parameters) parametersIn (parameterRow last))) (h .image)
                     ∙ end-image R m n f o r r′ bodies-room long;
                 wide = h .wide;
                 room = fit;
@@ -260,7 +260,7 @@ module _ (R : Rooms) (s : List ℕ) (p at : ℕ) {read : ℕ} (m : Model) (n : m
             next ∙ sym (next-is R s p at x w ends begins keyword),
           )
 
-      pub end-refused : (i : ℕ) → NotStored (c .«open») (c .used) (bodyIn form (c .«open») (c .used) s s (t .ranges)) (t .bodies) b (t .ranges) r (t .parameters) y i
+      pub end-refused : (i : ℕ) → NotStored (c .«open») (c .used) (bodyIn form (c .«open») (c .used) s s (t .bodies .ranges)) (t .bodies .bodies) b (t .bodies .ranges) r (t .bodies .parameters) y i
           → lineSays R s p x ≡ fault i (w .place)
       end-refused i k = go (eqb wrong 0) refl
         where
@@ -268,12 +268,12 @@ module _ (R : Rooms) (s : List ℕ) (p at : ℕ) {read : ℕ} (m : Model) (n : m
           wrong = refusalOf (o .body) (length (o .controls))
 
           number : i ≡ cond (eqb wrong 0) 14 wrong
-          number = k .number ∙ ap (λ (j : ℕ). cond (eqb j 0) 14 j) (refusal-is s s form (c .«open») (c .used) (t .ranges) o stands)
+          number = k .number ∙ ap (λ (j : ℕ). cond (eqb j 0) 14 j) (refusal-is s s form (c .«open») (c .used) (t .bodies .ranges) o stands)
 
           go : (z : Bool) → eqb wrong 0 ≡ z → lineSays R s p x ≡ fault i (w .place)
           go true e =
               let fin : finished (some o) (w .place) ≡ fine end = finished-is o (w .place) ∙ ap (λ (z : Bool). cond z (fine end) (fault wrong (w .place))) e in
-              let l = left-room s s form (c .«open») (c .used) (t .ranges) o stands (t .bodies) b r (t .parameters) y (w .place) k fin in
+              let l = left-room s s form (c .«open») (c .used) (t .bodies .ranges) o stands (t .bodies .bodies) b r (t .bodies .parameters) y (w .place) k fin in
               let full : fits R (apply end x) ≡ false =
               ⊎-elim (λ (z : fits R (apply end x) ≡ true). absurd (let a = tight z in let d = l .1 in let up = used-parameters in let j = parameters-lent in omega arith)) (λ z. z) (test (fits R (apply end x))) in
               line-roomless R s p at x w ends begins keyword end good (parsed ∙ fin) full ∙ ap (λ (j : ℕ). fault j (w .place)) (sym (l .0))

@@ -31,7 +31,7 @@ use Rattle.model.proofs.Rows.{summed-append, loopRows-length, spanRows-length, 
 use Rattle.read_state.specs.Bounds.{Bounded}
 use Rattle.read_state.specs.Changed.{state, loopsStored}
 use Rattle.read_state.proofs.Images.{loop-image}
-use Rattle.read_state.proofs.Rooms.{Within, fits-parts, parts-fit}
+use Rattle.model.proofs.Rooms.{Within, fits-parts, parts-fit}
 use Rattle.model.proofs.Parsed.{fine-is}
 use Rattle.read_bodies.specs.Loops.{parts, partsAt, LoopLine, LoopTaken, LoopLeft}
 use Rattle.read_bodies.specs.Loops.{loopWord}
@@ -57,23 +57,23 @@ module _ (R : Rooms) (s : List ℕ) (p at : ℕ) {read : ℕ} (m : Model) (n : m
   all-parts : summed partCount (bodiesOf (m .elements) ++ o .body ∷ []) ≡ before
   all-parts = summed-append partCount (bodiesOf (m .elements)) (o .body ∷ []) ∙ (let e : summed partCount (bodiesOf (m .elements)) + (partCount (o .body) + 0) ≡ summed partCount (bodiesOf (m .elements)) + partCount (o .body) = omega arith in e)
 
-  loops-lent : length (t .loops) ≡ R .loops
+  loops-lent : length (t .bodies .loops) ≡ R .bodies .loops
   unfolding imageOf
   loops-lent =
-      let r = fits-parts R x (h .room) .loops in
+      let r = fits-parts R x (h .room) .bodies .loops in
       let l = loopRows-length (bodiesOf (m .elements) ++ o .body ∷ []) in
       let a = all-parts in
       let b = before-is in
-      ap (λ (u : Tables). length (u .loops)) (h .image) ∙ length-filled (R .loops) 0 (flat loopRows (bodiesOf (m .elements) ++ o .body ∷ [])) (omega arith)
+      ap (λ (u : Tables). length (u .bodies .loops)) (h .image) ∙ length-filled (R .bodies .loops) 0 (flat loopRows (bodiesOf (m .elements) ++ o .body ∷ [])) (omega arith)
 
-  spans-lent : length (t .spans) ≡ R .spans
+  spans-lent : length (t .bodies .spans) ≡ R .bodies .spans
   unfolding imageOf
   spans-lent =
-      let r = fits-parts R x (h .room) .spans in
+      let r = fits-parts R x (h .room) .bodies .spans in
       let l = spanRows-length (bodiesOf (m .elements) ++ o .body ∷ []) in
       let a = all-parts in
       let b = before-is in
-      ap (λ (u : Tables). length (u .spans)) (h .image) ∙ length-filled (R .spans) (pos 0) (flat spanRows (bodiesOf (m .elements) ++ o .body ∷ [])) (omega arith)
+      ap (λ (u : Tables). length (u .bodies .spans)) (h .image) ∙ length-filled (R .bodies .spans) (pos 0) (flat spanRows (bodiesOf (m .elements) ++ o .body ∷ [])) (omega arith)
 
   module _ (l : Loop) where
     more : partCount (withLoop l (o .body)) ≡ partCount (o .body) + length (l .parts)
@@ -85,17 +85,17 @@ module _ (R : Rooms) (s : List ℕ) (p at : ℕ) {read : ℕ} (m : Model) (n : m
         let b = before-is in
         omega arith
 
-    roomy : 2 * before + 2 * length (l .parts) ≤ R .loops → 2 * before + 2 * length (l .parts) ≤ R .spans → fits R (apply (loop l) x) ≡ true
+    roomy : 2 * before + 2 * length (l .parts) ≤ R .bodies .loops → 2 * before + 2 * length (l .parts) ≤ R .bodies .spans → fits R (apply (loop l) x) ≡ true
     roomy a b =
         let w = fits-parts R x (h .room) in
         let q = count-after in
-        parts-fit R (apply (loop l) x) (record { v = w .v; vt = w .vt; vn = w .vn; vp = w .vp; corners = w .corners; elements = w .elements; bodies = w .bodies; ranges = w .ranges; parameters = w .parameters; loops = omega arith; spans = omega arith })
+        parts-fit R (apply (loop l) x) (record { vertices = w .vertices; elements = w .elements; bodies = omega arith })
 
-    tight : fits R (apply (loop l) x) ≡ true → (2 * before + 2 * length (l .parts) ≤ R .loops) × (2 * before + 2 * length (l .parts) ≤ R .spans)
+    tight : fits R (apply (loop l) x) ≡ true → (2 * before + 2 * length (l .parts) ≤ R .bodies .loops) × (2 * before + 2 * length (l .parts) ≤ R .bodies .spans)
     tight y =
         let w = fits-parts R (apply (loop l) x) y in
         let q = count-after in
-        (omega (arith, w .loops), omega (arith, w .spans))
+        (omega (arith, w .bodies .loops), omega (arith, w .bodies .spans))
 
     state-after : (k : ℕ) → k ≡ length (l .parts) → StateIs s (apply (loop l) x) (looped k c)
     state-after k e =
@@ -112,7 +112,7 @@ module _ (R : Rooms) (s : List ℕ) (p at : ℕ) {read : ℕ} (m : Model) (n : m
 
   module _ (surface : isSurface (o .body .free) ≡ true) (w : Word) (hole : Bool) (begins : restAt s p ≡ push w (restAt s at))
       (keyword : keywordOf (statementOf (w .bytes)) (w .place) ≡ fine (loopWord hole)) where
-    pub loop-next : (a : List ℕ) (b : List ℤ) (k q : ℕ) → LoopTaken s at hole (c .curves) (c .used .loops) (t .loops) a (t .spans) b k q
+    pub loop-next : (a : List ℕ) (b : List ℤ) (k q : ℕ) → LoopTaken s at hole (c .curves) (c .used .loops) (t .bodies .loops) a (t .bodies .spans) b k q
         → NextLine R s p read x (looped k c) (loopsStored a b t) q × (q ≡ (restAt s p) .next)
     loop-next a b k q v =
         let ps : List Part = partsAt (c .curves) s at in
@@ -121,17 +121,17 @@ module _ (R : Rooms) (s : List ℕ) (p at : ℕ) {read : ℕ} (m : Model) (n : m
         let parsed = loop-says x o refl surface (w .place) (restAt s at) hole line in
         let e = used-loops in
         let k-is = v .count in
-        let r1 : 2 * before + 2 * length ps ≤ R .loops = (let i = v .room in let j = loops-lent in omega arith) in
-        let r2 : 2 * before + 2 * length ps ≤ R .spans = (let i = v .room-spans in let j = spans-lent in omega arith) in
+        let r1 : 2 * before + 2 * length ps ≤ R .bodies .loops = (let i = v .room in let j = loops-lent in omega arith) in
+        let r2 : 2 * before + 2 * length ps ≤ R .bodies .spans = (let i = v .room-spans in let j = spans-lent in omega arith) in
         let room = roomy l r1 r2 in
-        let a′ : a ≡ sets (imageOf R x .loops) (2 * before) (loopRow l) = v .stored ∙ ap₂ (λ (u : List ℕ) (i : ℕ). sets u (2 * i) (loopRow l)) (ap (λ (u : Tables). u .loops) (h .image)) e in
-        let b′ : b ≡ sets (imageOf R x .spans) (2 * before) (flat spanRow ps) = v .stored-spans ∙ ap₂ (λ (u : List ℤ) (i : ℕ). sets u (2 * i) (flat spanRow ps)) (ap (λ (u : Tables). u .spans) (h .image)) e in (
+        let a′ : a ≡ sets (imageOf R x .bodies .loops) (2 * before) (loopRow l) = v .stored ∙ ap₂ (λ (u : List ℕ) (i : ℕ). sets u (2 * i) (loopRow l)) (ap (λ (u : Tables). u .bodies .loops) (h .image)) e in
+        let b′ : b ≡ sets (imageOf R x .bodies .spans) (2 * before) (flat spanRow ps) = v .stored-spans ∙ ap₂ (λ (u : List ℤ) (i : ℕ). sets u (2 * i) (flat spanRow ps)) (ap (λ (u : Tables). u .bodies .spans) (h .image)) e in (
           record {
             after = apply (loop l) x;
             said = line-fine R s p at x w (loopWord hole) begins keyword (loop l) (v .line .good) parsed room;
             holds = record {
               state = state-after l k k-is;
-              image = ap₂ (λ (i : List ℕ) (j : List ℤ). loopsStored i j t) a′ b′ ∙ ap (λ (u : Tables). loopsStored (sets (imageOf R x .loops) (2 * before) (loopRow l)) (sets (imageOf R x .spans) (2 * before) (flat spanRow ps)) u) (h .image) ∙ loop-image R m n f l o r1 r2;
+              image = ap₂ (λ (i : List ℕ) (j : List ℤ). loopsStored i j t) a′ b′ ∙ ap (λ (u : Tables). loopsStored (sets (imageOf R x .bodies .loops) (2 * before) (loopRow l)) (sets (imageOf R x .bodies .spans) (2 * before) (flat spanRow ps)) u) (h .image) ∙ loop-image R m n f l o r1 r2;
               wide = h .wide;
               room = room;
               bounded = subst (λ (j : ℕ). Bounded (read + (j - p)) (apply (loop l) x)) (sym (v .next)) (line-bounded R s p at x w (loopWord hole) begins keyword (loop l) parsed (h .bounded));
@@ -141,7 +141,7 @@ module _ (R : Rooms) (s : List ℕ) (p at : ℕ) {read : ℕ} (m : Model) (n : m
           v .next ∙ sym (next-is R s p at x w (loopWord hole) begins keyword),
         )
 
-    pub loop-roomless : (a : List ℕ) (b : List ℤ) → LoopLeft s at (c .curves) (c .used .loops) (t .loops) a (t .spans) b → (restAt s at) .bad ≡ none
+    pub loop-roomless : (a : List ℕ) (b : List ℤ) → LoopLeft s at (c .curves) (c .used .loops) (t .bodies .loops) a (t .bodies .spans) b → (restAt s at) .bad ≡ none
         → (u : Statement) → parse (loopWord hole) x (w .place) ((restAt s at) .words) ≡ fine u → lineSays R s p x ≡ fault 14 (w .place)
     loop-roomless a b v good u e =
         let ps : List Part = parts (model.curves (m .elements)) ((restAt s at) .words) in

@@ -2,6 +2,7 @@
 use Prim.Native.Nat.{ℕ, _+_, _*_}
 use mathlib.Core.Bool.{Bool, true, false, cond, _&&_}
 use lib.Dec.{eqb, leb}
+use Rattle.tables.specs.Records.{bodyWidth, rangeWidth}
 use Rattle.read_state.specs.declared.Form.{Form}
 use Rattle.read_state.specs.declared.State.{State}
 use Rattle.read_state.specs.State.{noOpen}
@@ -55,12 +56,6 @@ formFor kind f =
       «degree_v» = cond (eqb kind 6) (degreeFor (f .basis) (f .«degree_v»)) 0;
     }
 
--- what the counts of any state that was read to are: the open body is among them, and none passes a text's length
-abbrev pub countsHold : State → Bool
-countsHold c =
-    leb 1 (c .used .bodies) && leb (c .«open» .parts) (c .used .loops) && leb (c .used .loops) 16777216 && leb (c .used .parameters) 16777216 && leb (c .curves) 16777216
-
--- and what the end of a body finds: its parm lines in the text, its records in tables of those lengths
-abbrev pub closable : State → ℕ → ℕ → ℕ → Bool
-closable c text bodies ranges =
-    countsHold c && leb (c .«open» .«u_at») text && leb (c .«open» .«v_at») text && leb (9 * c .used .bodies) bodies && leb (4 * c .used .bodies) ranges
+-- the records of the open body, the last of so many, stand in tables of those lengths
+abbrev pub bodyLent : ℕ → ℕ → ℕ → Bool
+bodyLent n bodies ranges = leb (bodyWidth * n) bodies && leb (rangeWidth * n) ranges

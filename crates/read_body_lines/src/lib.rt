@@ -9,14 +9,22 @@ use read_state::Form;
 use read_state::Open;
 use read_state::State;
 use read_vertex_lines::Step;
+use statements::rows::end_rules;
+use statements::rows::loop_rules;
+use statements::rows::parameter_rules;
+use statements::rules::allowed;
+use statements::rules::counted;
+use tables::bases;
+use tables::kinds;
+use tables::widths;
 use text::AfterBlanks;
 use text::skip_blanks;
 ghost use mathlib.Core.Path.{_≡_};
-ghost use Prim.Native.Nat.{_+_, _≤_, _<_};
-ghost use lib.ListN.{length};
+ghost use Prim.Native.Nat.{_+_, _<_};
 ghost use Rattle.keywords.specs.Lookup.{argumentTable};
 ghost use Rattle.model.specs.Parse.{parm};
-ghost use Rattle.read_body_lines.specs.OpenBody.{keeping, looped, curvesWith, closedWith, typeFor, degreeFor, formFor, countsHold, closable};
+ghost use Rattle.read_body_lines.specs.OpenBody.{keeping, looped, curvesWith, closedWith, typeFor, degreeFor, formFor, bodyLent};
+ghost use Rattle.read_vertex_lines.specs.Bounds.{InBounds};
 ghost use Rattle.read_vertex_lines.specs.Stepping.{quietStep, loopStep, endStep};
 
 // The state with the place of a parm's numbers, which stands for no earlier one of its direction.
@@ -36,15 +44,18 @@ fn keeping(along_v: bool, at: usize, state: State) -> State
 }
 
 pub fn parm_line(text: &[u8], at: usize, state: State, argument_table: &[u8; 108]) -> Step
-    requires { ⌜ at ≤ length (now text) ⌝ }
+    requires { ⌜ InBounds (now text) at state ⌝ }
     requires { ⌜ now «argument_table» ≡ argumentTable ⌝ }
     ensures { λ r. ⌜ quietStep parm (now (text .entry)) at state r ⌝ }
 {
     let open = state.open;
-    if open.kind == 0 {
+    let rules = parameter_rules();
+    let standing = rules.standing;
+    if !allowed(standing, open.kind, false) {
         return Step::Rejected;
     }
-    match take_parm(text, at, open.kind == 6, argument_table) {
+    let v = allowed(standing, open.kind, true);
+    match take_parm(text, at, v, argument_table) {
         Parm::Rejected => Step::Rejected,
         Parm::Accepted {
             along_v,
@@ -55,27 +66,6 @@ pub fn parm_line(text: &[u8], at: usize, state: State, argument_table: &[u8; 108
             next: next,
         },
     }
-}
-
-// Whether the counts are those of a text read so far, the open body among them.
-fn counts_hold(state: State) -> bool
-    ensures { λ r. ⌜ r ≡ countsHold state ⌝ }
-{
-    let used = state.used;
-    let open = state.open;
-    if used.bodies < 1 {
-        return false;
-    }
-    if used.loops < open.parts {
-        return false;
-    }
-    if 16_777_216 < used.loops {
-        return false;
-    }
-    if 16_777_216 < used.parameters {
-        return false;
-    }
-    state.curves <= 16_777_216
 }
 
 fn looped(parts: u32, state: State) -> State
@@ -101,14 +91,14 @@ pub fn loop_line(
     loops: &mut [u32],
     spans: &mut [i32],
 ) -> Step
-    requires { ⌜ (at ≤ length (now text)) × (length (now text) ≤ 16777216) ⌝ }
+    requires { ⌜ InBounds (now text) at state ⌝ }
     ensures { λ r. ⌜ loopStep hole (now (text .entry)) at state (now (loops .entry)) (now (loops .exit)) (now (spans .entry)) (now (spans .exit)) r ⌝ }
 {
     let open = state.open;
-    if open.kind != 6 {
-        return Step::Rejected;
-    }
-    if !counts_hold(state) {
+    let rules = loop_rules();
+    let standing = rules.standing;
+    let in_surface = allowed(standing, open.kind, false);
+    if !in_surface {
         return Step::Rejected;
     }
     let used = state.used;
@@ -125,7 +115,7 @@ pub fn loop_line(
 fn degree_for(basis: u32, degree: u32) -> u32
     ensures { λ r. ⌜ r ≡ degreeFor basis degree ⌝ }
 {
-    if basis == 3 {
+    if basis == bases::CARDINAL {
         return 3;
     }
     degree
@@ -136,7 +126,7 @@ fn type_for(basis: u32) -> u32
     ensures { λ r. ⌜ r ≡ typeFor basis ⌝ }
 {
     if basis == 0 {
-        return 1;
+        return bases::BEZIER;
     }
     basis
 }
@@ -148,7 +138,7 @@ fn form_of(kind: u32, form: Form) -> Form
     let basis = type_for(form.basis);
     let degree_u = degree_for(form.basis, form.degree_u);
     let degree_v = degree_for(form.basis, form.degree_v);
-    if kind == 6 {
+    if kind == kinds::SURFACE {
         return Form {
             basis: basis,
             rational: form.rational,
@@ -164,25 +154,14 @@ fn form_of(kind: u32, form: Form) -> Form
     }
 }
 
-// Whether the state, the text and the tables are such as `close_body` takes.
-fn closable(state: State, text: usize, bodies: usize, ranges: usize) -> bool
-    ensures { λ r. ⌜ r ≡ closable state text bodies ranges ⌝ }
+// Whether the records of the open body, the last of those `used`, stand in tables of those lengths.
+fn body_lent(used: u32, bodies: usize, ranges: usize) -> bool
+    ensures { λ r. ⌜ r ≡ bodyLent used bodies ranges ⌝ }
 {
-    let used = state.used;
-    let open = state.open;
-    if !counts_hold(state) {
+    if bodies < widths::BODY * (used as usize) {
         return false;
     }
-    if text < open.u_at {
-        return false;
-    }
-    if text < open.v_at {
-        return false;
-    }
-    if bodies < 9 * (used.bodies as usize) {
-        return false;
-    }
-    4 * (used.bodies as usize) <= ranges
+    widths::RANGE * (used as usize) <= ranges
 }
 
 // How many curv2s there are after the end of a body of that kind.
@@ -190,7 +169,7 @@ fn curves_after(kind: u32, curves: u32) -> u32
     requires { ⌜ curves + 1 < 4294967296 ⌝ }
     ensures { λ r. ⌜ r ≡ curvesWith kind curves ⌝ }
 {
-    if kind == 5 {
+    if kind == kinds::CURVE2 {
         return curves + 1;
     }
     curves
@@ -227,31 +206,29 @@ pub fn end_line(
     ranges: &mut [i32],
     parameters: &mut [i32],
 ) -> Step
-    requires { ⌜ (at ≤ length (now text)) × (length (now text) ≤ 16777216) ⌝ }
+    requires { ⌜ InBounds (now text) at state ⌝ }
     ensures { λ r. ⌜ endStep (now (text .entry)) at state (now (bodies .entry)) (now (bodies .exit)) (now (ranges .entry)) (now (ranges .exit)) (now (parameters .entry)) (now (parameters .exit)) r ⌝ }
 {
     let open = state.open;
-    if open.kind == 0 {
+    let used = state.used;
+    let rules = end_rules();
+    let standing = rules.standing;
+    let count = rules.count;
+    if !allowed(standing, open.kind, false) {
         return Step::Rejected;
     }
-    if !closable(state, text.len(), bodies.len(), ranges.len()) {
+    if !body_lent(used.bodies, bodies.len(), ranges.len()) {
         return Step::Rejected;
     }
     match skip_blanks(text, at) {
         AfterBlanks::Start(_) => Step::Rejected,
         AfterBlanks::Bad(_) => Step::Rejected,
         AfterBlanks::End(next) => {
+            if !counted(count, 0) {
+                return Step::Rejected;
+            }
             let form = form_of(open.kind, state.form);
-            match close_body(
-                text,
-                text,
-                form,
-                open,
-                state.used,
-                bodies,
-                ranges,
-                parameters,
-            ) {
+            match close_body(text, text, form, open, used, bodies, ranges, parameters) {
                 Closed::Refused(n) => Step::Refuses(n),
                 Closed::Closed { u, v } => Step::Accepted {
                     state: closed_with(u, v, state),

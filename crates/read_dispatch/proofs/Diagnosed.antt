@@ -71,25 +71,25 @@ module _ (R : Rooms) (s : List ℕ) (p at : ℕ) {n : ℕ} (x : model.State) (c 
   roomless none y o e = l .roomless o y e
   roomless (some i) y o e = fine-fault e
 
-  found : (a : Refusal) → DiagnosisIs s p c (u .vp) a → a ≡ diagnosisOf (unless (r .bad) 2 (parseBefore k x (w .place) (r .words)))
+  found : (a : Refusal) → DiagnosisIs s p c (u .vertices .vp) a → a ≡ diagnosisOf (unless (r .bad) 2 (parseBefore k x (w .place) (r .words)))
   found a h =
       h x (b .holds .state) (l .given)
       ∙ ap diagnosisOf (words-before s p at x w (b .begins) ∙ ap (λ (z : Parsed Keyword). unless (r .bad) 2 (then z (λ k. parseBefore k x (w .place) (r .words)))) (b .keyword))
 
-  pub diagnosed : (a : Refusal) → DiagnosisIs s p c (u .vp) a → stops R s p x (stoppedBy (w .place) a)
+  pub diagnosed : (a : Refusal) → DiagnosisIs s p c (u .vertices .vp) a → stops R s p x (stoppedBy (w .place) a)
   diagnosed (Refused n q) h = faulted n q (r .bad) refl (refused-is _ n q (found (Refused n q) h))
   diagnosed Nothing h = let y = nothing-is _ (found Nothing h) in roomless (r .bad) (y .0) refl (y .1)
 
 -- ---- one that is refused, or not known
 module _ (R : Rooms) (s : List ℕ) (p at : ℕ) {n : ℕ} (x : model.State) (c : State) (t : Tables) (w : Word) (m j : ℕ) (h : Holds R s x c t n) (begins : restAt s p ≡ push w (restAt s at))
-    (keyword : keywordOf (statementOf (w .bytes)) (w .place) ≡ fault m j) (given : GivenIn (x .model .vertices .vp) (t .vp)) where
+    (keyword : keywordOf (statementOf (w .bytes)) (w .place) ≡ fault m j) (given : GivenIn (x .model .vertices .vp) (t .vertices .vp)) where
   line-is : lineSays R s p x ≡ unless ((restAt s at) .bad) 2 (fault m j)
   unfolding statement
   line-is =
       ap (λ (q : Rest). unless (q .bad) 2 (step R x (q .words))) begins
       ∙ ap (λ (q : Parsed Keyword). unless ((restAt s at) .bad) 2 (then q (λ k. then (parse k x (w .place) ((restAt s at) .words)) (λ t. must (fits R (apply t x)) 14 (w .place) (fine (apply t x)))))) keyword
 
-  found-there : (a : Refusal) → DiagnosisIs s p c (t .vp) a → a ≡ diagnosisOf {A = Statement} (unless ((restAt s at) .bad) 2 (fault m j))
+  found-there : (a : Refusal) → DiagnosisIs s p c (t .vertices .vp) a → a ≡ diagnosisOf {A = Statement} (unless ((restAt s at) .bad) 2 (fault m j))
   found-there a b =
       b x (h .state) given
       ∙ ap diagnosisOf (words-before s p at x w begins ∙ ap (λ (z : Parsed Keyword). unless ((restAt s at) .bad) 2 (then z (λ k. parseBefore k x (w .place) ((restAt s at) .words)))) keyword)
@@ -98,6 +98,6 @@ module _ (R : Rooms) (s : List ℕ) (p at : ℕ) {n : ℕ} (x : model.State) (c 
   never-fine none y e = fine-fault e
   never-fine (some i) y e = fine-fault e
 
-  pub unknown-diagnosed : (a : Refusal) → DiagnosisIs s p c (t .vp) a → (key : ℕ) → stops R s p x (stoppedBy key a)
+  pub unknown-diagnosed : (a : Refusal) → DiagnosisIs s p c (t .vertices .vp) a → (key : ℕ) → stops R s p x (stoppedBy key a)
   unknown-diagnosed (Refused n q) b key = line-is ∙ same-fault ((restAt s at) .bad) m j n q (refused-is _ n q (found-there (Refused n q) b))
   unknown-diagnosed Nothing b key = let y = nothing-is _ (found-there Nothing b) in never-fine ((restAt s at) .bad) (y .0) (y .1)

@@ -37,10 +37,12 @@ use Rattle.read_dispatch.specs.declared.LineResult as lines
 use Rattle.read_dispatch.specs.declared.LineResult.the-variants.{Next, Stopped}
 use Rattle.read_vertex_lines.specs.declared.Step.{Step}
 use Rattle.read_vertex_lines.specs.declared.Step.the-variants.{Accepted, Refuses, Rejected}
+use Rattle.read_vertex_lines.specs.Bounds.{InBounds}
 use Rattle.read_vertex_lines.specs.Holding.{Holds, WithinLimit}
 use Rattle.read_vertex_lines.specs.Stepping.{Began, stepIs}
 use Rattle.read_dispatch.specs.Taking.{keyIs, lineIs, familyIn, familyOf, familyIs, stoppedBy}
 use Rattle.read_vertex_lines.proofs.Given.{given-in}
+use Rattle.read_vertex_lines.proofs.Bounds as kept
 use Rattle.read_dispatch.proofs.Diagnosed.{stops, diagnosed, unknown-diagnosed}
 
 -- ---- a statement: the step of its keyword, or rejected
@@ -118,14 +120,17 @@ module _ (s : List ℕ) (at : ℕ) (k : keys.Key) (is : keyIs s at k) where
 
 -- ---- no keyword
 module _ (s : List ℕ) (p : ℕ) (c : State) (t : Tables) where
-  pub line-empty : {q : ℕ} → EndMet s p q → lineIs s p c t t (Next c q)
-  line-empty {q} m R n x l h = (
-    record {
-      after = x;
-      said = ap (λ (r : Rest). unless (r .bad) 2 (step R x (r .words))) (m .rest);
-      holds = record { state = h .state; image = h .image; wide = h .wide; room = h .room; bounded = later (let g : n ≤ n + (q - p) = omega arith in g) (h .bounded); body = h .body };
-    },
-    sym (ap (λ (r : Rest). r .next) (m .rest)),
+  pub line-empty : {q : ℕ} → InBounds s p c → EndMet s p q → lineIs s p c t t (Next c q)
+  line-empty {q} b m = (
+    kept.later b (m .to) (m .from),
+    λ R n x l h. (
+      record {
+        after = x;
+        said = ap (λ (r : Rest). unless (r .bad) 2 (step R x (r .words))) (m .rest);
+        holds = record { state = h .state; image = h .image; wide = h .wide; room = h .room; bounded = later (let g : n ≤ n + (q - p) = omega arith in g) (h .bounded); body = h .body };
+      },
+      sym (ap (λ (r : Rest). r .next) (m .rest)),
+    ),
   )
 
   pub line-bad : {q : ℕ} → BadMet s p q → lineIs s p c t t (Stopped 2 q)
@@ -133,13 +138,17 @@ module _ (s : List ℕ) (p : ℕ) (c : State) (t : Tables) where
 
 -- ---- a keyword at `key`
 module _ (s : List ℕ) (p key : ℕ) (kw : spelled.Keyword) (met : WordMet s p key) (found : kw ≡ keywordAt s key) where
-  pub keyword-to : kw .end ≤ length s
+  -- the words after it begin within the line
+  keyword-to : (p ≤ kw .end) × (kw .end ≤ length s)
   unfolding keywordAt
-  keyword-to = subst (λ (i : ℕ). i ≤ length s) (sym (ap (λ (q : spelled.Keyword). q .end) found)) (go (eqb (letterOf (statementOf (wordOf (drop key s)))) 32))
+  keyword-to = subst (λ (i : ℕ). (p ≤ i) × (i ≤ length s)) (sym (ap (λ (q : spelled.Keyword). q .end) found)) (go (eqb (letterOf (statementOf (wordOf (drop key s)))) 32))
     where
-      go : (b : Bool) → cond b key (endOf s key) ≤ length s
-      go true = (let x = met .more in let y = met .to in omega arith)
-      go false = met .to
+      go : (b : Bool) → (p ≤ cond b key (endOf s key)) × (cond b key (endOf s key) ≤ length s)
+      go true = (let x = met .more in let y = met .to in (met .from, omega arith))
+      go false = (let x = met .more in let y = met .from in (omega arith, met .to))
+
+  pub keyword-bounds : (c : State) → InBounds s p c → InBounds s (kw .end) c
+  keyword-bounds c b = let w = keyword-to in kept.later b (w .1) (w .0)
 
 module _ (s : List ℕ) (p key : ℕ) (c : State) (t u : Tables) (kw : spelled.Keyword) (f : Family) (r : Step) (met : WordMet s p key)
     (found : kw ≡ keywordAt s key) (family : f ≡ familyOf (kw .statement)) (done : familyIs f s (kw .end) c t u r) where
@@ -165,10 +174,14 @@ module _ (s : List ℕ) (p key : ℕ) (c : State) (t u : Tables) (kw : spelled.K
   began : (R : Rooms) (read : ℕ) (x : model.State) → WithinLimit s p read → Holds R s x c t read → (n : Keyword) → keywordOf k key ≡ fine n → Began R s p (endOf s key) read x c t w n
   began R read x few h n e = record { small = few; holds = h; begins = met .rest; keyword = e }
 
-  pub line-taken : (d : State) (q : ℕ) → r ≡ Accepted d q → lineIs s p c t u (Next d q)
-  line-taken d q e R read x few h =
+  pub line-taken : InBounds s p c → (d : State) (q : ℕ) → r ≡ Accepted d q → lineIs s p c t u (Next d q)
+  line-taken b d q e =
       ⊎-elim
-      (λ (n : Known s (endOf s key) c t u r k key). subst (stepIs s (endOf s key) (n .keyword) c t u) e (n .step) R p read x w (began R read x few h (n .keyword) (n .is)))
+      (λ (n : Known s (endOf s key) c t u r k key).
+      let taken : stepIs s (endOf s key) (n .keyword) c t u (Accepted d q) = subst (stepIs s (endOf s key) (n .keyword) c t u) e (n .step) in
+      let from = met .from in
+      let more = met .more in
+      (taken .0 p (omega arith) b, λ R read x few h. taken .1 R p read x w (began R read x few h (n .keyword) (n .is))))
       (λ (n : Strange t u r k key). absurd (let g = n .gave-up in let z : _≡_ {A = ℕ} 0 1 = cc in omega arith))
       here
 
@@ -183,7 +196,7 @@ module _ (s : List ℕ) (p key : ℕ) (c : State) (t u : Tables) (kw : spelled.K
   stopped-is (refusal.Refused n q) g = g
   stopped-is refusal.Nothing g = g
 
-  pub line-gave-up : r ≡ Rejected → (a : Refusal) → DiagnosisIs s p c (u .vp) a → (l : lines.LineResult) → l ≡ stoppedBy key a → lineIs s p c t u l
+  pub line-gave-up : r ≡ Rejected → (a : Refusal) → DiagnosisIs s p c (u .vertices .vp) a → (l : lines.LineResult) → l ≡ stoppedBy key a → lineIs s p c t u l
   line-gave-up e a b l is =
       subst (lineIs s p c t u) (sym is)
       (stopped-is a (λ R read x few h.
@@ -192,5 +205,5 @@ module _ (s : List ℕ) (p key : ℕ) (c : State) (t u : Tables) (kw : spelled.K
       let v = began R read x few h (n .keyword) (n .is) in
       diagnosed R s p (endOf s key) x c t u w (n .keyword) v (subst (stepIs s (endOf s key) (n .keyword) c t u) e (n .step) R p read x w v) a b)
       (λ (n : Strange t u r k key).
-      unknown-diagnosed R s p (endOf s key) x c t w (n .number) key h (met .rest) (n .is) (given-in R s x c t read h) a (subst (λ (y : Tables). DiagnosisIs s p c (y .vp) a) (n .kept) b) key)
+      unknown-diagnosed R s p (endOf s key) x c t w (n .number) key h (met .rest) (n .is) (given-in R s x c t read h) a (subst (λ (y : Tables). DiagnosisIs s p c (y .vertices .vp) a) (n .kept) b) key)
       here))

@@ -27,6 +27,7 @@ use Rattle.read_dispatch.specs.declared.LineResult as lines
 use Rattle.read_dispatch.specs.declared.LineResult.the-variants.{Next, Stopped}
 use Rattle.read_vertex_lines.specs.declared.Step.{Step}
 use Rattle.read_vertex_lines.specs.declared.Step.the-variants.{Rejected}
+use Rattle.read_vertex_lines.specs.Bounds.{InBounds}
 use Rattle.read_vertex_lines.specs.Holding.{Holds, lineSays, WithinLimit, NextLine}
 use Rattle.read_vertex_lines.specs.Stepping.{stepIs}
 
@@ -69,9 +70,11 @@ keyIs s at (key.End q) = EndMet s at q
 keyIs s at (key.Bad p) = BadMet s at p
 
 -- ---- a line
--- what the code finds in the line at `at`, after n bytes were read, in the state c with the tables t, which it leaves as u
+-- what the code finds in the line at `at`, after n bytes were read, in the state c with the tables t, which it leaves as u; the bounds are kept in whatever
+-- state it is taken
 abbrev pub lineIs : List ℕ → ℕ → State → Tables → Tables → lines.LineResult → Type 0
-lineIs s at c t u (Next d q) = (R : Rooms) (n : ℕ) (x : model.State) → WithinLimit s at n → Holds R s x c t n → NextLine R s at n x d u q × (q ≡ (restAt s at) .next)
+lineIs s at c t u (Next d q) =
+    InBounds s q d × ((R : Rooms) (n : ℕ) (x : model.State) → WithinLimit s at n → Holds R s x c t n → NextLine R s at n x d u q × (q ≡ (restAt s at) .next))
 lineIs s at c t u (Stopped i p) = (R : Rooms) (n : ℕ) (x : model.State) → WithinLimit s at n → Holds R s x c t n → lineSays R s at x ≡ fault i p
 
 -- one that was rejected: what was found wrong with it, or 14 at its keyword

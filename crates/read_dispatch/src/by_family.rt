@@ -10,10 +10,9 @@ use read_state::State;
 use read_vertex_lines::Step;
 use read_vertex_lines::vertex_line;
 ghost use mathlib.Core.Path.{_≡_};
-ghost use Prim.Native.Nat.{_≤_};
-ghost use lib.ListN.{length};
 ghost use Rattle.keywords.specs.Lookup.{argumentTable};
 ghost use Rattle.tables.specs.Tables.{tables};
+ghost use Rattle.read_vertex_lines.specs.Bounds.{InBounds};
 ghost use Rattle.read_dispatch.specs.Taking.{familyIs};
 
 // A line from just after its keyword on.
@@ -35,7 +34,7 @@ pub fn take_line(
     spans: &mut [i32],
     argument_table: &[u8; 108],
 ) -> Step
-    requires { ⌜ (at ≤ length (now text)) × (length (now text) ≤ 16777216) ⌝ }
+    requires { ⌜ InBounds (now text) at state ⌝ }
     requires { ⌜ now «argument_table» ≡ argumentTable ⌝ }
     ensures { λ r. ⌜ familyIs family (now (text .entry)) at state (tables (now (v .entry)) (now (vt .entry)) (now (vn .entry)) (now (vp .entry)) (now (corners .entry)) (now (elements .entry)) (now (bodies .entry)) (now (ranges .entry)) (now (parameters .entry)) (now (loops .entry)) (now (spans .entry))) (tables (now (v .exit)) (now (vt .exit)) (now (vn .exit)) (now (vp .exit)) (now (corners .exit)) (now (elements .exit)) (now (bodies .exit)) (now (ranges .exit)) (now (parameters .exit)) (now (loops .exit)) (now (spans .exit))) r ⌝ }
 {

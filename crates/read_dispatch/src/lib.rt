@@ -11,10 +11,11 @@ use read_state::State;
 use read_vertex_lines::Step;
 use read_word_checks::Refusal;
 ghost use mathlib.Core.Path.{_≡_};
-ghost use Prim.Native.Nat.{_≤_, _<_};
+ghost use Prim.Native.Nat.{_<_};
 ghost use lib.ListN.{length};
 ghost use Rattle.keywords.specs.Lookup.{keywordTable, argumentTable};
 ghost use Rattle.tables.specs.Tables.{tables};
+ghost use Rattle.read_vertex_lines.specs.Bounds.{InBounds};
 ghost use Rattle.read_dispatch.specs.Taking.{keyIs, lineIs, stoppedBy};
 
 pub enum LineResult {
@@ -58,7 +59,7 @@ pub fn line_with(
     keyword_table: &[u8; 528],
     argument_table: &[u8; 108],
 ) -> LineResult
-    requires { ⌜ (at < length (now text)) × (length (now text) ≤ 16777216) ⌝ }
+    requires { ⌜ (at < length (now text)) × InBounds (now text) at state ⌝ }
     requires { ⌜ keyIs (now text) at key ⌝ }
     requires { ⌜ now «keyword_table» ≡ keywordTable ⌝ }
     requires { ⌜ now «argument_table» ≡ argumentTable ⌝ }
@@ -137,7 +138,7 @@ pub fn line_at(
     keyword_table: &[u8; 528],
     argument_table: &[u8; 108],
 ) -> LineResult
-    requires { ⌜ (at < length (now text)) × (length (now text) ≤ 16777216) ⌝ }
+    requires { ⌜ (at < length (now text)) × InBounds (now text) at state ⌝ }
     requires { ⌜ now «keyword_table» ≡ keywordTable ⌝ }
     requires { ⌜ now «argument_table» ≡ argumentTable ⌝ }
     ensures { λ r. ⌜ lineIs (now (text .entry)) at state (tables (now (v .entry)) (now (vt .entry)) (now (vn .entry)) (now (vp .entry)) (now (corners .entry)) (now (elements .entry)) (now (bodies .entry)) (now (ranges .entry)) (now (parameters .entry)) (now (loops .entry)) (now (spans .entry))) (tables (now (v .exit)) (now (vt .exit)) (now (vn .exit)) (now (vp .exit)) (now (corners .exit)) (now (elements .exit)) (now (bodies .exit)) (now (ranges .exit)) (now (parameters .exit)) (now (loops .exit)) (now (spans .exit))) r ⌝ }

@@ -36,7 +36,7 @@ use Rattle.read_state.specs.Changed.{state, elementStored, rangeStored}
 use Rattle.read_state.proofs.Images.{body-image}
 use Rattle.read_state.specs.Bounds.{Bounded}
 use Rattle.read_state.proofs.Lines.{line-of, line-small}
-use Rattle.read_state.proofs.Rooms.{fits-parts, parts-fit}
+use Rattle.model.proofs.Rooms.{fits-parts, parts-fit}
 use Rattle.read_elements.specs.Elements.{elementNumbers}
 use Rattle.read_elements.specs.Bodies.{formInForce, controlsSaid, TakenBody, NoBody}
 use Rattle.read_elements.proofs.BodyLines.{full-count, of-body}
@@ -87,40 +87,40 @@ module _ (R : Rooms) (s : List ℕ) (p at : ℕ) {read : ℕ} (m : Model) (n : m
   bodies-used : c .used .bodies ≡ bodiesBefore m
   bodies-used = ap (λ (u : Used). u .bodies) (h .state .used) ∙ (let e : bodiesBefore m + 0 ≡ bodiesBefore m = omega arith in e)
 
-  bodies-lent : length (t .bodies) ≡ R .bodies
+  bodies-lent : length (t .bodies .bodies) ≡ R .bodies .bodies
   unfolding imageOf
   bodies-lent =
-      let r = fits-parts R x (h .room) .bodies in
+      let r = fits-parts R x (h .room) .bodies .bodies in
       let l = bodyRows-length 0 0 (bodiesOf (m .elements)) in
       let e = bodies-length (m .elements) in
-      ap (λ (a : Tables). length (a .bodies)) (h .image) ∙ length-filled (R .bodies) 0 (bodyRows 0 0 (bodiesOf (m .elements))) (omega arith)
+      ap (λ (a : Tables). length (a .bodies .bodies)) (h .image) ∙ length-filled (R .bodies .bodies) 0 (bodyRows 0 0 (bodiesOf (m .elements))) (omega arith)
 
-  ranges-are : t .ranges ≡ filled (R .ranges) (pos 0) (flat rangeRow (bodiesOf (m .elements)))
+  ranges-are : t .bodies .ranges ≡ filled (R .bodies .ranges) (pos 0) (flat rangeRow (bodiesOf (m .elements)))
   unfolding imageOf
-  ranges-are = ap (λ (a : Tables). a .ranges) (h .image) ∙ ap (λ (bs : List Body). filled (R .ranges) (pos 0) (flat rangeRow bs)) (append-nil (bodiesOf (m .elements)))
+  ranges-are = ap (λ (a : Tables). a .bodies .ranges) (h .image) ∙ ap (λ (bs : List Body). filled (R .bodies .ranges) (pos 0) (flat rangeRow bs)) (append-nil (bodiesOf (m .elements)))
 
-  ranges-lent : length (t .ranges) ≡ R .ranges
+  ranges-lent : length (t .bodies .ranges) ≡ R .bodies .ranges
   ranges-lent =
-      let r = fits-parts R x (h .room) .ranges in
+      let r = fits-parts R x (h .room) .bodies .ranges in
       let l = rangeRows-length (bodiesOf (m .elements)) in
       let e = bodies-length (m .elements) in
-      ap length ranges-are ∙ length-filled (R .ranges) (pos 0) (flat rangeRow (bodiesOf (m .elements))) (omega arith)
+      ap length ranges-are ∙ length-filled (R .bodies .ranges) (pos 0) (flat rangeRow (bodiesOf (m .elements))) (omega arith)
 
   -- room for one body more is room in four tables
   module _ (b : Body) (cs : List Corner) where
-    roomy : b .loops ≡ [] → 3 * cornersIn m + 3 * length cs ≤ R .corners → 9 * length (m .elements) + 9 ≤ R .elements → 9 * bodiesBefore m + 9 ≤ R .bodies → 4 * bodiesBefore m + 4 ≤ R .ranges
+    roomy : b .loops ≡ [] → 3 * cornersIn m + 3 * length cs ≤ R .elements .corners → 9 * length (m .elements) + 9 ≤ R .elements .elements → 9 * bodiesBefore m + 9 ≤ R .bodies .bodies → 4 * bodiesBefore m + 4 ≤ R .bodies .ranges
         → fits R (apply (body b cs) x) ≡ true
     roomy l q e i j =
         let v = fits-parts R x (h .room) in
         let o = no-parts b l in
         parts-fit R (apply (body b cs) x)
-        (record { v = v .v; vt = v .vt; vn = v .vn; vp = v .vp; corners = omega arith; elements = omega arith; bodies = omega arith; ranges = omega arith; parameters = v .parameters; loops = omega (arith, v .loops, o); spans = omega (arith, v .spans, o) })
+        (record { vertices = v .vertices; elements = omega arith; bodies = omega (arith, v .bodies, o) })
 
     tight : fits R (apply (body b cs) x) ≡ true
-        → (3 * cornersIn m + 3 * length cs ≤ R .corners) × (9 * length (m .elements) + 9 ≤ R .elements) × (9 * bodiesBefore m + 9 ≤ R .bodies) × (4 * bodiesBefore m + 4 ≤ R .ranges)
+        → (3 * cornersIn m + 3 * length cs ≤ R .elements .corners) × (9 * length (m .elements) + 9 ≤ R .elements .elements) × (9 * bodiesBefore m + 9 ≤ R .bodies .bodies) × (4 * bodiesBefore m + 4 ≤ R .bodies .ranges)
     tight y =
         let v = fits-parts R (apply (body b cs) x) y in
-        (omega (arith, v .corners), omega (arith, v .elements), omega (arith, v .bodies), omega (arith, v .ranges))
+        (omega (arith, v .elements .corners), omega (arith, v .elements .elements), omega (arith, v .bodies .bodies), omega (arith, v .bodies .ranges))
 
     used-after : (k : Free) (count : ℕ) → b .loops ≡ [] → count ≡ length cs → oneBody k count c .used ≡ usedIn (apply (body b cs) x)
     used-after k count l q =
@@ -135,7 +135,7 @@ module _ (R : Rooms) (s : List ℕ) (p at : ℕ) {read : ℕ} (m : Model) (n : m
 
   module _ (w : Word) (k : Free)
       (begins : restAt s p ≡ push w (restAt s at)) (keyword : keywordOf (statementOf (w .bytes)) (w .place) ≡ fine (a-body k)) where
-    pub body-next : (l g : List ℕ) (z : List ℤ) (count q : ℕ) → TakenBody k (c .used) (c .names) (c .form) (t .vp) s at (t .corners) l (t .elements) g (length (t .bodies)) (t .ranges) z count q
+    pub body-next : (l g : List ℕ) (z : List ℤ) (count q : ℕ) → TakenBody k (c .used) (c .names) (c .form) (t .vertices .vp) s at (t .elements .corners) l (t .elements .elements) g (length (t .bodies .bodies)) (t .bodies .ranges) z count q
         → NextLine R s p read x (oneBody k count c) (rangeStored z (elementStored l g t)) q × (q ≡ (restAt s p) .next)
     body-next l g z count q v =
         let cs : List Corner = v .found in
@@ -143,18 +143,18 @@ module _ (R : Rooms) (s : List ℕ) (p at : ℕ) {read : ℕ} (m : Model) (n : m
         let e : Element = record { kind = free b; corners = cs; names = n } in
         let bs : List Body = bodiesOf (m .elements) in
         let r = restAt s at in
-        let pv = taken-parse k x (c .used) (c .form) (t .vp) (h .state .used) (h .state .form) (given R s x c t read h) r (v .range) cs q refl (v .said) in
+        let pv = taken-parse k x (c .used) (c .form) (t .vertices .vp) (h .state .used) (h .state .form) (given R s x c t read h) r (v .range) cs q refl (v .said) in
         let parsed = pv .parsed (w .place) in
         let fresh = line-small (a-body k) x (w .place) (r .words) (body b cs) (line-of (a-body k) x (w .place) (r .words) (body b cs) parsed) .0 in
-        let o = of-body (formInForce k (c .form)) (numbersWalk (rangeWords k) r) (controlsSaid k (c .used) (t .vp)) (v .range) cs q (v .said) in
+        let o = of-body (formInForce k (c .form)) (numbersWalk (rangeWords k) r) (controlsSaid k (c .used) (t .vertices .vp)) (v .range) cs q (v .said) in
         let counted : length (v .range) ≡ rangeWords k = full-count (rangeWords k) (r .words) (r .bad) (r .next) (v .range) (o .rest) (o .walked) in
         let cu = corners-used R s m n f c t h in
         let eu = elements-used R s m n f c t h in
         let bu = bodies-used in
-        let cr : 3 * cornersIn m + 3 * length cs ≤ R .corners = (let a = v .corners-room in let d = v .counted in let i = corners-lent R s m n f c t h in omega arith) in
-        let er : 9 * length (m .elements) + 9 ≤ R .elements = (let a = v .elements-room in let i = elements-lent R s m n f c t h in omega arith) in
-        let br : 9 * bodiesBefore m + 9 ≤ R .bodies = (let a = v .bodies-room in let i = bodies-lent in omega arith) in
-        let rr : 4 * bodiesBefore m + 4 ≤ R .ranges = (let a = v .ranges-room in let i = ranges-lent in omega arith) in
+        let cr : 3 * cornersIn m + 3 * length cs ≤ R .elements .corners = (let a = v .corners-room in let d = v .counted in let i = corners-lent R s m n f c t h in omega arith) in
+        let er : 9 * length (m .elements) + 9 ≤ R .elements .elements = (let a = v .elements-room in let i = elements-lent R s m n f c t h in omega arith) in
+        let br : 9 * bodiesBefore m + 9 ≤ R .bodies .bodies = (let a = v .bodies-room in let i = bodies-lent in omega arith) in
+        let rr : 4 * bodiesBefore m + 4 ≤ R .bodies .ranges = (let a = v .ranges-room in let i = ranges-lent in omega arith) in
         let fit : fits R (apply (body b cs) x) ≡ true = roomy b cs (fresh .3) cr er br rr in
         let place : c .used .bodies ≡ length bs = bu ∙ sym (bodies-length (m .elements)) in
         let kind : freeNumber k ≡ freeNumber (b .free) = ap freeNumber (sym (free-is k f (v .range))) in
@@ -162,16 +162,16 @@ module _ (R : Rooms) (s : List ℕ) (p at : ℕ) {read : ℕ} (m : Model) (n : m
         ap₂ (λ (i j : ℕ). elementNumbers i j count (c .used .bodies + 1) (c .names)) kind cu
         ∙ ap₂ (λ (i j : ℕ). elementNumbers (freeNumber (b .free)) (3 * cornersIn m) i j (c .names)) (v .counted) (let d : c .used .bodies + 1 ≡ suc (bodiesBefore m) = omega arith in d)
         ∙ ap (λ (a : Names). elementNumbers (freeNumber (b .free)) (3 * cornersIn m) (length cs) (suc (bodiesBefore m)) a) (h .state .names) in
-        let l′ : l ≡ sets (imageOf R x .corners) (3 * cornersIn m) (flat cornerRow cs) =
-        v .corners-stored ∙ ap₂ (λ (a : List ℕ) (i : ℕ). sets a i (flat cornerRow cs)) (ap (λ (a : Tables). a .corners) (h .image)) cu in
-        let g′ : g ≡ sets (imageOf R x .elements) (9 * length (m .elements)) (elementRow (3 * cornersIn m) (bodiesBefore m) e) =
-        v .elements-stored ∙ ap₂ (λ (i : ℕ) (r : List ℕ). sets (t .elements) (9 * i) r) eu row ∙ ap (λ (a : Tables). sets (a .elements) (9 * length (m .elements)) (elementRow (3 * cornersIn m) (bodiesBefore m) e)) (h .image) in
-        let z′ : z ≡ filled (R .ranges) (pos 0) (flat rangeRow (bs ++ b ∷ [])) =
+        let l′ : l ≡ sets (imageOf R x .elements .corners) (3 * cornersIn m) (flat cornerRow cs) =
+        v .corners-stored ∙ ap₂ (λ (a : List ℕ) (i : ℕ). sets a i (flat cornerRow cs)) (ap (λ (a : Tables). a .elements .corners) (h .image)) cu in
+        let g′ : g ≡ sets (imageOf R x .elements .elements) (9 * length (m .elements)) (elementRow (3 * cornersIn m) (bodiesBefore m) e) =
+        v .elements-stored ∙ ap₂ (λ (i : ℕ) (r : List ℕ). sets (t .elements .elements) (9 * i) r) eu row ∙ ap (λ (a : Tables). sets (a .elements .elements) (9 * length (m .elements)) (elementRow (3 * cornersIn m) (bodiesBefore m) e)) (h .image) in
+        let z′ : z ≡ filled (R .bodies .ranges) (pos 0) (flat rangeRow (bs ++ b ∷ [])) =
         v .ranges-stored ∙ ap₂ (λ (a : List ℤ) (i : ℕ). sets a (4 * i) (v .range)) ranges-are place
-        ∙ range-kept (R .ranges) bs k f (v .range) counted (let d = bodies-length (m .elements) in omega arith) in
+        ∙ range-kept (R .bodies .ranges) bs k f (v .range) counted (let d = bodies-length (m .elements) in omega arith) in
         let im : rangeStored z (elementStored l g t) ≡ imageOf R (apply (body b cs) x) =
         ap₂ (λ (a b : List ℕ). rangeStored z (elementStored a b t)) l′ g′
-        ∙ ap (λ (a : Tables). rangeStored z (elementStored (sets (imageOf R x .corners) (3 * cornersIn m) (flat cornerRow cs)) (sets (imageOf R x .elements) (9 * length (m .elements)) (elementRow (3 * cornersIn m) (bodiesBefore m) e)) a)) (h .image)
+        ∙ ap (λ (a : Tables). rangeStored z (elementStored (sets (imageOf R x .elements .corners) (3 * cornersIn m) (flat cornerRow cs)) (sets (imageOf R x .elements .elements) (9 * length (m .elements)) (elementRow (3 * cornersIn m) (bodiesBefore m) e)) a)) (h .image)
         ∙ body-image R m n f b cs z (fresh .3) z′ cr er in (
           record {
             after = apply (body b cs) x;
@@ -194,10 +194,10 @@ module _ (R : Rooms) (s : List ℕ) (p at : ℕ) {read : ℕ} (m : Model) (n : m
           sym (next-is R s p at x w (a-body k) begins keyword ∙ pv .next),
         )
 
-    pub body-roomless : (l g : List ℕ) (z : List ℤ) → NoBody k (c .used) (c .form) (t .vp) s at (t .corners) l (t .elements) g (length (t .bodies)) (t .ranges) z → (restAt s at) .bad ≡ none
+    pub body-roomless : (l g : List ℕ) (z : List ℤ) → NoBody k (c .used) (c .form) (t .vertices .vp) s at (t .elements .corners) l (t .elements .elements) g (length (t .bodies .bodies)) (t .bodies .ranges) z → (restAt s at) .bad ≡ none
         → (u : Statement) → parse (a-body k) x (w .place) ((restAt s at) .words) ≡ fine u → lineSays R s p x ≡ fault 14 (w .place)
     body-roomless l g z v b u e =
-        let y = parse-said k x (c .used) (c .form) (t .vp) (h .state .used) (h .state .form) (given R s x c t read h) (restAt s at) (w .place) u b e in
+        let y = parse-said k x (c .used) (c .form) (t .vertices .vp) (h .state .used) (h .state .form) (given R s x c t read h) (restAt s at) (w .place) u b e in
         let cs : List Corner = y .corners in
         let short = v .short (y .range) cs ((restAt s at) .next) (y .said) in
         let cu = corners-used R s m n f c t h in

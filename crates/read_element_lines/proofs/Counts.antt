@@ -1,49 +1,107 @@
--- No count of a line that has begun passes 32 bits: each is within the bytes before it, and after it within the text.
+-- A line of an element or a body adds no more records than it has bytes, in whatever state it is taken: the bounds are kept.
 use Prim.Native.Nat.{ℕ, _≤_}
-use mathlib.Core.Path.{_≡_, ap}
+use mathlib.Core.Path.{_≡_, refl, sym, ap, _∙_}
 use mathlib.Core.List.{List}
-use mathlib.Core.Bool.{true, _&&_}
+use mathlib.Core.Option.{some}
 use native.Mathlib.Omega.{arith}
-use borrow.Author.Tests.{le-leb, leb-true}
-use lib.Dec.{leb}
-use Rattle.lists.proofs.Tests.{and-both, and-left, and-right}
-use Rattle.text.specs.Words.{Word}
-use Rattle.text.specs.Rest.{restAt}
-use Rattle.tables.specs.Tables.{Tables}
+use lib.ListN.{length, drop}
+use lib.IntN.{ℤ}
+use Rattle.text.specs.Rest.{Rest, restAt}
+use Rattle.references.specs.Corner.{Corner}
 use Rattle.tables.specs.declared.Used.{Used}
-use Rattle.model.specs.Model as model
-use Rattle.model.specs.Parse.{Keyword}
-use Rattle.model.specs.Room.{Rooms}
+use Rattle.model.specs.Model.{Free, start}
+use Rattle.model.specs.Parse.{rangeWords, a-number, seenIn}
+use Rattle.read_state.specs.declared.Form.{Form}
 use Rattle.read_state.specs.declared.State.{State}
-use Rattle.read_vertex_lines.specs.Holding.{NextLine}
-use Rattle.read_element_lines.specs.Counting.{countable}
-use Rattle.read_vertex_lines.specs.Stepping.{Began}
+use Rattle.read_state.specs.Numbers.{numbersWalk}
+use Rattle.read_elements.specs.Corners.{cornerSaid, cornersWalk}
+use Rattle.read_elements.specs.Elements.{elementSaid}
+use Rattle.read_elements.specs.Bodies.{ruleFor, formInForce, controlsSaid, bodySaid}
+use Rattle.read_elements.specs.declared.Rule.{Rule}
+use Rattle.read_elements.proofs.Taking.{of-enough}
+use Rattle.read_elements.proofs.Controls.{some-wide}
+use Rattle.read_elements.proofs.BodyLines.{of-body}
+use Rattle.read_elements.proofs.Values.{walked}
+use Rattle.read_elements.proofs.Ranges.{ranged}
+use Rattle.read_vertex_lines.specs.Bounds.{InBounds, Keeps}
+use Rattle.read_vertex_lines.proofs.Bounds.{extent, later, none-waiting}
+use Rattle.read_vertex_lines.specs.Stepping.{withUsed}
+use Rattle.read_element_lines.specs.Counting.{oneElement, oneBody}
 
-module _ {R : Rooms} {s : List ℕ} {p at read : ℕ} {x : model.State} {c : State} {t : Tables} {w : Word} {k : Keyword} (b : Began R s p at read x c t w k) where
-  pub counts-small : countable (c .used) ≡ true
-  counts-small =
-      let l = b .small in
-      let e = ap (λ (u : Used). u .corners) (b .holds .state .used) in
-      let f = ap (λ (u : Used). u .elements) (b .holds .state .used) in
-      let g = ap (λ (u : Used). u .bodies) (b .holds .state .used) in
-      let i = b .holds .bounded .corners in
-      let j = b .holds .bounded .elements in
-      let k = b .holds .bounded .bodies in
-      and-both (and-both (le-leb (c .used .corners) 50331648 (omega (arith, l, e, i))) (le-leb (c .used .elements) 16777216 (omega (arith, l, f, j)))) (le-leb (c .used .bodies) 16777216 (omega (arith, l, g, k)))
+-- ---- as many corners as words, of a body's line those after its range
+pub element-few : (u : Rule) (n : Used) (r : Rest) (cs : List Corner) (q : ℕ) → elementSaid u n r ≡ some (cs, q) → (r .next ≡ q) × (length cs ≤ length (r .words))
+element-few u n r cs q e =
+    let h = cornerSaid n (u .form) in
+    let w = walked h 0 (r .words) (r .bad) (r .next) cs q (of-enough (u .fewest) (cornersWalk h 0 r) cs q e .0) in
+    let same = w .counted in
+    (w .next, omega arith)
 
-  -- after the line there are no more corners than bytes were read
-  pub corners-within : {d : State} {u : Tables} {q : ℕ} → NextLine R s p read x d u q × (q ≡ (restAt s p) .next) → d .used .corners ≤ 50331648
-  corners-within n =
-      let e = ap (λ (u : Used). u .corners) (n .0 .holds .state .used) in
-      let i = n .0 .holds .bounded .corners in
-      let j = b .small in
-      let a = n .1 in
-      omega (arith, e, i, j, a)
+pub body-few : (k : Free) (n : Used) (f : Form) (vp : List ℤ) (r : Rest) (zs : List ℤ) (cs : List Corner) (q : ℕ) → bodySaid k n f vp r ≡ some (zs, (cs, q)) → (r .next ≡ q) × (length cs ≤ length (r .words))
+body-few k n f vp r zs cs q e =
+    let o = of-body (formInForce k f) (numbersWalk (rangeWords k) r) (controlsSaid k n vp) zs cs q e in
+    let c = element-few (ruleFor k) n (o .rest) cs q (some-wide k vp (elementSaid (ruleFor k) n (o .rest)) cs q (o .controls) .0) in
+    let g = ranged (seenIn start) (λ i. a-number) (rangeWords k) 0 (record { reads = λ j l h. refl }) (r .words) (r .bad) (r .next) zs (o .rest) (o .walked) in
+    let words : length ((o .rest) .words) ≡ length (drop (rangeWords k) (r .words)) = ap (λ (r : Rest). length (r .words)) (g .rest) in
+    let all = g .counted in
+    let few = c .1 in
+    (sym (ap (λ (r : Rest). r .next) (g .rest)) ∙ c .0, omega arith)
 
-pub countable-parts : (u : Used) → countable u ≡ true → (u .corners ≤ 50331648) × (u .elements ≤ 16777216) × (u .bodies ≤ 16777216)
-countable-parts u h =
-    let a = leb (u .corners) 50331648 in
-    let b = leb (u .elements) 16777216 in
-    let d = leb (u .bodies) 16777216 in
-    let ab = and-left (a && b) d h in
-    (leb-true (u .corners) 50331648 (and-left a b ab), leb-true (u .elements) 16777216 (and-right a b ab), leb-true (u .bodies) 16777216 (and-right (a && b) d h))
+-- ---- the line from `at` on, with n corners among its words
+module _ (s : List ℕ) (at q n : ℕ) (next : (restAt s at) .next ≡ q) (few : n ≤ length ((restAt s at) .words)) (c : State) where
+  -- the sums of the state after it fit their 32 bits
+  pub counts-fit : InBounds s at c → (n ≤ 16777216) × (c .used .corners ≤ 50331648) × (c .used .elements ≤ 16777216) × (c .used .bodies ≤ 16777216)
+  counts-fit b =
+      let e = extent s at n q (b .to) next few in
+      let ahead = e .0 in
+      let within = e .1 in
+      (omega arith, omega arith, omega arith, omega arith)
+
+  module _ (to : at ≤ length s) where
+    pub element-keeps : Keeps s at c (withUsed (oneElement n (c .used)) c) q
+    element-keeps p below b =
+        let e = extent s at n q to next few in
+        let ahead = e .0 in
+        let a = later b (e .1) (omega arith) in
+        record {
+          limit = a .limit;
+          to = a .to;
+          v = a .v;
+          vt = a .vt;
+          vn = a .vn;
+          vp = a .vp;
+          corners = omega arith;
+          elements = omega arith;
+          bodies = a .bodies;
+          parameters = a .parameters;
+          loops = a .loops;
+          curves-few = a .curves-few;
+          parts = a .parts;
+          u-parm = a .u-parm;
+          v-parm = a .v-parm;
+          body = a .body;
+        }
+
+    pub body-keeps : (k : Free) → Keeps s at c (oneBody k n c) q
+    body-keeps k p below b =
+        let e = extent s at n q to next few in
+        let ahead = e .0 in
+        let a = later b (e .1) (omega arith) in
+        let none = none-waiting s in
+        record {
+          limit = a .limit;
+          to = a .to;
+          v = a .v;
+          vt = a .vt;
+          vn = a .vn;
+          vp = a .vp;
+          corners = omega arith;
+          elements = omega arith;
+          bodies = omega arith;
+          parameters = omega arith;
+          loops = a .loops;
+          curves-few = a .curves-few;
+          parts = omega arith;
+          u-parm = omega arith;
+          v-parm = omega arith;
+          body = λ z. omega arith;
+        }

@@ -32,7 +32,7 @@ use Rattle.model.proofs.Rows.{summed-append, cornerRows-length, elementRows-len
 use Rattle.read_state.specs.Changed.{state, elementStored}
 use Rattle.read_state.proofs.Images.{element-image}
 use Rattle.read_state.specs.Bounds.{Bounded}
-use Rattle.read_state.proofs.Rooms.{fits-parts, parts-fit}
+use Rattle.model.proofs.Rooms.{fits-parts, parts-fit}
 use Rattle.read_elements.specs.Elements.{ruleOf, elementNumbers, TakenElement, NoElement}
 use Rattle.read_elements.specs.Corners.{cornerSaid, cornersWalk}
 use Rattle.read_elements.proofs.Parse.{taken-parse, parse-said}
@@ -62,21 +62,21 @@ module _ (R : Rooms) (s : List ℕ) {read : ℕ} (m : Model) (n : model.Names) (
   pub elements-used : c .used .elements ≡ length (m .elements)
   elements-used = ap (λ (u : Used). u .elements) (h .state .used) ∙ (let e : length (m .elements) + 0 ≡ length (m .elements) = omega arith in e)
 
-  pub corners-lent : length (t .corners) ≡ R .corners
+  pub corners-lent : length (t .elements .corners) ≡ R .elements .corners
   unfolding imageOf
   corners-lent =
-      let r = fits-parts R (state m n f none) (h .room) .corners in
+      let r = fits-parts R (state m n f none) (h .room) .elements .corners in
       let l = cornerRows-length (m .elements ++ []) in
       let e : summed (λ e. length (e .corners)) (m .elements ++ []) ≡ cornersIn m + 0 = summed-append (λ e. length (e .corners)) (m .elements) [] in
-      ap (λ (a : Tables). length (a .corners)) (h .image) ∙ length-filled (R .corners) 0 (flat cornerRows (m .elements ++ [])) (omega arith)
+      ap (λ (a : Tables). length (a .elements .corners)) (h .image) ∙ length-filled (R .elements .corners) 0 (flat cornerRows (m .elements ++ [])) (omega arith)
 
-  pub elements-lent : length (t .elements) ≡ R .elements
+  pub elements-lent : length (t .elements .elements) ≡ R .elements .elements
   unfolding imageOf
   elements-lent =
-      let r = fits-parts R (state m n f none) (h .room) .elements in
+      let r = fits-parts R (state m n f none) (h .room) .elements .elements in
       let l = elementRows-length 0 0 (m .elements ++ []) in
       let e : length (m .elements ++ []) ≡ length (m .elements) + 0 = length-append (m .elements) [] in
-      ap (λ (a : Tables). length (a .elements)) (h .image) ∙ length-filled (R .elements) 0 (elementRows 0 0 (m .elements ++ [])) (omega arith)
+      ap (λ (a : Tables). length (a .elements .elements)) (h .image) ∙ length-filled (R .elements .elements) 0 (elementRows 0 0 (m .elements ++ [])) (omega arith)
 
 module _ (R : Rooms) (s : List ℕ) (p at : ℕ) (m : Model) (n : model.Names) (f : model.Form) (c : State) (t : Tables) where
   abbrev x : model.State
@@ -98,7 +98,7 @@ module _ (R : Rooms) (s : List ℕ) (p at : ℕ) (m : Model) (n : model.Names) (
       longer : length (m .elements ++ e ∷ []) ≡ length (m .elements) + 1
       longer = length-append (m .elements) (e ∷ [])
 
-      roomy : 3 * cornersIn m + 3 * length cs ≤ R .corners → 9 * length (m .elements) + 9 ≤ R .elements → fits R (apply (element k cs) x) ≡ true
+      roomy : 3 * cornersIn m + 3 * length cs ≤ R .elements .corners → 9 * length (m .elements) + 9 ≤ R .elements .elements → fits R (apply (element k cs) x) ≡ true
       roomy a b =
           let v = fits-parts R x (h .room) in
           let i = sums in
@@ -107,14 +107,14 @@ module _ (R : Rooms) (s : List ℕ) (p at : ℕ) (m : Model) (n : model.Names) (
           let o = kinds partCount in
           let l = longer in
           parts-fit R (apply (element k cs) x)
-          (record { v = v .v; vt = v .vt; vn = v .vn; vp = v .vp; corners = omega arith; elements = omega arith; bodies = omega (arith, v .bodies); ranges = omega (arith, v .ranges); parameters = omega (arith, v .parameters); loops = omega (arith, v .loops); spans = omega (arith, v .spans) })
+          (record { vertices = v .vertices; elements = omega arith; bodies = omega (arith, v .bodies) })
 
-      tight : fits R (apply (element k cs) x) ≡ true → (3 * cornersIn m + 3 * length cs ≤ R .corners) × (9 * length (m .elements) + 9 ≤ R .elements)
+      tight : fits R (apply (element k cs) x) ≡ true → (3 * cornersIn m + 3 * length cs ≤ R .elements .corners) × (9 * length (m .elements) + 9 ≤ R .elements .elements)
       tight y =
           let v = fits-parts R (apply (element k cs) x) y in
           let i = sums in
           let l = longer in
-          (omega (arith, v .corners), omega (arith, v .elements))
+          (omega (arith, v .elements .corners), omega (arith, v .elements .elements))
 
       used-after : (count : ℕ) → count ≡ length cs → oneElement count (c .used) ≡ usedIn (apply (element k cs) x)
       used-after count q =
@@ -137,24 +137,24 @@ module _ (R : Rooms) (s : List ℕ) (p at : ℕ) (m : Model) (n : model.Names) (
     curves-same cs [] = refl
     curves-same cs (y ∷ es) = ap (λ (i : ℕ). mathlib.Core.Bool.cond (model.isCurve2 (y .kind)) (suc i) i) (curves-same cs es)
 
-    pub element-next : (l g : List ℕ) (count q : ℕ) → TakenElement (ruleOf k) 0 (c .used) (c .names) s at (t .corners) l (t .elements) g count q
+    pub element-next : (l g : List ℕ) (count q : ℕ) → TakenElement (ruleOf k) 0 (c .used) (c .names) s at (t .elements .corners) l (t .elements .elements) g count q
         → NextLine R s p read x (withUsed (oneElement count (c .used)) c) (elementStored l g t) q × (q ≡ (restAt s p) .next)
     element-next l g count q v =
         let cs : List Corner = v .found in
         let pv = taken-parse k x (c .used) (restAt s at) cs q (h .state .used) refl (v .said) in
         let some-corners : 0 < count = (let a = of-enough (fewest k) (cornersWalk (cornerSaid (c .used) (ruleOf k .form)) 0 (restAt s at)) cs q (v .said) .1 in let b = v .counted in let d = one-or-more k in omega arith) in
-        let cr : 3 * cornersIn m + 3 * length cs ≤ R .corners = (let a = v .corners-room some-corners in let b = v .counted in let d = corners-used R s m n f c t h in let i = corners-lent R s m n f c t h in omega arith) in
-        let er : 9 * length (m .elements) + 9 ≤ R .elements = (let a = v .elements-room in let d = elements-used R s m n f c t h in let i = elements-lent R s m n f c t h in omega arith) in
+        let cr : 3 * cornersIn m + 3 * length cs ≤ R .elements .corners = (let a = v .corners-room some-corners in let b = v .counted in let d = corners-used R s m n f c t h in let i = corners-lent R s m n f c t h in omega arith) in
+        let er : 9 * length (m .elements) + 9 ≤ R .elements .elements = (let a = v .elements-room in let d = elements-used R s m n f c t h in let i = elements-lent R s m n f c t h in omega arith) in
         let fit : fits R (apply (element k cs) x) ≡ true = roomy cs cr er in
         let row : elementNumbers (shapeNumber k) (c .used .corners) count 0 (c .names) ≡ elementRow (3 * cornersIn m) (bodiesBefore m) (record { kind = plain k; corners = cs; names = n }) =
         ap₂ (λ (i j : ℕ). elementNumbers (shapeNumber k) i j 0 (c .names)) (corners-used R s m n f c t h) (v .counted) ∙ ap (λ (a : Names). elementNumbers (shapeNumber k) (3 * cornersIn m) (length cs) 0 a) (h .state .names) in
-        let l′ : l ≡ sets (imageOf R x .corners) (3 * cornersIn m) (flat cornerRow cs) =
-        v .corners-stored ∙ ap₂ (λ (a : List ℕ) (i : ℕ). sets a i (flat cornerRow cs)) (ap (λ (a : Tables). a .corners) (h .image)) (corners-used R s m n f c t h) in
-        let g′ : g ≡ sets (imageOf R x .elements) (9 * length (m .elements)) (elementRow (3 * cornersIn m) (bodiesBefore m) (record { kind = plain k; corners = cs; names = n })) =
-        v .elements-stored ∙ ap₂ (λ (i : ℕ) (r : List ℕ). sets (t .elements) (9 * i) r) (elements-used R s m n f c t h) row ∙ ap (λ (a : Tables). sets (a .elements) (9 * length (m .elements)) (elementRow (3 * cornersIn m) (bodiesBefore m) (record { kind = plain k; corners = cs; names = n }))) (h .image) in
+        let l′ : l ≡ sets (imageOf R x .elements .corners) (3 * cornersIn m) (flat cornerRow cs) =
+        v .corners-stored ∙ ap₂ (λ (a : List ℕ) (i : ℕ). sets a i (flat cornerRow cs)) (ap (λ (a : Tables). a .elements .corners) (h .image)) (corners-used R s m n f c t h) in
+        let g′ : g ≡ sets (imageOf R x .elements .elements) (9 * length (m .elements)) (elementRow (3 * cornersIn m) (bodiesBefore m) (record { kind = plain k; corners = cs; names = n })) =
+        v .elements-stored ∙ ap₂ (λ (i : ℕ) (r : List ℕ). sets (t .elements .elements) (9 * i) r) (elements-used R s m n f c t h) row ∙ ap (λ (a : Tables). sets (a .elements .elements) (9 * length (m .elements)) (elementRow (3 * cornersIn m) (bodiesBefore m) (record { kind = plain k; corners = cs; names = n }))) (h .image) in
         let im : elementStored l g t ≡ imageOf R (apply (element k cs) x) =
         ap₂ (λ (a b : List ℕ). elementStored a b t) l′ g′
-        ∙ ap (λ (a : Tables). elementStored (sets (imageOf R x .corners) (3 * cornersIn m) (flat cornerRow cs)) (sets (imageOf R x .elements) (9 * length (m .elements)) (elementRow (3 * cornersIn m) (bodiesBefore m) (record { kind = plain k; corners = cs; names = n }))) a) (h .image)
+        ∙ ap (λ (a : Tables). elementStored (sets (imageOf R x .elements .corners) (3 * cornersIn m) (flat cornerRow cs)) (sets (imageOf R x .elements .elements) (9 * length (m .elements)) (elementRow (3 * cornersIn m) (bodiesBefore m) (record { kind = plain k; corners = cs; names = n }))) a) (h .image)
         ∙ element-image R m n f k cs cr er in (
           record {
             after = apply (element k cs) x;
@@ -171,7 +171,7 @@ module _ (R : Rooms) (s : List ℕ) (p at : ℕ) (m : Model) (n : model.Names) (
           sym (next-is R s p at x w (an-element k) begins keyword ∙ pv .next),
         )
 
-    pub element-roomless : (l g : List ℕ) → NoElement (ruleOf k) (c .used) s at (t .corners) l (t .elements) g → (restAt s at) .bad ≡ none
+    pub element-roomless : (l g : List ℕ) → NoElement (ruleOf k) (c .used) s at (t .elements .corners) l (t .elements .elements) g → (restAt s at) .bad ≡ none
         → (u : Statement) → parse (an-element k) x (w .place) ((restAt s at) .words) ≡ fine u → lineSays R s p x ≡ fault 14 (w .place)
     element-roomless l g v b u e =
         let y = parse-said k x (c .used) (restAt s at) (w .place) u (h .state .used) b e in

@@ -1,6 +1,7 @@
 pub mod Elements
 pub mod Bodies
 pub mod Counts
+pub mod SettingEnds
 pub mod SteppedElements
 pub mod SteppedBodies
 pub mod Settings

@@ -1,15 +1,9 @@
--- The counts of a state: whether an element more keeps them within 32 bits, and an element or a body counted.
+-- The counts of a state with an element or a body more.
 use Prim.Native.Nat.{ℕ, _+_, _*_}
-use mathlib.Core.Bool.{Bool, _&&_}
-use lib.Dec.{leb}
 use Rattle.tables.specs.declared.Used.{Used}
 use Rattle.model.specs.Model.{Free}
 use Rattle.model.specs.Layout.{freeNumber}
 use Rattle.read_state.specs.declared.State.{State}
-
--- a text has no more corners, elements and bodies than bytes, "16,777,216" at the most, and a corner is three numbers
-abbrev pub countable : Used → Bool
-countable u = leb (u .corners) 50331648 && leb (u .elements) 16777216 && leb (u .bodies) 16777216
 
 -- one element more, of so many corners
 abbrev pub oneElement : ℕ → Used → Used

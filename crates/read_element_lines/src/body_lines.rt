@@ -1,27 +1,19 @@
 // The lines of curv, curv2 and surf. The record of their body is stored at its end.
-use crate::element_lines::countable;
 use crate::element_lines::one_element;
 use read_elements::Element;
 use read_state::Open;
 use read_state::State;
+use read_state::kind_of;
 use read_vertex_lines::Step;
 use statements::Free;
+use statements::rows::body_rules;
+use statements::rules::allowed;
 ghost use mathlib.Core.Path.{_≡_};
 ghost use Prim.Native.Nat.{_≤_};
-ghost use lib.ListN.{length};
-ghost use Rattle.model.specs.Layout.{freeNumber};
 ghost use Rattle.read_element_lines.specs.Counting.{oneBody};
+ghost use Rattle.read_vertex_lines.specs.Bounds.{InBounds};
+ghost use Rattle.tables.specs.ElementTables.{elementTables};
 ghost use Rattle.read_vertex_lines.specs.Stepping.{bodyStep};
-
-fn kind_of(free: Free) -> u32
-    ensures { λ r. ⌜ r ≡ freeNumber free ⌝ }
-{
-    match free {
-        Free::Curve => 4,
-        Free::Curve2 => 5,
-        Free::Surface => 6,
-    }
-}
 
 fn one_body(free: Free, count: u32, state: State) -> State
     requires { ⌜ (count ≤ 16777216) × (state .used .corners ≤ 50331648) × (state .used .elements ≤ 16777216) × (state .used .bodies ≤ 16777216) ⌝ }
@@ -54,17 +46,16 @@ pub fn body_line(
     bodies: usize,
     ranges: &mut [i32],
 ) -> Step
-    requires { ⌜ (at ≤ length (now text)) × (length (now text) ≤ 16777216) ⌝ }
-    ensures { λ r. ⌜ bodyStep free (now (text .entry)) at state (now (vp .entry)) (now (corners .entry)) (now (corners .exit)) (now (elements .entry)) (now (elements .exit)) bodies (now (ranges .entry)) (now (ranges .exit)) r ⌝ }
+    requires { ⌜ InBounds (now text) at state ⌝ }
+    ensures { λ r. ⌜ bodyStep free (now (text .entry)) at state (now (vp .entry)) (elementTables (now (corners .entry)) (now (elements .entry))) (elementTables (now (corners .exit)) (now (elements .exit))) bodies (now (ranges .entry)) (now (ranges .exit)) r ⌝ }
 {
     let open = state.open;
-    if open.kind != 0 {
+    let rules = body_rules(free);
+    let standing = rules.standing;
+    if !allowed(standing, open.kind, false) {
         return Step::Rejected;
     }
     let used = state.used;
-    if !countable(used) {
-        return Step::Rejected;
-    }
     match read_elements::body::take_body_line(
         text,
         at,
@@ -79,14 +70,9 @@ pub fn body_line(
         ranges,
     ) {
         Element::Rejected => Step::Rejected,
-        Element::Accepted { count, next } => {
-            if 16_777_216 < count {
-                return Step::Rejected;
-            }
-            Step::Accepted {
-                state: one_body(free, count, state),
-                next: next,
-            }
-        }
+        Element::Accepted { count, next } => Step::Accepted {
+            state: one_body(free, count, state),
+            next: next,
+        },
     }
 }

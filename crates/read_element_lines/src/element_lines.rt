@@ -4,25 +4,15 @@ use read_state::State;
 use read_vertex_lines::Step;
 use read_vertex_lines::with_used;
 use statements::Shape;
+use statements::rows::element_rules;
+use statements::rules::allowed;
 use tables::Used;
 ghost use mathlib.Core.Path.{_≡_};
 ghost use Prim.Native.Nat.{_≤_};
-ghost use lib.ListN.{length};
-ghost use Rattle.read_element_lines.specs.Counting.{countable, oneElement};
+ghost use Rattle.read_element_lines.specs.Counting.{oneElement};
+ghost use Rattle.read_vertex_lines.specs.Bounds.{InBounds};
+ghost use Rattle.tables.specs.ElementTables.{elementTables};
 ghost use Rattle.read_vertex_lines.specs.Stepping.{elementStep};
-
-// Whether the counts leave room for an element more within 32 bits.
-pub fn countable(used: Used) -> bool
-    ensures { λ r. ⌜ r ≡ countable used ⌝ }
-{
-    if 50_331_648 < used.corners {
-        return false;
-    }
-    if 16_777_216 < used.elements {
-        return false;
-    }
-    used.bodies <= 16_777_216
-}
 
 pub fn one_element(count: u32, used: Used) -> Used
     requires { ⌜ (count ≤ 16777216) × (used .corners ≤ 50331648) × (used .elements ≤ 16777216) ⌝ }
@@ -43,27 +33,21 @@ pub fn element_line(
     corners: &mut [u32],
     elements: &mut [u32],
 ) -> Step
-    requires { ⌜ (at ≤ length (now text)) × (length (now text) ≤ 16777216) ⌝ }
-    ensures { λ r. ⌜ elementStep shape (now (text .entry)) at state (now (corners .entry)) (now (corners .exit)) (now (elements .entry)) (now (elements .exit)) r ⌝ }
+    requires { ⌜ InBounds (now text) at state ⌝ }
+    ensures { λ r. ⌜ elementStep shape (now (text .entry)) at state (elementTables (now (corners .entry)) (now (elements .entry))) (elementTables (now (corners .exit)) (now (elements .exit))) r ⌝ }
 {
     let open = state.open;
-    if open.kind != 0 {
+    let rules = element_rules(shape);
+    let standing = rules.standing;
+    if !allowed(standing, open.kind, false) {
         return Step::Rejected;
     }
     let used = state.used;
-    if !countable(used) {
-        return Step::Rejected;
-    }
     match read_elements::take_element(text, at, shape, used, state.names, corners, elements) {
         Element::Rejected => Step::Rejected,
-        Element::Accepted { count, next } => {
-            if 16_777_216 < count {
-                return Step::Rejected;
-            }
-            Step::Accepted {
-                state: with_used(one_element(count, used), state),
-                next: next,
-            }
-        }
+        Element::Accepted { count, next } => Step::Accepted {
+            state: with_used(one_element(count, used), state),
+            next: next,
+        },
     }
 }

@@ -3,12 +3,21 @@ use read_settings::TakenForm;
 use read_settings::TakenNames;
 use read_state::State;
 use read_vertex_lines::Step;
+use statements::rows::degree_rules;
+use statements::rows::group_rules;
+use statements::rows::material_rules;
+use statements::rows::passed_rules;
+use statements::rows::smoothing_rules;
+use statements::rows::type_rules;
+use statements::rules::Rules;
+use statements::rules::allowed;
 use text::Scan;
 ghost use mathlib.Core.Path.{_≡_};
 ghost use Prim.Native.Nat.{_≤_};
 ghost use lib.ListN.{length};
 ghost use Rattle.keywords.specs.Lookup.{argumentTable};
-ghost use Rattle.model.specs.Parse.{over};
+ghost use Rattle.model.specs.Parse.{over, rulesOf};
+ghost use Rattle.read_vertex_lines.specs.Bounds.{InBounds};
 ghost use Rattle.read_vertex_lines.specs.Stepping.{quietStep};
 ghost use Rattle.read_element_lines.specs.InForce.{formStep, namesStep, settingOf};
 
@@ -19,6 +28,20 @@ pub enum Setting {
     Smoothing,
     Material,
     PassedOver,
+}
+
+// The row of rules of a setting.
+fn rules_for(setting: Setting) -> Rules
+    ensures { λ r. ⌜ r ≡ rulesOf (settingOf setting) ⌝ }
+{
+    match setting {
+        Setting::BodyType => type_rules(),
+        Setting::Degree => degree_rules(),
+        Setting::Group => group_rules(),
+        Setting::Smoothing => smoothing_rules(),
+        Setting::Material => material_rules(),
+        Setting::PassedOver => passed_rules(),
+    }
 }
 
 fn form_step(state: State, taken: TakenForm) -> Step
@@ -66,7 +89,7 @@ fn passed_line(text: &[u8], at: usize, state: State) -> Step
     }
 }
 
-// A setting's line, from just after its keyword on; a body lets none of them in.
+// A setting's line, from just after its keyword on.
 pub fn setting_line(
     setting: Setting,
     text: &[u8],
@@ -74,12 +97,14 @@ pub fn setting_line(
     state: State,
     argument_table: &[u8; 108],
 ) -> Step
-    requires { ⌜ (at ≤ length (now text)) × (length (now text) ≤ 16777216) ⌝ }
+    requires { ⌜ InBounds (now text) at state ⌝ }
     requires { ⌜ now «argument_table» ≡ argumentTable ⌝ }
     ensures { λ r. ⌜ quietStep (settingOf setting) (now (text .entry)) at state r ⌝ }
 {
     let open = state.open;
-    if open.kind != 0 {
+    let rules = rules_for(setting);
+    let standing = rules.standing;
+    if !allowed(standing, open.kind, false) {
         return Step::Rejected;
     }
     let form = state.form;

@@ -18,7 +18,10 @@ use Rattle.read_state.specs.declared.Names.{Names}
 use Rattle.read_state.specs.declared.Form.{Form}
 use Rattle.read_state.specs.Numbers.{Walk, ended, full, stuck, numbersWalk}
 use Rattle.model.specs.Model as model
-use Rattle.model.specs.Parse.{rangeWords, fewestControls}
+use Rattle.statements.specs.declared.rules.WordForm.{WordForm}
+use Rattle.statements.specs.declared.rules.WordForm.the-variants as form
+use Rattle.tables.specs.Bodies.{basisNumber, cardinal}
+use Rattle.model.specs.Parse.{rangeWords, fewestControls, controlForm}
 use Rattle.model.specs.Layout.{cornerRow, freeNumber}
 use Rattle.read_elements.specs.Corners.{CornersFound}
 use Rattle.read_elements.specs.Elements.{elementSaid, elementNumbers}
@@ -28,23 +31,34 @@ use Rattle.read_elements.specs.declared.Rule.{Rule}
 use Rattle.read_elements.specs.declared.Element.{Element}
 use Rattle.read_elements.specs.declared.Element.the-variants.{Accepted, Rejected}
 
--- "p and curv are v; .. f and surf are v, v/vt, v//vn or v/vt/vn"; a curv2's controls are vp numbers
+-- the form of a control, as its statement's row says it
+abbrev pub cornerForm : WordForm → CornerForm
+cornerForm form.Number = Parameter
+cornerForm (form.Corner p) = Vertex (p .vt) (p .vn)
+cornerForm form.Control = Parameter
+cornerForm form.Curve = Parameter
+cornerForm form.Direction = Parameter
+cornerForm form.Type = Parameter
+cornerForm form.Rational = Parameter
+cornerForm form.Degree = Parameter
+cornerForm form.Smoothing = Parameter
+cornerForm form.Name = Parameter
+cornerForm form.Anything = Parameter
+
 abbrev pub controlsOf : model.Free → CornerForm
-controlsOf model.curve = Vertex false false
-controlsOf model.curve2 = Parameter
-controlsOf model.surface = Vertex true true
+controlsOf k = cornerForm (controlForm k)
 
 abbrev pub ruleFor : model.Free → Rule
 ruleFor k = record { kind = freeNumber k; fewest = fewestControls k; form = controlsOf k }
 
--- ---- 11: "Cardinal needs no deg"; the number of no type is 0, of cardinal 3
+-- ---- 11: "Cardinal needs no deg"; the number of no type is 0
 abbrev pub degreesIn : model.Free → Form → Bool
 degreesIn model.curve f = leb 1 (f .«degree_u»)
 degreesIn model.curve2 f = leb 1 (f .«degree_u»)
 degreesIn model.surface f = leb 1 (f .«degree_u») && leb 1 (f .«degree_v»)
 
 abbrev pub formInForce : model.Free → Form → Bool
-formInForce k f = cond (eqb (f .basis) 0) false (cond (eqb (f .basis) 3) true (degreesIn k f))
+formInForce k f = cond (eqb (f .basis) 0) false (cond (eqb (f .basis) (basisNumber cardinal)) true (degreesIn k f))
 
 -- ---- 12: "A curv2 control must have at least two coordinates given": the record of a vp, four numbers, begins with how many were given
 abbrev pub wideAt : List ℤ → ℕ → Bool

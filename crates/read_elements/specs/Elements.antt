@@ -38,7 +38,7 @@ elementSaid u n r = atLeast (u .fewest) (cornersWalk (cornerSaid n (u .form)) 0 
 -- "An element holds kind, corners, smoothing, and the place and length of its group run and material in the text."
 abbrev pub elementNumbers : ℕ → ℕ → ℕ → ℕ → Names → List ℕ
 elementNumbers kind first count body a =
-    kind ∷ first ∷ count ∷ body ∷ a .smoothing ∷ a .«group_place» ∷ a .«group_length» ∷ a .«material_place» ∷ a .«material_length» ∷ []
+    kind ∷ first ∷ count ∷ body ∷ a .smoothing ∷ a .group .place ∷ a .group .length ∷ a .material .place ∷ a .material .length ∷ []
 
 -- ---- the corner table held l and then holds m; the elements' held e and then holds f; body is the number of the element's body, 0 for none
 pub record TakenElement (u : Rule) (body : ℕ) (n : Used) (a : Names) (s : List ℕ) (at : ℕ) (l m e f : List ℕ) (count next : ℕ) : Type 0 where

@@ -7,43 +7,61 @@ use read_state::Form;
 use read_state::Names;
 use read_vertices::Numbers;
 use statements::Free;
+use statements::rules::WordForm;
+use statements::rules::control_form;
 use statements::rules::fewest_controls;
 use statements::rules::range_words;
 use tables::Used;
+use tables::bases;
+use tables::kinds;
 use tables::vertices::given_at;
 ghost use mathlib.Core.Path.{_≡_};
 ghost use mathlib.Core.Bool.{_&&_};
 ghost use Prim.Native.Nat.{_+_, _*_, _≤_, _<_};
 ghost use lib.Dec.{leb};
 ghost use lib.ListN.{length, drop};
-ghost use Rattle.read_elements.specs.Bodies.{ruleFor, degreesIn, formInForce, wideAt, wides, widesFor, controlsAre, bodyIs};
+ghost use Rattle.model.specs.Layout.{freeNumber};
+ghost use Rattle.read_elements.specs.Bodies.{cornerForm, ruleFor, degreesIn, formInForce, wideAt, wides, widesFor, controlsAre, bodyIs};
+
+fn free_number(free: Free) -> u32
+    ensures { λ r. ⌜ r ≡ freeNumber free ⌝ }
+{
+    match free {
+        Free::Curve => kinds::CURVE,
+        Free::Curve2 => kinds::CURVE2,
+        Free::Surface => kinds::SURFACE,
+    }
+}
+
+// A control's form in the row of its statement, as the loop over corners takes it: a corner with the parts allowed, or a vp number.
+fn corner_form(form: WordForm) -> CornerForm
+    ensures { λ r. ⌜ r ≡ cornerForm form ⌝ }
+{
+    match form {
+        WordForm::Corner(parts) => CornerForm::Vertex {
+            texture: parts.vt,
+            normal: parts.vn,
+        },
+        WordForm::Control => CornerForm::Parameter,
+        WordForm::Number => CornerForm::Parameter,
+        WordForm::Curve => CornerForm::Parameter,
+        WordForm::Direction => CornerForm::Parameter,
+        WordForm::Type => CornerForm::Parameter,
+        WordForm::Rational => CornerForm::Parameter,
+        WordForm::Degree => CornerForm::Parameter,
+        WordForm::Smoothing => CornerForm::Parameter,
+        WordForm::Name => CornerForm::Parameter,
+        WordForm::Anything => CornerForm::Parameter,
+    }
+}
 
 fn rule_for(free: Free) -> Rule
     ensures { λ r. ⌜ r ≡ ruleFor free ⌝ }
 {
-    let fewest = fewest_controls(free);
-    match free {
-        Free::Curve => Rule {
-            kind: 4,
-            fewest: fewest,
-            form: CornerForm::Vertex {
-                texture: false,
-                normal: false,
-            },
-        },
-        Free::Curve2 => Rule {
-            kind: 5,
-            fewest: fewest,
-            form: CornerForm::Parameter,
-        },
-        Free::Surface => Rule {
-            kind: 6,
-            fewest: fewest,
-            form: CornerForm::Vertex {
-                texture: true,
-                normal: true,
-            },
-        },
+    Rule {
+        kind: free_number(free),
+        fewest: fewest_controls(free),
+        form: corner_form(control_form(free)),
     }
 }
 
@@ -67,7 +85,7 @@ fn in_force(free: Free, form: Form) -> bool
     if form.basis == 0 {
         return false;
     }
-    if form.basis == 3 {
+    if form.basis == bases::CARDINAL {
         return true;
     }
     degrees_in(free, form)

@@ -8,6 +8,7 @@ use statements::Shape;
 use statements::rules::corner_parts;
 use statements::rules::fewest_corners;
 use tables::Used;
+use tables::kinds;
 use text::AfterBlanks;
 ghost use mathlib.Core.Path.{_≡_};
 ghost use mathlib.Core.Bool.{cond};
@@ -152,9 +153,9 @@ fn shape_number(shape: Shape) -> u32
     ensures { λ r. ⌜ r ≡ shapeNumber shape ⌝ }
 {
     match shape {
-        Shape::Point => 1,
-        Shape::Line => 2,
-        Shape::Face => 3,
+        Shape::Point => kinds::POINT,
+        Shape::Line => kinds::LINE,
+        Shape::Face => kinds::FACE,
     }
 }
 
@@ -192,10 +193,10 @@ fn put_element(
         count,
         body,
         names.smoothing,
-        names.group_place,
-        names.group_length,
-        names.material_place,
-        names.material_length,
+        names.group.place,
+        names.group.length,
+        names.material.place,
+        names.material.length,
     )
 }
 

@@ -1,13 +1,14 @@
 -- Tables cleared before the lines and after a refusal: what the lines come to with them.
 use Prim.Native.Nat.{ℕ}
 use mathlib.Core.Path.{_≡_, sym, ap, _∙_, subst}
-use mathlib.Core.List.{List}
-use lib.ListN.{length, length-replicate}
+use mathlib.Core.List.{List, []}
+use lib.ListN.{length, replicate, length-replicate}
 use lib.IntN.{pos}
+use Rattle.lists.specs.Lists.{filled}
 use Rattle.tables.specs.Tables.{Tables, zeros}
 use Rattle.tables.specs.declared.Used.{Used}
 use Rattle.tables.proofs.Filled.{replicate-filled}
-use Rattle.table_store.proofs.Clearing.{tables-eq}
+use Rattle.tables.proofs.Groups.{vertex-tables-eq, element-tables-eq, body-tables-eq, tables-eq, vertex-rooms-eq, element-rooms-eq, body-rooms-eq}
 use Rattle.model.specs.Model.{start}
 use Rattle.model.specs.Room.{Rooms}
 use Rattle.model.specs.Read.{Answer, read, refused}
@@ -16,22 +17,36 @@ use Rattle.read_lines.specs.declared.ReadResult.{ReadResult}
 use Rattle.read_lines.specs.declared.ReadResult.the-variants.{Read, Refused}
 use Rattle.read_lines.specs.Answered.{readAnswer, roomsOf, answered}
 use Rattle.read_lines.specs.Lines.{Blank, linesRead, linesIs}
-use Rattle.read_lines.proofs.Loop.{rooms-eq}
+use Rattle.model.proofs.Rooms.{rooms-eq}
 
 -- ---- cleared tables
+blank : {A : Type 0} (l : List A) (z : A) → replicate (length l) z ≡ filled (length l) z []
+blank l z = replicate-filled (length l) z
+
+as-long : {A : Type 0} (l : List A) (z : A) → length (replicate (length l) z) ≡ length l
+as-long l z = length-replicate (length l) z
+
 module _ (t : Tables) where
   pub zeros-nothing : zeros t ≡ tablesOf (roomsOf t) (start .model)
   unfolding tablesOf
   zeros-nothing =
-      tables-eq (replicate-filled (length (t .v)) (pos 0)) (replicate-filled (length (t .vt)) (pos 0)) (replicate-filled (length (t .vn)) (pos 0)) (replicate-filled (length (t .vp)) (pos 0))
-      (replicate-filled (length (t .corners)) 0) (replicate-filled (length (t .elements)) 0) (replicate-filled (length (t .bodies)) 0)
-      (replicate-filled (length (t .ranges)) (pos 0)) (replicate-filled (length (t .parameters)) (pos 0)) (replicate-filled (length (t .loops)) 0) (replicate-filled (length (t .spans)) (pos 0))
+      let v = t .vertices in
+      let e = t .elements in
+      let b = t .bodies in
+      tables-eq
+      (vertex-tables-eq (blank (v .v) (pos 0)) (blank (v .vt) (pos 0)) (blank (v .vn) (pos 0)) (blank (v .vp) (pos 0)))
+      (element-tables-eq (blank (e .corners) 0) (blank (e .elements) 0))
+      (body-tables-eq (blank (b .bodies) 0) (blank (b .ranges) (pos 0)) (blank (b .parameters) (pos 0)) (blank (b .loops) 0) (blank (b .spans) (pos 0)))
 
   pub zeros-rooms : roomsOf (zeros t) ≡ roomsOf t
   zeros-rooms =
-      rooms-eq (length-replicate (length (t .v)) (pos 0)) (length-replicate (length (t .vt)) (pos 0)) (length-replicate (length (t .vn)) (pos 0)) (length-replicate (length (t .vp)) (pos 0))
-      (length-replicate (length (t .corners)) 0) (length-replicate (length (t .elements)) 0) (length-replicate (length (t .bodies)) 0)
-      (length-replicate (length (t .ranges)) (pos 0)) (length-replicate (length (t .parameters)) (pos 0)) (length-replicate (length (t .loops)) 0) (length-replicate (length (t .spans)) (pos 0))
+      let v = t .vertices in
+      let e = t .elements in
+      let b = t .bodies in
+      rooms-eq
+      (vertex-rooms-eq (as-long (v .v) (pos 0)) (as-long (v .vt) (pos 0)) (as-long (v .vn) (pos 0)) (as-long (v .vp) (pos 0)))
+      (element-rooms-eq (as-long (e .corners) 0) (as-long (e .elements) 0))
+      (body-rooms-eq (as-long (b .bodies) 0) (as-long (b .ranges) (pos 0)) (as-long (b .parameters) (pos 0)) (as-long (b .loops) 0) (as-long (b .spans) (pos 0)))
 
   pub cleared-blank : (u : Tables) → u ≡ zeros t → Blank u
   cleared-blank u e = e ∙ zeros-nothing ∙ ap (λ (R : Rooms). tablesOf R (start .model)) (sym (ap roomsOf e ∙ zeros-rooms))

@@ -21,10 +21,12 @@ use Rattle.read_state.specs.declared.State.{State}
 use Rattle.read_state.specs.State.{usedIn}
 use Rattle.read_state.specs.Image.{imageOf}
 use Rattle.model.proofs.Rows.{bodies-length, bodies-summed}
-use Rattle.read_state.proofs.Rooms.{parts-fit}
+use Rattle.model.proofs.Rooms.{parts-fit}
 use Rattle.read_lines.specs.Answered.{readAnswer, roomsOf, answered}
+use Rattle.read_vertex_lines.specs.Bounds.{InBounds}
 use Rattle.read_vertex_lines.specs.Holding.{Holds, lineSays, WithinLimit}
 use Rattle.read_vertex_lines.proofs.Opened.{no-body, some-body}
+use Rattle.read_vertex_lines.proofs.Bounds.{none-waiting}
 use Rattle.read_lines.specs.declared.ReadResult.the-variants.{Read}
 use Rattle.read_dispatch.specs.Taking.{lineIs}
 use Rattle.read_lines.specs.Lines.{begin}
@@ -38,7 +40,7 @@ begins R s =
       state = record { used = refl; curves = refl; names = refl; form = refl; open-body = refl };
       image = refl;
       wide = record { rows = λ k. rows k; counts = tt };
-      room = parts-fit R start (record { v = omega arith; vt = omega arith; vn = omega arith; vp = omega arith; corners = omega arith; elements = omega arith; bodies = omega arith; ranges = omega arith; parameters = omega arith; loops = omega arith; spans = omega arith });
+      room = parts-fit R start (record { vertices = omega arith; elements = omega arith; bodies = omega arith });
       bounded = record { v = omega arith; vt = omega arith; vn = omega arith; vp = omega arith; corners = omega arith; elements = omega arith; bodies = omega arith; parameters = omega arith; parts = omega arith };
       body = tt;
     }
@@ -51,14 +53,35 @@ begins R s =
 
 -- ---- between lines
 pub record Going (R : Rooms) (s : List ℕ) (c : State) (t : Tables) (at : ℕ) : Type 0 where
-  pub limit : length s ≤ 16777216
-  pub to : at ≤ length s
+  pub bounds : InBounds s at c
   pub now : model.State
   pub holds : Holds R s now c t at
   pub same : readLines R (length s) (linesAt s 0) start ≡ readLines R (length s) (linesAt s at) now
 
 pub going-start : (R : Rooms) (s : List ℕ) → length s ≤ 16777216 → Going R s begin (tablesOf R (start .model)) 0
-going-start R s l = record { limit = l; to = omega arith; now = start; holds = begins R s; same = refl }
+going-start R s l = record { bounds = in-bounds; now = start; holds = begins R s; same = refl }
+  where
+    in-bounds : InBounds s 0 begin
+    in-bounds =
+        let none = none-waiting s in
+        record {
+          limit = l;
+          to = omega arith;
+          v = omega arith;
+          vt = omega arith;
+          vn = omega arith;
+          vp = omega arith;
+          corners = omega arith;
+          elements = omega arith;
+          bodies = omega arith;
+          parameters = omega arith;
+          loops = omega arith;
+          curves-few = omega arith;
+          parts = omega arith;
+          u-parm = omega arith;
+          v-parm = omega arith;
+          body = λ some. absurd (some refl);
+        }
 
 -- the line at `at` is the first of those left
 on : (R : Rooms) (s : List ℕ) (at : ℕ) (x : model.State) → at < length s
@@ -72,21 +95,20 @@ module _ (R : Rooms) (s : List ℕ) (c : State) (t : Tables) (at : ℕ) (go : Go
   few =
       let a = next-ahead s at h in
       let b = next-to s at (let g : at ≤ length s = omega arith in g) .1 in
-      let l = go .limit in
+      let l = go .bounds .limit in
       omega arith
 
   pub going-on : (u : Tables) (d : State) (q : ℕ) → lineIs s at c t u (Next d q) → (Going R s d u q) × (at < q)
   going-on u d q l =
-      let m = l R at (go .now) few (go .holds) in
+      let m = l .1 R at (go .now) few (go .holds) in
       let n = m .0 in
       let e : q ≡ (restAt s at) .next = m .1 in
       let a = next-ahead s at h in
-      let b = next-to s at (let g : at ≤ length s = omega arith in g) in
       let f : readLines R (length s) (linesAt s at) (go .now) ≡ readLines R (length s) (linesAt s q) (n .after) =
       on R s at (go .now) h ∙ ap (λ p. onParsed p (readLines R (length s) (linesAt s ((restAt s at) .next)))) (n .said) ∙ ap (λ (k : ℕ). readLines R (length s) (linesAt s k) (n .after)) (sym e) in
       let on : at < q = omega arith in
       let there : at + (q - at) ≡ q = omega arith in
-      (record { limit = go .limit; to = (let g : q ≤ length s = (let z = b .1 in omega arith) in g); now = n .after; holds = subst (Holds R s (n .after) d u) there (n .holds); same = go .same ∙ f }, on)
+      (record { bounds = l .0; now = n .after; holds = subst (Holds R s (n .after) d u) there (n .holds); same = go .same ∙ f }, on)
 
   pub going-stops : (u : Tables) (n p : ℕ) → lineIs s at c t u (Stopped n p) → readLines R (length s) (linesAt s 0) start ≡ refused n p
   going-stops u n p l =

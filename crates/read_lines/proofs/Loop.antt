@@ -29,7 +29,7 @@ module _ (s : List ℕ) (t u : Tables) (c : State) (at : ℕ) (r : Reached s t u
     pub reached-next : (d : State) (q : ℕ) → a ≡ Next d q → roomsOf y ≡ roomsOf u → Reached s t y d q × (length s - q < length s - at)
     reached-next d q e k =
         let g = going-on (roomsOf t) s c u at (r .going) h y d q (subst (lineIs s at c u y) e is) in
-        let to = g .0 .to in
+        let to = g .0 .bounds .to in
         let on = g .1 in (
           record { going = g .0; lengths = k ∙ r .lengths },
           (let z : length s - q < length s - at = omega arith in z),
@@ -44,9 +44,3 @@ module _ (s : List ℕ) (t u : Tables) (c : State) (at : ℕ) (r : Reached s t u
 
     pub reached-end : c .«open» .kind ≡ 0 → linesIs s t u (Read (c .used))
     reached-end z = going-read t s c u at (r .going) h z
-
-pub rooms-eq : {v v′ vt vt′ vn vn′ vp vp′ corners corners′ elements elements′ bodies bodies′ ranges ranges′ parameters parameters′ loops loops′ spans spans′ : ℕ}
-    → v ≡ v′ → vt ≡ vt′ → vn ≡ vn′ → vp ≡ vp′ → corners ≡ corners′ → elements ≡ elements′ → bodies ≡ bodies′ → ranges ≡ ranges′ → parameters ≡ parameters′ → loops ≡ loops′ → spans ≡ spans′
-    → _≡_ {A = Rooms} (record { v = v; vt = vt; vn = vn; vp = vp; corners = corners; elements = elements; bodies = bodies; ranges = ranges; parameters = parameters; loops = loops; spans = spans })
-    (record { v = v′; vt = vt′; vn = vn′; vp = vp′; corners = corners′; elements = elements′; bodies = bodies′; ranges = ranges′; parameters = parameters′; loops = loops′; spans = spans′ })
-rooms-eq v vt vn vp corners elements bodies ranges parameters loops spans = cc

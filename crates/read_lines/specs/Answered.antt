@@ -1,7 +1,9 @@
 -- Must be believed: a promise reaches every definition of this file.
 -- An answer and what every lent table holds with it.
 use Prim.Native.Nat.{ℕ}
-use lib.ListN.{length}
+use Rattle.tables.specs.VertexTables.{vertexLengths}
+use Rattle.tables.specs.ElementTables.{elementLengths}
+use Rattle.tables.specs.BodyTables.{bodyLengths}
 use Rattle.tables.specs.Tables.{Tables, zeros}
 use Rattle.tables.specs.declared.Used.{Used}
 use Rattle.model.specs.Room.{Rooms}
@@ -12,20 +14,7 @@ use Rattle.read_lines.specs.declared.ReadResult.the-variants.{Read, Refu
 
 -- "14 is given exactly when the entries needed pass the lent length"
 abbrev pub roomsOf : Tables → Rooms
-roomsOf t =
-    record {
-      v = length (t .v);
-      vt = length (t .vt);
-      vn = length (t .vn);
-      vp = length (t .vp);
-      corners = length (t .corners);
-      elements = length (t .elements);
-      bodies = length (t .bodies);
-      ranges = length (t .ranges);
-      parameters = length (t .parameters);
-      loops = length (t .loops);
-      spans = length (t .spans);
-    }
+roomsOf t = record { vertices = vertexLengths (t .vertices); elements = elementLengths (t .elements); bodies = bodyLengths (t .bodies) }
 
 -- "Any answer that is an enum has a definition that gives this paper's number and values for each of the enum's cases": the number of refusal, 0 where
 -- the text is read, its place, and the counts

@@ -18,7 +18,7 @@ begin =
     record {
       used = record { v = 0; vt = 0; vn = 0; vp = 0; corners = 0; elements = 0; bodies = 0; parameters = 0; loops = 0 };
       curves = 0;
-      names = record { «group_place» = 0; «group_length» = 0; «material_place» = 0; «material_length» = 0; smoothing = 0 };
+      names = record { group = record { place = 0; length = 0 }; material = record { place = 0; length = 0 }; smoothing = 0 };
       form = record { basis = 0; rational = 0; «degree_u» = 0; «degree_v» = 0 };
       «open» = record { kind = 0; controls = 0; parts = 0; «u_at» = 0; «v_at» = 0 };
     }

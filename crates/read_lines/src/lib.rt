@@ -6,6 +6,7 @@ use read_state::Names;
 use read_state::Open;
 use read_state::State;
 use table_store::clear;
+use tables::NameRun;
 use tables::Used;
 ghost use mathlib.Core.Path.{_≡_};
 ghost use Prim.Native.Nat.{_≤_, _<_};
@@ -38,10 +39,14 @@ fn begin() -> State
         },
         curves: 0,
         names: Names {
-            group_place: 0,
-            group_length: 0,
-            material_place: 0,
-            material_length: 0,
+            group: NameRun {
+                place: 0,
+                length: 0,
+            },
+            material: NameRun {
+                place: 0,
+                length: 0,
+            },
             smoothing: 0,
         },
         form: Form {

@@ -34,7 +34,7 @@ pub record Held (r : Rooms) (m : Model) (o : Option Open) : Type 0 where
   pub spans : 2 * loopPartCount (counting m o) ≤ r .spans
 
 pub held-start : Held noRoom (start .model) none
-held-start = record { v = omega arith; vt = omega arith; vn = omega arith; vp = omega arith; corners = omega arith; elements = omega arith; bodies = omega arith; ranges = omega arith; parameters = omega arith; loops = omega arith; spans = omega arith }
+held-start = omega arith
 
 -- what a statement takes
 pub record ElementTakes (cs : List Corner) (r : Rooms) : Type 0 where
@@ -74,7 +74,7 @@ sum-more f xs x = summed-append f xs (x ∷ []) ∙ (let q : summed f xs + (f x 
 module _ (r q : Rooms) where
   -- nothing added
   pub held-more : (m : Model) (o : Option Open) → Held r m o → Held (both r q) m o
-  held-more m o h = record { v = omega arith; vt = omega arith; vn = omega arith; vp = omega arith; corners = omega arith; elements = omega arith; bodies = omega arith; ranges = omega arith; parameters = omega arith; loops = omega arith; spans = omega arith }
+  held-more m o h = omega arith
 
   module _ (m : Model) (n : Names) (f : Form) where
     abbrev at : Option Open → State
@@ -84,10 +84,10 @@ module _ (r q : Rooms) where
     es = m .elements
 
     pub held-after : (t : Statement) (o : Option Open) → takes t q → Held r m o → Held (both r q) (apply t (at o) .model) (apply t (at o) .open-body)
-    held-after (vertex geometric z) o w h = let e = one-more (m .vertices .v) z in record { v = omega arith; vt = omega arith; vn = omega arith; vp = omega arith; corners = omega arith; elements = omega arith; bodies = omega arith; ranges = omega arith; parameters = omega arith; loops = omega arith; spans = omega arith }
-    held-after (vertex texture z) o w h = let e = one-more (m .vertices .vt) z in record { v = omega arith; vt = omega arith; vn = omega arith; vp = omega arith; corners = omega arith; elements = omega arith; bodies = omega arith; ranges = omega arith; parameters = omega arith; loops = omega arith; spans = omega arith }
-    held-after (vertex normal z) o w h = let e = one-more (m .vertices .vn) z in record { v = omega arith; vt = omega arith; vn = omega arith; vp = omega arith; corners = omega arith; elements = omega arith; bodies = omega arith; ranges = omega arith; parameters = omega arith; loops = omega arith; spans = omega arith }
-    held-after (vertex parametric z) o w h = let e = one-more (m .vertices .vp) z in record { v = omega arith; vt = omega arith; vn = omega arith; vp = omega arith; corners = omega arith; elements = omega arith; bodies = omega arith; ranges = omega arith; parameters = omega arith; loops = omega arith; spans = omega arith }
+    held-after (vertex geometric z) o w h = let e = one-more (m .vertices .v) z in omega arith
+    held-after (vertex texture z) o w h = let e = one-more (m .vertices .vt) z in omega arith
+    held-after (vertex normal z) o w h = let e = one-more (m .vertices .vn) z in omega arith
+    held-after (vertex parametric z) o w h = let e = one-more (m .vertices .vp) z in omega arith
     held-after (element k cs) o w h =
         let e : Element = record { kind = plain k; corners = cs; names = n } in
         let c = sum-more (λ e. length (e .corners)) es e in
@@ -95,7 +95,7 @@ module _ (r q : Rooms) where
         let j = sum-more (λ e. ofKind (λ b. 1) (e .kind)) es e in
         let p = sum-more (λ e. ofKind (λ b. length (b .us) + length (b .vs)) (e .kind)) es e in
         let u = sum-more (λ e. ofKind partCount (e .kind)) es e in
-        record { v = omega arith; vt = omega arith; vn = omega arith; vp = omega arith; corners = omega arith; elements = omega arith; bodies = omega arith; ranges = omega arith; parameters = omega arith; loops = omega arith; spans = omega arith }
+        omega arith
     held-after (group ws) o w h = held-more m o h
     held-after (smoothing k) o w h = held-more m o h
     held-after (material y) o w h = held-more m o h
@@ -107,16 +107,16 @@ module _ (r q : Rooms) where
         let g : partCount b ≡ 0 = ap (summed (λ l. length (l .parts))) (w .1 .no-loops) in
         let e = w .0 in
         let y = w .1 in
-        record { v = omega arith; vt = omega arith; vn = omega arith; vp = omega arith; corners = omega arith; elements = omega arith; bodies = omega arith; ranges = omega arith; parameters = omega arith; loops = omega arith; spans = omega arith }
+        omega arith
     held-after (parameters d z) none w h = held-more m none h
-    held-after (parameters along-u z) (some o) w h = record { v = omega arith; vt = omega arith; vn = omega arith; vp = omega arith; corners = omega arith; elements = omega arith; bodies = omega arith; ranges = omega arith; parameters = omega arith; loops = omega arith; spans = omega arith }
-    held-after (parameters along-v z) (some o) w h = record { v = omega arith; vt = omega arith; vn = omega arith; vp = omega arith; corners = omega arith; elements = omega arith; bodies = omega arith; ranges = omega arith; parameters = omega arith; loops = omega arith; spans = omega arith }
+    held-after (parameters along-u z) (some o) w h = omega arith
+    held-after (parameters along-v z) (some o) w h = omega arith
     held-after (loop l) none w h = held-more m none h
     held-after (loop l) (some o) w h =
         let e : partCount (withLoop l (o .body)) ≡ partCount (o .body) + length (l .parts) = sum-more (λ l. length (l .parts)) (o .body .loops) l in
         let a = w .0 in
         let b = w .1 in
-        record { v = omega arith; vt = omega arith; vn = omega arith; vp = omega arith; corners = omega arith; elements = omega arith; bodies = omega arith; ranges = omega arith; parameters = omega arith; loops = omega arith; spans = omega arith }
+        omega arith
     held-after end none w h = held-more m none h
     held-after end (some o) w h =
         let e : Element = closed o in
@@ -128,5 +128,5 @@ module _ (r q : Rooms) where
         let us : length (settled (o .body .free) (o .body) .us) ≡ length (o .body .us) = ap length (settled-us (o .body) (o .body .free)) in
         let vs : length (settled (o .body .free) (o .body) .vs) ≡ length (o .body .vs) = ap length (settled-vs (o .body) (o .body .free)) in
         let ps : partCount (settled (o .body .free) (o .body)) ≡ partCount (o .body) = ap (summed (λ l. length (l .parts))) (settled-loops (o .body) (o .body .free)) in
-        record { v = omega arith; vt = omega arith; vn = omega arith; vp = omega arith; corners = omega arith; elements = omega arith; bodies = omega arith; ranges = omega arith; parameters = omega arith; loops = omega arith; spans = omega arith }
+        omega arith
     held-after passed o w h = held-more m o h

@@ -20,7 +20,7 @@ use Rattle.model.specs.Parse.{Parsed, fine, fault, then, unless, parse}
 use Rattle.model.specs.Room as lent
 use Rattle.model.specs.Room.{needed, fits}
 use Rattle.model.specs.Read.{keywordOf, statement, step, Answer, read, refused, finish, onParsed, readLines, readOf}
-use Rattle.read_state.proofs.Rooms.{Within, within-parts, parts-fit}
+use Rattle.model.proofs.Rooms.{Within, within-parts, parts-fit}
 use Rattle.read_lines.specs.declared.ReadResult.the-variants.{Refused}
 use Rattle.reader.specs.Reading.{roomsOf, answered, readInto}
 use Rattle.read_rooms.specs.declared.Rooms.{Rooms}
@@ -46,7 +46,7 @@ finish-short n (some o) m = refl
 
 module _ (R : lent.Rooms) where
   held-within : (r q : Rooms) (x : State) → Held r (x .model) (x .open-body) → Within (lengthsOf (both r q)) R → Within (needed x) R
-  held-within r q x h w = record { v = omega arith; vt = omega arith; vn = omega arith; vp = omega arith; corners = omega arith; elements = omega arith; bodies = omega arith; ranges = omega arith; parameters = omega arith; loops = omega arith; spans = omega arith }
+  held-within r q x h w = record { vertices = omega arith; elements = omega arith; bodies = omega arith }
 
   module _ (n : ℕ) where
     -- one line, and by it the lines after it

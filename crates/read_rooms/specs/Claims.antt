@@ -19,17 +19,9 @@ use Rattle.read_rooms.specs.Rooms.{roomsOfText}
 abbrev pub lengthsOf : Rooms → lent.Rooms
 lengthsOf r =
     record {
-      v = r .v;
-      vt = r .vt;
-      vn = r .vn;
-      vp = r .vp;
-      corners = r .corners;
-      elements = r .elements;
-      bodies = r .bodies;
-      ranges = r .ranges;
-      parameters = r .parameters;
-      loops = r .loops;
-      spans = r .spans;
+      vertices = record { v = r .v; vt = r .vt; vn = r .vn; vp = r .vp };
+      elements = record { corners = r .corners; elements = r .elements };
+      bodies = record { bodies = r .bodies; ranges = r .ranges; parameters = r .parameters; loops = r .loops; spans = r .spans };
     }
 
 -- all entries of all tables

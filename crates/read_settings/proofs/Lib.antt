@@ -1,3 +1,3 @@
 pub mod Lines
-pub mod Groups
+pub mod Runs
 pub mod Parses

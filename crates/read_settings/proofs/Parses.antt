@@ -18,19 +18,23 @@ use Rattle.digits.specs.Degree.{degreeOf, smoothingOf, nameOf}
 use Rattle.keywords.specs.Arguments.{argumentOf}
 use Rattle.keywords.specs.declared.Argument.{Argument}
 use Rattle.keywords.specs.declared.Argument.the-variants.{Rational, BasisMatrix, Bezier, Bspline, Cardinal, Taylor, DirectionU, DirectionV, Off, Other}
+use Rattle.tables.specs.declared.NameRun.{NameRun}
+use Rattle.model.specs.Layout.{runOf}
 use Rattle.model.specs.Model as model
 use Rattle.model.specs.Statements as statements
 use Rattle.model.specs.Parse as parse
 use Rattle.model.specs.Parse.{Parsed, fine, fault, then, cstype, deg, g, s, usemtl, valuesOf, Value, Seen, a-name, placed, namesOf, parse, seenIn}
 use Rattle.model.specs.Standing.{outsideBody}
 use Rattle.statements.specs.declared.rules.Count.the-variants.{Within}
-use Rattle.statements.specs.Rules.{countedBy}
+use Rattle.statements.specs.Rules.{countedBy, rulesOf}
 use Rattle.read_state.specs.State.{formIn, namesIn}
 use Rattle.read_state.specs.declared.Form.{Form}
 use Rattle.read_state.specs.declared.Names.{Names}
 use Rattle.read_settings.specs.declared.TakenForm.the-variants as form
 use Rattle.read_settings.specs.declared.TakenNames.the-variants as names
-use Rattle.read_settings.specs.Steps.{onSaid, formTaken, namesTaken, isName, isRational, typeWords, firstDegree, typeTaken, degreeTaken, smoothingTaken, materialTaken, groupTaken, withMaterial}
+use Rattle.read_settings.specs.declared.words.NamesRead.the-variants as read
+use Rattle.read_settings.specs.Words.{onFine, onSaid, isName}
+use Rattle.read_settings.specs.Steps.{formTaken, namesTaken, typeTaken, degreeTaken, smoothingTaken, namedBy, withMaterial, materialTaken, groupTaken}
 
 and-false : (b : Bool) → (b && false) ≡ false
 and-false true = refl
@@ -41,10 +45,6 @@ two-most n = rw (lt-leb (suc (suc (suc n))) 2 (omega arith)) (and-false (leb 1 (
 
 one-only : (n : ℕ) → eqb (suc (suc n)) 1 ≡ false
 one-only n = ne-eqb (suc (suc n)) 1 (λ e. omega arith)
-
-given-up : (x : model.State) (b : Option ℕ) (q n p : ℕ) → form.Rejected ≡ formTaken x b q (fault n p)
-given-up x none q n p = refl
-given-up x (some c) q n p = refl
 
 names-given-up : (x : model.State) (b : Option ℕ) (q n p : ℕ) → names.Rejected ≡ namesTaken x b q (fault n p)
 names-given-up x none q n p = refl
@@ -86,75 +86,46 @@ module _ (n : Seen) where
 
 module _ (x : model.State) (h : outsideBody (x .open-body) ≡ true) (key : ℕ) where
   -- ---- deg
-  degree-one : (b : Option ℕ) (q : ℕ) (w : Word) (y : Said ℕ) → degreeOf (w .bytes) ≡ y → firstDegree (formIn (x .form)) (w ∷ []) b q ≡ formTaken x b q (parse deg x key (w ∷ []))
+  degree-one : (q : ℕ) (w : Word) (y : Said ℕ) → degreeOf (w .bytes) ≡ y → degreeTaken (formIn (x .form)) (record { words = w ∷ []; bad = none; next = q }) ≡ formTaken x none q (parse deg x key (w ∷ []))
   unfolding parse
-  degree-one none q w (says n) e = rw (h, e) refl
-  degree-one none q w (wrong n) e = rw (h, e) refl
-  degree-one (some c) q w (says n) e = rw e refl
-  degree-one (some c) q w (wrong n) e = rw e refl
+  degree-one q w (says n) e = rw (h, e) refl
+  degree-one q w (wrong n) e = rw (h, e) refl
 
-  degree-two : (b : Option ℕ) (q : ℕ) (w v : Word) (y z : Said ℕ) → degreeOf (w .bytes) ≡ y → degreeOf (v .bytes) ≡ z → firstDegree (formIn (x .form)) (w ∷ v ∷ []) b q ≡ formTaken x b q (parse deg x key (w ∷ v ∷ []))
+  degree-two : (q : ℕ) (w v : Word) (y z : Said ℕ) → degreeOf (w .bytes) ≡ y → degreeOf (v .bytes) ≡ z → degreeTaken (formIn (x .form)) (record { words = w ∷ v ∷ []; bad = none; next = q }) ≡ formTaken x none q (parse deg x key (w ∷ v ∷ []))
   unfolding parse
-  degree-two none q w v (says n) (says m) e k = rw (h, e, k) refl
-  degree-two none q w v (says n) (wrong m) e k = rw (h, e, k) refl
-  degree-two none q w v (wrong n) z e k = rw (h, e) refl
-  degree-two (some c) q w v (says n) z e k = rw e refl
-  degree-two (some c) q w v (wrong n) z e k = rw e refl
+  degree-two q w v (says n) (says m) e k = rw (h, e, k) refl
+  degree-two q w v (says n) (wrong m) e k = rw (h, e, k) refl
+  degree-two q w v (wrong n) z e k = rw (h, e) refl
 
-  degree-more : (b : Option ℕ) (q : ℕ) (w v u : Word) (ws : List Word) (y : Said ℕ) → degreeOf (w .bytes) ≡ y → firstDegree (formIn (x .form)) (w ∷ v ∷ u ∷ ws) b q ≡ form.Rejected
-  degree-more b q w v u ws (says n) e = rw e refl
-  degree-more b q w v u ws (wrong n) e = rw e refl
-
-  degree-words : (b : Option ℕ) (q : ℕ) (ws : List Word) → firstDegree (formIn (x .form)) ws b q ≡ formTaken x b q (parse deg x key ws)
+  degree-words : (b : Option ℕ) (q : ℕ) (ws : List Word) → degreeTaken (formIn (x .form)) (record { words = ws; bad = b; next = q }) ≡ formTaken x b q (parse deg x key ws)
   unfolding parse
-  degree-words b q [] = rw h (given-up x b q 5 key)
-  degree-words b q (w ∷ []) = degree-one b q w (degreeOf (w .bytes)) refl
-  degree-words b q (w ∷ v ∷ []) = degree-two b q w v (degreeOf (w .bytes)) (degreeOf (v .bytes)) refl refl
-  degree-words b q (w ∷ v ∷ u ∷ ws) = rw (h, two-most (length ws)) (degree-more b q w v u ws (degreeOf (w .bytes)) refl ∙ given-up x b q 5 key)
+  degree-words none q [] = rw h refl
+  degree-words none q (w ∷ []) = degree-one q w (degreeOf (w .bytes)) refl
+  degree-words none q (w ∷ v ∷ []) = degree-two q w v (degreeOf (w .bytes)) (degreeOf (v .bytes)) refl refl
+  degree-words none q (w ∷ v ∷ u ∷ ws) = rw (h, two-most (length ws)) refl
+  degree-words (some c) q ws = refl
 
   pub degree-parse : (r : Rest) → degreeTaken (formIn (x .form)) r ≡ formTaken x (r .bad) (r .next) (parse deg x key (r .words))
   degree-parse r = degree-words (r .bad) (r .next) (r .words)
 
   -- ---- s
-  smoothing-one : (b : Option ℕ) (q : ℕ) (w : Word) (y : Said ℕ) → smoothingOf (w .bytes) ≡ y → smoothingTaken (namesIn (x .names)) (record { words = w ∷ []; bad = b; next = q }) ≡ namesTaken x b q (parse s x key (w ∷ []))
+  smoothing-one : (q : ℕ) (w : Word) (y : Said ℕ) → smoothingOf (w .bytes) ≡ y → smoothingTaken (namesIn (x .names)) (record { words = w ∷ []; bad = none; next = q }) ≡ namesTaken x none q (parse s x key (w ∷ []))
   unfolding parse
-  smoothing-one none q w (says n) e = rw (h, e) refl
-  smoothing-one none q w (wrong n) e = rw (h, e) refl
-  smoothing-one (some c) q w y e = refl
+  smoothing-one q w (says n) e = rw (h, e) refl
+  smoothing-one q w (wrong n) e = rw (h, e) refl
 
   smoothing-words : (b : Option ℕ) (q : ℕ) (ws : List Word) → smoothingTaken (namesIn (x .names)) (record { words = ws; bad = b; next = q }) ≡ namesTaken x b q (parse s x key ws)
   unfolding parse
-  smoothing-words b q [] = rw h (names-given-up x b q 5 key)
-  smoothing-words b q (w ∷ []) = smoothing-one b q w (smoothingOf (w .bytes)) refl
-  smoothing-words b q (w ∷ v ∷ ws) = rw (h, one-only (length ws)) (names-given-up x b q 5 key)
+  smoothing-words none q [] = rw h refl
+  smoothing-words none q (w ∷ []) = smoothing-one q w (smoothingOf (w .bytes)) refl
+  smoothing-words none q (w ∷ v ∷ ws) = rw (h, one-only (length ws)) refl
+  smoothing-words (some c) q ws = refl
 
   pub smoothing-parse : (r : Rest) → smoothingTaken (namesIn (x .names)) r ≡ namesTaken x (r .bad) (r .next) (parse s x key (r .words))
   smoothing-parse r = smoothing-words (r .bad) (r .next) (r .words)
 
-  -- ---- usemtl
-  material-one : (b : Option ℕ) (q : ℕ) (w : Word) (y : Said (List ℕ)) → nameOf (w .bytes) ≡ y → materialTaken (namesIn (x .names)) (record { words = w ∷ []; bad = b; next = q }) ≡ namesTaken x b q (parse usemtl x key (w ∷ []))
-  unfolding parse
-  material-one none q w (says n) e =
-      let l : length (w .bytes) ≡ (w .place + length (w .bytes)) - w .place = omega arith in
-      rw (h, e) (ap (λ (k : ℕ). names.Accepted (withMaterial (namesIn (x .names)) (w .place) k) q) l)
-  material-one none q w (wrong n) e = rw (h, e) refl
-  material-one (some c) q w y e = refl
-
-  material-words : (b : Option ℕ) (q : ℕ) (ws : List Word) → materialTaken (namesIn (x .names)) (record { words = ws; bad = b; next = q }) ≡ namesTaken x b q (parse usemtl x key ws)
-  unfolding parse
-  material-words b q [] = rw h (names-given-up x b q 5 key)
-  material-words b q (w ∷ []) = material-one b q w (nameOf (w .bytes)) refl
-  material-words b q (w ∷ v ∷ ws) = rw (h, one-only (length ws)) (names-given-up x b q 5 key)
-
-  pub material-parse : (r : Rest) → materialTaken (namesIn (x .names)) r ≡ namesTaken x (r .bad) (r .next) (parse usemtl x key (r .words))
-  material-parse r = material-words (r .bad) (r .next) (r .words)
-
   -- ---- cstype
-  either : (b : Bool) → cond b form.Rejected form.Rejected ≡ form.Rejected
-  either true = refl
-  either false = refl
-
-  type-one : (q : ℕ) (w : Word) (a : Argument) → argumentOf (w .bytes) ≡ a → typeWords (formIn (x .form)) (w ∷ []) none q ≡ formTaken x none q (parse cstype x key (w ∷ []))
+  type-one : (q : ℕ) (w : Word) (a : Argument) → argumentOf (w .bytes) ≡ a → typeTaken (formIn (x .form)) (record { words = w ∷ []; bad = none; next = q }) ≡ formTaken x none q (parse cstype x key (w ∷ []))
   unfolding parse
   type-one q w Rational e = rw (h, e) refl
   type-one q w BasisMatrix e = rw (h, e) refl
@@ -167,7 +138,7 @@ module _ (x : model.State) (h : outsideBody (x .open-body) ≡ true) (key : ℕ)
   type-one q w Off e = rw (h, e) refl
   type-one q w Other e = rw (h, e) refl
 
-  type-rational : (q : ℕ) (w v : Word) (a : Argument) → argumentOf (w .bytes) ≡ Rational → argumentOf (v .bytes) ≡ a → typeWords (formIn (x .form)) (w ∷ v ∷ []) none q ≡ formTaken x none q (parse cstype x key (w ∷ v ∷ []))
+  type-rational : (q : ℕ) (w v : Word) (a : Argument) → argumentOf (w .bytes) ≡ Rational → argumentOf (v .bytes) ≡ a → typeTaken (formIn (x .form)) (record { words = w ∷ v ∷ []; bad = none; next = q }) ≡ formTaken x none q (parse cstype x key (w ∷ v ∷ []))
   unfolding parse
   type-rational q w v Rational e k = rw (h, e, k) refl
   type-rational q w v BasisMatrix e k = rw (h, e, k) refl
@@ -180,7 +151,7 @@ module _ (x : model.State) (h : outsideBody (x .open-body) ≡ true) (key : ℕ)
   type-rational q w v Off e k = rw (h, e, k) refl
   type-rational q w v Other e k = rw (h, e, k) refl
 
-  type-two : (q : ℕ) (w v : Word) (a : Argument) → argumentOf (w .bytes) ≡ a → typeWords (formIn (x .form)) (w ∷ v ∷ []) none q ≡ formTaken x none q (parse cstype x key (w ∷ v ∷ []))
+  type-two : (q : ℕ) (w v : Word) (a : Argument) → argumentOf (w .bytes) ≡ a → typeTaken (formIn (x .form)) (record { words = w ∷ v ∷ []; bad = none; next = q }) ≡ formTaken x none q (parse cstype x key (w ∷ v ∷ []))
   unfolding parse
   type-two q w v Rational e = type-rational q w v (argumentOf (v .bytes)) e refl
   type-two q w v BasisMatrix e = rw (h, e) refl
@@ -193,19 +164,44 @@ module _ (x : model.State) (h : outsideBody (x .open-body) ≡ true) (key : ℕ)
   type-two q w v Off e = rw (h, e) refl
   type-two q w v Other e = rw (h, e) refl
 
-  type-words : (b : Option ℕ) (q : ℕ) (ws : List Word) → typeWords (formIn (x .form)) ws b q ≡ formTaken x b q (parse cstype x key ws)
+  type-words : (b : Option ℕ) (q : ℕ) (ws : List Word) → typeTaken (formIn (x .form)) (record { words = ws; bad = b; next = q }) ≡ formTaken x b q (parse cstype x key ws)
   unfolding parse
-  type-words b q [] = rw h (given-up x b q 5 key)
+  type-words none q [] = rw h refl
   type-words none q (w ∷ []) = type-one q w (argumentOf (w .bytes)) refl
-  type-words (some c) q (w ∷ []) = either (isRational (argumentOf (w .bytes)))
   type-words none q (w ∷ v ∷ []) = type-two q w v (argumentOf (w .bytes)) refl
-  type-words (some c) q (w ∷ v ∷ []) = either (isRational (argumentOf (w .bytes)))
-  type-words b q (w ∷ v ∷ u ∷ ws) = rw (h, two-most (length ws)) (either (isRational (argumentOf (w .bytes))) ∙ given-up x b q 5 key)
+  type-words none q (w ∷ v ∷ u ∷ ws) = rw (h, two-most (length ws)) refl
+  type-words (some c) q ws = refl
 
   pub type-parse : (r : Rest) → typeTaken (formIn (x .form)) r ≡ formTaken x (r .bad) (r .next) (parse cstype x key (r .words))
   type-parse r = type-words (r .bad) (r .next) (r .words)
 
-  -- ---- g
+  -- ---- usemtl and g
+  material-one : (b : Option ℕ) (q : ℕ) (w : Word) (y : Said (List ℕ)) → nameOf (w .bytes) ≡ y → materialTaken (namesIn (x .names)) (record { words = w ∷ []; bad = b; next = q }) ≡ namesTaken x b q (parse usemtl x key (w ∷ []))
+  unfolding parse
+  material-one none q w (says n) e = rw (h, e) refl
+  material-one none q w (wrong n) e = rw (h, e) refl
+  material-one (some c) q w (says n) e = rw e refl
+  material-one (some c) q w (wrong n) e = rw e refl
+
+  -- names of a number that the row does not let in
+  unlisted : (t : Bool) (b : Option ℕ) (r : NameRun) (n q : ℕ) (f : NameRun → Names) → countedBy (rulesOf usemtl .count) n ≡ false
+      → names.Rejected ≡ namedBy usemtl f (cond t (onFine b (read.Run r n q) read.Refused) read.Refused)
+  unlisted true none r n q f e = rw e refl
+  unlisted true (some c) r n q f e = refl
+  unlisted false b r n q f e = refl
+
+  material-words : (b : Option ℕ) (q : ℕ) (ws : List Word) → materialTaken (namesIn (x .names)) (record { words = ws; bad = b; next = q }) ≡ namesTaken x b q (parse usemtl x key ws)
+  unfolding parse
+  material-words none q [] = rw h refl
+  material-words (some c) q [] = refl
+  material-words b q (w ∷ []) = material-one b q w (nameOf (w .bytes)) refl
+  material-words b q (w ∷ v ∷ ws) =
+      rw (h, one-only (length ws))
+      (sym (unlisted (all isName (w ∷ v ∷ ws)) b (runOf (w ∷ v ∷ ws)) (suc (suc (length ws))) q (withMaterial (namesIn (x .names))) (one-only (length ws))) ∙ names-given-up x b q 5 key)
+
+  pub material-parse : (r : Rest) → materialTaken (namesIn (x .names)) r ≡ namesTaken x (r .bad) (r .next) (parse usemtl x key (r .words))
+  material-parse r = material-words (r .bad) (r .next) (r .words)
+
   group-named : (b : Option ℕ) (q : ℕ) (ws : List Word) → all isName ws ≡ true → groupTaken (namesIn (x .names)) (record { words = ws; bad = b; next = q }) ≡ namesTaken x b q (parse g x key ws)
   unfolding parse
   group-named none q ws e = rw (h, e, names-fine (seenIn x) 0 ws e, names-back ws) refl

@@ -1,33 +1,35 @@
--- What the code finds in the rest of a cstype, deg, s or usemtl line, in its own order; proofs/ say that it is what the parser finds.
-use Prim.Native.Nat.{ℕ, _<_, _≤_}
-use mathlib.Core.Path.{_≡_}
+-- What the code finds in the rest of a cstype, deg, s, usemtl or g line, in its own order; proofs/ say that it is what the parser finds.
+use Prim.Native.Nat.{ℕ}
 use mathlib.Core.List.{List, [], _∷_}
 use mathlib.Core.Bool.{Bool, true, false, cond}
 use mathlib.Core.Option.{Option, none, some}
-use lib.ListN.{length}
+use lib.ListN.{length, drop}
 use lib.Dec.{eqb}
-use Rattle.text.specs.Words.{Word}
-use Rattle.text.specs.Rest.{Rest, restAt, wordAt, endOf}
+use Rattle.text.specs.Words.{Word, wordOf}
+use Rattle.text.specs.Rest.{Rest, endOf}
 use Rattle.digits.specs.Said.{Said, says, wrong}
-use Rattle.digits.specs.Degree.{degreeOf, smoothingOf, nameOf}
+use Rattle.digits.specs.Degree.{degreeOf, smoothingOf}
 use Rattle.keywords.specs.declared.Argument.{Argument}
 use Rattle.keywords.specs.declared.Argument.the-variants.{Rational, BasisMatrix, Bezier, Bspline, Cardinal, Taylor, DirectionU, DirectionV, Off, Other}
 use Rattle.keywords.specs.Arguments.{argumentOf}
+use Rattle.statements.specs.declared.Carried.{Carried}
+use Rattle.statements.specs.declared.Carried.the-variants.{BodyType, Degree, Group, Smoothing, Material}
+use Rattle.statements.specs.Rules.{rulesOf, countedBy}
 use Rattle.tables.specs.Bodies.{Basis, basisNumber}
+use Rattle.tables.specs.declared.NameRun.{NameRun}
 use Rattle.model.specs.Model as model
 use Rattle.model.specs.Statements as statements
-use Rattle.model.specs.Layout.{Run, runOf}
-use Rattle.lists.specs.Lists.{all}
 use Rattle.model.specs.Parse.{Parsed, fine, fault, typeSaid}
 use Rattle.read_state.specs.State.{formIn, namesIn}
 use Rattle.read_state.specs.declared.Form.{Form}
 use Rattle.read_state.specs.declared.Names.{Names}
-use Rattle.read_settings.specs.declared.Alone.{Alone}
-use Rattle.read_settings.specs.declared.Alone.the-variants as alone
+use Rattle.read_settings.specs.Words.{onFine, onSaid, namesRead}
 use Rattle.read_settings.specs.declared.TakenForm.{TakenForm}
 use Rattle.read_settings.specs.declared.TakenForm.the-variants as form
 use Rattle.read_settings.specs.declared.TakenNames.{TakenNames}
 use Rattle.read_settings.specs.declared.TakenNames.the-variants as names
+use Rattle.read_settings.specs.declared.words.NamesRead.{NamesRead}
+use Rattle.read_settings.specs.declared.words.NamesRead.the-variants as read
 
 -- ---- what is asked of each: the line's statement done, and the next line's start; or that the parser refuses the line
 abbrev pub formTaken : model.State → Option ℕ → ℕ → Parsed statements.Statement → TakenForm
@@ -40,30 +42,9 @@ namesTaken x none q (fine t) = names.Accepted (namesIn ((statements.apply t x) .
 namesTaken x none q (fault n p) = names.Rejected
 namesTaken x (some b) q y = names.Rejected
 
--- ---- a line's only word
-abbrev pub single : List Word → Option ℕ → Option Word
-single [] b = none
-single (w ∷ []) none = some w
-single (w ∷ []) (some p) = none
-single (w ∷ v ∷ ws) b = none
-
-abbrev pub onSingle : {A : Type 0} → Option Word → (Word → A) → A → A
-onSingle none f a = a
-onSingle (some w) f a = f w
-
-abbrev pub onSaid : {A C : Type 0} → Said A → (A → C) → C → C
-onSaid (says a) f c = f a
-onSaid (wrong n) f c = c
-
-pub record AloneAt (s : List ℕ) (at p q : ℕ) : Type 0 where
-  pub is : single ((restAt s at) .words) ((restAt s at) .bad) ≡ some (wordAt s p)
-  pub next : (restAt s at) .next ≡ q
-  pub more : p < endOf s p
-  pub to : endOf s p ≤ length s
-
-abbrev pub aloneIs : List ℕ → ℕ → Alone → Type 0
-aloneIs s at (alone.Word p q) = AloneAt s at p q
-aloneIs s at alone.No = single ((restAt s at) .words) ((restAt s at) .bad) ≡ none
+-- ---- a line that its statement's row counts, by its words
+abbrev pub byRow : {A : Type 0} → Carried → Rest → (List Word → A) → A → A
+byRow k x f a = onFine (x .bad) (cond (countedBy (rulesOf k .count) (length (x .words))) (f (x .words)) a) a
 
 -- ---- cstype
 abbrev pub basisOr : Said Basis → ℕ
@@ -85,66 +66,58 @@ isRational Other = false
 abbrev pub typed : ℕ → Form → ℕ → ℕ → TakenForm
 typed r f b q = cond (eqb b 0) form.Rejected (form.Accepted (record { basis = b; rational = r; «degree_u» = f .«degree_u»; «degree_v» = f .«degree_v» }) q)
 
-abbrev pub lastType : ℕ → Form → Rest → TakenForm
-lastType r f x = onSingle (single (x .words) (x .bad)) (λ w. typed r f (basisOr (typeSaid (argumentOf (w .bytes)))) (x .next)) form.Rejected
-
-abbrev pub typeWords : Form → List Word → Option ℕ → ℕ → TakenForm
-typeWords f [] b q = form.Rejected
-typeWords f (w ∷ ws) b q =
-    cond (isRational (argumentOf (w .bytes))) (lastType 1 f (record { words = ws; bad = b; next = q })) (lastType 0 f (record { words = w ∷ ws; bad = b; next = q }))
+-- "of two the first is rat; the last is a type"
+abbrev pub typeWords : Form → List Word → ℕ → TakenForm
+typeWords f [] q = form.Rejected
+typeWords f (w ∷ []) q = typed 0 f (basisOr (typeSaid (argumentOf (w .bytes)))) q
+typeWords f (w ∷ v ∷ ws) q = cond (isRational (argumentOf (w .bytes))) (typed 1 f (basisOr (typeSaid (argumentOf (v .bytes)))) q) form.Rejected
 
 abbrev pub typeTaken : Form → Rest → TakenForm
-typeTaken f x = typeWords f (x .words) (x .bad) (x .next)
+typeTaken f x = byRow BodyType x (λ ws. typeWords f ws (x .next)) form.Rejected
 
 -- ---- deg
 abbrev pub degreed : Form → ℕ → ℕ → ℕ → TakenForm
 degreed f m n q = form.Accepted (record { basis = f .basis; rational = f .rational; «degree_u» = m; «degree_v» = n }) q
 
-abbrev pub secondDegree : ℕ → Form → Rest → TakenForm
-secondDegree m f x = onSingle (single (x .words) (x .bad)) (λ w. onSaid (degreeOf (w .bytes)) (λ n. degreed f m n (x .next)) form.Rejected) form.Rejected
+-- "A deg with one number clears the v degree": the v degree of a line of n words, the second at a place of the text, and where it ends
+abbrev pub secondSaid : List ℕ → ℕ → ℕ → Said ℕ
+secondSaid s place n = cond (eqb n 1) (says 0) (degreeOf (wordOf (drop place s)))
 
-abbrev pub degreeWords : ℕ → Form → List Word → Option ℕ → ℕ → TakenForm
-degreeWords m f [] none q = degreed f m 0 q
-degreeWords m f [] (some p) q = form.Rejected
-degreeWords m f (w ∷ ws) b q = secondDegree m f (record { words = w ∷ ws; bad = b; next = q })
+abbrev pub secondEnd : List ℕ → ℕ → ℕ → ℕ
+secondEnd s place n = cond (eqb n 1) place (endOf s place)
 
-abbrev pub degreeRest : ℕ → Form → Rest → TakenForm
-degreeRest m f x = degreeWords m f (x .words) (x .bad) (x .next)
-
-abbrev pub firstDegree : Form → List Word → Option ℕ → ℕ → TakenForm
-firstDegree f [] b q = form.Rejected
-firstDegree f (w ∷ ws) b q = onSaid (degreeOf (w .bytes)) (λ m. degreeWords m f ws b q) form.Rejected
+abbrev pub degreeWords : Form → List Word → ℕ → TakenForm
+degreeWords f [] q = form.Rejected
+degreeWords f (w ∷ []) q = onSaid (degreeOf (w .bytes)) (λ m. degreed f m 0 q) form.Rejected
+degreeWords f (w ∷ v ∷ ws) q = onSaid (degreeOf (w .bytes)) (λ m. onSaid (degreeOf (v .bytes)) (λ n. degreed f m n q) form.Rejected) form.Rejected
 
 abbrev pub degreeTaken : Form → Rest → TakenForm
-degreeTaken f x = firstDegree f (x .words) (x .bad) (x .next)
+degreeTaken f x = byRow Degree x (λ ws. degreeWords f ws (x .next)) form.Rejected
 
--- ---- s and usemtl
+-- ---- s
 abbrev pub smoothed : Names → ℕ → Names
-smoothed n k =
-    record { «group_place» = n .«group_place»; «group_length» = n .«group_length»; «material_place» = n .«material_place»; «material_length» = n .«material_length»; smoothing = k }
+smoothed n k = record { group = n .group; material = n .material; smoothing = k }
+
+abbrev pub smoothingWords : Names → List Word → ℕ → TakenNames
+smoothingWords n [] q = names.Rejected
+smoothingWords n (w ∷ ws) q = onSaid (smoothingOf (w .bytes)) (λ k. names.Accepted (smoothed n k) q) names.Rejected
 
 abbrev pub smoothingTaken : Names → Rest → TakenNames
-smoothingTaken n x = onSingle (single (x .words) (x .bad)) (λ w. onSaid (smoothingOf (w .bytes)) (λ k. names.Accepted (smoothed n k) (x .next)) names.Rejected) names.Rejected
+smoothingTaken n x = byRow Smoothing x (λ ws. smoothingWords n ws (x .next)) names.Rejected
 
-abbrev pub withMaterial : Names → ℕ → ℕ → Names
-withMaterial n p l =
-    record { «group_place» = n .«group_place»; «group_length» = n .«group_length»; «material_place» = p; «material_length» = l; smoothing = n .smoothing }
+-- ---- usemtl and g: a run of names that the row counts
+abbrev pub namedBy : Carried → (NameRun → Names) → NamesRead → TakenNames
+namedBy k f (read.Run r n q) = cond (countedBy (rulesOf k .count) n) (names.Accepted (f r) q) names.Rejected
+namedBy k f read.Refused = names.Rejected
+
+abbrev pub withMaterial : Names → NameRun → Names
+withMaterial n r = record { group = n .group; material = r; smoothing = n .smoothing }
 
 abbrev pub materialTaken : Names → Rest → TakenNames
-materialTaken n x =
-    onSingle (single (x .words) (x .bad)) (λ w. onSaid (nameOf (w .bytes)) (λ b. names.Accepted (withMaterial n (w .place) (length (w .bytes))) (x .next)) names.Rejected) names.Rejected
+materialTaken n x = namedBy Material (withMaterial n) (namesRead x)
 
--- ---- g: "from the first name to the last"
-abbrev pub isName : Word → Bool
-isName w = onSaid (nameOf (w .bytes)) (λ b. true) false
-
-abbrev pub withGroup : Names → Run → Names
-withGroup n r =
-    record { «group_place» = r .place; «group_length» = r .length; «material_place» = n .«material_place»; «material_length» = n .«material_length»; smoothing = n .smoothing }
-
-abbrev pub grouped : Names → Run → Option ℕ → ℕ → TakenNames
-grouped n r none q = names.Accepted (withGroup n r) q
-grouped n r (some p) q = names.Rejected
+abbrev pub withGroup : Names → NameRun → Names
+withGroup n r = record { group = r; material = n .material; smoothing = n .smoothing }
 
 abbrev pub groupTaken : Names → Rest → TakenNames
-groupTaken n x = cond (all isName (x .words)) (grouped n (runOf (x .words)) (x .bad) (x .next)) names.Rejected
+groupTaken n x = namedBy Group (withGroup n) (namesRead x)

@@ -51,9 +51,9 @@ module _ (R : Rooms) (m : Model) (n : Names) (f : Form) (o : Open) where
       let t : Tables = imageOf R (state m n f (some o)) in
       let p : ℕ = summed (λ b. length (b .us) + length (b .vs)) bodies in
       let l : ℕ = summed partCount bodies in
-      r ≡ filled (R .ranges) (pos 0) (flat rangeRow (bodies ++ last ∷ []))
-      → 9 * length bodies + 9 ≤ R .bodies → p + length (parameterRow last) ≤ R .parameters
-      → bodyStored (sets (t .bodies) (9 * length bodies) (bodyRow p l last)) r (sets (t .parameters) p (parameterRow last)) t ≡ imageOf R (apply end (state m n f (some o)))
+      r ≡ filled (R .bodies .ranges) (pos 0) (flat rangeRow (bodies ++ last ∷ []))
+      → 9 * length bodies + 9 ≤ R .bodies .bodies → p + length (parameterRow last) ≤ R .bodies .parameters
+      → bodyStored (sets (t .bodies .bodies) (9 * length bodies) (bodyRow p l last)) r (sets (t .bodies .parameters) p (parameterRow last)) t ≡ imageOf R (apply end (state m n f (some o)))
   unfolding imageOf
   end-image r rr h i =
       let es : List Element = m .elements in
@@ -72,4 +72,4 @@ module _ (R : Rooms) (m : Model) (n : Names) (f : Form) (o : Open) where
       let sp : spanRows (o .body) ≡ spanRows last = ap (λ l. flat (λ l. flat Rattle.model.specs.Layout.spanRow (l .parts)) l) (sym (settled-loops (o .body) (o .body .free))) in
       let lr : flat loopRows (bodies ++ o .body ∷ []) ≡ flat loopRows (bodies ++ last ∷ []) = flat-append loopRows bodies (o .body ∷ []) ∙ ap (λ (r : List ℕ). flat loopRows bodies ++ (r ++ [])) lp ∙ sym (flat-append loopRows bodies (last ∷ [])) in
       let sr : flat spanRows (bodies ++ o .body ∷ []) ≡ flat spanRows (bodies ++ last ∷ []) = flat-append spanRows bodies (o .body ∷ []) ∙ ap (λ (r : List ℤ). flat spanRows bodies ++ (r ++ [])) sp ∙ sym (flat-append spanRows bodies (last ∷ [])) in
-      rw (body-stored (R .bodies) bodies last h, rr, parameters-stored (R .parameters) bodies last i, er, cr, lr, sr, q′, bq, append-nil (bodies ++ last ∷ [])) refl
+      rw (body-stored (R .bodies .bodies) bodies last h, rr, parameters-stored (R .bodies .parameters) bodies last i, er, cr, lr, sr, q′, bq, append-nil (bodies ++ last ∷ [])) refl

@@ -25,10 +25,10 @@ module _ (R : Rooms) (x : State) where
       → widthOf k * length (rowsOf k (x .model .vertices)) + widthOf k ≤ roomOf k R
       → rowStored k (sets (tableOf k (imageOf R x)) (widthOf k * length (rowsOf k (x .model .vertices))) z) (imageOf R x) ≡ imageOf R (apply (vertex k z) x)
   unfolding imageOf
-  vertex-image geometric z w l h = ap (λ (r : List ℤ). rowStored geometric r (imageOf R x)) (vertex-stored (R .v) 4 (x .model .vertices .v) z (w .rows geometric) l h)
-  vertex-image texture z w l h = ap (λ (r : List ℤ). rowStored texture r (imageOf R x)) (vertex-stored (R .vt) 3 (x .model .vertices .vt) z (w .rows texture) l h)
-  vertex-image normal z w l h = ap (λ (r : List ℤ). rowStored normal r (imageOf R x)) (vertex-stored (R .vn) 3 (x .model .vertices .vn) z (w .rows normal) l h)
-  vertex-image parametric z w l h = ap (λ (r : List ℤ). rowStored parametric r (imageOf R x)) (vertex-stored (R .vp) 4 (x .model .vertices .vp) z (w .rows parametric) l h)
+  vertex-image geometric z w l h = ap (λ (r : List ℤ). rowStored geometric r (imageOf R x)) (vertex-stored (R .vertices .v) 4 (x .model .vertices .v) z (w .rows geometric) l h)
+  vertex-image texture z w l h = ap (λ (r : List ℤ). rowStored texture r (imageOf R x)) (vertex-stored (R .vertices .vt) 3 (x .model .vertices .vt) z (w .rows texture) l h)
+  vertex-image normal z w l h = ap (λ (r : List ℤ). rowStored normal r (imageOf R x)) (vertex-stored (R .vertices .vn) 3 (x .model .vertices .vn) z (w .rows normal) l h)
+  vertex-image parametric z w l h = ap (λ (r : List ℤ). rowStored parametric r (imageOf R x)) (vertex-stored (R .vertices .vp) 4 (x .model .vertices .vp) z (w .rows parametric) l h)
 
 -- ---- elements and bodies: a state taken apart by its body that has no end yet
 module _ (R : Rooms) (m : Model) (n : Names) (f : Form) where
@@ -38,8 +38,8 @@ module _ (R : Rooms) (m : Model) (n : Names) (f : Form) where
       let c : ℕ = summed (λ e. length (e .corners)) (m .elements) in
       let b : ℕ = summed (λ e. ofKind (λ b. 1) (e .kind)) (m .elements) in
       let t : Tables = imageOf R (state m n f none) in
-      3 * c + 3 * length cs ≤ R .corners → 9 * length (m .elements) + 9 ≤ R .elements
-      → elementStored (sets (t .corners) (3 * c) (flat cornerRow cs)) (sets (t .elements) (9 * length (m .elements)) (elementRow (3 * c) b e)) t
+      3 * c + 3 * length cs ≤ R .elements .corners → 9 * length (m .elements) + 9 ≤ R .elements .elements
+      → elementStored (sets (t .elements .corners) (3 * c) (flat cornerRow cs)) (sets (t .elements .elements) (9 * length (m .elements)) (elementRow (3 * c) b e)) t
       ≡ imageOf R (apply (element k cs) (state m n f none))
   unfolding imageOf
   element-image k cs h i =
@@ -49,10 +49,10 @@ module _ (R : Rooms) (m : Model) (n : Names) (f : Form) where
       let q′ : (es ++ e ∷ []) ++ [] ≡ es ++ e ∷ [] = append-nil (es ++ e ∷ []) in
       let bq : bodiesOf (es ++ e ∷ []) ≡ bodiesOf es = flat-append (λ e. bodyOfKind (e .kind)) es (e ∷ []) ∙ append-nil (bodiesOf es) in
       let t : Tables = imageOf R (state m n f none) in
-      let c1 : sets (t .corners) (3 * summed (λ e. length (e .corners)) es) (flat cornerRow cs) ≡ filled (R .corners) 0 (flat cornerRows ((es ++ e ∷ []) ++ [])) =
-      rw (q, q′) (corners-stored (R .corners) es e h) in
-      let e1 : sets (t .elements) (9 * length es) (elementRow (3 * summed (λ e. length (e .corners)) es) (summed (λ e. ofKind (λ b. 1) (e .kind)) es) e) ≡ filled (R .elements) 0 (elementRows 0 0 ((es ++ e ∷ []) ++ [])) =
-      rw (q, q′) (element-stored (R .elements) es e i) in
+      let c1 : sets (t .elements .corners) (3 * summed (λ e. length (e .corners)) es) (flat cornerRow cs) ≡ filled (R .elements .corners) 0 (flat cornerRows ((es ++ e ∷ []) ++ [])) =
+      rw (q, q′) (corners-stored (R .elements .corners) es e h) in
+      let e1 : sets (t .elements .elements) (9 * length es) (elementRow (3 * summed (λ e. length (e .corners)) es) (summed (λ e. ofKind (λ b. 1) (e .kind)) es) e) ≡ filled (R .elements .elements) 0 (elementRows 0 0 ((es ++ e ∷ []) ++ [])) =
+      rw (q, q′) (element-stored (R .elements .elements) es e i) in
       rw (c1, e1, bq) refl
 
   -- the element and the controls of curv, curv2, surf, with its range as r
@@ -62,9 +62,9 @@ module _ (R : Rooms) (m : Model) (n : Names) (f : Form) where
       let c : ℕ = summed (λ e. length (e .corners)) (m .elements) in
       let k : ℕ = summed (λ e. ofKind (λ b. 1) (e .kind)) (m .elements) in
       let t : Tables = imageOf R (state m n f none) in
-      b .loops ≡ [] → r ≡ filled (R .ranges) (pos 0) (flat rangeRow (bodiesOf (m .elements) ++ b ∷ []))
-      → 3 * c + 3 * length cs ≤ R .corners → 9 * length (m .elements) + 9 ≤ R .elements
-      → rangeStored r (elementStored (sets (t .corners) (3 * c) (flat cornerRow cs)) (sets (t .elements) (9 * length (m .elements)) (elementRow (3 * c) k e)) t)
+      b .loops ≡ [] → r ≡ filled (R .bodies .ranges) (pos 0) (flat rangeRow (bodiesOf (m .elements) ++ b ∷ []))
+      → 3 * c + 3 * length cs ≤ R .elements .corners → 9 * length (m .elements) + 9 ≤ R .elements .elements
+      → rangeStored r (elementStored (sets (t .elements .corners) (3 * c) (flat cornerRow cs)) (sets (t .elements .elements) (9 * length (m .elements)) (elementRow (3 * c) k e)) t)
       ≡ imageOf R (apply (body b cs) (state m n f none))
   unfolding imageOf
   body-image b cs r nl rr h i =
@@ -74,10 +74,10 @@ module _ (R : Rooms) (m : Model) (n : Names) (f : Form) where
       let q : es ++ [] ≡ es = append-nil es in
       let p : bs ++ [] ≡ bs = append-nil bs in
       let t : Tables = imageOf R (state m n f none) in
-      let c1 : sets (t .corners) (3 * summed (λ e. length (e .corners)) es) (flat cornerRow cs) ≡ filled (R .corners) 0 (flat cornerRows (es ++ e ∷ [])) =
-      rw q (corners-stored (R .corners) es e h) in
-      let e1 : sets (t .elements) (9 * length es) (elementRow (3 * summed (λ e. length (e .corners)) es) (summed (λ e. ofKind (λ b. 1) (e .kind)) es) e) ≡ filled (R .elements) 0 (elementRows 0 0 (es ++ e ∷ [])) =
-      rw q (element-stored (R .elements) es e i) in
+      let c1 : sets (t .elements .corners) (3 * summed (λ e. length (e .corners)) es) (flat cornerRow cs) ≡ filled (R .elements .corners) 0 (flat cornerRows (es ++ e ∷ [])) =
+      rw q (corners-stored (R .elements .corners) es e h) in
+      let e1 : sets (t .elements .elements) (9 * length es) (elementRow (3 * summed (λ e. length (e .corners)) es) (summed (λ e. ofKind (λ b. 1) (e .kind)) es) e) ≡ filled (R .elements .elements) 0 (elementRows 0 0 (es ++ e ∷ [])) =
+      rw q (element-stored (R .elements .elements) es e i) in
       let l1 : flat loopRows (bs ++ b ∷ []) ≡ flat loopRows (bs ++ []) =
       flat-append loopRows bs (b ∷ []) ∙ ap (λ (x : List Loop). flat loopRows bs ++ (flat loopRow x ++ [])) nl ∙ append-nil (flat loopRows bs) ∙ ap (flat loopRows) (sym p) in
       let s1 : flat spanRows (bs ++ b ∷ []) ≡ flat spanRows (bs ++ []) =
@@ -113,8 +113,8 @@ module _ (R : Rooms) (m : Model) (n : Names) (f : Form) where
   pub loop-image : (l : Loop) (o : Open) →
       let t : Tables = imageOf R (state m n f (some o)) in
       let c : ℕ = summed partCount (bodiesOf (m .elements)) + partCount (o .body) in
-      2 * c + 2 * length (l .parts) ≤ R .loops → 2 * c + 2 * length (l .parts) ≤ R .spans
-      → loopsStored (sets (t .loops) (2 * c) (loopRow l)) (sets (t .spans) (2 * c) (flat spanRow (l .parts))) t ≡ imageOf R (apply (loop l) (state m n f (some o)))
+      2 * c + 2 * length (l .parts) ≤ R .bodies .loops → 2 * c + 2 * length (l .parts) ≤ R .bodies .spans
+      → loopsStored (sets (t .bodies .loops) (2 * c) (loopRow l)) (sets (t .bodies .spans) (2 * c) (flat spanRow (l .parts))) t ≡ imageOf R (apply (loop l) (state m n f (some o)))
   unfolding imageOf
   loop-image l o h i =
       let bs : List Body = bodiesOf (m .elements) in
@@ -142,10 +142,10 @@ module _ (R : Rooms) (m : Model) (n : Names) (f : Form) where
       ∙ append-assoc (flat spanRows bs) (spanRows b) (flat spanRow (l .parts))
       ∙ ap (λ (r : List ℤ). flat spanRows bs ++ r) (sym sb ∙ sym (append-nil (spanRows b′)))
       ∙ sym (flat-append spanRows bs (b′ ∷ [])) in
-      let l1 : sets (filled (R .loops) 0 (flat loopRows (bs ++ b ∷ []))) (2 * c) (loopRow l) ≡ filled (R .loops) 0 (flat loopRows (bs ++ b′ ∷ [])) =
-      stored-at (R .loops) 0 (flat loopRows (bs ++ b ∷ [])) (loopRow l) (2 * c) ll (omega arith) ∙ ap (λ (r : List ℕ). filled (R .loops) 0 r) la in
-      let s1 : sets (filled (R .spans) (pos 0) (flat spanRows (bs ++ b ∷ []))) (2 * c) (flat spanRow (l .parts)) ≡ filled (R .spans) (pos 0) (flat spanRows (bs ++ b′ ∷ [])) =
-      stored-at (R .spans) (pos 0) (flat spanRows (bs ++ b ∷ [])) (flat spanRow (l .parts)) (2 * c) sl (omega arith) ∙ ap (λ (r : List ℤ). filled (R .spans) (pos 0) r) sa in
+      let l1 : sets (filled (R .bodies .loops) 0 (flat loopRows (bs ++ b ∷ []))) (2 * c) (loopRow l) ≡ filled (R .bodies .loops) 0 (flat loopRows (bs ++ b′ ∷ [])) =
+      stored-at (R .bodies .loops) 0 (flat loopRows (bs ++ b ∷ [])) (loopRow l) (2 * c) ll (omega arith) ∙ ap (λ (r : List ℕ). filled (R .bodies .loops) 0 r) la in
+      let s1 : sets (filled (R .bodies .spans) (pos 0) (flat spanRows (bs ++ b ∷ []))) (2 * c) (flat spanRow (l .parts)) ≡ filled (R .bodies .spans) (pos 0) (flat spanRows (bs ++ b′ ∷ [])) =
+      stored-at (R .bodies .spans) (pos 0) (flat spanRows (bs ++ b ∷ [])) (flat spanRow (l .parts)) (2 * c) sl (omega arith) ∙ ap (λ (r : List ℤ). filled (R .bodies .spans) (pos 0) r) sa in
       let er : elementRows 0 0 (es ++ e ∷ []) ≡ elementRows 0 0 (es ++ e′ ∷ []) = elementRows-append 0 0 es (e ∷ []) ∙ sym (elementRows-append 0 0 es (e′ ∷ [])) in
       let cr : flat cornerRows (es ++ e ∷ []) ≡ flat cornerRows (es ++ e′ ∷ []) = flat-append cornerRows es (e ∷ []) ∙ sym (flat-append cornerRows es (e′ ∷ [])) in
       let rr : flat rangeRow (bs ++ b ∷ []) ≡ flat rangeRow (bs ++ b′ ∷ []) = flat-append rangeRow bs (b ∷ []) ∙ sym (flat-append rangeRow bs (b′ ∷ [])) in

@@ -1,4 +1,4 @@
--- The tables with one of them changed, the vertices of one kind in model and tables, and a state by its parts.
+-- The tables with one of them or one group changed, the vertices of one kind in model and tables, and a state by its parts.
 use Prim.Native.Nat.{ℕ, _*_}
 use mathlib.Core.Path.{_≡_}
 use mathlib.Core.List.{List, [], _∷_}
@@ -6,30 +6,46 @@ use mathlib.Core.Option.{Option}
 use lib.ListN.{length, getD}
 use lib.IntN.{ℤ, pos}
 use Rattle.lists.specs.Lists.{flat}
+use Rattle.tables.specs.VertexTables.{VertexTables, vertexTables}
+use Rattle.tables.specs.ElementTables.{ElementTables, elementTables}
+use Rattle.tables.specs.BodyTables.{BodyTables, bodyTables}
 use Rattle.tables.specs.Tables.{Tables}
 use Rattle.tables.specs.Records.{vWidth, vtWidth, vnWidth, vpWidth}
 use Rattle.model.specs.Model.{VertexKind, geometric, texture, normal, parametric, Vertices, Names, Model, Form, Open, State}
 use Rattle.model.specs.Room.{Rooms}
 use Rattle.model.specs.Layout.{itself}
 
--- ---- the tables with one of them changed
+-- ---- the tables with one group changed
+abbrev pub withVertices : VertexTables → Tables → Tables
+withVertices v t = record { vertices = v; elements = t .elements; bodies = t .bodies }
+
+abbrev pub withElements : ElementTables → Tables → Tables
+withElements e t = record { vertices = t .vertices; elements = e; bodies = t .bodies }
+
+abbrev pub withBodies : BodyTables → Tables → Tables
+withBodies b t = record { vertices = t .vertices; elements = t .elements; bodies = b }
+
+-- ---- a group with some of its tables changed
+abbrev pub kindStored : VertexKind → List ℤ → VertexTables → VertexTables
+kindStored geometric l t = vertexTables l (t .vt) (t .vn) (t .vp)
+kindStored texture l t = vertexTables (t .v) l (t .vn) (t .vp)
+kindStored normal l t = vertexTables (t .v) (t .vt) l (t .vp)
+kindStored parametric l t = vertexTables (t .v) (t .vt) (t .vn) l
+
 abbrev pub rowStored : VertexKind → List ℤ → Tables → Tables
-rowStored geometric l t = record { v = l; vt = t .vt; vn = t .vn; vp = t .vp; corners = t .corners; elements = t .elements; bodies = t .bodies; ranges = t .ranges; parameters = t .parameters; loops = t .loops; spans = t .spans }
-rowStored texture l t = record { v = t .v; vt = l; vn = t .vn; vp = t .vp; corners = t .corners; elements = t .elements; bodies = t .bodies; ranges = t .ranges; parameters = t .parameters; loops = t .loops; spans = t .spans }
-rowStored normal l t = record { v = t .v; vt = t .vt; vn = l; vp = t .vp; corners = t .corners; elements = t .elements; bodies = t .bodies; ranges = t .ranges; parameters = t .parameters; loops = t .loops; spans = t .spans }
-rowStored parametric l t = record { v = t .v; vt = t .vt; vn = t .vn; vp = l; corners = t .corners; elements = t .elements; bodies = t .bodies; ranges = t .ranges; parameters = t .parameters; loops = t .loops; spans = t .spans }
+rowStored k l t = withVertices (kindStored k l (t .vertices)) t
 
 abbrev pub elementStored : List ℕ → List ℕ → Tables → Tables
-elementStored c e t = record { v = t .v; vt = t .vt; vn = t .vn; vp = t .vp; corners = c; elements = e; bodies = t .bodies; ranges = t .ranges; parameters = t .parameters; loops = t .loops; spans = t .spans }
+elementStored c e t = withElements (elementTables c e) t
 
 abbrev pub rangeStored : List ℤ → Tables → Tables
-rangeStored r t = record { v = t .v; vt = t .vt; vn = t .vn; vp = t .vp; corners = t .corners; elements = t .elements; bodies = t .bodies; ranges = r; parameters = t .parameters; loops = t .loops; spans = t .spans }
+rangeStored r t = let b = t .bodies in withBodies (bodyTables (b .bodies) r (b .parameters) (b .loops) (b .spans)) t
 
 abbrev pub loopsStored : List ℕ → List ℤ → Tables → Tables
-loopsStored l s t = record { v = t .v; vt = t .vt; vn = t .vn; vp = t .vp; corners = t .corners; elements = t .elements; bodies = t .bodies; ranges = t .ranges; parameters = t .parameters; loops = l; spans = s }
+loopsStored l s t = let b = t .bodies in withBodies (bodyTables (b .bodies) (b .ranges) (b .parameters) l s) t
 
 abbrev pub bodyStored : List ℕ → List ℤ → List ℤ → Tables → Tables
-bodyStored b r p t = record { v = t .v; vt = t .vt; vn = t .vn; vp = t .vp; corners = t .corners; elements = t .elements; bodies = b; ranges = r; parameters = p; loops = t .loops; spans = t .spans }
+bodyStored b r p t = withBodies (bodyTables b r p (t .bodies .loops) (t .bodies .spans)) t
 
 -- ---- the vertices of one kind
 abbrev pub rowsOf : VertexKind → Vertices → List (List ℤ)
@@ -38,11 +54,14 @@ rowsOf texture x = x .vt
 rowsOf normal x = x .vn
 rowsOf parametric x = x .vp
 
+abbrev pub kindIn : VertexKind → VertexTables → List ℤ
+kindIn geometric t = t .v
+kindIn texture t = t .vt
+kindIn normal t = t .vn
+kindIn parametric t = t .vp
+
 abbrev pub tableOf : VertexKind → Tables → List ℤ
-tableOf geometric t = t .v
-tableOf texture t = t .vt
-tableOf normal t = t .vn
-tableOf parametric t = t .vp
+tableOf k t = kindIn k (t .vertices)
 
 abbrev pub widthOf : VertexKind → ℕ
 widthOf geometric = vWidth
@@ -51,10 +70,10 @@ widthOf normal = vnWidth
 widthOf parametric = vpWidth
 
 abbrev pub roomOf : VertexKind → Rooms → ℕ
-roomOf geometric R = R .v
-roomOf texture R = R .vt
-roomOf normal R = R .vn
-roomOf parametric R = R .vp
+roomOf geometric R = R .vertices .v
+roomOf texture R = R .vertices .vt
+roomOf normal R = R .vertices .vn
+roomOf parametric R = R .vertices .vp
 
 -- "vp the count given and u v w": four numbers, the first of them a count
 pub record Counted (z : List ℤ) : Type 0 where

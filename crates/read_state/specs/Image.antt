@@ -1,12 +1,12 @@
 -- What the tables hold in the middle of a text: the records so far, and of a body that has no end yet its element, controls, range and loops.
 use mathlib.Core.List.{List, [], _∷_, _++_}
 use mathlib.Core.Option.{Option, none, some}
-use lib.IntN.{pos}
-use Rattle.lists.specs.Lists.{flat, filled}
+use Rattle.lists.specs.Lists.{flat}
+use Rattle.tables.specs.BodyTables.{BodyTables, bodyTables, BodyRooms, bodyFilled}
 use Rattle.tables.specs.Tables.{Tables}
 use Rattle.model.specs.Model.{free, Body, Element, Open, State}
 use Rattle.model.specs.Room.{Rooms}
-use Rattle.model.specs.Layout.{itself, cornerRows, elementRows, bodyRows, bodiesOf, rangeRow, parameterRow, loopRows, spanRows}
+use Rattle.model.specs.Layout.{bodyRows, bodiesOf, rangeRow, parameterRow, loopRows, spanRows, vertexTablesOf, elementTablesOf}
 
 abbrev pub openElement : Option Open → List Element
 openElement none = []
@@ -22,18 +22,15 @@ elementsIn x = x .model .elements ++ openElement (x .open-body)
 abbrev pub bodiesIn : State → List Body
 bodiesIn x = bodiesOf (x .model .elements) ++ openBody (x .open-body)
 
+abbrev pub bodyImage : BodyRooms → State → BodyTables
+bodyImage R x =
+    let ended = bodiesOf (x .model .elements) in
+    bodyFilled R (bodyTables (bodyRows 0 0 ended) (flat rangeRow (bodiesIn x)) (flat parameterRow ended) (flat loopRows (bodiesIn x)) (flat spanRows (bodiesIn x)))
+
 unfoldable pub imageOf : Rooms → State → Tables
 imageOf R x =
     record {
-      v = filled (R .v) (pos 0) (flat itself (x .model .vertices .v));
-      vt = filled (R .vt) (pos 0) (flat itself (x .model .vertices .vt));
-      vn = filled (R .vn) (pos 0) (flat itself (x .model .vertices .vn));
-      vp = filled (R .vp) (pos 0) (flat itself (x .model .vertices .vp));
-      corners = filled (R .corners) 0 (flat cornerRows (elementsIn x));
-      elements = filled (R .elements) 0 (elementRows 0 0 (elementsIn x));
-      bodies = filled (R .bodies) 0 (bodyRows 0 0 (bodiesOf (x .model .elements)));
-      ranges = filled (R .ranges) (pos 0) (flat rangeRow (bodiesIn x));
-      parameters = filled (R .parameters) (pos 0) (flat parameterRow (bodiesOf (x .model .elements)));
-      loops = filled (R .loops) 0 (flat loopRows (bodiesIn x));
-      spans = filled (R .spans) (pos 0) (flat spanRows (bodiesIn x));
+      vertices = vertexTablesOf (R .vertices) (x .model .vertices);
+      elements = elementTablesOf (R .elements) (elementsIn x);
+      bodies = bodyImage (R .bodies) x;
     }

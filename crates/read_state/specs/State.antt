@@ -19,14 +19,7 @@ use Rattle.read_state.specs.declared.State.{State}
 use Rattle.read_state.specs.Numbers.{ended, numbersWalk}
 
 abbrev pub namesIn : model.Names → Names
-namesIn n =
-    record {
-      «group_place» = runOf (n .group) .place;
-      «group_length» = runOf (n .group) .length;
-      «material_place» = runOf (listed (n .material)) .place;
-      «material_length» = runOf (listed (n .material)) .length;
-      smoothing = n .smoothing;
-    }
+namesIn n = record { group = runOf (n .group); material = runOf (listed (n .material)); smoothing = n .smoothing }
 
 abbrev pub basisNumberIn : Option Basis → ℕ
 basisNumberIn none = 0

@@ -1,12 +1,15 @@
 // What is in force while a text is read, as numbers.
+use statements::Free;
+use tables::NameRun;
 use tables::Used;
+use tables::kinds;
+ghost use mathlib.Core.Path.{_≡_};
+ghost use Rattle.model.specs.Layout.{freeNumber};
 
 // Where the names in force stand in the text, and the smoothing.
 pub struct Names {
-    pub group_place: u32,
-    pub group_length: u32,
-    pub material_place: u32,
-    pub material_length: u32,
+    pub group: NameRun,
+    pub material: NameRun,
     pub smoothing: u32,
 }
 
@@ -34,4 +37,15 @@ pub struct State {
     pub names: Names,
     pub form: Form,
     pub open: Open,
+}
+
+// The number that stands for the kind of a body's element.
+pub fn kind_of(free: Free) -> u32
+    ensures { λ r. ⌜ r ≡ freeNumber free ⌝ }
+{
+    match free {
+        Free::Curve => kinds::CURVE,
+        Free::Curve2 => kinds::CURVE2,
+        Free::Surface => kinds::SURFACE,
+    }
 }

@@ -35,17 +35,17 @@ count-of (z ∷ zs) zero a = let e = a .0 .first in e ∙ ap (λ (y : ℤ). pos 
 count-of (z ∷ zs) (suc j) a = count-of zs j (a .1)
 
 module _ (R : Rooms) (s : List ℕ) (x : model.State) (c : State) (t : Tables) (p : ℕ) (h : Holds R s x c t p) where
-  firsts : (j : ℕ) → getD (t .vp) (4 * j) (pos 0) ≡ getD (getD (x .model .vertices .vp) j []) 0 (pos 0)
+  firsts : (j : ℕ) → getD (t .vertices .vp) (4 * j) (pos 0) ≡ getD (getD (x .model .vertices .vp) j []) 0 (pos 0)
   unfolding imageOf
   firsts j =
-      ap (λ (a : Tables). getD (a .vp) (4 * j) (pos 0)) (h .image)
-      ∙ getD-filled (R .vp) (pos 0) (flat itself (x .model .vertices .vp)) (4 * j)
+      ap (λ (a : Tables). getD (a .vertices .vp) (4 * j) (pos 0)) (h .image)
+      ∙ getD-filled (R .vertices .vp) (pos 0) (flat itself (x .model .vertices .vp)) (4 * j)
       ∙ first-of (x .model .vertices .vp) j (h .wide .counts)
 
-  pub given-in : GivenIn (x .model .vertices .vp) (t .vp)
+  pub given-in : GivenIn (x .model .vertices .vp) (t .vertices .vp)
   given-in j l = firsts j
 
-  pub given : Given (t .vp) (x .model .vertices .vp)
+  pub given : Given (t .vertices .vp) (x .model .vertices .vp)
   given =
       record {
         first = λ j.

@@ -1,3 +1,4 @@
+pub mod Bounds
 pub mod Opened
 pub mod Steps
 pub mod Vertices

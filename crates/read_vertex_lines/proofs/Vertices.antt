@@ -32,7 +32,7 @@ use Rattle.read_state.specs.State.{StateIs, usedIn}
 use Rattle.read_state.specs.Image.{imageOf}
 use Rattle.read_state.specs.Changed.{rowStored, rowsOf, tableOf, widthOf, roomOf, Counted, AllCounted, Wide}
 use Rattle.read_state.proofs.Images.{vertex-image}
-use Rattle.read_state.proofs.Rooms.{Within, fits-parts, parts-fit}
+use Rattle.model.proofs.Rooms.{Within, fits-parts, parts-fit}
 use Rattle.read_vertices.specs.Vertex.{width, TakenVertex, NoVertex}
 use Rattle.read_vertices.proofs.Taking.{vertex-row}
 use Rattle.read_vertices.proofs.Parse.{vertex-wide, taken-parse, parse-said}
@@ -48,23 +48,23 @@ width-is parametric = refl
 
 -- ---- room for one more
 rows-room : (k : VertexKind) (R : Rooms) (x : model.State) (z : List ℤ) → Within (Rattle.model.specs.Room.needed (apply (vertex k z) x)) R → widthOf k * length (rowsOf k (x .model .vertices)) + widthOf k ≤ roomOf k R
-rows-room geometric R x z w = let e = length-append (x .model .vertices .v) (z ∷ []) in let h = w .v in omega arith
-rows-room texture R x z w = let e = length-append (x .model .vertices .vt) (z ∷ []) in let h = w .vt in omega arith
-rows-room normal R x z w = let e = length-append (x .model .vertices .vn) (z ∷ []) in let h = w .vn in omega arith
-rows-room parametric R x z w = let e = length-append (x .model .vertices .vp) (z ∷ []) in let h = w .vp in omega arith
+rows-room geometric R x z w = let e = length-append (x .model .vertices .v) (z ∷ []) in let h = w .vertices .v in omega arith
+rows-room texture R x z w = let e = length-append (x .model .vertices .vt) (z ∷ []) in let h = w .vertices .vt in omega arith
+rows-room normal R x z w = let e = length-append (x .model .vertices .vn) (z ∷ []) in let h = w .vertices .vn in omega arith
+rows-room parametric R x z w = let e = length-append (x .model .vertices .vp) (z ∷ []) in let h = w .vertices .vp in omega arith
 
 room-rows : (k : VertexKind) (R : Rooms) (x : model.State) (z : List ℤ) → fits R x ≡ true → widthOf k * length (rowsOf k (x .model .vertices)) + widthOf k ≤ roomOf k R → fits R (apply (vertex k z) x) ≡ true
-room-rows geometric R x z f h = let w = fits-parts R x f in let e = length-append (x .model .vertices .v) (z ∷ []) in parts-fit R (apply (vertex geometric z) x) (record { v = omega arith; vt = w .vt; vn = w .vn; vp = w .vp; corners = w .corners; elements = w .elements; bodies = w .bodies; ranges = w .ranges; parameters = w .parameters; loops = w .loops; spans = w .spans })
-room-rows texture R x z f h = let w = fits-parts R x f in let e = length-append (x .model .vertices .vt) (z ∷ []) in parts-fit R (apply (vertex texture z) x) (record { v = w .v; vt = omega arith; vn = w .vn; vp = w .vp; corners = w .corners; elements = w .elements; bodies = w .bodies; ranges = w .ranges; parameters = w .parameters; loops = w .loops; spans = w .spans })
-room-rows normal R x z f h = let w = fits-parts R x f in let e = length-append (x .model .vertices .vn) (z ∷ []) in parts-fit R (apply (vertex normal z) x) (record { v = w .v; vt = w .vt; vn = omega arith; vp = w .vp; corners = w .corners; elements = w .elements; bodies = w .bodies; ranges = w .ranges; parameters = w .parameters; loops = w .loops; spans = w .spans })
-room-rows parametric R x z f h = let w = fits-parts R x f in let e = length-append (x .model .vertices .vp) (z ∷ []) in parts-fit R (apply (vertex parametric z) x) (record { v = w .v; vt = w .vt; vn = w .vn; vp = omega arith; corners = w .corners; elements = w .elements; bodies = w .bodies; ranges = w .ranges; parameters = w .parameters; loops = w .loops; spans = w .spans })
+room-rows geometric R x z f h = let w = fits-parts R x f in let e = length-append (x .model .vertices .v) (z ∷ []) in parts-fit R (apply (vertex geometric z) x) (record { vertices = record { v = omega arith; vt = w .vertices .vt; vn = w .vertices .vn; vp = w .vertices .vp }; elements = w .elements; bodies = w .bodies })
+room-rows texture R x z f h = let w = fits-parts R x f in let e = length-append (x .model .vertices .vt) (z ∷ []) in parts-fit R (apply (vertex texture z) x) (record { vertices = record { v = w .vertices .v; vt = omega arith; vn = w .vertices .vn; vp = w .vertices .vp }; elements = w .elements; bodies = w .bodies })
+room-rows normal R x z f h = let w = fits-parts R x f in let e = length-append (x .model .vertices .vn) (z ∷ []) in parts-fit R (apply (vertex normal z) x) (record { vertices = record { v = w .vertices .v; vt = w .vertices .vt; vn = omega arith; vp = w .vertices .vp }; elements = w .elements; bodies = w .bodies })
+room-rows parametric R x z f h = let w = fits-parts R x f in let e = length-append (x .model .vertices .vp) (z ∷ []) in parts-fit R (apply (vertex parametric z) x) (record { vertices = record { v = w .vertices .v; vt = w .vertices .vt; vn = w .vertices .vn; vp = omega arith }; elements = w .elements; bodies = w .bodies })
 
 lent-is : (k : VertexKind) (R : Rooms) (x : model.State) → Wide (x .model .vertices) → fits R x ≡ true → length (tableOf k (imageOf R x)) ≡ roomOf k R
 unfolding imageOf
-lent-is geometric R x w f = let h = fits-parts R x f .v in let e = w .rows geometric in length-filled (R .v) (pos 0) (flat itself (x .model .vertices .v)) (omega arith)
-lent-is texture R x w f = let h = fits-parts R x f .vt in let e = w .rows texture in length-filled (R .vt) (pos 0) (flat itself (x .model .vertices .vt)) (omega arith)
-lent-is normal R x w f = let h = fits-parts R x f .vn in let e = w .rows normal in length-filled (R .vn) (pos 0) (flat itself (x .model .vertices .vn)) (omega arith)
-lent-is parametric R x w f = let h = fits-parts R x f .vp in let e = w .rows parametric in length-filled (R .vp) (pos 0) (flat itself (x .model .vertices .vp)) (omega arith)
+lent-is geometric R x w f = let h = fits-parts R x f .vertices .v in let e = w .rows geometric in length-filled (R .vertices .v) (pos 0) (flat itself (x .model .vertices .v)) (omega arith)
+lent-is texture R x w f = let h = fits-parts R x f .vertices .vt in let e = w .rows texture in length-filled (R .vertices .vt) (pos 0) (flat itself (x .model .vertices .vt)) (omega arith)
+lent-is normal R x w f = let h = fits-parts R x f .vertices .vn in let e = w .rows normal in length-filled (R .vertices .vn) (pos 0) (flat itself (x .model .vertices .vn)) (omega arith)
+lent-is parametric R x w f = let h = fits-parts R x f .vertices .vp in let e = w .rows parametric in length-filled (R .vertices .vp) (pos 0) (flat itself (x .model .vertices .vp)) (omega arith)
 
 -- ---- what stays, and what is one more
 wider : (w : ℕ) (rows : List (List ℤ)) (z : List ℤ) → length (flat itself rows) ≡ w * length rows → length z ≡ w → length (flat itself (rows ++ z ∷ [])) ≡ w * length (rows ++ z ∷ [])

@@ -8,6 +8,8 @@ use mathlib.Core.Bool.{Bool}
 use mathlib.Core.Option.{none}
 use Rattle.text.specs.Words.{Word}
 use Rattle.text.specs.Rest.{restAt, push}
+use Rattle.tables.specs.VertexTables.{VertexTables}
+use Rattle.tables.specs.ElementTables.{ElementTables}
 use Rattle.tables.specs.Tables.{Tables}
 use Rattle.tables.specs.declared.Used.{Used}
 use Rattle.keywords.specs.Keywords.{statementOf}
@@ -18,13 +20,14 @@ use Rattle.model.specs.Parse.{fine, fault, Keyword, a-vertex, an-element, a-bod
 use Rattle.model.specs.Room.{Rooms}
 use Rattle.model.specs.Read.{keywordOf}
 use Rattle.read_state.specs.declared.State.{State}
-use Rattle.read_state.specs.Changed.{rowStored, elementStored, rangeStored, loopsStored, bodyStored}
+use Rattle.read_state.specs.Changed.{withVertices, withElements, kindStored, kindIn, rangeStored, loopsStored, bodyStored}
 use Rattle.read_vertices.specs.Vertex.{vertexIs}
 use Rattle.read_vertices.specs.declared.Vertex.{Vertex}
 use Rattle.read_bodies.specs.Loops.{loopWord}
 use Rattle.read_diagnosis.specs.Diagnosis.{parseBefore, GivenIn}
 use Rattle.read_vertex_lines.specs.declared.Step.{Step}
 use Rattle.read_vertex_lines.specs.declared.Step.the-variants.{Accepted, Refuses, Rejected}
+use Rattle.read_vertex_lines.specs.Bounds.{Keeps}
 use Rattle.read_vertex_lines.specs.Holding.{Holds, lineSays, WithinLimit, NextLine}
 
 -- how many vertices of a kind are used, and the state with one more
@@ -54,50 +57,38 @@ pub record Began (R : Rooms) (s : List ℕ) (p at n : ℕ) (x : model.State) (c 
 
 -- a line that was rejected: the vp that were there are there, and if nothing is wrong with it then there is no room for it
 pub record Left (R : Rooms) (s : List ℕ) (p at : ℕ) (x : model.State) (u : Tables) (w : Word) (k : Keyword) : Type 0 where
-  pub given : GivenIn (x .model .vertices .vp) (u .vp)
+  pub given : GivenIn (x .model .vertices .vp) (u .vertices .vp)
   pub roomless : (restAt s at) .bad ≡ none → (y : Statement) → parseBefore k x (w .place) ((restAt s at) .words) ≡ fine y → lineSays R s p x ≡ fault 14 (w .place)
 
--- the tables held t and then hold u
+-- the tables held t and then hold u; the bounds are kept in whatever state the line is taken
 abbrev pub stepIs : List ℕ → ℕ → Keyword → State → Tables → Tables → Step → Type 0
 stepIs s at k c t u (Accepted d q) =
-    (R : Rooms) (p n : ℕ) (x : model.State) (w : Word) → Began R s p at n x c t w k → NextLine R s p n x d u q × (q ≡ (restAt s p) .next)
+    Keeps s at c d q × ((R : Rooms) (p n : ℕ) (x : model.State) (w : Word) → Began R s p at n x c t w k → NextLine R s p n x d u q × (q ≡ (restAt s p) .next))
 stepIs s at k c t u (Refuses i) = (R : Rooms) (p n : ℕ) (x : model.State) (w : Word) → Began R s p at n x c t w k → lineSays R s p x ≡ fault i (w .place)
 stepIs s at k c t u Rejected = (R : Rooms) (p n : ℕ) (x : model.State) (w : Word) → Began R s p at n x c t w k → Left R s p at x u w k
 
 -- each family by the tables that it is lent; the others stay
--- the four tables of vertices among the others, and that of one kind among the four
-abbrev pub withVertices : List ℤ → List ℤ → List ℤ → List ℤ → Tables → Tables
-withVertices v vt vn vp t = record { v = v; vt = vt; vn = vn; vp = vp; corners = t .corners; elements = t .elements; bodies = t .bodies; ranges = t .ranges; parameters = t .parameters; loops = t .loops; spans = t .spans }
-
-abbrev pub amongVertices : VertexKind → List ℤ → List ℤ → List ℤ → List ℤ → List ℤ
-amongVertices geometric v vt vn vp = v
-amongVertices texture v vt vn vp = vt
-amongVertices normal v vt vn vp = vn
-amongVertices parametric v vt vn vp = vp
-
 -- what `vertex_into` answers: a vertex goes into the table of its kind, and the other three stay
-abbrev pub vertexInto : VertexKind → List ℕ → ℕ → ℕ → List ℤ → List ℤ → List ℤ → List ℤ → List ℤ → List ℤ → List ℤ → List ℤ → Vertex → Type 0
-vertexInto k s at n v vt vn vp v′ vt′ vn′ vp′ r =
-    vertexIs k s at n (amongVertices k v vt vn vp) (amongVertices k v′ vt′ vn′ vp′) r
-    × ((t : Tables) → withVertices v′ vt′ vn′ vp′ t ≡ rowStored k (amongVertices k v′ vt′ vn′ vp′) (withVertices v vt vn vp t))
+abbrev pub vertexInto : VertexKind → List ℕ → ℕ → ℕ → VertexTables → VertexTables → Vertex → Type 0
+vertexInto k s at n a b r = vertexIs k s at n (kindIn k a) (kindIn k b) r × (b ≡ kindStored k (kindIn k b) a)
 
-abbrev pub vertexStep : VertexKind → List ℕ → ℕ → State → List ℤ → List ℤ → List ℤ → List ℤ → List ℤ → List ℤ → List ℤ → List ℤ → Step → Type 0
-vertexStep k s at c v vt vn vp v′ vt′ vn′ vp′ r = (t : Tables) → stepIs s at (a-vertex k) c (withVertices v vt vn vp t) (withVertices v′ vt′ vn′ vp′ t) r
+abbrev pub vertexStep : VertexKind → List ℕ → ℕ → State → VertexTables → VertexTables → Step → Type 0
+vertexStep k s at c a b r = (t : Tables) → stepIs s at (a-vertex k) c (withVertices a t) (withVertices b t) r
 
-abbrev pub elementStep : Shape → List ℕ → ℕ → State → List ℕ → List ℕ → List ℕ → List ℕ → Step → Type 0
-elementStep k s at c l m e f r = (t : Tables) → t .corners ≡ l → t .elements ≡ e → stepIs s at (an-element k) c t (elementStored m f t) r
+abbrev pub elementStep : Shape → List ℕ → ℕ → State → ElementTables → ElementTables → Step → Type 0
+elementStep k s at c a b r = (t : Tables) → t .elements ≡ a → stepIs s at (an-element k) c t (withElements b t) r
 
-abbrev pub bodyStep : Free → List ℕ → ℕ → State → List ℤ → List ℕ → List ℕ → List ℕ → List ℕ → ℕ → List ℤ → List ℤ → Step → Type 0
-bodyStep k s at c vp l m e f bodies y z r =
-    (t : Tables) → t .vp ≡ vp → t .corners ≡ l → t .elements ≡ e → length (t .bodies) ≡ bodies → t .ranges ≡ y
-    → stepIs s at (a-body k) c t (rangeStored z (elementStored m f t)) r
+abbrev pub bodyStep : Free → List ℕ → ℕ → State → List ℤ → ElementTables → ElementTables → ℕ → List ℤ → List ℤ → Step → Type 0
+bodyStep k s at c vp a b bodies y z r =
+    (t : Tables) → t .vertices .vp ≡ vp → t .elements ≡ a → length (t .bodies .bodies) ≡ bodies → t .bodies .ranges ≡ y
+    → stepIs s at (a-body k) c t (rangeStored z (withElements b t)) r
 
 abbrev pub endStep : List ℕ → ℕ → State → List ℕ → List ℕ → List ℤ → List ℤ → List ℤ → List ℤ → Step → Type 0
 endStep s at c b d y z p q r =
-    (t : Tables) → t .bodies ≡ b → t .ranges ≡ y → t .parameters ≡ p → stepIs s at ends c t (bodyStored d z q t) r
+    (t : Tables) → t .bodies .bodies ≡ b → t .bodies .ranges ≡ y → t .bodies .parameters ≡ p → stepIs s at ends c t (bodyStored d z q t) r
 
 abbrev pub loopStep : Bool → List ℕ → ℕ → State → List ℕ → List ℕ → List ℤ → List ℤ → Step → Type 0
-loopStep hole s at c l m y z r = (t : Tables) → t .loops ≡ l → t .spans ≡ y → stepIs s at (loopWord hole) c t (loopsStored m z t) r
+loopStep hole s at c l m y z r = (t : Tables) → t .bodies .loops ≡ l → t .bodies .spans ≡ y → stepIs s at (loopWord hole) c t (loopsStored m z t) r
 
 -- a line that stores nothing: parm, a setting, a statement that is passed over
 abbrev pub quietStep : Keyword → List ℕ → ℕ → State → Step → Type 0

@@ -3,10 +3,14 @@
 use read_state::State;
 use read_vertices::Vertex;
 use statements::VertexKind;
+use statements::rows::vertex_rules;
+use statements::rules::allowed;
 use tables::Used;
 ghost use mathlib.Core.Path.{_≡_};
 ghost use Prim.Native.Nat.{_+_, _≤_};
 ghost use lib.ListN.{length};
+ghost use Rattle.read_vertex_lines.specs.Bounds.{InBounds};
+ghost use Rattle.tables.specs.VertexTables.{vertexTables};
 ghost use Rattle.read_vertex_lines.specs.Stepping.{countIn, counted, withUsed, vertexInto, vertexStep};
 
 // What a line whose keyword is known comes to: the state after it, a refusal at its keyword, or a fault still to be found.
@@ -68,7 +72,7 @@ fn vertex_into(
     vp: &mut [i32],
 ) -> Vertex
     requires { ⌜ at ≤ length (now text) ⌝ }
-    ensures { λ r. ⌜ vertexInto kind (now (text .entry)) at used (now (v .entry)) (now (vt .entry)) (now (vn .entry)) (now (vp .entry)) (now (v .exit)) (now (vt .exit)) (now (vn .exit)) (now (vp .exit)) r ⌝ }
+    ensures { λ r. ⌜ vertexInto kind (now (text .entry)) at used (vertexTables (now (v .entry)) (now (vt .entry)) (now (vn .entry)) (now (vp .entry))) (vertexTables (now (v .exit)) (now (vt .exit)) (now (vn .exit)) (now (vp .exit))) r ⌝ }
 {
     match kind {
         VertexKind::Geometric => read_vertices::take_vertex(kind, text, at, used, v),
@@ -89,18 +93,17 @@ pub fn vertex_line(
     vn: &mut [i32],
     vp: &mut [i32],
 ) -> Step
-    requires { ⌜ at ≤ length (now text) ⌝ }
-    ensures { λ r. ⌜ vertexStep kind (now (text .entry)) at state (now (v .entry)) (now (vt .entry)) (now (vn .entry)) (now (vp .entry)) (now (v .exit)) (now (vt .exit)) (now (vn .exit)) (now (vp .exit)) r ⌝ }
+    requires { ⌜ InBounds (now text) at state ⌝ }
+    ensures { λ r. ⌜ vertexStep kind (now (text .entry)) at state (vertexTables (now (v .entry)) (now (vt .entry)) (now (vn .entry)) (now (vp .entry))) (vertexTables (now (v .exit)) (now (vt .exit)) (now (vn .exit)) (now (vp .exit))) r ⌝ }
 {
     let open = state.open;
-    if open.kind != 0 {
+    let rules = vertex_rules(kind);
+    let standing = rules.standing;
+    if !allowed(standing, open.kind, false) {
         return Step::Rejected;
     }
     let used = state.used;
     let count = count_of(kind, used);
-    if 4_294_967_295 <= count {
-        return Step::Rejected;
-    }
     match vertex_into(kind, text, at, count, v, vt, vn, vp) {
         Vertex::Rejected => Step::Rejected,
         Vertex::Accepted { next } => Step::Accepted {

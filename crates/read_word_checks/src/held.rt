@@ -9,6 +9,7 @@ use references::corner::CornerWord;
 use statements::Free;
 use statements::rules::Held;
 use statements::rules::range_words;
+use tables::bases;
 use text::AfterBlanks;
 ghost use mathlib.Core.Path.{_≡_};
 ghost use mathlib.Core.List.{_∷_};
@@ -81,7 +82,7 @@ fn in_force(surface: bool, form: Form) -> bool
     if form.basis == 0 {
         return false;
     }
-    if form.basis == 3 {
+    if form.basis == bases::CARDINAL {
         return true;
     }
     if surface {

@@ -17,22 +17,22 @@ use Rattle.record_rules.specs.Bodies.{recordObeys, bodyObeys}
 use Rattle.record_rules.specs.Rules.{elementObeys, obeys}
 
 abbrev pub outline : Used → Tables → Element → Bool
-outline used t e = leb 1 (e .kind) && leb (e .kind) 6 && leb (e .smoothing) 65535 && cornersObey used t (e .kind) (e .first) (e .count)
+outline used t e = leb 1 (e .kind) && leb (e .kind) 6 && leb (e .smoothing) 65535 && cornersObey used t (e .kind) (e .corners)
 
 module _ (used : Used) (t : Tables) (curves : ℕ) where
-  pub body-is : (kind count k : ℕ) → bodyObeys used t curves kind count k ≡ recordObeys used t curves kind count (askedBody used (t .bodies) (t .ranges) k)
+  pub body-is : (kind count k : ℕ) → bodyObeys used t curves kind count k ≡ recordObeys used t curves kind count (askedBody used (t .bodies .bodies) (t .bodies .ranges) k)
   unfolding bodyObeys recordObeys typeObeys askedBody
-  body-is kind count k = go (bodyHeld used (t .bodies) (t .ranges) k) refl
+  body-is kind count k = go (bodyHeld used (t .bodies .bodies) (t .bodies .ranges) k) refl
     where
-      go : (q : Bool) → bodyHeld used (t .bodies) (t .ranges) k ≡ q → bodyObeys used t curves kind count k ≡ recordObeys used t curves kind count (askedBody used (t .bodies) (t .ranges) k)
+      go : (q : Bool) → bodyHeld used (t .bodies .bodies) (t .bodies .ranges) k ≡ q → bodyObeys used t curves kind count k ≡ recordObeys used t curves kind count (askedBody used (t .bodies .bodies) (t .bodies .ranges) k)
       go true h = rw h
       go false h = rw h
 
   -- a body that obeys is held
-  pub body-there : (kind count k : ℕ) → recordObeys used t curves kind count (askedBody used (t .bodies) (t .ranges) k) ≡ true → askedBody used (t .bodies) (t .ranges) k ≡ bodyAt t (k - 1)
+  pub body-there : (kind count k : ℕ) → recordObeys used t curves kind count (askedBody used (t .bodies .bodies) (t .bodies .ranges) k) ≡ true → askedBody used (t .bodies .bodies) (t .bodies .ranges) k ≡ bodyAt t (k - 1)
   unfolding recordObeys typeObeys askedBody
-  body-there kind count k = go (bodyHeld used (t .bodies) (t .ranges) k) refl
+  body-there kind count k = go (bodyHeld used (t .bodies .bodies) (t .bodies .ranges) k) refl
     where
-      go : (q : Bool) → bodyHeld used (t .bodies) (t .ranges) k ≡ q → recordObeys used t curves kind count (askedBody used (t .bodies) (t .ranges) k) ≡ true → askedBody used (t .bodies) (t .ranges) k ≡ bodyAt t (k - 1)
+      go : (q : Bool) → bodyHeld used (t .bodies .bodies) (t .bodies .ranges) k ≡ q → recordObeys used t curves kind count (askedBody used (t .bodies .bodies) (t .bodies .ranges) k) ≡ true → askedBody used (t .bodies .bodies) (t .bodies .ranges) k ≡ bodyAt t (k - 1)
       go true h r = rw h
       go false h r = never (rw h at r)

@@ -10,7 +10,8 @@ use lib.ListN.{length}
 use lib.IntN.{ℤ}
 use Rattle.lists.proofs.Tests.{and-left, and-right}
 use Rattle.tables.specs.Tables.{Tables}
-use Rattle.tables.specs.Records.{cornerAt, cornerIn, cornersEnd}
+use Rattle.tables.specs.Records.{cornerAt, cornerIn, cornerPlace}
+use Rattle.tables.specs.declared.CornerRun.{CornerRun}
 use Rattle.tables.specs.declared.Used.{Used}
 use Rattle.record_rules.specs.Numbers.{runInRange, allBelow}
 use Rattle.record_rules.specs.Vertices.{vertexObeys}
@@ -35,22 +36,22 @@ module _ (v : List ℤ) (used r : ℕ) (h : Reach (length v) used r) (k : ℕ) w
       go true false false p q s = rw (p, q, s)
 
 -- the corners' loop, by the first that breaks a rule, or by their number
-module _ (v : List ℤ) (used : ℕ) (corners : List ℕ) (first : ℕ) where
+module _ (v : List ℤ) (used : ℕ) (corners : List ℕ) (run : CornerRun) where
   abbrev pub atBare : ℕ → Bool
-  atBare k = bareObeys v used (cornerIn corners (cornersEnd first k))
+  atBare k = bareObeys v used (cornerIn corners (cornerPlace run k))
 
   pub bare-here : (r : ℕ) → Reach (length v) used r → (k : ℕ) {b : Bool} →
-      let c = cornerIn corners (cornersEnd first k) in b ≡ (reachedObeys v r (c .v) && eqb (c .vt) 0 && eqb (c .vn) 0) → b ≡ atBare k
+      let c = cornerIn corners (cornerPlace run k) in b ≡ (reachedObeys v r (c .v) && eqb (c .vt) 0 && eqb (c .vn) 0) → b ≡ atBare k
   unfolding bareObeys
-  bare-here r h k e = e ∙ rw (reached-is v used r h (cornerIn corners (cornersEnd first k) .v))
+  bare-here r h k e = e ∙ rw (reached-is v used r h (cornerIn corners (cornerPlace run k) .v))
 
-  pub bare-fails : (count k : ℕ) → k < count → atBare k ≡ false → eachBare v used corners first count ≡ false
+  pub bare-fails : (k : ℕ) → k < run .count → atBare k ≡ false → eachBare v used corners run ≡ false
   unfolding eachBare
-  bare-fails count k h e = below-fails atBare count k h e
+  bare-fails k h e = below-fails atBare (run .count) k h e
 
-  pub bare-holds : (count k : ℕ) → allBelow k atBare ≡ true → k ≤ count → count ≤ k → eachBare v used corners first count ≡ true
+  pub bare-holds : (k : ℕ) → allBelow k atBare ≡ true → k ≤ run .count → run .count ≤ k → eachBare v used corners run ≡ true
   unfolding eachBare
-  bare-holds count k h a b = below-ends atBare h a b
+  bare-holds k h a b = below-ends atBare h a b
 
 -- a number beside none at the first corner
 none-given : (allowed : Bool) (l : List ℤ) (used first k : ℕ) → eqb first 0 ≡ true → attributeObeys allowed l used first k ≡ eqb k 0
@@ -62,26 +63,26 @@ none-given allowed l used first k h = rw h (go allowed (eqb k 0) (vertexObeys 3 
     go true false w = refl
     go false false w = refl
 
-module _ (used : Used) (t : Tables) (kind first : ℕ)
-    (h : (not (eqb kind 5) && eqb (cornerAt t first 0 .vt) 0 && eqb (cornerAt t first 0 .vn) 0) ≡ true) where
+module _ (used : Used) (t : Tables) (kind : ℕ) (run : CornerRun)
+    (h : (not (eqb kind 5) && eqb (cornerAt t run 0 .vt) 0 && eqb (cornerAt t run 0 .vn) 0) ≡ true) where
   no-curve : eqb kind 5 ≡ false
-  no-curve = not-true (eqb kind 5) (and-left (not (eqb kind 5)) (eqb (cornerAt t first 0 .vt) 0) (and-left (not (eqb kind 5) && eqb (cornerAt t first 0 .vt) 0) (eqb (cornerAt t first 0 .vn) 0) h))
+  no-curve = not-true (eqb kind 5) (and-left (not (eqb kind 5)) (eqb (cornerAt t run 0 .vt) 0) (and-left (not (eqb kind 5) && eqb (cornerAt t run 0 .vt) 0) (eqb (cornerAt t run 0 .vn) 0) h))
 
-  no-texture : eqb (cornerAt t first 0 .vt) 0 ≡ true
-  no-texture = and-right (not (eqb kind 5)) (eqb (cornerAt t first 0 .vt) 0) (and-left (not (eqb kind 5) && eqb (cornerAt t first 0 .vt) 0) (eqb (cornerAt t first 0 .vn) 0) h)
+  no-texture : eqb (cornerAt t run 0 .vt) 0 ≡ true
+  no-texture = and-right (not (eqb kind 5)) (eqb (cornerAt t run 0 .vt) 0) (and-left (not (eqb kind 5) && eqb (cornerAt t run 0 .vt) 0) (eqb (cornerAt t run 0 .vn) 0) h)
 
-  no-normal : eqb (cornerAt t first 0 .vn) 0 ≡ true
-  no-normal = and-right (not (eqb kind 5) && eqb (cornerAt t first 0 .vt) 0) (eqb (cornerAt t first 0 .vn) 0) h
+  no-normal : eqb (cornerAt t run 0 .vn) 0 ≡ true
+  no-normal = and-right (not (eqb kind 5) && eqb (cornerAt t run 0 .vt) 0) (eqb (cornerAt t run 0 .vn) 0) h
 
-  bare-is : (k : ℕ) → bareObeys (t .v) (used .v) (cornerAt t first k) ≡ cornerObeys used t kind (cornerAt t first 0) (cornerAt t first k)
+  bare-is : (k : ℕ) → bareObeys (t .vertices .v) (used .v) (cornerAt t run k) ≡ cornerObeys used t kind (cornerAt t run 0) (cornerAt t run k)
   unfolding bareObeys cornerObeys pointObeys
   bare-is k =
       rw (
         no-curve,
-        none-given _ (t .vt) (used .vt) (cornerAt t first 0 .vt) (cornerAt t first k .vt) no-texture,
-        none-given _ (t .vn) (used .vn) (cornerAt t first 0 .vn) (cornerAt t first k .vn) no-normal,
+        none-given _ (t .vertices .vt) (used .vt) (cornerAt t run 0 .vt) (cornerAt t run k .vt) no-texture,
+        none-given _ (t .vertices .vn) (used .vn) (cornerAt t run 0 .vn) (cornerAt t run k .vn) no-normal,
       )
 
-  pub each-bare : (count : ℕ) → eachBare (t .v) (used .v) (t .corners) first count ≡ eachCorner used t kind first count
+  pub each-bare : eachBare (t .vertices .v) (used .v) (t .elements .corners) run ≡ eachCorner used t kind run
   unfolding eachBare eachCorner
-  each-bare count = below-same _ _ bare-is count
+  each-bare = below-same _ _ bare-is (run .count)

@@ -24,17 +24,17 @@ use Rattle.record_rules.proofs.Facts.{Corners, corners-facts, Typed, ty
 pub record Recorded (used : Used) (t : Tables) (kind k : ℕ) : Type 0 where
   pub some : 1 ≤ k
   pub used-one : k ≤ used .bodies
-  pub lent-body : 9 * k ≤ length (t .bodies)
-  pub lent-range : 4 * k ≤ length (t .ranges)
+  pub lent-body : 9 * k ≤ length (t .bodies .bodies)
+  pub lent-range : 4 * k ≤ length (t .bodies .ranges)
   pub typed : let b = bodyAt t (k - 1) in Typed (eqb kind 6) (b .basis) (b .rational) (b .«degree_u») (b .«degree_v»)
-  pub run : let b = bodyAt t (k - 1) in Run (eqb kind 6) (t .parameters) (used .parameters) (b .«first_parameter») (b .«count_u») (b .«count_v»)
+  pub run : let b = bodyAt t (k - 1) in Run (eqb kind 6) (t .bodies .parameters) (used .parameters) (b .«first_parameter») (b .«count_u») (b .«count_v»)
 
 loops-used : (used : ℕ) (t : Tables) (curves first count : ℕ) → loopsObey used t curves first count ≡ true → (count ≡ 0 → ⊥) → first + count ≤ used
 unfolding loopsObey
 loops-used used t curves first count h some =
     let a = leb (first + count) used in
-    let b = leb (2 * (first + count)) (length (t .loops)) in
-    let d = leb (2 * (first + count)) (length (t .spans)) in
+    let b = leb (2 * (first + count)) (length (t .bodies .loops)) in
+    let d = leb (2 * (first + count)) (length (t .bodies .spans)) in
     leb-true _ _ (and-left a b (and-left (a && b) d (and-left (a && b && d) _ (rw (ne-eqb count 0 some) at h))))
 
 module _ (used : Used) (t : Tables) (curves kind count k : ℕ) (h : bodyObeys used t curves kind count k ≡ true) where
@@ -43,13 +43,13 @@ module _ (used : Used) (t : Tables) (curves kind count k : ℕ) (h : bodyObeys u
 
   record-holds : recordObeys used t curves kind count body ≡ true
   unfolding bodyObeys bodyHeld held
-  record-holds = and-right (leb 1 k && leb k (used .bodies) && leb (9 * k) (length (t .bodies)) && leb (4 * k) (length (t .ranges))) _ h
+  record-holds = and-right (leb 1 k && leb k (used .bodies) && leb (9 * k) (length (t .bodies .bodies)) && leb (4 * k) (length (t .bodies .ranges))) _ h
 
   abbrev type-test : Bool
   type-test = typeObeys (eqb kind 6) (body .basis) (body .rational) (body .«degree_u») (body .«degree_v»)
 
   abbrev run-test : Bool
-  run-test = parametersObey (eqb kind 6) (t .parameters) (used .parameters) (body .«first_parameter») (body .«count_u») (body .«count_v»)
+  run-test = parametersObey (eqb kind 6) (t .bodies .parameters) (used .parameters) (body .«first_parameter») (body .«count_u») (body .«count_v»)
 
   first-two : (type-test && run-test) ≡ true
   unfolding recordObeys
@@ -64,8 +64,8 @@ module _ (used : Used) (t : Tables) (curves kind count k : ℕ) (h : bodyObeys u
   recorded =
       let a = leb 1 k in
       let b = leb k (used .bodies) in
-      let d = leb (9 * k) (length (t .bodies)) in
-      let e = leb (4 * k) (length (t .ranges)) in
+      let d = leb (9 * k) (length (t .bodies .bodies)) in
+      let e = leb (4 * k) (length (t .bodies .ranges)) in
       let four = and-left (a && b && d && e) _ h in
       let three = and-left (a && b && d) e four in
       let two = and-left (a && b) d three in
@@ -102,22 +102,22 @@ module _ (used : Used) (t : Tables) (curves kind count k : ℕ) (h : bodyObeys u
 
 -- the element itself
 pub record Obeys (used : Used) (t : Tables) (curves i : ℕ) : Type 0 where
-  pub lent-one : 9 * i + 9 ≤ length (t .elements)
+  pub lent-one : 9 * i + 9 ≤ length (t .elements .elements)
   pub kind-some : 1 ≤ elementAt t i .kind
   pub kind-most : elementAt t i .kind ≤ 6
   pub smooth : elementAt t i .smoothing ≤ 65535
-  pub corners : Corners used t (elementAt t i .kind) (elementAt t i .first) (elementAt t i .count)
-  pub rest : cond (leb (elementAt t i .kind) 3) (eqb (elementAt t i .body) 0) (bodyObeys used t curves (elementAt t i .kind) (elementAt t i .count) (elementAt t i .body)) ≡ true
+  pub corners : Corners used t (elementAt t i .kind) (elementAt t i .corners)
+  pub rest : cond (leb (elementAt t i .kind) 3) (eqb (elementAt t i .body) 0) (bodyObeys used t curves (elementAt t i .kind) (elementAt t i .corners .count) (elementAt t i .body)) ≡ true
 
 pub obeys-facts : (used : Used) (t : Tables) (curves i : ℕ) → obeys used t curves i ≡ true → Obeys used t curves i
 unfolding obeys elementObeys
 obeys-facts used t curves i h =
     let e = elementAt t i in
-    let l = leb (9 * i + 9) (length (t .elements)) in
+    let l = leb (9 * i + 9) (length (t .elements .elements)) in
     let a = leb 1 (e .kind) in
     let b = leb (e .kind) 6 in
     let d = leb (e .smoothing) 65535 in
-    let k = cornersObey used t (e .kind) (e .first) (e .count) in
+    let k = cornersObey used t (e .kind) (e .corners) in
     let all = and-right l _ h in
     let four = and-left (a && b && d && k) _ all in
     let three = and-left (a && b && d) k four in
@@ -127,11 +127,11 @@ obeys-facts used t curves i h =
       kind-some = leb-true _ _ (and-left a b two);
       kind-most = leb-true _ _ (and-right a b two);
       smooth = leb-true _ _ (and-right (a && b) d three);
-      corners = corners-facts used t (e .kind) (e .first) (e .count) (and-right (a && b && d) k four);
+      corners = corners-facts used t (e .kind) (e .corners) (and-right (a && b && d) k four);
       rest = and-right (a && b && d && k) _ all;
     }
 
 -- a curv, curv2 or surf has a body
 pub body-of : {used : Used} {t : Tables} {curves i : ℕ} → Obeys used t curves i → 4 ≤ elementAt t i .kind
-    → bodyObeys used t curves (elementAt t i .kind) (elementAt t i .count) (elementAt t i .body) ≡ true
+    → bodyObeys used t curves (elementAt t i .kind) (elementAt t i .corners .count) (elementAt t i .body) ≡ true
 body-of {used} {t} {curves} {i} o h = rw (lt-leb (elementAt t i .kind) 3 h) at (o .rest)

@@ -13,6 +13,7 @@ use Rattle.tables.specs.Tables.{Tables}
 use Rattle.tables.specs.Records.{cornerAt, valueAt}
 use Rattle.tables.specs.declared.Body.{Body}
 use Rattle.tables.specs.Bodies.{inOrder, curveCount, surfaceCount, basisOf}
+use Rattle.tables.specs.declared.CornerRun.{CornerRun}
 use Rattle.tables.specs.declared.Used.{Used}
 use Rattle.record_rules.specs.Vertices.{parameterVertexObeys, controlObeys}
 use Rattle.record_rules.specs.Corners.{leastCorners, withTexture, attributeObeys, pointObeys, cornerObeys, eachCorner, cornersObey}
@@ -24,48 +25,48 @@ use Rattle.record_rules.proofs.Below.{below-at}
 use Rattle.record_rules.proofs.OneVertex.{Vertex, vertex-facts, parameter-facts}
 
 -- ---- corners
-pub record Corners (used : Used) (t : Tables) (kind first count : ℕ) : Type 0 where
-  pub used-run : first + 3 * count ≤ used .corners
-  pub lent-run : first + 3 * count ≤ length (t .corners)
-  pub least : leastCorners kind ≤ count
-  pub each : (k : ℕ) → k < count → cornerObeys used t kind (cornerAt t first 0) (cornerAt t first k) ≡ true
+pub record Corners (used : Used) (t : Tables) (kind : ℕ) (run : CornerRun) : Type 0 where
+  pub used-run : run .first + 3 * run .count ≤ used .corners
+  pub lent-run : run .first + 3 * run .count ≤ length (t .elements .corners)
+  pub least : leastCorners kind ≤ run .count
+  pub each : (k : ℕ) → k < run .count → cornerObeys used t kind (cornerAt t run 0) (cornerAt t run k) ≡ true
 
-pub corners-facts : (used : Used) (t : Tables) (kind first count : ℕ) → cornersObey used t kind first count ≡ true → Corners used t kind first count
+pub corners-facts : (used : Used) (t : Tables) (kind : ℕ) (run : CornerRun) → cornersObey used t kind run ≡ true → Corners used t kind run
 unfolding cornersObey eachCorner
-corners-facts used t kind first count h =
-    let a = leb (first + 3 * count) (used .corners) in
-    let b = leb (first + 3 * count) (length (t .corners)) in
-    let d = leb (leastCorners kind) count in
+corners-facts used t kind run h =
+    let a = leb (run .first + 3 * run .count) (used .corners) in
+    let b = leb (run .first + 3 * run .count) (length (t .elements .corners)) in
+    let d = leb (leastCorners kind) (run .count) in
     let three = and-left (a && b && d) _ h in
     let two = and-left (a && b) d three in
     record {
       used-run = leb-true _ _ (and-left a b two);
       lent-run = leb-true _ _ (and-right a b two);
       least = leb-true _ _ (and-right (a && b) d three);
-      each = λ k l. below-at _ count k (and-right (a && b && d) _ h) l;
+      each = λ k l. below-at _ (run .count) k (and-right (a && b && d) _ h) l;
     }
 
-module _ (used : Used) (t : Tables) (kind first count : ℕ) (c : Corners used t kind first count) (k : ℕ) (l : k < count) where
-  point-holds : pointObeys used (t .v) (t .vp) kind (cornerAt t first k .v) ≡ true
+module _ (used : Used) (t : Tables) (kind : ℕ) (run : CornerRun) (c : Corners used t kind run) (k : ℕ) (l : k < run .count) where
+  point-holds : pointObeys used (t .vertices .v) (t .vertices .vp) kind (cornerAt t run k .v) ≡ true
   unfolding cornerObeys
   point-holds =
-      let p = pointObeys used (t .v) (t .vp) kind (cornerAt t first k .v) in
-      let a = attributeObeys (withTexture kind) (t .vt) (used .vt) (cornerAt t first 0 .vt) (cornerAt t first k .vt) in
+      let p = pointObeys used (t .vertices .v) (t .vertices .vp) kind (cornerAt t run k .v) in
+      let a = attributeObeys (withTexture kind) (t .vertices .vt) (used .vt) (cornerAt t run 0 .vt) (cornerAt t run k .vt) in
       and-left p a (and-left (p && a) _ (c .each k l))
 
   -- a corner's v, on every kind but a curv2
-  pub corner-vertex : (kind ≡ 5 → ⊥) → Vertex 4 (t .v) (used .v) (cornerAt t first k .v)
+  pub corner-vertex : (kind ≡ 5 → ⊥) → Vertex 4 (t .vertices .v) (used .v) (cornerAt t run k .v)
   unfolding pointObeys
-  corner-vertex h = vertex-facts 4 (t .v) (used .v) (cornerAt t first k .v) (rw (ne-eqb kind 5 h) at point-holds)
+  corner-vertex h = vertex-facts 4 (t .vertices .v) (used .v) (cornerAt t run k .v) (rw (ne-eqb kind 5 h) at point-holds)
 
-  control-holds : kind ≡ 5 → controlObeys (t .vp) (used .vp) (cornerAt t first k .v) ≡ true
+  control-holds : kind ≡ 5 → controlObeys (t .vertices .vp) (used .vp) (cornerAt t run k .v) ≡ true
   unfolding pointObeys
   control-holds h = rw (eq-eqb kind 5 h) at point-holds
 
   -- a curv2's control: its vp, and that two coordinates or more are given
-  pub corner-control : kind ≡ 5 → Vertex 4 (t .vp) (used .vp) (cornerAt t first k .v)
+  pub corner-control : kind ≡ 5 → Vertex 4 (t .vertices .vp) (used .vp) (cornerAt t run k .v)
   unfolding controlObeys
-  corner-control h = parameter-facts (t .vp) (used .vp) (cornerAt t first k .v) (and-left (parameterVertexObeys (t .vp) (used .vp) (cornerAt t first k .v)) _ (control-holds h))
+  corner-control h = parameter-facts (t .vertices .vp) (used .vp) (cornerAt t run k .v) (and-left (parameterVertexObeys (t .vertices .vp) (used .vp) (cornerAt t run k .v)) _ (control-holds h))
 
 -- ---- bodies
 pub record Degree (type n : ℕ) : Type 0 where

@@ -13,6 +13,7 @@ use lib.IntN.{ℤ, pos}
 use Rattle.lists.proofs.Tests.{and-left, and-right}
 use Rattle.tables.specs.Tables.{Tables, tables}
 use Rattle.tables.specs.Records.{numberAt}
+use Rattle.tables.specs.declared.CornerRun.{CornerRun}
 use Rattle.tables.specs.declared.Used.{Used}
 use Rattle.tables.specs.declared.Body.{Body}
 use Rattle.record_rules.specs.Numbers.{inRange, runInRange}
@@ -24,18 +25,18 @@ use Rattle.record_rules.specs.Rules.{curvesAmong}
 use Rattle.record_rules.proofs.Runs.{run-lent, run-small}
 
 -- ---- each part looks at its own tables alone
-pub corners-lent : (used : Used) (t : Tables) (kind first count : ℕ)
-    → cornersObey used (tables (t .v) (t .vt) (t .vn) (t .vp) (t .corners) [] [] [] [] [] []) kind first count ≡ cornersObey used t kind first count
+pub corners-lent : (used : Used) (t : Tables) (kind : ℕ) (run : CornerRun)
+    → cornersObey used (tables (t .vertices .v) (t .vertices .vt) (t .vertices .vn) (t .vertices .vp) (t .elements .corners) [] [] [] [] [] []) kind run ≡ cornersObey used t kind run
 unfolding cornersObey eachCorner cornerObeys
-corners-lent used t kind first count = refl
+corners-lent used t kind run = refl
 
 pub loops-lent : (used : ℕ) (t : Tables) (curves first count : ℕ)
-    → loopsObey used (tables [] [] [] [] [] [] [] [] [] (t .loops) (t .spans)) curves first count ≡ loopsObey used t curves first count
+    → loopsObey used (tables [] [] [] [] [] [] [] [] [] (t .bodies .loops) (t .bodies .spans)) curves first count ≡ loopsObey used t curves first count
 unfolding loopsObey eachPart
 loops-lent used t curves first count = refl
 
 pub record-lent : (used : Used) (t : Tables) (curves kind count : ℕ) (b : Body)
-    → recordObeys used (tables [] [] [] [] [] [] [] [] (t .parameters) (t .loops) (t .spans)) curves kind count b ≡ recordObeys used t curves kind count b
+    → recordObeys used (tables [] [] [] [] [] [] [] [] (t .bodies .parameters) (t .bodies .loops) (t .bodies .spans)) curves kind count b ≡ recordObeys used t curves kind count b
 unfolding recordObeys surfaceObeys loopsObey eachPart
 record-lent used t curves kind count b = refl
 

@@ -21,7 +21,7 @@ use Rattle.record_rules.proofs.OneBody.{record-counted}
 
 -- an element and its body look at their own tables alone
 pub records-lent : (used : Used) (t : Tables) (curves : ℕ) (e : Element) (b : Body)
-    → recordsObey used (tables (t .v) (t .vt) (t .vn) (t .vp) (t .corners) [] [] [] (t .parameters) (t .loops) (t .spans)) curves e b ≡ recordsObey used t curves e b
+    → recordsObey used (tables (t .vertices .v) (t .vertices .vt) (t .vertices .vn) (t .vertices .vp) (t .elements .corners) [] [] [] (t .bodies .parameters) (t .bodies .loops) (t .bodies .spans)) curves e b ≡ recordsObey used t curves e b
 unfolding recordsObey cornersObey eachCorner cornerObeys recordObeys surfaceObeys loopsObey eachPart
 records-lent used t curves e b = refl
 
@@ -29,11 +29,11 @@ records-lent used t curves e b = refl
 pub records-counted : (used : Used) (t : Tables) (curves : ℕ) (e : Element) (b : Body)
     → recordsObey used t (cond (eqb (b .loops) 0) 0 curves) e b ≡ recordsObey used t curves e b
 unfolding recordsObey
-records-counted used t curves e b = rw (record-counted used t curves (e .kind) (e .count) b)
+records-counted used t curves e b = rw (record-counted used t curves (e .kind) (e .corners .count) b)
 
-pub records-are : (used : Used) (t : Tables) (curves i : ℕ) → 9 * i + 9 ≤ length (t .elements)
-    → recordsObey used t curves (elementAt t i) (askedBody used (t .bodies) (t .ranges) (elementAt t i .body)) ≡ obeys used t curves i
+pub records-are : (used : Used) (t : Tables) (curves i : ℕ) → 9 * i + 9 ≤ length (t .elements .elements)
+    → recordsObey used t curves (elementAt t i) (askedBody used (t .bodies .bodies) (t .bodies .ranges) (elementAt t i .body)) ≡ obeys used t curves i
 unfolding recordsObey obeys elementObeys
 records-are used t curves i lent =
     let e = elementAt t i in
-    rw (le-leb (9 * i + 9) (length (t .elements)) lent, body-is used t curves (e .kind) (e .count) (e .body))
+    rw (le-leb (9 * i + 9) (length (t .elements .elements)) lent, body-is used t curves (e .kind) (e .corners .count) (e .body))

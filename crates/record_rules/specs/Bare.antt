@@ -5,8 +5,9 @@ use mathlib.Core.Bool.{Bool, _&&_}
 use lib.Dec.{leb, eqb}
 use lib.ListN.{getD}
 use lib.IntN.{ℤ, pos}
-use Rattle.tables.specs.Records.{cornerIn, cornersEnd, vWidth}
+use Rattle.tables.specs.Records.{cornerIn, cornerPlace, vWidth}
 use Rattle.tables.specs.declared.Corner.{Corner}
+use Rattle.tables.specs.declared.CornerRun.{CornerRun}
 use Rattle.record_rules.specs.Numbers.{inRange, allBelow}
 use Rattle.record_rules.specs.Vertices.{vertexObeys}
 
@@ -23,5 +24,5 @@ reachedObeys v r k = leb 1 k && leb k r && allBelow vWidth (λ j. inRange (getD 
 unfoldable pub bareObeys : List ℤ → ℕ → Corner → Bool
 bareObeys v used c = vertexObeys vWidth v used (c .v) && eqb (c .vt) 0 && eqb (c .vn) 0
 
-unfoldable pub eachBare : List ℤ → ℕ → List ℕ → ℕ → ℕ → Bool
-eachBare v used corners first count = allBelow count (λ k. bareObeys v used (cornerIn corners (cornersEnd first k)))
+unfoldable pub eachBare : List ℤ → ℕ → List ℕ → CornerRun → Bool
+eachBare v used corners run = allBelow (run .count) (λ k. bareObeys v used (cornerIn corners (cornerPlace run k)))

@@ -43,7 +43,7 @@ surfaceObeys used t curves count b =
 unfoldable pub recordObeys : Used → Tables → ℕ → ℕ → ℕ → Body → Bool
 recordObeys used t curves kind count b =
     typeObeys (eqb kind surfaceKind) (b .basis) (b .rational) (b .«degree_u») (b .«degree_v»)
-    && parametersObey (eqb kind surfaceKind) (t .parameters) (used .parameters) (b .«first_parameter») (b .«count_u») (b .«count_v»)
+    && parametersObey (eqb kind surfaceKind) (t .bodies .parameters) (used .parameters) (b .«first_parameter») (b .«count_u») (b .«count_v»)
     && cond (eqb kind surfaceKind)
     (surfaceObeys (used .loops) t curves count b)
     (curveObeys (eqb kind curve2Kind) (parametersU t b) b count)
@@ -51,4 +51,4 @@ recordObeys used t curves kind count b =
 -- body number k is used and lent, with its range
 unfoldable pub bodyObeys : Used → Tables → ℕ → ℕ → ℕ → ℕ → Bool
 bodyObeys used t curves kind count k =
-    bodyHeld used (t .bodies) (t .ranges) k && recordObeys used t curves kind count (bodyAt t (k - 1))
+    bodyHeld used (t .bodies .bodies) (t .bodies .ranges) k && recordObeys used t curves kind count (bodyAt t (k - 1))

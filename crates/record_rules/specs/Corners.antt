@@ -9,6 +9,7 @@ use lib.IntN.{ℤ}
 use Rattle.tables.specs.Tables.{Tables}
 use Rattle.tables.specs.Records.{cornerAt, cornersEnd, vWidth, vtWidth, pointKind, lineKind, faceKind, curve2Kind, surfaceKind}
 use Rattle.tables.specs.declared.Corner.{Corner}
+use Rattle.tables.specs.declared.CornerRun.{CornerRun}
 use Rattle.tables.specs.declared.Used.{Used}
 use Rattle.record_rules.specs.Numbers.{allBelow}
 use Rattle.record_rules.specs.Vertices.{vertexObeys, controlObeys}
@@ -36,17 +37,16 @@ pointObeys used v vp kind k =
 
 unfoldable pub cornerObeys : Used → Tables → ℕ → Corner → Corner → Bool
 cornerObeys used t kind first c =
-    pointObeys used (t .v) (t .vp) kind (c .v)
-    && attributeObeys (withTexture kind) (t .vt) (used .vt) (first .vt) (c .vt)
-    && attributeObeys (withNormal kind) (t .vn) (used .vn) (first .vn) (c .vn)
+    pointObeys used (t .vertices .v) (t .vertices .vp) kind (c .v)
+    && attributeObeys (withTexture kind) (t .vertices .vt) (used .vt) (first .vt) (c .vt)
+    && attributeObeys (withNormal kind) (t .vertices .vn) (used .vn) (first .vn) (c .vn)
 
-unfoldable pub eachCorner : Used → Tables → ℕ → ℕ → ℕ → Bool
-eachCorner used t kind first count = allBelow count (λ k. cornerObeys used t kind (cornerAt t first 0) (cornerAt t first k))
+unfoldable pub eachCorner : Used → Tables → ℕ → CornerRun → Bool
+eachCorner used t kind run = allBelow (run .count) (λ k. cornerObeys used t kind (cornerAt t run 0) (cornerAt t run k))
 
--- `count` corners from the number `first` on
-unfoldable pub cornersObey : Used → Tables → ℕ → ℕ → ℕ → Bool
-cornersObey used t kind first count =
-    leb (cornersEnd first count) (used .corners)
-    && leb (cornersEnd first count) (length (t .corners))
-    && leb (leastCorners kind) count
-    && eachCorner used t kind first count
+unfoldable pub cornersObey : Used → Tables → ℕ → CornerRun → Bool
+cornersObey used t kind run =
+    leb (cornersEnd run) (used .corners)
+    && leb (cornersEnd run) (length (t .elements .corners))
+    && leb (leastCorners kind) (run .count)
+    && eachCorner used t kind run

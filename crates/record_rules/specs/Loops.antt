@@ -25,6 +25,6 @@ unfoldable pub loopsObey : ℕ → Tables → ℕ → ℕ → ℕ → Bool
 loopsObey used t curves first count =
     cond (eqb count 0) (eqb first 0)
     (leb (first + count) used
-    && leb (loopWidth * (first + count)) (length (t .loops))
-    && leb (spanWidth * (first + count)) (length (t .spans))
+    && leb (loopWidth * (first + count)) (length (t .bodies .loops))
+    && leb (spanWidth * (first + count)) (length (t .bodies .spans))
     && eachPart t curves first count)

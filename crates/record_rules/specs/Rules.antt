@@ -19,12 +19,12 @@ elementObeys used t curves e =
     leb 1 (e .kind)
     && leb (e .kind) surfaceKind
     && leb (e .smoothing) 65535
-    && cornersObey used t (e .kind) (e .first) (e .count)
-    && cond (leb (e .kind) faceKind) (eqb (e .body) 0) (bodyObeys used t curves (e .kind) (e .count) (e .body))
+    && cornersObey used t (e .kind) (e .corners)
+    && cond (leb (e .kind) faceKind) (eqb (e .body) 0) (bodyObeys used t curves (e .kind) (e .corners .count) (e .body))
 
 -- the element at index i obeys every rule; `curves` is the number of curv2 elements before it. That i is used is 17's to ask.
 unfoldable pub obeys : Used → Tables → ℕ → ℕ → Bool
-obeys used t curves i = leb (elementWidth * i + elementWidth) (length (t .elements)) && elementObeys used t curves (elementAt t i)
+obeys used t curves i = leb (elementWidth * i + elementWidth) (length (t .elements .elements)) && elementObeys used t curves (elementAt t i)
 
 -- "k means the k-th of its kind so far": the curv2 elements at indices below i
 abbrev pub curvesAmong : List ℕ → ℕ → ℕ
@@ -32,7 +32,7 @@ curvesAmong elements zero = zero
 curvesAmong elements (suc i) = curvesAmong elements i + cond (eqb (numberAt elementWidth elements i 0) curve2Kind) 1 0
 
 abbrev pub curvesBefore : Tables → ℕ → ℕ
-curvesBefore t i = curvesAmong (t .elements) i
+curvesBefore t i = curvesAmong (t .elements .elements) i
 
 -- an element with its body at hand, after `curves` curv2 elements
 unfoldable pub recordsObey : Used → Tables → ℕ → Element → Body → Bool
@@ -40,5 +40,5 @@ recordsObey used t curves e b =
     leb 1 (e .kind)
     && leb (e .kind) surfaceKind
     && leb (e .smoothing) 65535
-    && cornersObey used t (e .kind) (e .first) (e .count)
-    && cond (leb (e .kind) faceKind) (eqb (e .body) 0) (recordObeys used t curves (e .kind) (e .count) b)
+    && cornersObey used t (e .kind) (e .corners)
+    && cond (leb (e .kind) faceKind) (eqb (e .body) 0) (recordObeys used t curves (e .kind) (e .corners .count) b)

@@ -8,6 +8,7 @@ ghost use Rattle.tables.specs.Records.{cornersEnd, vWidth};
 ghost use Rattle.record_rules.specs.Bare.{Reach, reachedObeys, eachBare};
 use crate::numbers::four_in_range;
 use tables::Corner;
+use tables::CornerRun;
 use tables::vertices::lent_vertex;
 use tables::widths;
 
@@ -47,14 +48,15 @@ fn bare_corner(values: &[i32], reach: usize, corner: Corner) -> bool
     (corner.vt == 0) & (corner.vn == 0)
 }
 
-pub fn each_bare(values: &[i32], used: u32, corners: &[u32], first: u32, count: usize) -> bool
-    requires { ⌜ cornersEnd first count ≤ length (now corners) ⌝ }
-    ensures { λ r. ⌜ r ≡ eachBare (now (values .entry)) used (now (corners .entry)) first count ⌝ }
+pub fn each_bare(values: &[i32], used: u32, corners: &[u32], run: CornerRun) -> bool
+    requires { ⌜ cornersEnd run ≤ length (now corners) ⌝ }
+    ensures { λ r. ⌜ r ≡ eachBare (now (values .entry)) used (now (corners .entry)) run ⌝ }
 {
     let reach = reach(values, used);
+    let count = run.count as usize;
     let mut k = 0;
     while k < count {
-        if !bare_corner(values, reach, tables::lent_corner(corners, first, k)) {
+        if !bare_corner(values, reach, tables::lent_corner(corners, run, k)) {
             return false;
         }
         k += 1;

@@ -9,6 +9,7 @@ use crate::bare::each_bare;
 use crate::vertices::control;
 use crate::vertices::vertex;
 use tables::Corner;
+use tables::CornerRun;
 use tables::Used;
 use tables::kinds;
 use tables::widths;
@@ -100,12 +101,12 @@ fn each_corner(
     vp: &[i32],
     corners: &[u32],
     kind: u32,
-    first: u32,
-    count: usize,
+    run: CornerRun,
 ) -> bool
-    ensures { λ r. ⌜ r ≡ eachCorner used (tables (now (v .entry)) (now (vt .entry)) (now (vn .entry)) (now (vp .entry)) (now (corners .entry)) [] [] [] [] [] []) kind first count ⌝ }
+    ensures { λ r. ⌜ r ≡ eachCorner used (tables (now (v .entry)) (now (vt .entry)) (now (vn .entry)) (now (vp .entry)) (now (corners .entry)) [] [] [] [] [] []) kind run ⌝ }
 {
-    let lead = tables::corner_at(corners, first, 0);
+    let lead = tables::corner_at(corners, run, 0);
+    let count = run.count as usize;
     let mut k = 0;
     while k < count {
         if !corner_obeys(
@@ -116,7 +117,7 @@ fn each_corner(
             vp,
             kind,
             lead,
-            tables::corner_at(corners, first, k),
+            tables::corner_at(corners, run, k),
         ) {
             return false;
         }
@@ -146,23 +147,22 @@ pub fn corners_obey(
     vp: &[i32],
     corners: &[u32],
     kind: u32,
-    first: u32,
-    count: u32,
+    run: CornerRun,
 ) -> bool
-    ensures { λ r. ⌜ r ≡ cornersObey used (tables (now (v .entry)) (now (vt .entry)) (now (vn .entry)) (now (vp .entry)) (now (corners .entry)) [] [] [] [] [] []) kind first count ⌝ }
+    ensures { λ r. ⌜ r ≡ cornersObey used (tables (now (v .entry)) (now (vt .entry)) (now (vn .entry)) (now (vp .entry)) (now (corners .entry)) [] [] [] [] [] []) kind run ⌝ }
 {
-    let end = tables::corners_end(first, count);
+    let end = tables::corners_end(run);
     if (used.corners as usize) < end {
         return false;
     }
     if corners.len() < end {
         return false;
     }
-    if count < least_corners(kind) {
+    if run.count < least_corners(kind) {
         return false;
     }
-    if is_bare(kind, tables::corner_at(corners, first, 0)) {
-        return each_bare(v, used.v, corners, first, count as usize);
+    if is_bare(kind, tables::corner_at(corners, run, 0)) {
+        return each_bare(v, used.v, corners, run);
     }
-    each_corner(used, v, vt, vn, vp, corners, kind, first, count as usize)
+    each_corner(used, v, vt, vn, vp, corners, kind, run)
 }

@@ -10,6 +10,7 @@ ghost use Rattle.record_rules.specs.Rules.{recordsObey};
 use crate::bodies::record_with;
 use crate::corners::corners_obey;
 use tables::Body;
+use tables::CornerRun;
 use tables::Element;
 use tables::Used;
 use tables::kinds;
@@ -32,7 +33,7 @@ fn element_obeys(
     corners: &[u32],
     element: Element,
 ) -> bool
-    ensures { λ r. ⌜ r ≡ (leb 1 (element .kind) && leb (element .kind) surfaceKind && leb (element .smoothing) 65535 && cornersObey used (tables (now (v .entry)) (now (vt .entry)) (now (vn .entry)) (now (vp .entry)) (now (corners .entry)) [] [] [] [] [] []) (element .kind) (element .first) (element .count)) ⌝ }
+    ensures { λ r. ⌜ r ≡ (leb 1 (element .kind) && leb (element .kind) surfaceKind && leb (element .smoothing) 65535 && cornersObey used (tables (now (v .entry)) (now (vt .entry)) (now (vn .entry)) (now (vp .entry)) (now (corners .entry)) [] [] [] [] [] []) (element .kind) (element .corners)) ⌝ }
 {
     if element.kind < kinds::POINT {
         return false;
@@ -43,17 +44,12 @@ fn element_obeys(
     if limits::SMOOTHING < element.smoothing {
         return false;
     }
-    corners_obey(
-        used,
-        v,
-        vt,
-        vn,
-        vp,
-        corners,
-        element.kind,
-        element.first,
-        element.count,
-    )
+    // number by number: copied whole, the compiler reads both at once and takes them apart again
+    let run = CornerRun {
+        first: element.corners.first,
+        count: element.corners.count,
+    };
+    corners_obey(used, v, vt, vn, vp, corners, element.kind, run)
 }
 
 // An element with its body, after `curves` curv2 elements.
@@ -86,7 +82,7 @@ pub fn records_obey(
         spans,
         curves,
         element.kind,
-        element.count,
+        element.corners.count,
         body,
     )
 }

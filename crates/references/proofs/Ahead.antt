@@ -33,9 +33,9 @@ one-digit : (l : List ℕ) → isDigit (first l) ≡ true → 1 ≤ length (run 
 one-digit [] h = never h
 one-digit (b ∷ bs) h = rw h (omega arith)
 
-module _ (count : ℕ) (s : List ℕ) (at number end : ℕ) (a : AheadRead count s at number end) where
+module _ {count : ℕ} {s : List ℕ} {at number end : ℕ} (a : AheadRead count s at number end) where
   pub near : end ≤ at + 10
-  near = few-near 10 s at 0 end number (a .read)
+  near = few-near (a .read)
 
   starts : isDigit (first (drop at s)) ≡ true
   starts = starts-digit 9 (drop at s) (let x = a .read .value-is in let y = a .some in omega arith)
@@ -51,7 +51,7 @@ module _ (count : ℕ) (s : List ℕ) (at number end : ℕ) (a : AheadRead count
 
   module _ (o : isDigit (first (drop end s)) ≡ false) where
     short : length (run (drop at s)) ≤ 10
-    short = few-all 10 s at 0 end number (a .read) o
+    short = few-all (a .read) o
 
     all : take 10 (run (drop at s)) ≡ places (drop at s)
     all = take-all 10 (run (drop at s)) short ∙ ap run (sym same)
@@ -74,8 +74,8 @@ module _ (count : ℕ) (s : List ℕ) (at number end : ℕ) (a : AheadRead count
               omega arith;
         }
 
-pub ahead : (count : ℕ) (s : List ℕ) (at number end : ℕ) (r : Bool) → UptoRead 10 s at 0 end number → r ≡ (leb 1 number && leb number count) → r ≡ true → AheadRead count s at number end
-ahead count s at number end r f e t =
+pub ahead : {count : ℕ} {s : List ℕ} {at number end : ℕ} {r : Bool} → UptoRead 10 s at 0 end number → r ≡ (leb 1 number && leb number count) → r ≡ true → AheadRead count s at number end
+ahead {count} {number = number} f e t =
     let q = sym e ∙ t in
     record {
       read = f;
@@ -84,25 +84,25 @@ ahead count s at number end r f e t =
     }
 
 -- ---- the third part
-pub normal-end : (normal : Bool) (nvn v vt : ℕ) (s : List ℕ) (at number end : ℕ) → AheadRead nvn s at number end → normal ≡ true → (b : ℕ) → b ≡ first (drop end s) → b ≤ 32
+pub normal-end : {normal : Bool} {nvn v vt : ℕ} {s : List ℕ} {at number end : ℕ} → AheadRead nvn s at number end → normal ≡ true → {b : ℕ} → b ≡ first (drop end s) → b ≤ 32
     → says (record { v = v; vt = vt; vn = number }, end) ≡ ended (third normal nvn true v vt (split (wordOf (drop at s)))) (endOf s at)
-normal-end normal nvn v vt s at number end a h b e l =
+normal-end {normal} {nvn} {v} {vt} {s} {at} {number} {end} a h {b} e l =
     let some = a .some in
-    normal-of normal nvn true v vt s at number end (part nvn s at number end a (low-stops (drop end s) b e l)) h
+    normal-of normal nvn true v vt s at (part a (low-stops (drop end s) b e l)) h
     (word-over (drop end s) (low-no-word (first (drop end s)) (omega arith)))
     (λ z. omega arith)
     (says (record { v = v; vt = vt; vn = number }, end)) refl
 
 -- ---- the second part
-module _ (nvt : ℕ) (s : List ℕ) (at number end : ℕ) (q : NoneRead s at number end ⊎ AheadRead nvt s at number end) where
+module _ {nvt : ℕ} {s : List ℕ} {at number end : ℕ} (q : NoneRead s at number end ⊎ AheadRead nvt s at number end) where
   pub second-near : end ≤ at + 10
   second-near =
       ⊎-elim
       (λ (n : NoneRead s at number end). let x = n .end-is in omega arith)
-      (λ (a : AheadRead nvt s at number end). near nvt s at number end a)
+      (λ (a : AheadRead nvt s at number end). near a)
       q
 
-  module _ (nvn : ℕ) (texture normal : Bool) (v : ℕ) (h : texture ≡ true) (k : 1 ≤ v) (b : ℕ) (e : b ≡ first (drop end s)) where
+  module _ (nvn : ℕ) (texture normal : Bool) (v : ℕ) (h : texture ≡ true) (k : 1 ≤ v) {b : ℕ} (e : b ≡ first (drop end s)) where
     both : (a : AheadRead nvt s at number end) → true ≡ (leb 1 v && leb 1 number)
     both a = sym (and-both (le-leb 1 v k) (le-leb 1 number (a .some)))
 
@@ -113,11 +113,10 @@ module _ (nvt : ℕ) (s : List ℕ) (at number end : ℕ) (q : NoneRead s at num
         ⊎-elim
         (λ (n : NoneRead s at number end).
         ap₂ (λ (m i : ℕ). ended (third normal nvn true v m (split (wordOf (drop (i + 1) s)))) (endOf s (i + 1))) (n .number-is) (n .end-is)
-        ∙ texture-slash nvt nvn texture normal v s at (first (drop at s)) refl (n .slash)
+        ∙ texture-slash nvt nvn texture normal v s at refl (n .slash)
         (ended (third normal nvn true v 0 (split (wordOf (drop (at + 1) s)))) (endOf s (at + 1))) true (sym (le-leb 1 v k)) refl)
         (λ (a : AheadRead nvt s at number end).
-        texture-normal nvt nvn texture normal v s at (first (drop at s)) refl (no-slash nvt s at number end a) number end
-        (part nvt s at number end a (slash-stops (drop end s) b e g)) b e h g
+        texture-normal nvt nvn texture normal v s at refl (no-slash a) (part a (slash-stops (drop end s) b e g)) e h g
         (ended (third normal nvn true v number (split (wordOf (drop (end + 1) s)))) (endOf s (end + 1))) true (both a) refl)
         q
 
@@ -128,20 +127,19 @@ module _ (nvt : ℕ) (s : List ℕ) (at number end : ℕ) (q : NoneRead s at num
         (λ (n : NoneRead s at number end).
         let z : first (drop end s) ≡ 47 = ap (λ (i : ℕ). first (drop i s)) (n .end-is) ∙ n .slash in absurd (omega arith))
         (λ (a : AheadRead nvt s at number end).
-        texture-end nvt nvn texture normal v s at (first (drop at s)) refl (no-slash nvt s at number end a) number end
-        (part nvt s at number end a (low-stops (drop end s) b e l)) b e h (low-no-word b l)
+        texture-end nvt nvn texture normal v s at refl (no-slash a) (part a (low-stops (drop end s) b e l)) e h (low-no-word b l)
         (says (record { v = v; vt = number; vn = 0 }, end)) true (both a) refl)
         q
 
 -- ---- the whole corner
-module _ (c : Counts) (k : Parts) (s : List ℕ) (at number end : ℕ) (a : AheadRead (c .v) s at number end) (b : ℕ) (e : b ≡ first (drop end s)) where
+module _ (c : Counts) (k : Parts) {s : List ℕ} {at number end : ℕ} (a : AheadRead (c .v) s at number end) {b : ℕ} (e : b ≡ first (drop end s)) where
   pub first-slash : b ≡ 47
       → ended (second (c .vt) (c .vn) (k .vt) (k .vn) number (split (wordOf (drop (end + 1) s)))) (endOf s (end + 1)) ≡ ended (cornerOf c k (wordOf (drop at s))) (endOf s at)
   first-slash g =
-      corner-slash c k s at number end (part (c .v) s at number end a (slash-stops (drop end s) b e g)) b e g
+      corner-slash c k s at (part a (slash-stops (drop end s) b e g)) e g
       (ended (second (c .vt) (c .vn) (k .vt) (k .vn) number (split (wordOf (drop (end + 1) s)))) (endOf s (end + 1))) refl
 
   pub first-end : b ≤ 32 → says (record { v = number; vt = 0; vn = 0 }, end) ≡ ended (cornerOf c k (wordOf (drop at s))) (endOf s at)
   first-end l =
-      corner-end c k s at number end (part (c .v) s at number end a (low-stops (drop end s) b e l)) b e (low-no-word b l)
+      corner-end c k s at (part a (low-stops (drop end s) b e l)) e (low-no-word b l)
       (says (record { v = number; vt = 0; vn = 0 }, end)) true (sym (le-leb 1 number (a .some))) refl

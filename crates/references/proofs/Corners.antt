@@ -15,7 +15,7 @@ use Rattle.text.specs.Rest.{endOf}
 use Rattle.digits.specs.Digits.{isDigit, unminus}
 use Rattle.references.specs.Reference.{isReference, refer}
 use Rattle.references.specs.Corner.{onto, split}
-use Rattle.digits.specs.Straight.{first, over, past}
+use Rattle.digits.specs.Straight.{first, isEmpty, past}
 use Rattle.references.specs.Straight.{isPiece, piece, places, PartRead}
 use Rattle.digits.proofs.Fronts.{digit-word, next-at, byte-in}
 use Rattle.references.proofs.Pieces.{refer-yes, refer-not, refer-bad, refer-is, refer-length}
@@ -79,11 +79,11 @@ pub record Ended (count : ℕ) (s : List ℕ) (at number end : ℕ) : Type 0 whe
   pub parts : split (wordOf (drop at s)) ≡ piece (drop at s) ∷ []
   pub ends : end ≡ endOf s at
 
-no-piece : (l : List ℕ) → isPiece (first l) ≡ false → over (piece l) ≡ true
+no-piece : (l : List ℕ) → isPiece (first l) ≡ false → isEmpty (piece l) ≡ true
 no-piece [] h = refl
 no-piece (b ∷ bs) h = rw h refl
 
-a-piece : (l : List ℕ) → isPiece (first l) ≡ true → over (piece l) ≡ false
+a-piece : (l : List ℕ) → isPiece (first l) ≡ true → isEmpty (piece l) ≡ false
 a-piece [] h = never h
 a-piece (b ∷ bs) h = rw h refl
 
@@ -95,11 +95,11 @@ slash-word : (l : List ℕ) → first l ≡ 47 → length (wordOf l) ≡ 1 + len
 slash-word [] h = absurd (omega arith)
 slash-word (b ∷ bs) h = rw h (omega arith)
 
-module _ (count : ℕ) (s : List ℕ) (at number end : ℕ) (p : PartRead count s at number end) where
+module _ {count : ℕ} {s : List ℕ} {at number end : ℕ} (p : PartRead count s at number end) where
   same : (f : List ℕ → Bool) (b : Bool) → f (drop end s) ≡ b → f (past (unminus (drop at s))) ≡ b
   same f b h = ap f (sym (stops count s at number end p)) ∙ h
 
-  module _ (o : over (piece (past (unminus (drop at s)))) ≡ true) where
+  module _ (o : isEmpty (piece (past (unminus (drop at s)))) ≡ true) where
     form : isReference (piece (drop at s)) ≡ true
     form = refer-yes isPiece digit-piece refl (drop at s) o (p .some) (p .few)
 
@@ -120,7 +120,7 @@ module _ (count : ℕ) (s : List ℕ) (at number end : ℕ) (p : PartRead count 
 
   pub slashed : first (drop end s) ≡ 47 → Slashed count s at number end
   slashed h =
-      let o = same (λ l. over (piece l)) true (no-piece (drop end s) (ap isPiece h)) in
+      let o = same (λ l. isEmpty (piece l)) true (no-piece (drop end s) (ap isPiece h)) in
       let e = next-at s end in
       let q = size o in
       let t = to o in
@@ -137,7 +137,7 @@ module _ (count : ℕ) (s : List ℕ) (at number end : ℕ) (p : PartRead count 
 
   pub done : isWord (first (drop end s)) ≡ false → Ended count s at number end
   done h =
-      let o = same (λ l. over (piece l)) true (no-piece (drop end s) (and-first (not (eqb (first (drop end s)) 47)) h)) in
+      let o = same (λ l. isEmpty (piece l)) true (no-piece (drop end s) (and-first (not (eqb (first (drop end s)) 47)) h)) in
       let n : eqb (first (drop end s)) 47 ≡ false = ne-eqb (first (drop end s)) 47 (λ e. never (sym h ∙ ap isWord e)) in
       let q = size o in
       let t = to o in
@@ -147,7 +147,7 @@ module _ (count : ℕ) (s : List ℕ) (at number end : ℕ) (p : PartRead count 
   pub other : isWord (first (drop end s)) ≡ true → (first (drop end s) ≡ 47 → ⊥) → isReference (piece (drop at s)) ≡ false
   other h n =
       refer-not isPiece digit-piece refl (drop at s)
-      (same (λ l. over (piece l)) false (a-piece (drop end s) (and-both h (rw (ne-eqb (first (drop end s)) 47 n) refl))))
+      (same (λ l. isEmpty (piece l)) false (a-piece (drop end s) (and-both h (rw (ne-eqb (first (drop end s)) 47 n) refl))))
 
 pub no-part : (s : List ℕ) (at : ℕ) → (leb 1 (length (places (drop at s))) && leb (length (places (drop at s))) 10) ≡ false → isReference (piece (drop at s)) ≡ false
 no-part s at h = refer-bad isPiece digit-piece refl (drop at s) h

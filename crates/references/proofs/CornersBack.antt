@@ -14,7 +14,7 @@ use Rattle.references.specs.Reference.{isReference, refer}
 use Rattle.references.specs.Corner.{Corner, Counts, Parts, split, formed, patterned, cornerOf}
 use Rattle.references.specs.Written.{writtenWhole, slashed, writtenCorner}
 use Rattle.references.specs.Fits.{referenceFits, partFits, cornerFits}
-use Rattle.digits.proofs.Saids.{must-says}
+use Rattle.digits.proofs.Saids.{must-both}
 use Rattle.references.proofs.WholesBack.{written-digits, written-some, reference-form, refer-back, refer-fits}
 
 -- ---- slashes
@@ -112,10 +112,8 @@ corner-fits c k w x h = go (split w) h
   where
     corner : (form there : Bool) (y : Corner) → formed form there y ≡ says x → (form ≡ true → there ≡ true → cornerFits c k y ≡ true) → cornerFits c k x ≡ true
     corner form there y h f =
-        let p = must-says form 6 (must there 8 (says y)) x h in
-        let q = must-says there 8 (says y) x (p .1) in
-        let e : y ≡ x = (let z = q .1 in cc) in
-        ap (cornerFits c k) (sym e) ∙ f (p .0) (q .0)
+        let p = must-both form there 6 8 y x h in
+        ap (cornerFits c k) (sym (p .2)) ∙ f (p .0) (p .1)
 
     go : (ps : List (List ℕ)) → patterned c k ps ≡ says x → cornerFits c k x ≡ true
     go [] h = absurd (let z : _≡_ {A = ℕ} 0 1 = cc in omega arith)

@@ -8,3 +8,4 @@ pub mod NumbersBack
 pub mod WholesBack
 pub mod CornersBack
 pub mod Tokens
+mod Examples

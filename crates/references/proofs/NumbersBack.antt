@@ -19,7 +19,7 @@ use Rattle.digits.proofs.Rows.{natOf-append}
 use Rattle.decimals.proofs.Mantissas.{decimal-plain}
 use Rattle.decimals.proofs.Points.{before-point, after-point}
 use Rattle.references.proofs.Numerals.{full-digits, full-length, full-value, short-digits, short-length, short-value}
-use Rattle.digits.proofs.Saids.{must-says}
+use Rattle.digits.proofs.Saids.{must-both}
 
 -- a digit is no sign
 bare : (l t : List ℕ) → digits l ≡ true → (unsigned (l ++ 46 ∷ t) ≡ l ++ 46 ∷ t) × (negative (l ++ 46 ∷ t) ≡ false)
@@ -104,7 +104,5 @@ unfolding numberOf
 number-fits w z h =
     let u : List ℕ = unsigned w in
     let m : ℕ = valueOf u in
-    let p = must-says (leb (length w) 64 && (decimal (mantissa u) && isExponent (exponent u))) 6 (limited (negative w) m) z h in
-    let q = must-says (leb m 2000000000) 7 (says (withSign (negative w) m)) z (p .1) in
-    let e : withSign (negative w) m ≡ z = (let y = q .1 in cc) in
-    ap (λ (x : ℤ). leb (natAbs x) 2000000000) (sym e) ∙ ap (λ (n : ℕ). leb n 2000000000) (signed-abs (negative w) m) ∙ q .0
+    let p = must-both (leb (length w) 64 && (decimal (mantissa u) && isExponent (exponent u))) (leb m 2000000000) 6 7 (withSign (negative w) m) z h in
+    ap (λ (x : ℤ). leb (natAbs x) 2000000000) (sym (p .2)) ∙ ap (λ (n : ℕ). leb n 2000000000) (signed-abs (negative w) m) ∙ p .1

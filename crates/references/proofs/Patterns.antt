@@ -17,9 +17,9 @@ use Rattle.digits.specs.Answers.{ended}
 use Rattle.digits.specs.Digits.{whole}
 use Rattle.references.specs.Reference.{isReference, refer}
 use Rattle.references.specs.Corner.{Corner, Counts, Parts, split, formed, patterned, cornerOf}
-use Rattle.digits.specs.Straight.{first, over}
+use Rattle.digits.specs.Straight.{first, isEmpty}
 use Rattle.references.specs.Straight.{piece, places, PartRead, second, third}
-use Rattle.digits.proofs.Fronts.{word-on, word-over, next-at, byte-in, byte-word}
+use Rattle.digits.proofs.Fronts.{starts-word, starts-none, next-at, byte-in, byte-word}
 use Rattle.references.proofs.Corners.{others, split-word, slashed, done, other, no-part}
 
 and-true : (a : Bool) → (a && true) ≡ a
@@ -52,35 +52,21 @@ module _ (normal : Bool) (nvn : ℕ) (there : Bool) (v vt : ℕ) where
     pub normal-bad : (leb 1 (length (places (drop at s))) && leb (length (places (drop at s))) 10) ≡ false → Says (wrong 6)
     normal-bad h = none (and-second normal (no-part s at h))
 
-    module _ (number end : ℕ) (p : PartRead nvn s at number end) where
-      pub normal-not : false ≡ over (wordOf (drop end s)) → Says (wrong 6)
+    module _ {number end : ℕ} (p : PartRead nvn s at number end) where
+      pub normal-not : false ≡ isEmpty (wordOf (drop end s)) → Says (wrong 6)
       normal-not o =
           ⊎-elim
           (λ (t : eqb (first (drop end s)) 47 ≡ true).
-          let q = slashed nvn s at number end p (eqb-true (first (drop end s)) 47 t) in
+          let q = slashed p (eqb-true (first (drop end s)) 47 t) in
           sym (ap (λ (x : List (List ℕ)). ended (third normal nvn there v vt x) (endOf s at)) (q .parts ∙ ap (λ (x : List (List ℕ)). piece (drop at s) ∷ x) (split-word (drop (end + 1) s)))))
           (λ (t : eqb (first (drop end s)) 47 ≡ false).
-          none (and-second normal (other nvn s at number end p on (λ h. never (sym t ∙ eq-eqb (first (drop end s)) 47 h)))))
+          none (and-second normal (other p (starts-word (drop end s) o) (λ h. never (sym t ∙ eq-eqb (first (drop end s)) 47 h)))))
           (test (eqb (first (drop end s)) 47))
-        where
-          on : isWord (first (drop end s)) ≡ true
-          on =
-              ⊎-elim
-              (λ (t : isWord (first (drop end s)) ≡ true). t)
-              (λ (t : isWord (first (drop end s)) ≡ false). never (o ∙ sym (word-over (drop end s) t)))
-              (test (isWord (first (drop end s))))
 
-      module _ (h : normal ≡ true) (o : true ≡ over (wordOf (drop end s))) where
-        off : isWord (first (drop end s)) ≡ false
-        off =
-            ⊎-elim
-            (λ (t : isWord (first (drop end s)) ≡ true). never (word-on (drop end s) t ∙ sym o))
-            (λ (t : isWord (first (drop end s)) ≡ false). t)
-            (test (isWord (first (drop end s))))
-
+      module _ (h : normal ≡ true) (o : true ≡ isEmpty (wordOf (drop end s))) where
         found : third normal nvn there v vt (split (wordOf (drop at s))) ≡ must (there && leb 1 number) 8 (says (record { v = v; vt = vt; vn = number }))
         found =
-            let q = done nvn s at number end p off in
+            let q = done p (starts-none (drop end s) o) in
             ap (third normal nvn there v vt) (q .parts)
             ∙ third-one (piece (drop at s)) h (q .form)
             ∙ ap (λ (n : ℕ). must (there && leb 1 n) 8 (says (record { v = v; vt = vt; vn = n }))) (q .is)
@@ -96,7 +82,7 @@ module _ (normal : Bool) (nvn : ℕ) (there : Bool) (v vt : ℕ) where
             q
             ∙ ap₂ ended
             (sym (found ∙ ap (λ (x : Bool). must x 8 (says (record { v = v; vt = vt; vn = number }))) e))
-            (done nvn s at number end p off .ends)
+            (done p (starts-none (drop end s) o) .ends)
 
 -- ---- from the second part on
 module _ (nvt nvn : ℕ) (texture normal : Bool) (v : ℕ) where
@@ -125,9 +111,9 @@ module _ (nvt nvn : ℕ) (texture normal : Bool) (v : ℕ) where
         sym (ap (λ (x : Said Corner). ended x (endOf s at))
         (ap (second nvt nvn texture normal v) (split-word (drop at s)) ∙ second-none (piece (drop at s)) (others (drop at s)) (lone n (drop at s) refl) h))
 
-    pub texture-slash : (b : ℕ) → b ≡ first (drop at s) → b ≡ 47 → (r : Said (Corner × ℕ)) (there : Bool) → there ≡ leb 1 v
+    pub texture-slash : {b : ℕ} → b ≡ first (drop at s) → b ≡ 47 → (r : Said (Corner × ℕ)) (there : Bool) → there ≡ leb 1 v
         → r ≡ ended (third normal nvn there v 0 (split (wordOf (drop (at + 1) s)))) (endOf s (at + 1)) → SaysSecond r
-    texture-slash b e h r there j q =
+    texture-slash e h r there j q =
         let f : first (drop at s) ≡ 47 = sym e ∙ h in
         let w : wordOf (drop at s) ≡ 47 ∷ wordOf (drop (at + 1) s) = byte-word (drop at s) 47 f refl refl ∙ ap (λ (l : List ℕ). 47 ∷ wordOf l) (sym (next-at s at)) in
         let z = ap length w in
@@ -140,10 +126,10 @@ module _ (nvt nvn : ℕ) (texture normal : Bool) (v : ℕ) where
         ∙ sym (ap (λ (x : List ℕ). second nvt nvn texture normal v (split x)) w ∙ ap (λ (x : List (List ℕ)). second nvt nvn texture normal v ([] ∷ x)) y))
         n
 
-    pub texture-in : (b : ℕ) → b ≡ first (drop at s) → b ≡ 47 → at + 1 ≤ length s
-    texture-in b e h = let i = byte-in s at (ap (λ (n : ℕ). eqb n 10) (sym e ∙ h)) in omega arith
+    pub texture-in : {b : ℕ} → b ≡ first (drop at s) → b ≡ 47 → at + 1 ≤ length s
+    texture-in e h = let i = byte-in s at (ap (λ (n : ℕ). eqb n 10) (sym e ∙ h)) in omega arith
 
-    module _ (b : ℕ) (e : b ≡ first (drop at s)) (n : b ≡ 47 → ⊥) where
+    module _ {b : ℕ} (e : b ≡ first (drop at s)) (n : b ≡ 47 → ⊥) where
       not-slash : first (drop at s) ≡ 47 → ⊥
       not-slash h = n (e ∙ h)
 
@@ -153,18 +139,18 @@ module _ (nvt nvn : ℕ) (texture normal : Bool) (v : ℕ) where
       pub texture-bad : (leb 1 (length (places (drop at s))) && leb (length (places (drop at s))) 10) ≡ false → SaysSecond (wrong 6)
       texture-bad h = gone not-slash (and-second texture (no-part s at h))
 
-      module _ (number end : ℕ) (p : PartRead nvt s at number end) (c : ℕ) (f : c ≡ first (drop end s)) where
+      module _ {number end : ℕ} (p : PartRead nvt s at number end) {c : ℕ} (f : c ≡ first (drop end s)) where
         pub texture-not : (c ≡ 47 → ⊥) → isWord c ≡ true → SaysSecond (wrong 6)
-        texture-not g w = gone not-slash (and-second texture (other nvt s at number end p (ap isWord (sym f) ∙ w) (λ h. g (f ∙ h))))
+        texture-not g w = gone not-slash (and-second texture (other p (ap isWord (sym f) ∙ w) (λ h. g (f ∙ h))))
 
         pub texture-on : c ≡ 47 → end + 1 ≤ length s
-        texture-on g = slashed nvt s at number end p (sym f ∙ g) .fits
+        texture-on g = slashed p (sym f ∙ g) .fits
 
         module _ (h : texture ≡ true) where
           pub texture-normal : c ≡ 47 → (r : Said (Corner × ℕ)) (there : Bool) → there ≡ (leb 1 v && leb 1 number)
               → r ≡ ended (third normal nvn there v number (split (wordOf (drop (end + 1) s)))) (endOf s (end + 1)) → SaysSecond r
           texture-normal g r there j q =
-              let z = slashed nvt s at number end p (sym f ∙ g) in
+              let z = slashed p (sym f ∙ g) in
               let y = split-word (drop (end + 1) s) in
               q
               ∙ ap₂ ended
@@ -177,7 +163,7 @@ module _ (nvt nvn : ℕ) (texture normal : Bool) (v : ℕ) where
           pub texture-end : isWord c ≡ false → (r : Said (Corner × ℕ)) (there : Bool) → there ≡ (leb 1 v && leb 1 number)
               → r ≡ ended (must there 8 (says (record { v = v; vt = number; vn = 0 }))) end → SaysSecond r
           texture-end w r there j q =
-              let z = done nvt s at number end p (ap isWord (sym f) ∙ w) in
+              let z = done p (ap isWord (sym f) ∙ w) in
               q
               ∙ ap₂ ended
               (ap (λ (t : Bool). must t 8 (says (record { v = v; vt = number; vn = 0 }))) j
@@ -222,18 +208,18 @@ module _ (c : Counts) (k : Parts) where
     pub corner-bad : (leb 1 (length (places (drop at s))) && leb (length (places (drop at s))) 10) ≡ false → SaysCorner (wrong 6)
     corner-bad h = lost (no-part s at h)
 
-    module _ (number end : ℕ) (p : PartRead (c .v) s at number end) (b : ℕ) (f : b ≡ first (drop end s)) where
+    module _ {number end : ℕ} (p : PartRead (c .v) s at number end) {b : ℕ} (f : b ≡ first (drop end s)) where
       pub corner-not : (b ≡ 47 → ⊥) → isWord b ≡ true → SaysCorner (wrong 6)
-      corner-not g w = lost (other (c .v) s at number end p (ap isWord (sym f) ∙ w) (λ h. g (f ∙ h)))
+      corner-not g w = lost (other p (ap isWord (sym f) ∙ w) (λ h. g (f ∙ h)))
 
       pub corner-in : b ≡ 47 → end + 1 ≤ length s
-      corner-in g = slashed (c .v) s at number end p (sym f ∙ g) .fits
+      corner-in g = slashed p (sym f ∙ g) .fits
 
       pub corner-slash : b ≡ 47 → (r : Said (Corner × ℕ))
           → r ≡ ended (second (c .vt) (c .vn) (k .vt) (k .vn) number (split (wordOf (drop (end + 1) s)))) (endOf s (end + 1)) → SaysCorner r
       unfolding cornerOf
       corner-slash g r q =
-          let z = slashed (c .v) s at number end p (sym f ∙ g) in
+          let z = slashed p (sym f ∙ g) in
           let y = split-word (drop (end + 1) s) in
           q
           ∙ ap₂ ended
@@ -245,7 +231,7 @@ module _ (c : Counts) (k : Parts) where
       pub corner-end : isWord b ≡ false → (r : Said (Corner × ℕ)) (there : Bool) → there ≡ leb 1 number → r ≡ ended (must there 8 (says (record { v = number; vt = 0; vn = 0 }))) end → SaysCorner r
       unfolding cornerOf
       corner-end w r there j q =
-          let z = done (c .v) s at number end p (ap isWord (sym f) ∙ w) in
+          let z = done p (ap isWord (sym f) ∙ w) in
           q
           ∙ ap₂ ended
           (ap (λ (t : Bool). must t 8 (says (record { v = number; vt = 0; vn = 0 }))) j

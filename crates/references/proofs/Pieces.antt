@@ -12,7 +12,7 @@ use native.Mathlib.Omega.{arith}
 use Rattle.lists.proofs.Tests.{and-both, test, never}
 use Rattle.digits.specs.Digits.{isDigit, natOf, whole, negative, unminus}
 use Rattle.references.specs.Reference.{isReference, item, refer}
-use Rattle.digits.specs.Straight.{first, over, past, front}
+use Rattle.digits.specs.Straight.{first, isEmpty, past, front}
 use Rattle.references.specs.Straight.{places}
 use Rattle.digits.proofs.Fronts.{front-all}
 use Rattle.digits.proofs.Lengths.{whole-yes, whole-not, whole-bad}
@@ -46,14 +46,14 @@ module _ (f : ℕ → Bool) (fd : (b : ℕ) → isDigit b ≡ true → f b ≡ t
         (λ (t : f b ≡ false). rw t (sym (ne-eqb b 45 (λ h. never (sym t ∙ ap f h ∙ fm)))))
         (test (f b))
 
-    pub refer-yes : (l : List ℕ) → over (front f (past (unminus l))) ≡ true → 1 ≤ length (places l) → length (places l) ≤ 10 → isReference (front f l) ≡ true
+    pub refer-yes : (l : List ℕ) → isEmpty (front f (past (unminus l))) ≡ true → 1 ≤ length (places l) → length (places l) ≤ 10 → isReference (front f l) ≡ true
     unfolding isReference
     refer-yes l o a b =
         ap (whole 10) (front-minus l)
         ∙ whole-yes f fd 10 (unminus l) o
         ∙ and-both (le-leb 1 (length (places l)) a) (le-leb (length (places l)) 10 b)
 
-    pub refer-not : (l : List ℕ) → over (front f (past (unminus l))) ≡ false → isReference (front f l) ≡ false
+    pub refer-not : (l : List ℕ) → isEmpty (front f (past (unminus l))) ≡ false → isReference (front f l) ≡ false
     unfolding isReference
     refer-not l o = ap (whole 10) (front-minus l) ∙ whole-not f fd 10 (unminus l) o
 
@@ -61,13 +61,13 @@ module _ (f : ℕ → Bool) (fd : (b : ℕ) → isDigit b ≡ true → f b ≡ t
     unfolding isReference
     refer-bad l h = ap (whole 10) (front-minus l) ∙ whole-bad f fd 10 (unminus l) h
 
-    pub refer-is : (count : ℕ) (l : List ℕ) → over (front f (past (unminus l))) ≡ true → refer count (front f l) ≡ item (negative l) count (natOf 0 (places l))
+    pub refer-is : (count : ℕ) (l : List ℕ) → isEmpty (front f (past (unminus l))) ≡ true → refer count (front f l) ≡ item (negative l) count (natOf 0 (places l))
     unfolding refer
     refer-is count l o =
         ap₂ (λ (s : Bool) (u : List ℕ). item s count (natOf 0 u)) (front-negative l) (front-minus l ∙ front-all f fd (unminus l) o)
 
     -- how far it goes
-    pub refer-length : (l : List ℕ) → over (front f (past (unminus l))) ≡ true → length (front f l) ≡ cond (negative l) 1 0 + length (places l)
+    pub refer-length : (l : List ℕ) → isEmpty (front f (past (unminus l))) ≡ true → length (front f l) ≡ cond (negative l) 1 0 + length (places l)
     refer-length [] o = refl
     refer-length (b ∷ bs) o =
         ⊎-elim

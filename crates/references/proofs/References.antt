@@ -17,7 +17,7 @@ use Rattle.digits.specs.Said.{says, wrong}
 use Rattle.digits.specs.Answers.{ended}
 use Rattle.digits.specs.Digits.{natOf, negative, unminus}
 use Rattle.references.specs.Reference.{isReference, item, refer, referenceOf}
-use Rattle.digits.specs.Straight.{first, over, run, past, cap, front, WholeRead}
+use Rattle.digits.specs.Straight.{first, isEmpty, run, past, cap, front, WholeRead}
 use Rattle.references.specs.Straight.{places, PartRead}
 use Rattle.digits.proofs.Fronts.{word-front, digit-word}
 use Rattle.digits.proofs.Lengths.{ten-digits}
@@ -85,14 +85,14 @@ unfolding referenceOf
 reference-bad count s at h = rw (ap isReference (word-front (drop at s)) ∙ refer-bad isWord digit-word refl (drop at s) h) refl
 
 module _ (count : ℕ) (s : List ℕ) (at number end : ℕ) (p : PartRead count s at number end) where
-  overs : (b : Bool) → b ≡ over (wordOf (drop end s)) → over (front isWord (past (unminus (drop at s)))) ≡ b
-  overs b o = sym (o ∙ ap over (word-front (drop end s) ∙ ap (front isWord) (stops count s at number end p)))
+  overs : (b : Bool) → b ≡ isEmpty (wordOf (drop end s)) → isEmpty (front isWord (past (unminus (drop at s)))) ≡ b
+  overs b o = sym (o ∙ ap isEmpty (word-front (drop end s) ∙ ap (front isWord) (stops count s at number end p)))
 
-  pub reference-not : false ≡ over (wordOf (drop end s)) → wrong 6 ≡ ended (referenceOf count (wordOf (drop at s))) (endOf s at)
+  pub reference-not : false ≡ isEmpty (wordOf (drop end s)) → wrong 6 ≡ ended (referenceOf count (wordOf (drop at s))) (endOf s at)
   unfolding referenceOf
   reference-not o = rw (ap isReference (word-front (drop at s)) ∙ refer-not isWord digit-word refl (drop at s) (overs false o)) refl
 
-  module _ (o : true ≡ over (wordOf (drop end s))) where
+  module _ (o : true ≡ isEmpty (wordOf (drop end s))) where
     form : isReference (wordOf (drop at s)) ≡ true
     form = ap isReference (word-front (drop at s)) ∙ refer-yes isWord digit-word refl (drop at s) (overs true o) (p .some) (p .few)
 

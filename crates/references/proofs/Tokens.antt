@@ -1,7 +1,7 @@
 -- Each written word is a token: digits, signs, points and slashes are word bytes, and none is #.
 use Prim.Native.Nat.{ℕ, zero, suc, _/_, _%_, _≤_}
 use mathlib.Core.Path.{_≡_, refl, sym, ap, _∙_}
-use mathlib.Core.List.{List, [], _∷_, _++_}
+use mathlib.Core.List.{List, [], _∷_, _++_, append-nil}
 use mathlib.Core.Bool.{true}
 use lib.ListN.{length}
 use lib.Dec.{leb}
@@ -16,7 +16,7 @@ use Rattle.text.specs.Tokens.{isToken}
 use Rattle.digits.specs.Digits.{isDigit, digits}
 use Rattle.references.specs.Corner.{Corner}
 use Rattle.references.specs.Written.{full, writtenWhole, writtenMillionths, writtenNumber, slashed, writtenCorner}
-use Rattle.digits.proofs.Fronts.{digit-word, append-nil}
+use Rattle.digits.proofs.Fronts.{digit-word}
 use Rattle.references.proofs.Numerals.{full-digits}
 use Rattle.references.proofs.WholesBack.{written-digits, written-some}
 

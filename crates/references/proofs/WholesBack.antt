@@ -19,7 +19,7 @@ use Rattle.references.specs.Reference.{isReference, item, refer, referen
 use Rattle.references.specs.Written.{writtenWhole}
 use Rattle.references.specs.Fits.{degreeFits, smoothingFits, referenceFits}
 use Rattle.references.proofs.Numerals.{short-digits, short-few, short-some, short-value}
-use Rattle.digits.proofs.Saids.{must-says}
+use Rattle.digits.proofs.Saids.{must-both}
 
 pub written-digits : (n : ℕ) → digits (writtenWhole n) ≡ true
 unfolding writtenWhole
@@ -52,10 +52,8 @@ degree-back n h =
 pub degree-fits : (w : List ℕ) (n : ℕ) → degreeOf w ≡ says n → degreeFits n ≡ true
 unfolding degreeOf
 degree-fits w n h =
-    let p = must-says (whole 3 w) 6 (must (leb 1 (natOf 0 w) && leb (natOf 0 w) 20) 7 (says (natOf 0 w))) n h in
-    let q = must-says (leb 1 (natOf 0 w) && leb (natOf 0 w) 20) 7 (says (natOf 0 w)) n (p .1) in
-    let e : natOf 0 w ≡ n = (let y = q .1 in cc) in
-    ap degreeFits (sym e) ∙ q .0
+    let p = must-both (whole 3 w) (leb 1 (natOf 0 w) && leb (natOf 0 w) 20) 6 7 (natOf 0 w) n h in
+    ap degreeFits (sym (p .2)) ∙ p .1
 
 -- ---- smoothing numbers
 no-off : (w : List ℕ) → digits w ≡ true → same w (argumentBytes Off) ≡ false
@@ -77,10 +75,8 @@ smoothing-fits w n h =
     ⊎-elim
     (λ (t : same w (argumentBytes Off) ≡ true). let e : n ≡ 0 = (let y = rw t at h in cc) in rw e refl)
     (λ (t : same w (argumentBytes Off) ≡ false).
-    let p = must-says (whole 5 w) 6 (must (leb (natOf 0 w) 65535) 7 (says (natOf 0 w))) n (rw t at h) in
-    let q = must-says (leb (natOf 0 w) 65535) 7 (says (natOf 0 w)) n (p .1) in
-    let e : natOf 0 w ≡ n = (let y = q .1 in cc) in
-    ap smoothingFits (sym e) ∙ q .0)
+    let p = must-both (whole 5 w) (leb (natOf 0 w) 65535) 6 7 (natOf 0 w) n (rw t at h) in
+    ap smoothingFits (sym (p .2)) ∙ p .1)
     (test (same w (argumentBytes Off)))
 
 -- ---- references
@@ -125,7 +121,5 @@ refer-fits count w h = item-fits (negative w) count (natOf 0 (unminus w)) h
 pub reference-fits : (count : ℕ) (w : List ℕ) (n : ℕ) → referenceOf count w ≡ says n → referenceFits count n ≡ true
 unfolding referenceOf
 reference-fits count w n h =
-    let p = must-says (isReference w) 6 (must (leb 1 (refer count w)) 8 (says (refer count w))) n h in
-    let q = must-says (leb 1 (refer count w)) 8 (says (refer count w)) n (p .1) in
-    let e : refer count w ≡ n = (let y = q .1 in cc) in
-    ap (referenceFits count) (sym e) ∙ refer-fits count w (q .0)
+    let p = must-both (isReference w) (leb 1 (refer count w)) 6 8 (refer count w) n h in
+    ap (referenceFits count) (sym (p .2)) ∙ refer-fits count w (p .1)

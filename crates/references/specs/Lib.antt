@@ -4,4 +4,3 @@ pub mod Written
 pub mod Fits
 pub mod Answers
 pub mod Straight
-pub mod Examples

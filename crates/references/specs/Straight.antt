@@ -37,9 +37,9 @@ pub record PartRead (count : ℕ) (s : List ℕ) (at number end : ℕ) : Type 0 
   pub number-is : number ≡ item (negative (drop at s)) count (natOf 0 (places (drop at s)))
   pub end-is : end ≡ at + (cond (negative (drop at s)) 1 0 + length (places (drop at s)))
 
-abbrev pub partIs : ℕ → List ℕ → ℕ → Part → Type 0
-partIs count s at (Of number end) = PartRead count s at number end
-partIs count s at Malformed = (leb 1 (length (places (drop at s))) && leb (length (places (drop at s))) 10) ≡ false
+abbrev pub cornerPartIs : ℕ → List ℕ → ℕ → Part → Type 0
+cornerPartIs count s at (Of number end) = PartRead count s at number end
+cornerPartIs count s at Malformed = (leb 1 (length (places (drop at s))) && leb (length (places (drop at s))) 10) ≡ false
 
 -- digits at `at`, at most ten of them read, refer to one of `count`
 pub record AheadRead (count : ℕ) (s : List ℕ) (at number end : ℕ) : Type 0 where

@@ -11,7 +11,7 @@ ghost use Rattle.digits.specs.Answers.{ended};
 ghost use Rattle.digits.specs.Digits.{negative};
 ghost use Rattle.references.specs.Reference.{item, referenceOf};
 ghost use Rattle.references.specs.Answers.{saidReference};
-ghost use Rattle.references.specs.Straight.{partIs};
+ghost use Rattle.references.specs.Straight.{cornerPartIs};
 
 pub enum Reference {
     Item { number: u32, end: usize },
@@ -54,7 +54,7 @@ fn item_of(back: bool, count: u32, k: u64) -> u32
 fn part_from(text: &[u8], at: usize, back: bool, count: u32) -> Part
     requires { ⌜ at ≤ length (now text) ⌝ }
     requires { ⌜ back ≡ negative (drop at (now text)) ⌝ }
-    ensures { λ r. ⌜ partIs count (now (text .entry)) at r ⌝ }
+    ensures { λ r. ⌜ cornerPartIs count (now (text .entry)) at r ⌝ }
 {
     let start = at + minus_length(back);
     let w = whole_run(text, start);
@@ -74,7 +74,7 @@ fn part_from(text: &[u8], at: usize, back: bool, count: u32) -> Part
 // A reference to one of `count` from `at` to where its digits stop.
 pub fn part_at(text: &[u8], at: usize, count: u32) -> Part
     requires { ⌜ at ≤ length (now text) ⌝ }
-    ensures { λ r. ⌜ partIs count (now (text .entry)) at r ⌝ }
+    ensures { λ r. ⌜ cornerPartIs count (now (text .entry)) at r ⌝ }
 {
     if byte_at(text, at) == 45 {
         return part_from(text, at, true, count);

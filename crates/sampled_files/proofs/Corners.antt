@@ -13,7 +13,8 @@ use Rattle.lists.proofs.Tests.{and-left, and-right, and-both, never}
 use Rattle.references.specs.Corner.{Corner, agree, alike}
 use Rattle.references.specs.Fits.{referenceFits, partFits}
 use Rattle.tables.specs.Tables.{Tables}
-use Rattle.tables.specs.Records.{cornerAt, vtWidth, cornerWidth}
+use Rattle.tables.specs.Records.{cornerAt, vtWidth, cornersEnd}
+use Rattle.tables.specs.declared.CornerRun.{CornerRun}
 use Rattle.tables.specs.declared.Used.{Used}
 use Rattle.model.specs.Layout.{cornerRow}
 use Rattle.tidy_form.proofs.Standing.{uniform}
@@ -22,7 +23,7 @@ use Rattle.record_rules.specs.Vertices.{vertexObeys}
 use Rattle.record_rules.specs.Corners.{leastCorners, withTexture, withNormal, attributeObeys, pointObeys, cornerObeys, eachCorner, cornersObey}
 use Rattle.record_rules.proofs.Below.{below-all}
 use Rattle.model.proofs.Stands.{Stands}
-use Rattle.model.proofs.ElementRows.{noCorner, laidCorner, corner-at}
+use Rattle.model.proofs.ElementRows.{noCorner, laidRun, laidCorner, corner-at}
 use Rattle.sampled_files.proofs.Vertices.{all-at}
 
 -- ---- one pattern
@@ -50,32 +51,35 @@ attribute allowed l used first k p a v = go (eqb k 0) (eqb first 0) allowed p a
 
 -- ---- a corner that reading keeps, on an element of this kind
 pub record CornerKept (u : Used) (t : Tables) (kind : ℕ) (c : Corner) : Type 0 where
-  pub point : pointObeys u (t .v) (t .vp) kind (c .v) ≡ true
+  pub point : pointObeys u (t .vertices .v) (t .vertices .vp) kind (c .v) ≡ true
   pub vt : partFits (withTexture kind) (u .vt) (c .vt) ≡ true
   pub vn : partFits (withNormal kind) (u .vn) (c .vn) ≡ true
 
 -- the vertices that a corner may name
 pub record Named (u : Used) (t : Tables) : Type 0 where
-  pub vt : (k : ℕ) → 1 ≤ k → k ≤ u .vt → vertexObeys 3 (t .vt) (u .vt) k ≡ true
-  pub vn : (k : ℕ) → 1 ≤ k → k ≤ u .vn → vertexObeys 3 (t .vn) (u .vn) k ≡ true
+  pub vt : (k : ℕ) → 1 ≤ k → k ≤ u .vt → vertexObeys 3 (t .vertices .vt) (u .vt) k ≡ true
+  pub vn : (k : ℕ) → 1 ≤ k → k ≤ u .vn → vertexObeys 3 (t .vertices .vn) (u .vn) k ≡ true
 
-module _ (u : Used) (t : Tables) (n : Named u t) (kind first : ℕ) (cs : List Corner) (s : Stands (t .corners) first (flat cornerRow cs)) where
+module _ (u : Used) (t : Tables) (n : Named u t) (kind first : ℕ) (cs : List Corner) (s : Stands (t .elements .corners) first (flat cornerRow cs)) where
+  abbrev run : CornerRun
+  run = laidRun first cs
+
   corner-obeys : (f c : Corner) → CornerKept u t kind c → alike f c ≡ true → cornerObeys u t kind (laidCorner f) (laidCorner c) ≡ true
   unfolding cornerObeys
   corner-obeys f c k a =
       and-both
-      (and-both (k .point) (attribute (withTexture kind) (t .vt) (u .vt) (f .vt) (c .vt) (k .vt) (and-left (agree (eqb (f .vt) 0) (eqb (c .vt) 0)) _ a) (n .vt (c .vt))))
-      (attribute (withNormal kind) (t .vn) (u .vn) (f .vn) (c .vn) (k .vn) (and-right (agree (eqb (f .vt) 0) (eqb (c .vt) 0)) _ a) (n .vn (c .vn)))
+      (and-both (k .point) (attribute (withTexture kind) (t .vertices .vt) (u .vt) (f .vt) (c .vt) (k .vt) (and-left (agree (eqb (f .vt) 0) (eqb (c .vt) 0)) _ a) (n .vt (c .vt))))
+      (attribute (withNormal kind) (t .vertices .vn) (u .vn) (f .vn) (c .vn) (k .vn) (and-right (agree (eqb (f .vt) 0) (eqb (c .vt) 0)) _ a) (n .vn (c .vn)))
 
-  pub corners-obey : first + cornerWidth * length cs ≤ u .corners → leastCorners kind ≤ length cs → uniform cs ≡ true → ((k : ℕ) → k < length cs → CornerKept u t kind (getD cs k noCorner))
-      → cornersObey u t kind first (length cs) ≡ true
+  pub corners-obey : cornersEnd run ≤ u .corners → leastCorners kind ≤ length cs → uniform cs ≡ true → ((k : ℕ) → k < length cs → CornerKept u t kind (getD cs k noCorner))
+      → cornersObey u t kind run ≡ true
   unfolding cornersObey eachCorner
   corners-obey a b e f =
       and-both
       (and-both
-      (and-both (le-leb (first + cornerWidth * length cs) (u .corners) a) (le-leb (first + cornerWidth * length cs) (length (t .corners)) (let l = s .lent in let m = corners-length cs in omega arith)))
+      (and-both (le-leb (cornersEnd run) (u .corners) a) (le-leb (cornersEnd run) (length (t .elements .corners)) (let l = s .lent in let m = corners-length cs in omega arith)))
       (le-leb (leastCorners kind) (length cs) b))
-      (below-all (λ k. cornerObeys u t kind (cornerAt t first 0) (cornerAt t first k)) (length cs)
+      (below-all (λ k. cornerObeys u t kind (cornerAt t run 0) (cornerAt t run k)) (length cs)
       (λ k h.
-      ap₂ (cornerObeys u t kind) (corner-at t first cs s 0 (omega arith)) (corner-at t first cs s k h)
+      ap₂ (cornerObeys u t kind) (corner-at t run cs s 0 (omega arith)) (corner-at t run cs s k h)
       ∙ corner-obeys (getD cs 0 noCorner) (getD cs k noCorner) (f k h) (alike-first cs k e h)))

@@ -148,6 +148,6 @@ module _ (u : Used) (t : Tables) (j p l : ℕ) (b : Body) (r : BodyRow u t j p l
       (and-both
       (and-both
       (type-obeys false (b .basis) (b .rational) (b .degree-u) (b .degree-v) (degree-obeys (b .basis) (b .degree-u) d (k .needed)) (eq-eqb (b .degree-v) 0 (sym (k .degree-v))))
-      (parameters-obey false (t .parameters) (u .parameters) p (b .us) (b .vs) (r .used-parameters) (r .parameters) ps (ap (all numberFits) (k .vs))
+      (parameters-obey false (t .bodies .parameters) (u .parameters) p (b .us) (b .vs) (r .used-parameters) (r .parameters) ps (ap (all numberFits) (k .vs))
       (eq-eqb (length (b .vs)) 0 no-vs)))
       curve-obeys)

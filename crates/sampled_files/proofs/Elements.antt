@@ -61,7 +61,7 @@ one-curve (free b) n = go (b .free) refl
     go curve2 e = rw e (let z : n + 1 ≡ suc n = omega arith in z)
     go surface e = rw e (let z : n + 0 ≡ n = omega arith in z)
 
-curves-taken : (t : Tables) (es : List Element) → Stands (t .elements) 0 (elementRows 0 0 es) → (i : ℕ) → i ≤ length es → curvesAmong (t .elements) i ≡ curves (take i es)
+curves-taken : (t : Tables) (es : List Element) → Stands (t .elements .elements) 0 (elementRows 0 0 es) → (i : ℕ) → i ≤ length es → curvesAmong (t .elements .elements) i ≡ curves (take i es)
 curves-taken t es s zero h = refl
 curves-taken t es s (suc i) h =
     let a = among es i (omega arith) in
@@ -72,16 +72,16 @@ curves-taken t es s (suc i) h =
     ap₂ (λ (x y : ℕ). x + cond (eqb y 5) 1 0) (curves-taken t es s i (omega arith)) k
     ∙ one-curve (e .kind) (curves (take i es)) ∙ sym (curves-add (take i es) e) ∙ ap curves (sym n)
 
-pub curves-before : (t : Tables) (es : List Element) (i : ℕ) → Stands (t .elements) 0 (elementRows 0 0 es) → (a : Among es i) → i < length es
-    → curvesAmong (t .elements) i ≡ curves (a .before)
+pub curves-before : (t : Tables) (es : List Element) (i : ℕ) → Stands (t .elements .elements) 0 (elementRows 0 0 es) → (a : Among es i) → i < length es
+    → curvesAmong (t .elements .elements) i ≡ curves (a .before)
 curves-before t es i s a h =
     curves-taken t es s i (omega arith) ∙ ap curves (ap (take i) (a .is) ∙ take-at (a .before) (a .one ∷ a .after) i (a .many))
 
 -- ---- the tests of an element by its record
-pub element-obeys : (u : Used) (t : Tables) (n i kind body : ℕ) (e : records.Element) → elementWidth * i + elementWidth ≤ length (t .elements) → elementAt t i ≡ e → e .kind ≡ kind → e .body ≡ body
-    → leb 1 kind ≡ true → leb kind 6 ≡ true → leb (e .smoothing) 65535 ≡ true → cornersObey u t kind (e .first) (e .count) ≡ true
-    → cond (leb kind 3) (eqb body 0) (bodyObeys u t n kind (e .count) body) ≡ true → obeys u t n i ≡ true
+pub element-obeys : (u : Used) (t : Tables) (n i kind body : ℕ) (e : records.Element) → elementWidth * i + elementWidth ≤ length (t .elements .elements) → elementAt t i ≡ e → e .kind ≡ kind → e .body ≡ body
+    → leb 1 kind ≡ true → leb kind 6 ≡ true → leb (e .smoothing) 65535 ≡ true → cornersObey u t kind (e .corners) ≡ true
+    → cond (leb kind 3) (eqb body 0) (bodyObeys u t n kind (e .corners .count) body) ≡ true → obeys u t n i ≡ true
 unfolding obeys elementObeys
 element-obeys u t n i kind body e l r k o a b c d f =
     let x : elementObeys u t n e ≡ true = rw (k, o) (and-both (and-both (and-both (and-both a b) c) d) f) in
-    and-both (le-leb (elementWidth * i + elementWidth) (length (t .elements)) l) (ap (elementObeys u t n) r ∙ x)
+    and-both (le-leb (elementWidth * i + elementWidth) (length (t .elements .elements)) l) (ap (elementObeys u t n) r ∙ x)

@@ -107,7 +107,7 @@ first-begins (l ∷ ls) g h = go (l .parts) (g .0)
     go (p ∷ ps) k = begins-some (l .hole)
 
 -- ---- read back
-module _ (t : Tables) (n l : ℕ) (qs : List LoopPart) (s : Stands (t .loops) (loopWidth * l) (flat rowOf qs)) (r : Stands (t .spans) (spanWidth * l) (flat spanOf qs)) where
+module _ (t : Tables) (n l : ℕ) (qs : List LoopPart) (s : Stands (t .bodies .loops) (loopWidth * l) (flat rowOf qs)) (r : Stands (t .bodies .spans) (spanWidth * l) (flat spanOf qs)) where
   part-is : (k : ℕ) → k < length qs → partAt t (l + k) ≡ getD qs k noPart
   part-is k h = let a = among qs k h in part-among t l qs s r k a ∙ sym (among-at qs k a noPart)
 
@@ -136,19 +136,19 @@ module _ (t : Tables) (n l : ℕ) (qs : List LoopPart) (s : Stands (t .loops) (l
       begins (suc k) h = rw (ne-eqb (suc k) 0 (λ e. omega arith)) refl
 
 pub loops-obey : (used : ℕ) (t : Tables) (n l : ℕ) (ls : List Loop) → l + summed (λ (y : Loop). length (y .parts)) ls ≤ used
-    → Stands (t .loops) (loopWidth * l) (flat loopRow ls) → Stands (t .spans) (spanWidth * l) (flat (λ (y : Loop). flat spanRow (y .parts)) ls)
+    → Stands (t .bodies .loops) (loopWidth * l) (flat loopRow ls) → Stands (t .bodies .spans) (spanWidth * l) (flat (λ (y : Loop). flat spanRow (y .parts)) ls)
     → all (begunOk n) (laidParts ls) ≡ true → Parted ls → (c : ℕ) → c ≡ summed (λ (y : Loop). length (y .parts)) ls → loopsObey used t n (firstPart l c) c ≡ true
 unfolding loopsObey
 loops-obey used t n l ls a s r o p c q = go (eqb c 0)
   where
-    s' : Stands (t .loops) (loopWidth * l) (flat rowOf (laidParts ls))
-    s' = subst (Stands (t .loops) (loopWidth * l)) (parts-rows ls) s
+    s' : Stands (t .bodies .loops) (loopWidth * l) (flat rowOf (laidParts ls))
+    s' = subst (Stands (t .bodies .loops) (loopWidth * l)) (parts-rows ls) s
 
-    r' : Stands (t .spans) (spanWidth * l) (flat spanOf (laidParts ls))
-    r' = subst (Stands (t .spans) (spanWidth * l)) (parts-spans ls) r
+    r' : Stands (t .bodies .spans) (spanWidth * l) (flat spanOf (laidParts ls))
+    r' = subst (Stands (t .bodies .spans) (spanWidth * l)) (parts-spans ls) r
 
     go : (z : Bool) → cond z (eqb (cond z 0 l) 0)
-        (leb (cond z 0 l + c) used && leb (loopWidth * (cond z 0 l + c)) (length (t .loops)) && leb (spanWidth * (cond z 0 l + c)) (length (t .spans)) && eachPart t n (cond z 0 l) c) ≡ true
+        (leb (cond z 0 l + c) used && leb (loopWidth * (cond z 0 l + c)) (length (t .bodies .loops)) && leb (spanWidth * (cond z 0 l + c)) (length (t .bodies .spans)) && eachPart t n (cond z 0 l) c) ≡ true
     go true = refl
     go false =
         let m = parts-count ls in
@@ -158,5 +158,5 @@ loops-obey used t n l ls a s r o p c q = go (eqb c 0)
         let h₁ = s' .lent in
         let h₂ = r' .lent in
         and-both
-        (and-both (and-both (le-leb (l + c) used (omega arith)) (le-leb (loopWidth * (l + c)) (length (t .loops)) (omega arith))) (le-leb (spanWidth * (l + c)) (length (t .spans)) (omega arith)))
+        (and-both (and-both (le-leb (l + c) used (omega arith)) (le-leb (loopWidth * (l + c)) (length (t .bodies .loops)) (omega arith))) (le-leb (spanWidth * (l + c)) (length (t .bodies .spans)) (omega arith)))
         (ap (eachPart t n l) e ∙ each-part t n l (laidParts ls) s' r' o (first-begins ls p))

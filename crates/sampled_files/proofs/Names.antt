@@ -9,6 +9,7 @@ use lib.Dec.{leb, eqb}
 use lib.IntN.{ℤ}
 use Rattle.tables.specs.Tables.{Tables}
 use Rattle.tables.specs.Records.{numberAt, elementAt, bodyAt, elementWidth}
+use Rattle.tables.specs.declared.CornerRun.{CornerRun}
 use Rattle.tables.specs.declared.Body.{Body}
 use Rattle.tables.specs.declared.Element.{Element}
 use Rattle.tables.specs.declared.Used.{Used}
@@ -22,12 +23,12 @@ use Rattle.tidy_form.proofs.Layouts.{withElements}
 use Rattle.sampled_files.specs.Joined.{PromisedAlike}
 
 -- an element of these numbers, without names
-abbrev unnamed : (kind first count body smoothing : ℕ) → Element
-unnamed kind first count body smoothing =
-    record { kind = kind; first = first; count = count; body = body; smoothing = smoothing; «group_place» = 0; «group_length» = 0; «material_place» = 0; «material_length» = 0 }
+abbrev unnamed : (kind : ℕ) → CornerRun → (body smoothing : ℕ) → Element
+unnamed kind run body smoothing =
+    record { kind = kind; corners = run; body = body; smoothing = smoothing; group = record { place = 0; length = 0 }; material = record { place = 0; length = 0 } }
 
 abbrev bared : Element → Element
-bared e = unnamed (e .kind) (e .first) (e .count) (e .body) (e .smoothing)
+bared e = unnamed (e .kind) (e .corners) (e .body) (e .smoothing)
 
 -- ---- what each definition reads: other tables than the elements, and an element without its names
 element-reads : (u : Used) (t : Tables) (l : List ℕ) (n : ℕ) (e : Element) → elementObeys u (withElements l t) n e ≡ elementObeys u t n (bared e)

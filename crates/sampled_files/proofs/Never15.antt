@@ -31,7 +31,7 @@ module _ (R : Rooms) (s : List ℕ) (m : Model) (h : readOf R s ≡ read m) (num
   pub obeyed : 1 ≤ number → number ≤ length (m .elements) → obeys (usedOf m) t (curvesBefore t (number - 1)) (number - 1) ≡ true
   obeyed a b = every-element-obeys R s m h (number - 1) (omega arith)
 
-  lent : 1 ≤ number → number ≤ length (m .elements) → elementWidth * number ≤ length (t .elements)
+  lent : 1 ≤ number → number ≤ length (m .elements) → elementWidth * number ≤ length (t .elements .elements)
   lent a b = let o = obeys-facts (usedOf m) t (curvesBefore t (number - 1)) (number - 1) (obeyed a b) in omega (arith, o .lent-one)
 
 -- ---- 15
@@ -50,7 +50,7 @@ sampling-never-15 R s m h asked number e =
     let u = usedOf m in
     let in-use : (leb 1 number && leb number (u .elements)) ≡ true → (1 ≤ number) × (number ≤ length (m .elements)) =
     λ a. (leb-true 1 number (and-left (leb 1 number) _ a), (let k = leb-true number (u .elements) (and-right (leb 1 number) _ a) in let q = used-elements m in omega arith)) in
-    passes (leb 1 number && leb number (u .elements)) (leb (elementWidth * number) (length (t .elements))) (wanted asked (elementOf t number .kind))
+    passes (leb 1 number && leb number (u .elements)) (leb (elementWidth * number) (length (t .elements .elements))) (wanted asked (elementOf t number .kind))
     (obeys u t (curvesBefore t (number - 1)) (number - 1)) (carried (bodyOf t number .rational) (bodyOf t number .basis))
-    (λ a. le-leb (elementWidth * number) (length (t .elements)) (lent R s m h number (in-use a .0) (in-use a .1)))
+    (λ a. le-leb (elementWidth * number) (length (t .elements .elements)) (lent R s m h number (in-use a .0) (in-use a .1)))
     (λ a. obeyed R s m h number (in-use a .0) (in-use a .1)) e

@@ -33,7 +33,7 @@ use Rattle.sampled_files.proofs.Vertices.{all-at, control-obeys}
 use Rattle.sampled_files.proofs.Corners.{CornerKept}
 use Rattle.model.proofs.Laid.{Laid, laid}
 use Rattle.tidy_form.proofs.Placed.{Kept, kept}
-use Rattle.model.proofs.ElementRows.{noCorner, cornersIn, laidElement, row-of}
+use Rattle.model.proofs.ElementRows.{noCorner, cornersIn, laidRun, laidElement, row-of}
 use Rattle.sampled_files.proofs.Elements.{Good, good-element, curves-before, element-obeys}
 use Rattle.sampled_files.proofs.Plain.{fitting-at, corner-fits, Pattern, corner-kept, its-corners, plain-obeys}
 use Rattle.model.proofs.BodyRows.{body-among, laidBody, parametersIn, BodyRow, body-row}
@@ -66,7 +66,7 @@ module _ (u : Used) (t : Tables) (m : Model) (L : Laid u t m) (K : Kept m) where
       let h : referenceFits (length (x .vp)) (c .v) ≡ true = ap (λ (y : Corner). referenceFits (length (x .vp)) (y .v)) q ∙ f .2 in
       record {
         point =
-            control-obeys (t .vp) (x .vp) (K .vp) (L .vp) (u .vp) (c .v) (L .used-vp) (leb-true 1 (c .v) (and-left (leb 1 (c .v)) _ h))
+            control-obeys (t .vertices .vp) (x .vp) (K .vp) (L .vp) (u .vp) (c .v) (L .used-vp) (leb-true 1 (c .v) (and-left (leb 1 (c .v)) _ h))
             (leb-true (c .v) (length (x .vp)) (and-right (leb 1 (c .v)) _ h)) w;
         vt = ap (λ (y : Corner). eqb (y .vt) 0 || (withTexture 5 && referenceFits (u .vt) (y .vt))) q;
         vn = ap (λ (y : Corner). eqb (y .vn) 0 || (withNormal 5 && referenceFits (u .vn) (y .vn))) q;
@@ -109,12 +109,12 @@ module _ (u : Used) (t : Tables) (m : Model) (L : Laid u t m) (K : Kept m) where
         let r = its-body in
         let e : suc j - 1 ≡ j = omega arith in
         and-both
-        (and-both (and-both (and-both (le-leb 1 (suc j) (omega arith)) (le-leb (suc j) (u .bodies) (r .used))) (le-leb (bodyWidth * suc j) (length (t .bodies)) (r .lent-body)))
-        (le-leb (rangeWidth * suc j) (length (t .ranges)) (r .lent-range)))
+        (and-both (and-both (and-both (le-leb 1 (suc j) (omega arith)) (le-leb (suc j) (u .bodies) (r .used))) (le-leb (bodyWidth * suc j) (length (t .bodies .bodies)) (r .lent-body)))
+        (le-leb (rangeWidth * suc j) (length (t .bodies .ranges)) (r .lent-range)))
         (ap (recordObeys u t n kind count) (ap (bodyAt t) e ∙ r .is) ∙ h)
 
     free-obeys : (k : Free) → b .free ≡ k → leb 1 (freeNumber k) ≡ true → leb (freeNumber k) 6 ≡ true → leb (freeNumber k) 3 ≡ false
-        → cornersObey u t (freeNumber k) (cornersIn (a .before)) (length cs) ≡ true → recordObeys u t n (freeNumber k) (length cs) (laidBody P N b) ≡ true → obeys u t n i ≡ true
+        → cornersObey u t (freeNumber k) (laidRun (cornersIn (a .before)) cs) ≡ true → recordObeys u t n (freeNumber k) (length cs) (laidBody P N b) ≡ true → obeys u t n i ≡ true
     free-obeys k e l₁ l₂ l₃ c r =
         let w = row-of t es i (L .elements) a in
         element-obeys u t n i (freeNumber k) (suc j) (laidElement (cornersIn (a .before)) j (a .one)) (w .lent) (w .is)

@@ -75,20 +75,20 @@ wide-at w (z ∷ zs) h (suc i) k l =
     ap (λ (n : ℕ). getD (z ++ flat itself zs) n (pos 0)) e ∙ getD-append-add z (flat itself zs) (w * i + k) (pos 0) ∙ wide-at w zs (h .1) i k l
 
 module _ (R : Rooms) (m : Model) (K : Kept m) where
-  v-at : (i k : ℕ) → k < vWidth → valueAt vWidth (tablesOf R m .v) i k ≡ getD (getD (m .vertices .v) i []) k (pos 0)
+  v-at : (i k : ℕ) → k < vWidth → valueAt vWidth (tablesOf R m .vertices .v) i k ≡ getD (getD (m .vertices .v) i []) k (pos 0)
   unfolding tablesOf
   v-at i k l =
-      getD-filled (R .v) (pos 0) (flat itself (m .vertices .v)) (vWidth * i + k)
+      getD-filled (R .vertices .v) (pos 0) (flat itself (m .vertices .v)) (vWidth * i + k)
       ∙ wide-at vWidth (m .vertices .v) (vertices-wide geometric (m .vertices .v) (K .v)) i k l
 
-  vp-at : (i k : ℕ) → k < vpWidth → valueAt vpWidth (tablesOf R m .vp) i k ≡ getD (getD (m .vertices .vp) i []) k (pos 0)
+  vp-at : (i k : ℕ) → k < vpWidth → valueAt vpWidth (tablesOf R m .vertices .vp) i k ≡ getD (getD (m .vertices .vp) i []) k (pos 0)
   unfolding tablesOf
   vp-at i k l =
-      getD-filled (R .vp) (pos 0) (flat itself (m .vertices .vp)) (vpWidth * i + k)
+      getD-filled (R .vertices .vp) (pos 0) (flat itself (m .vertices .vp)) (vpWidth * i + k)
       ∙ wide-at vpWidth (m .vertices .vp) (vertices-wide parametric (m .vertices .vp) (K .vp)) i k l
 
   -- a control, by its element's kind and its corner
-  pub control-is : (k : Free) (e : Element) (cs : List Corner) (axis i : ℕ) → e .kind ≡ freeNumber k → cornerAt (tablesOf R m) (e .first) i .v ≡ vertexOfCorner cs i → axis < axesIn k
+  pub control-is : (k : Free) (e : Element) (cs : List Corner) (axis i : ℕ) → e .kind ≡ freeNumber k → cornerAt (tablesOf R m) (e .corners) i .v ≡ vertexOfCorner cs i → axis < axesIn k
       → controlOf (tablesOf R m) e axis i ≡ controlIn (m .vertices) k cs axis i
   unfolding controlOf
   control-is curve e cs axis i q c l = rw (q, c) (v-at (vertexOfCorner cs i - 1) axis (omega arith))

@@ -29,7 +29,7 @@ use Rattle.sampled_files.proofs.Vertices.{vertex-obeys}
 use Rattle.sampled_files.proofs.Corners.{CornerKept, Named, corners-obey}
 use Rattle.model.proofs.Laid.{Laid}
 use Rattle.tidy_form.proofs.Placed.{Kept}
-use Rattle.model.proofs.ElementRows.{noCorner, cornersIn, laidElement, row-of, corners-stand}
+use Rattle.model.proofs.ElementRows.{noCorner, cornersIn, laidRun, laidElement, row-of, corners-stand}
 use Rattle.sampled_files.proofs.Elements.{Good, element-obeys}
 
 -- ---- corners by their words
@@ -64,8 +64,8 @@ module _ (u : Used) (t : Tables) (m : Model) (L : Laid u t m) (K : Kept m) where
   pub named : Named u t
   named =
       record {
-        vt = λ k a b. vertex-obeys texture (t .vt) (x .vt) (K .vt) (L .vt) 3 (u .vt) k refl (L .used-vt) a (let e = L .used-vt in omega arith);
-        vn = λ k a b. vertex-obeys normal (t .vn) (x .vn) (K .vn) (L .vn) 3 (u .vn) k refl (L .used-vn) a (let e = L .used-vn in omega arith);
+        vt = λ k a b. vertex-obeys texture (t .vertices .vt) (x .vt) (K .vt) (L .vt) 3 (u .vt) k refl (L .used-vt) a (let e = L .used-vt in omega arith);
+        vn = λ k a b. vertex-obeys normal (t .vertices .vn) (x .vn) (K .vn) (L .vn) 3 (u .vn) k refl (L .used-vn) a (let e = L .used-vn in omega arith);
       }
 
   pub corner-kept : (kind least : ℕ) (p : Parts) → Pattern kind least p → (c : Corner) → cornerFits (countsOf x) p c ≡ true → CornerKept u t kind c
@@ -76,7 +76,7 @@ module _ (u : Used) (t : Tables) (m : Model) (L : Laid u t m) (K : Kept m) where
       record {
         point =
             rw (q .other)
-            (vertex-obeys geometric (t .v) (x .v) (K .v) (L .v) 4 (u .v) (c .v) refl (L .used-v) (leb-true 1 (c .v) (and-left (leb 1 (c .v)) _ v)) (leb-true (c .v) (length (x .v)) (and-right (leb 1 (c .v)) _ v)));
+            (vertex-obeys geometric (t .vertices .v) (x .v) (K .v) (L .v) 4 (u .v) (c .v) refl (L .used-v) (leb-true 1 (c .v) (and-left (leb 1 (c .v)) _ v)) (leb-true (c .v) (length (x .v)) (and-right (leb 1 (c .v)) _ v)));
         vt = ap₂ (λ (b : Bool) (n : ℕ). partFits b n (c .vt)) (q .texture) (L .used-vt) ∙ and-left (partFits (p .vt) (length (x .vt)) (c .vt)) _ r;
         vn = ap₂ (λ (b : Bool) (n : ℕ). partFits b n (c .vn)) (q .normal) (L .used-vn) ∙ and-right (partFits (p .vt) (length (x .vt)) (c .vt)) _ r;
       }
@@ -95,11 +95,11 @@ module _ (u : Used) (t : Tables) (m : Model) (L : Laid u t m) (K : Kept m) where
     -- its corners, whatever its kind
     pub its-corners : (kind : ℕ) → leastCorners kind ≤ length (e .corners) → uniform (e .corners) ≡ true
         → ((k : ℕ) → k < length (e .corners) → CornerKept u t kind (getD (e .corners) k noCorner))
-        → cornersObey u t kind (cornersIn (a .before)) (length (e .corners)) ≡ true
+        → cornersObey u t kind (laidRun (cornersIn (a .before)) (e .corners)) ≡ true
     its-corners kind l w f =
         corners-obey u t named kind (cornersIn (a .before)) (e .corners) (corners-stand t es i (L .corners) a) corners-used l w f
 
-    plain-corners : (n : ℕ) (k : Shape) → Fine x n (element k (e .corners)) → cornersObey u t (shapeNumber k) (cornersIn (a .before)) (length (e .corners)) ≡ true
+    plain-corners : (n : ℕ) (k : Shape) → Fine x n (element k (e .corners)) → cornersObey u t (shapeNumber k) (laidRun (cornersIn (a .before)) (e .corners)) ≡ true
     plain-corners n k f =
         let p = pattern-of k in
         its-corners (shapeNumber k)

@@ -9,6 +9,7 @@ use Rattle.references.specs.Corner.{Corner}
 use Rattle.tables.specs.Tables.{Tables}
 use Rattle.tables.specs.Bodies.{bezier, bspline}
 use Rattle.tables.specs.Records.{bodyAt, cornerAt}
+use Rattle.tables.specs.declared.CornerRun.{CornerRun}
 use Rattle.tables.specs.declared.Corner as records-corner
 use Rattle.model.specs.Model.{Body, Kind, Model, curves}
 use Rattle.model.specs.Room.{Rooms, summed, partCount}
@@ -22,7 +23,7 @@ use Rattle.sampled_files.specs.Joined.{HasBody}
 use Rattle.model.proofs.Stands.{Among}
 use Rattle.model.proofs.Laid.{laid}
 use Rattle.tidy_form.proofs.Placed.{kept}
-use Rattle.model.proofs.ElementRows.{corner-at, cornersIn, Row, row-of, corners-stand}
+use Rattle.model.proofs.ElementRows.{corner-at, cornersIn, laidRun, Row, row-of, corners-stand}
 use Rattle.sampled_files.proofs.Elements.{good-element}
 use Rattle.model.proofs.BodyRows.{body-among, laidBody, parametersIn, BodyRow, body-row, us-are, vs-are}
 use Rattle.sampled_files.proofs.Own.{u-is, v-is, control-is}
@@ -88,13 +89,12 @@ module _ (R : Rooms) (s : List ℕ) (m : Model) (h : readOf R s ≡ read m) (num
     its-v = ap (directionV t) its-body ∙ v-is t P N b k (vs-are (usedOf m) t j P N b its-row)
 
   -- ---- its controls
-  its-corner : (n : ℕ) → n < length cs → cornerAt t (elementOf t number .first) n .v ≡ vertexOfCorner cs n
+  its-corner : (n : ℕ) → n < length cs → cornerAt t (elementOf t number .corners) n .v ≡ vertexOfCorner cs n
   its-corner n l =
       let L = laid R m in
-      let first = cornersIn (o .before) in
-      ap (λ (f : ℕ). cornerAt t f n .v) (row .first)
+      ap (λ (r : CornerRun). cornerAt t r n .v) (row .run)
       ∙ ap (λ (c : records-corner.Corner). c .v)
-      (corner-at t first cs (corners-stand t (m .elements) i (L .corners) at) n l)
+      (corner-at t (laidRun (cornersIn (o .before)) cs) cs (corners-stand t (m .elements) i (L .corners) at) n l)
 
   pub its-control : (axis n : ℕ) → n < length cs → axis < axesIn (b .free) → controlOf t (elementOf t number) axis n ≡ controlIn (m .vertices) (b .free) cs axis n
   its-control axis n l a = control-is R m (kept R s m h) (b .free) (elementOf t number) cs axis n its-kind (its-corner n l) a

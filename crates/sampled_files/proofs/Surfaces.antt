@@ -71,5 +71,5 @@ module _ (u : Used) (t : Tables) (j p l : ℕ) (b : Body) (r : BodyRow u t j p l
       and-both
       (and-both
       (type-obeys true (b .basis) (b .rational) (b .degree-u) (b .degree-v) (degree-obeys (b .basis) (b .degree-u) c (k .needed-u)) (degree-obeys (b .basis) (b .degree-v) d (k .needed-v)))
-      (parameters-obey true (t .parameters) (u .parameters) p (b .us) (b .vs) (r .used-parameters) (r .parameters) ps (k .vs .small) (le-leb 2 (length (b .vs)) (k .vs .two))))
+      (parameters-obey true (t .bodies .parameters) (u .parameters) p (b .us) (b .vs) (r .used-parameters) (r .parameters) ps (k .vs .small) (le-leb 2 (length (b .vs)) (k .vs .two))))
       surface-obeys

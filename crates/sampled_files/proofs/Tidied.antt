@@ -37,13 +37,13 @@ module _ (R : Rooms) (s t : List ℕ) (m k : Model) (p : Placed s m) (q : Placed
   many = counts-same R R s t m k p q agreeing
 
   -- past the elements both tables are 0
-  past : (n : Model) (i j : ℕ) → length (n .elements) ≤ i → numberAt elementWidth (tablesOf R n .elements) i j ≡ 0
+  past : (n : Model) (i j : ℕ) → length (n .elements) ≤ i → numberAt elementWidth (tablesOf R n .elements .elements) i j ≡ 0
   unfolding tablesOf
   past n i j h =
       let rows = elementRows 0 0 (n .elements) in
-      getD-filled (R .elements) 0 rows (elementWidth * i + j) ∙ List·getD-eq-default rows 0 (let e = elementRows-length 0 0 (n .elements) in omega arith)
+      getD-filled (R .elements .elements) 0 rows (elementWidth * i + j) ∙ List·getD-eq-default rows 0 (let e = elementRows-length 0 0 (n .elements) in omega arith)
 
-  numbers-same : (i j : ℕ) → j < 5 → numberAt elementWidth (tablesOf R m .elements) i j ≡ numberAt elementWidth (tablesOf R k .elements) i j
+  numbers-same : (i j : ℕ) → j < 5 → numberAt elementWidth (tablesOf R m .elements .elements) i j ≡ numberAt elementWidth (tablesOf R k .elements .elements) i j
   numbers-same i j h =
       ⊎-elim
       (λ (x : ltb i (length (m .elements)) ≡ true). number-same R R s t m k p q agreeing i j (ltb-true i (length (m .elements)) x) h)
@@ -53,21 +53,21 @@ module _ (R : Rooms) (s t : List ℕ) (m k : Model) (p : Placed s m) (q : Placed
       past m i j l ∙ sym (past k i j (omega arith)))
       (test (ltb i (length (m .elements))))
 
-  long-same : length (tablesOf R m .elements) ≡ length (tablesOf R k .elements)
+  long-same : length (tablesOf R m .elements .elements) ≡ length (tablesOf R k .elements .elements)
   unfolding tablesOf
   long-same =
       let e : length (elementRows 0 0 (m .elements)) ≡ length (elementRows 0 0 (k .elements)) =
       elementRows-length 0 0 (m .elements) ∙ ap (λ (n : ℕ). elementWidth * n) many ∙ sym (elementRows-length 0 0 (k .elements)) in
-      long (elementRows 0 0 (m .elements)) ∙ ap (λ (n : ℕ). n + (R .elements - n)) e ∙ sym (long (elementRows 0 0 (k .elements)))
+      long (elementRows 0 0 (m .elements)) ∙ ap (λ (n : ℕ). n + (R .elements .elements - n)) e ∙ sym (long (elementRows 0 0 (k .elements)))
     where
-      long : (xs : List ℕ) → length (filled (R .elements) 0 xs) ≡ length xs + (R .elements - length xs)
-      long xs = length-append xs (replicate (R .elements - length xs) 0) ∙ ap (λ (n : ℕ). length xs + n) (length-replicate (R .elements - length xs) 0)
+      long : (xs : List ℕ) → length (filled (R .elements .elements) 0 xs) ≡ length xs + (R .elements .elements - length xs)
+      long xs = length-append xs (replicate (R .elements .elements - length xs) 0) ∙ ap (λ (n : ℕ). length xs + n) (length-replicate (R .elements .elements - length xs) 0)
 
   pub agree-samples : PromisedAlike (usedOf m) (tablesOf R m) (usedOf k) (tablesOf R k)
   agree-samples =
       subst (λ (v : Used). PromisedAlike (usedOf m) (tablesOf R m) v (tablesOf R k)) (agreeing .used)
       (subst (PromisedAlike (usedOf m) (tablesOf R m) (usedOf m)) (others-same R R s t m k p q agreeing)
-      (names-aside (usedOf m) (tablesOf R m) (tablesOf R m .elements) (tablesOf R k .elements) numbers-same long-same))
+      (names-aside (usedOf m) (tablesOf R m) (tablesOf R m .elements .elements) (tablesOf R k .elements .elements) numbers-same long-same))
 
 agree-back : (m k : Model) → Agree k m → Agree m k
 unfolding Agree

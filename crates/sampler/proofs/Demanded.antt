@@ -49,7 +49,7 @@ pub all-passed : (surface : Bool) (used : Used) (t : Tables) (number : ℕ) → 
     → refusalOf surface used t number ≡ 0
 all-passed surface used t number some in-use kind obeyed plain type =
     let o = obeys-facts used t (curvesBefore t (number - 1)) (number - 1) obeyed in
-    let l : 9 * number ≤ length (t .elements) = omega (arith, o .lent-one, some) in
+    let l : 9 * number ≤ length (t .elements .elements) = omega (arith, o .lent-one, some) in
     sym (none-given surface used t number some in-use l kind obeyed (plain-carried (bodyOf t number .rational) (bodyOf t number .basis) plain type))
 
 module _ {used : Used} {t : Tables} {number : ℕ} (c : Curve used t number) where

@@ -36,38 +36,38 @@ module _ (t : Tables) (e : Element) (b : Body) (p : ℤ) (axis : ℕ) where
   abbrev along : BodyDirection
   along = bodyDirection (b .basis) (b .«degree_u») (b .«count_u»)
 
-  pub plane-control : eqb (e .kind) 5 ≡ true → (i : ℕ) → controlAt (t .vp) (t .corners) (e .first) (1 + axis) i ≡ controlOf t e axis i
+  pub plane-control : eqb (e .kind) 5 ≡ true → (i : ℕ) → controlAt (t .vertices .vp) (t .elements .corners) (e .corners .first) (1 + axis) i ≡ controlOf t e axis i
   unfolding controlAt controlOf
   plane-control h i = rw h
 
-  pub space-control : eqb (e .kind) 5 ≡ false → (i : ℕ) → controlAt (t .v) (t .corners) (e .first) axis i ≡ controlOf t e axis i
+  pub space-control : eqb (e .kind) 5 ≡ false → (i : ℕ) → controlAt (t .vertices .v) (t .elements .corners) (e .corners .first) axis i ≡ controlOf t e axis i
   unfolding controlAt controlOf
   space-control h i = rw h
 
-  pub plane-coordinate : eqb (e .kind) 5 ≡ true → coordinateBy (t .vp) (t .corners) (e .first) along (parametersU t b) p (1 + axis) ≡ curveAt t e b p axis
+  pub plane-coordinate : eqb (e .kind) 5 ≡ true → coordinateBy (t .vertices .vp) (t .elements .corners) (e .corners .first) along (parametersU t b) p (1 + axis) ≡ curveAt t e b p axis
   unfolding curveAt
   plane-coordinate h =
-      sampled-cong (direction along (parametersU t b)) p (controlAt (t .vp) (t .corners) (e .first) (1 + axis)) (controlOf t e axis)
+      sampled-cong (direction along (parametersU t b)) p (controlAt (t .vertices .vp) (t .elements .corners) (e .corners .first) (1 + axis)) (controlOf t e axis)
       (λ j l. plane-control h (firstControl (direction along (parametersU t b)) p + j))
 
-  pub space-coordinate : eqb (e .kind) 5 ≡ false → coordinateBy (t .v) (t .corners) (e .first) along (parametersU t b) p axis ≡ curveAt t e b p axis
+  pub space-coordinate : eqb (e .kind) 5 ≡ false → coordinateBy (t .vertices .v) (t .elements .corners) (e .corners .first) along (parametersU t b) p axis ≡ curveAt t e b p axis
   unfolding curveAt
   space-coordinate h =
-      sampled-cong (direction along (parametersU t b)) p (controlAt (t .v) (t .corners) (e .first) axis) (controlOf t e axis)
+      sampled-cong (direction along (parametersU t b)) p (controlAt (t .vertices .v) (t .elements .corners) (e .corners .first) axis) (controlOf t e axis)
       (λ j l. space-control h (firstControl (direction along (parametersU t b)) p + j))
 
 pub space-eq : {a b c d e f : ℤ} → a ≡ d → b ≡ e → c ≡ f → sampled.Space a b c ≡ sampled.Space d e f
 space-eq p q r = cc
 
 point-is : (t : Tables) (e : Element) (b : Body) (p : ℤ) (q : Bool) → eqb (e .kind) 5 ≡ q
-    → pointAnswer (pointBy (e .kind) (t .v) (t .vp) (t .corners) (e .first) (bodyDirection (b .basis) (b .«degree_u») (b .«count_u»)) (parametersU t b) p) ≡ curvePoint t e b p
+    → pointAnswer (pointBy (e .kind) (t .vertices .v) (t .vertices .vp) (t .elements .corners) (e .corners .first) (bodyDirection (b .basis) (b .«degree_u») (b .«count_u»)) (parametersU t b) p) ≡ curvePoint t e b p
 unfolding pointBy curvePoint
 point-is t e b p true h = rw h (ap pointAnswer (ap₂ sampled.Plane (plane-coordinate t e b p 0 h) (plane-coordinate t e b p 1 h)))
 point-is t e b p false h = rw h (ap pointAnswer (space-eq (space-coordinate t e b p 0 h) (space-coordinate t e b p 1 h) (space-coordinate t e b p 2 h)))
 
 -- the tables that a curve's points are made of
 abbrev pub curve-tables : Tables → Tables
-curve-tables t = tables (t .v) [] [] (t .vp) (t .corners) [] [] [] (t .parameters) [] []
+curve-tables t = tables (t .vertices .v) [] [] (t .vertices .vp) (t .elements .corners) [] [] [] (t .bodies .parameters) [] []
 
 pub curve-lent : {t : Tables} {e : Element} {b : Body} → Curved t e b → Curved (curve-tables t) e b
 curve-lent c = record { run = c .run; counted = c .counted; held = c .held; along = c .along }
@@ -81,7 +81,7 @@ module _ (t : Tables) (e : Element) (b : Body) (p : ℤ) where
   curve-outside h = rw h
 
   pub curve-there : inside (b .«start_u») (b .«end_u») p ≡ true
-      → pointAnswer (pointBy (e .kind) (t .v) (t .vp) (t .corners) (e .first) (bodyDirection (b .basis) (b .«degree_u») (b .«count_u»)) (parametersU t b) p) ≡ answerOnCurve t e b p
+      → pointAnswer (pointBy (e .kind) (t .vertices .v) (t .vertices .vp) (t .elements .corners) (e .corners .first) (bodyDirection (b .basis) (b .«degree_u») (b .«count_u»)) (parametersU t b) p) ≡ answerOnCurve t e b p
   unfolding answerOnCurve
   curve-there h = rw h (point-is t e b p (eqb (e .kind) 5) refl)
 
@@ -114,20 +114,20 @@ part-is l from count =
 -- what was read of the element and its body
 pub record Read (t : Tables) (e : Element) (b : Body) (kind first from count : ℕ) (a : BodyDirection) : Type 0 where
   pub kind-is : kind ≡ e .kind
-  pub first-is : first ≡ e .first
+  pub first-is : first ≡ e .corners .first
   pub from-is : from ≡ b .«first_parameter»
   pub count-is : count ≡ b .«count_u»
   pub along-is : a ≡ bodyDirection (b .basis) (b .«degree_u») (b .«count_u»)
 
 module _ {t : Tables} {e : Element} {b : Body} {kind first from count : ℕ} {a : BodyDirection} (r : Read t e b kind first from count a) where
-  pub run-is : take (from + count - from) (drop from (t .parameters)) ≡ parametersU t b
-  run-is = part-is (t .parameters) from count ∙ rw (r .from-is, r .count-is)
+  pub run-is : take (from + count - from) (drop from (t .bodies .parameters)) ≡ parametersU t b
+  run-is = part-is (t .bodies .parameters) from count ∙ rw (r .from-is, r .count-is)
 
   pub curve-asked : (p q : ℤ) → q ≡ p → Curved t e b → inside (b .«start_u») (b .«end_u») p ≡ true
-      → ControlsLent (cond (eqb kind 5) (t .vp) (t .v)) (t .corners) first 0 (a .controls) × Sound a (take (from + count - from) (drop from (t .parameters))) q
+      → ControlsLent (cond (eqb kind 5) (t .vertices .vp) (t .vertices .v)) (t .elements .corners) first 0 (a .controls) × Sound a (take (from + count - from) (drop from (t .bodies .parameters))) q
   curve-asked p q k c h = rw (run-is, k, r .kind-is, r .first-is, r .along-is) (c .held, sound-inside (c .along .ranged) p h)
 
   pub point-read : (p q : ℤ) → q ≡ p
-      → pointBy kind (t .v) (t .vp) (t .corners) first a (take (from + count - from) (drop from (t .parameters))) q
-      ≡ pointBy (e .kind) (t .v) (t .vp) (t .corners) (e .first) (bodyDirection (b .basis) (b .«degree_u») (b .«count_u»)) (parametersU t b) p
+      → pointBy kind (t .vertices .v) (t .vertices .vp) (t .elements .corners) first a (take (from + count - from) (drop from (t .bodies .parameters))) q
+      ≡ pointBy (e .kind) (t .vertices .v) (t .vertices .vp) (t .elements .corners) (e .corners .first) (bodyDirection (b .basis) (b .«degree_u») (b .«count_u»)) (parametersU t b) p
   point-read p q k = rw (run-is, k, r .kind-is, r .first-is, r .along-is)

@@ -16,6 +16,7 @@ use Rattle.tables.specs.Tables.{Tables}
 use Rattle.tables.specs.Records.{bodyAt, elementAt, cornerAt, parametersU, parametersV}
 use Rattle.tables.specs.declared.Body.{Body}
 use Rattle.tables.specs.Bodies.{enough, controls, inOrder, curveCount, surfaceCount, basisOf}
+use Rattle.tables.specs.declared.CornerRun.{CornerRun}
 use Rattle.tables.specs.declared.Used.{Used}
 use Rattle.tables.specs.declared.Element.{Element}
 use Rattle.record_rules.specs.Numbers.{inRange}
@@ -49,14 +50,14 @@ held-by values corners used first count w f = record {
   small = λ i k z l m. is-small _ (f i l .small k m);
 }
 
-module _ (used : Used) (t : Tables) (kind first count : ℕ) (c : Corners used t kind first count) where
-  pub held-plane : kind ≡ 5 → ControlsLent (t .vp) (t .corners) first 0 count
-  held-plane e = held-by (t .vp) (t .corners) (used .vp) first count (c .lent-run) (λ i l. corner-control used t kind first count c i l e)
+module _ (used : Used) (t : Tables) (kind : ℕ) (run : CornerRun) (c : Corners used t kind run) where
+  pub held-plane : kind ≡ 5 → ControlsLent (t .vertices .vp) (t .elements .corners) (run .first) 0 (run .count)
+  held-plane e = held-by (t .vertices .vp) (t .elements .corners) (used .vp) (run .first) (run .count) (c .lent-run) (λ i l. corner-control used t kind run c i l e)
 
-  pub held-space : (kind ≡ 5 → ⊥) → ControlsLent (t .v) (t .corners) first 0 count
-  held-space f = held-by (t .v) (t .corners) (used .v) first count (c .lent-run) (λ i l. corner-vertex used t kind first count c i l f)
+  pub held-space : (kind ≡ 5 → ⊥) → ControlsLent (t .vertices .v) (t .elements .corners) (run .first) 0 (run .count)
+  held-space f = held-by (t .vertices .v) (t .elements .corners) (used .v) (run .first) (run .count) (c .lent-run) (λ i l. corner-vertex used t kind run c i l f)
 
-  pub held-either : ControlsLent (cond (eqb kind 5) (t .vp) (t .v)) (t .corners) first 0 count
+  pub held-either : ControlsLent (cond (eqb kind 5) (t .vertices .vp) (t .vertices .v)) (t .elements .corners) (run .first) 0 (run .count)
   held-either = ⊎-elim (λ e. rw e (held-plane (eqb-true kind 5 e))) (λ e. rw e (held-space (λ k. never (sym e ∙ eq-eqb kind 5 k)))) (test (eqb kind 5))
 
 knots-of : (type n p : ℕ) → enough (basisOf type) n p ≡ true → eqb type 2 ≡ true → n + 1 ≤ p
@@ -96,7 +97,7 @@ same-controls type n p (inr e) = rw e
 -- no refusal up to 18
 pub record Granted (surface : Bool) (used : Used) (t : Tables) (number : ℕ) : Type 0 where
   pub some : 1 ≤ number
-  pub lent : 9 * number ≤ length (t .elements)
+  pub lent : 9 * number ≤ length (t .elements .elements)
   pub kind : wanted surface (elementOf t number .kind) ≡ true
   pub obeyed : obeys used t (curvesBefore t (number - 1)) (number - 1) ≡ true
   pub type : (bodyOf t number .basis ≡ 1) ⊎ (bodyOf t number .basis ≡ 2)
@@ -113,11 +114,11 @@ pub granted : (surface : Bool) (used : Used) (t : Tables) (number : ℕ) → ref
 unfolding refusalOf
 granted surface used t number h =
     let b = bodyOf t number in
-    let f = five (leb 1 number && leb number (used .elements)) (leb (9 * number) (length (t .elements))) (wanted surface (elementOf t number .kind))
+    let f = five (leb 1 number && leb number (used .elements)) (leb (9 * number) (length (t .elements .elements))) (wanted surface (elementOf t number .kind))
     (obeys used t (curvesBefore t (number - 1)) (number - 1)) (carried (b .rational) (b .basis)) h in
     record {
       some = leb-true 1 number (and-left (leb 1 number) (leb number (used .elements)) (f .0));
-      lent = leb-true (9 * number) (length (t .elements)) (f .1);
+      lent = leb-true (9 * number) (length (t .elements .elements)) (f .1);
       kind = f .2;
       obeyed = f .3;
       type = types (b .rational) (b .basis) (f .4);
@@ -140,16 +141,16 @@ curved used t number g =
     let o = obeys-facts used t n i (g .obeyed) in
     let k = curve-kinds (e .kind) (g .kind) in
     let h = body-of o (k .0) in
-    let r = recorded used t n (e .kind) (e .count) (e .body) h in
-    let c = curve-of used t n (e .kind) (e .count) (e .body) h (k .1) in
-    let enough-there = curve-enough (basisOf (b .basis)) (b .«degree_u») (b .«count_u») (e .count) (c .counted) in
-    let same = eqb-true (e .count) (controls (basisOf (b .basis)) (b .«degree_u») (b .«count_u»)) (and-right (enough (basisOf (b .basis)) (b .«degree_u») (b .«count_u»)) _ (c .counted))
+    let r = recorded used t n (e .kind) (e .corners .count) (e .body) h in
+    let c = curve-of used t n (e .kind) (e .corners .count) (e .body) h (k .1) in
+    let enough-there = curve-enough (basisOf (b .basis)) (b .«degree_u») (b .«count_u») (e .corners .count) (c .counted) in
+    let same = eqb-true (e .corners .count) (controls (basisOf (b .basis)) (b .«degree_u») (b .«count_u»)) (and-right (enough (basisOf (b .basis)) (b .«degree_u») (b .«count_u»)) _ (c .counted))
     ∙ same-controls (b .basis) (b .«degree_u») (b .«count_u») (g .type) in
     record {
       run = r .run .lent-ones;
       counted = same;
-      held = subst (λ (q : ℕ). ControlsLent (cond (eqb (e .kind) 5) (t .vp) (t .v)) (t .corners) (e .first) 0 q) same (held-either used t (e .kind) (e .first) (e .count) (o .corners));
-      along = directed (t .parameters) (b .«first_parameter») (b .«count_u») (omega (arith, r .run .lent-ones)) (b .basis) (b .«degree_u») (b .«start_u») (b .«end_u») (g .type)
+      held = subst (λ (q : ℕ). ControlsLent (cond (eqb (e .kind) 5) (t .vertices .vp) (t .vertices .v)) (t .elements .corners) (e .corners .first) 0 q) same (held-either used t (e .kind) (e .corners) (o .corners));
+      along = directed (t .bodies .parameters) (b .«first_parameter») (b .«count_u») (omega (arith, r .run .lent-ones)) (b .basis) (b .«degree_u») (b .«start_u») (b .«end_u») (g .type)
           (r .typed .degree-u .most) (r .run .along-u) (λ j l. r .run .small-ones j (omega arith)) enough-there (c .in-order);
     }
 
@@ -164,24 +165,24 @@ surfaced used t number g =
     let six = eqb-true (e .kind) 6 (g .kind) in
     let four : 4 ≤ e .kind = omega (arith, six) in
     let h = body-of o four in
-    let r = recorded used t n (e .kind) (e .count) (e .body) h in
-    let c = surface-of used t n (e .kind) (e .count) (e .body) h six in
+    let r = recorded used t n (e .kind) (e .corners .count) (e .body) h in
+    let c = surface-of used t n (e .kind) (e .corners .count) (e .body) h six in
     let yes = eq-eqb (e .kind) 6 six in
     let degree = degree-facts (b .basis) (b .«degree_v») (rw yes at (r .typed .degree-v)) in
-    let enough-u = surface-enough-u (basisOf (b .basis)) (b .«degree_u») (b .«count_u») (b .«degree_v») (b .«count_v») (e .count) (c .counted) in
-    let enough-v = surface-enough-v (basisOf (b .basis)) (b .«degree_u») (b .«count_u») (b .«degree_v») (b .«count_v») (e .count) (c .counted) in
-    let same = eqb-true (e .count) (controls (basisOf (b .basis)) (b .«degree_u») (b .«count_u») * controls (basisOf (b .basis)) (b .«degree_v») (b .«count_v»))
+    let enough-u = surface-enough-u (basisOf (b .basis)) (b .«degree_u») (b .«count_u») (b .«degree_v») (b .«count_v») (e .corners .count) (c .counted) in
+    let enough-v = surface-enough-v (basisOf (b .basis)) (b .«degree_u») (b .«count_u») (b .«degree_v») (b .«count_v») (e .corners .count) (c .counted) in
+    let same = eqb-true (e .corners .count) (controls (basisOf (b .basis)) (b .«degree_u») (b .«count_u») * controls (basisOf (b .basis)) (b .«degree_v») (b .«count_v»))
     (and-right (enough (basisOf (b .basis)) (b .«degree_u») (b .«count_u») && enough (basisOf (b .basis)) (b .«degree_v») (b .«count_v»)) _ (c .counted))
     ∙ ap₂ (λ (k l : ℕ). k * l) (same-controls (b .basis) (b .«degree_u») (b .«count_u») (g .type)) (same-controls (b .basis) (b .«degree_v») (b .«count_v») (g .type)) in
     record {
       kind = six;
       run = r .run .lent-ones;
       counted = same;
-      held = subst (λ (q : ℕ). ControlsLent (t .v) (t .corners) (e .first) 0 q) same (held-space used t (e .kind) (e .first) (e .count) (o .corners) (λ k. omega (arith, six)));
-      along-u = directed (t .parameters) (b .«first_parameter») (b .«count_u») (omega (arith, r .run .lent-ones)) (b .basis) (b .«degree_u») (b .«start_u») (b .«end_u») (g .type)
+      held = subst (λ (q : ℕ). ControlsLent (t .vertices .v) (t .elements .corners) (e .corners .first) 0 q) same (held-space used t (e .kind) (e .corners) (o .corners) (λ k. omega (arith, six)));
+      along-u = directed (t .bodies .parameters) (b .«first_parameter») (b .«count_u») (omega (arith, r .run .lent-ones)) (b .basis) (b .«degree_u») (b .«start_u») (b .«end_u») (g .type)
           (r .typed .degree-u .most) (r .run .along-u) (λ j l. r .run .small-ones j (omega arith)) enough-u (c .along-u);
-      along-v = directed (t .parameters) (b .«first_parameter» + b .«count_u») (b .«count_v») (omega (arith, r .run .lent-ones)) (b .basis) (b .«degree_v») (b .«start_v») (b .«end_v») (g .type)
+      along-v = directed (t .bodies .parameters) (b .«first_parameter» + b .«count_u») (b .«count_v») (omega (arith, r .run .lent-ones)) (b .basis) (b .«degree_v») (b .«start_v») (b .«end_v») (g .type)
           (degree .most) (leb-true 2 (b .«count_v») (rw yes at (r .run .along-v)))
           (λ j l. let k : b .«first_parameter» + (b .«count_u» + j) ≡ b .«first_parameter» + b .«count_u» + j = omega arith in
-          subst (λ (q : ℕ). inRange (getD (t .parameters) q (pos 0)) ≡ true) k (r .run .small-ones (b .«count_u» + j) (omega arith))) enough-v (c .along-v);
+          subst (λ (q : ℕ). inRange (getD (t .bodies .parameters) q (pos 0)) ≡ true) k (r .run .small-ones (b .«count_u» + j) (omega arith))) enough-v (c .along-v);
     }

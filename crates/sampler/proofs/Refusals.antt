@@ -41,28 +41,28 @@ module _ (surface : Bool) (used : Used) (t : Tables) (number : ℕ) where
     past-used h = rw (le-leb 1 number some, lt-leb number (used .elements) h)
 
     module _ (in-use : number ≤ used .elements) where
-      pub past-lent : length (t .elements) < 9 * number → 15 ≡ refusalOf surface used t number
+      pub past-lent : length (t .elements .elements) < 9 * number → 15 ≡ refusalOf surface used t number
       unfolding refusalOf
-      past-lent h = rw (le-leb 1 number some, le-leb number (used .elements) in-use, lt-leb (9 * number) (length (t .elements)) h)
+      past-lent h = rw (le-leb 1 number some, le-leb number (used .elements) in-use, lt-leb (9 * number) (length (t .elements .elements)) h)
 
-      module _ (lent : 9 * number ≤ length (t .elements)) where
+      module _ (lent : 9 * number ≤ length (t .elements .elements)) where
         pub other-kind : wanted surface (elementOf t number .kind) ≡ false → 17 ≡ refusalOf surface used t number
         unfolding refusalOf
-        other-kind h = rw (le-leb 1 number some, le-leb number (used .elements) in-use, le-leb (9 * number) (length (t .elements)) lent, h)
+        other-kind h = rw (le-leb 1 number some, le-leb number (used .elements) in-use, le-leb (9 * number) (length (t .elements .elements)) lent, h)
 
         module _ (kind : wanted surface (elementOf t number .kind) ≡ true) where
           pub broken : obeys used t (curvesBefore t (number - 1)) (number - 1) ≡ false → 15 ≡ refusalOf surface used t number
           unfolding refusalOf
-          broken h = rw (le-leb 1 number some, le-leb number (used .elements) in-use, le-leb (9 * number) (length (t .elements)) lent, kind, h)
+          broken h = rw (le-leb 1 number some, le-leb number (used .elements) in-use, le-leb (9 * number) (length (t .elements .elements)) lent, kind, h)
 
           module _ (obeyed : obeys used t (curvesBefore t (number - 1)) (number - 1) ≡ true) where
             pub not-carried : carried (bodyOf t number .rational) (bodyOf t number .basis) ≡ false → 18 ≡ refusalOf surface used t number
             unfolding refusalOf
-            not-carried h = rw (le-leb 1 number some, le-leb number (used .elements) in-use, le-leb (9 * number) (length (t .elements)) lent, kind, obeyed, h)
+            not-carried h = rw (le-leb 1 number some, le-leb number (used .elements) in-use, le-leb (9 * number) (length (t .elements .elements)) lent, kind, obeyed, h)
 
             pub none-given : carried (bodyOf t number .rational) (bodyOf t number .basis) ≡ true → 0 ≡ refusalOf surface used t number
             unfolding refusalOf
-            none-given h = rw (le-leb 1 number some, le-leb number (used .elements) in-use, le-leb (9 * number) (length (t .elements)) lent, kind, obeyed, h)
+            none-given h = rw (le-leb 1 number some, le-leb number (used .elements) in-use, le-leb (9 * number) (length (t .elements .elements)) lent, kind, obeyed, h)
 
 -- ---- what is looked up
 abbrev is-found : Lookup → Bool
@@ -119,22 +119,22 @@ module _ (surface : Bool) (used : Used) (t : Tables) (number : ℕ) where
       go false z h = never (ap is-found h)
 
   -- the records as they are read, held against the rules
-  pub held-against : 9 * (number - 1) + 9 ≤ length (t .elements) → {r : Bool} {curves : ℕ} {e : Element} {b : Body} → e ≡ elementOf t number
-      → b ≡ Asking.askedBody used (t .bodies) (t .ranges) (e .body) → curves ≡ cond (eqb (b .loops) 0) 0 (curvesAmong (t .elements) (number - 1))
-      → r ≡ recordsObey used (tables (t .v) (t .vt) (t .vn) (t .vp) (t .corners) [] [] [] (t .parameters) (t .loops) (t .spans)) curves e b
+  pub held-against : 9 * (number - 1) + 9 ≤ length (t .elements .elements) → {r : Bool} {curves : ℕ} {e : Element} {b : Body} → e ≡ elementOf t number
+      → b ≡ Asking.askedBody used (t .bodies .bodies) (t .bodies .ranges) (e .body) → curves ≡ cond (eqb (b .loops) 0) 0 (curvesAmong (t .elements .elements) (number - 1))
+      → r ≡ recordsObey used (tables (t .vertices .v) (t .vertices .vt) (t .vertices .vn) (t .vertices .vp) (t .elements .corners) [] [] [] (t .bodies .parameters) (t .bodies .loops) (t .bodies .spans)) curves e b
       → r ≡ obeys used t (curvesBefore t (number - 1)) (number - 1)
   held-against parts {r} {curves} {e} {b} e-is b-is c-is r-is =
       let n = curvesBefore t (number - 1) in
       r-is ∙ records-lent used t curves e b ∙ ap (λ (k : ℕ). recordsObey used t k e b) c-is ∙ records-counted used t n e b
       ∙ ap (λ (x : Body). recordsObey used t n e x) b-is
-      ∙ ap (λ (x : Element). recordsObey used t n x (Asking.askedBody used (t .bodies) (t .ranges) (x .body))) e-is
+      ∙ ap (λ (x : Element). recordsObey used t n x (Asking.askedBody used (t .bodies .bodies) (t .bodies .ranges) (x .body))) e-is
       ∙ records-are used t n (number - 1) parts
 
   -- a body that obeys is the element's own
   pub body-found : wanted surface (elementOf t number .kind) ≡ true → obeys used t (curvesBefore t (number - 1)) (number - 1) ≡ true
-      → Asking.askedBody used (t .bodies) (t .ranges) (elementOf t number .body) ≡ bodyOf t number
+      → Asking.askedBody used (t .bodies .bodies) (t .bodies .ranges) (elementOf t number .body) ≡ bodyOf t number
   body-found kind obeyed =
       let e = elementOf t number in
       let n = curvesBefore t (number - 1) in
-      body-there used t n (e .kind) (e .count) (e .body)
-      (sym (body-is used t n (e .kind) (e .count) (e .body)) ∙ body-of (obeys-facts used t n (number - 1) obeyed) (kinds surface (e .kind) kind))
+      body-there used t n (e .kind) (e .corners .count) (e .body)
+      (sym (body-is used t n (e .kind) (e .corners .count) (e .body)) ∙ body-of (obeys-facts used t n (number - 1) obeyed) (kinds surface (e .kind) kind))

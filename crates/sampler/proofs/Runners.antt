@@ -39,7 +39,7 @@ listed-cong : (n : ℕ) (f g : ℕ → ℤ) → ((i : ℕ) → f i ≡ g i) → 
 listed-cong n f g h = joined-cong n (λ i. f i ∷ []) (λ i. g i ∷ []) (λ i. ap (λ (z : ℤ). z ∷ []) (h i))
 
 run-numbers : (t : Tables) (e : Element) (b : Body) (steps : ℕ) (q : Bool) → eqb (e .kind) 5 ≡ q
-    → runBy (e .kind) (t .v) (t .vp) (t .corners) (e .first) (bodyDirection (b .basis) (b .«degree_u») (b .«count_u»)) (parametersU t b) (b .«start_u») (b .«end_u») steps ≡ runNumbers t e b steps
+    → runBy (e .kind) (t .vertices .v) (t .vertices .vp) (t .elements .corners) (e .corners .first) (bodyDirection (b .basis) (b .«degree_u») (b .«count_u»)) (parametersU t b) (b .«start_u») (b .«end_u») steps ≡ runNumbers t e b steps
 unfolding runBy runNumbers pointsUpto pointAt
 run-numbers t e b steps true h =
     rw h (joined-cong (steps + 1) _ _ (λ j. listed-cong 2 _ _ (λ k. plane-coordinate t e b (parameterAt (b .«start_u») (b .«end_u») steps j) k h)))
@@ -111,9 +111,9 @@ run-given used t number steps at points g some most room =
 
 module _ {t : Tables} {e : Element} {b : Body} {kind first from count : ℕ} {a : BodyDirection} (r : Read t e b kind first from count a) where
   pub run-asked : (s f : ℤ) → s ≡ b .«start_u» → f ≡ b .«end_u» → Curved t e b
-      → ControlsLent (cond (eqb kind 5) (t .vp) (t .v)) (t .corners) first 0 (a .controls) × Ranged a (take (from + count - from) (drop from (t .parameters))) s f
+      → ControlsLent (cond (eqb kind 5) (t .vertices .vp) (t .vertices .v)) (t .elements .corners) first 0 (a .controls) × Ranged a (take (from + count - from) (drop from (t .bodies .parameters))) s f
   run-asked s f k l c = rw (run-is r, k, l, r .kind-is, r .first-is, r .along-is) (c .held, c .along .ranged)
 
   pub run-read : (s f : ℤ) (steps : ℕ) → s ≡ b .«start_u» → f ≡ b .«end_u»
-      → runBy kind (t .v) (t .vp) (t .corners) first a (take (from + count - from) (drop from (t .parameters))) s f steps ≡ runNumbers t e b steps
+      → runBy kind (t .vertices .v) (t .vertices .vp) (t .elements .corners) first a (take (from + count - from) (drop from (t .bodies .parameters))) s f steps ≡ runNumbers t e b steps
   run-read s f steps k l = rw (run-is r, k, l, r .kind-is, r .first-is, r .along-is) (run-numbers t e b steps (eqb (e .kind) 5) refl)

@@ -34,14 +34,14 @@ module _ (t : Tables) (e : Element) (b : Body) (p q : ℤ) (other : eqb (e .kind
   abbrev along-v : BodyDirection
   along-v = bodyDirection (b .basis) (b .«degree_v») (b .«count_v»)
 
-  across-is : (axis : ℕ) → acrossBy (t .v) (t .corners) (e .first) along-u along-v (parametersU t b) (parametersV t b) p q axis ≡ surfaceAt t e b p q axis
+  across-is : (axis : ℕ) → acrossBy (t .vertices .v) (t .elements .corners) (e .corners .first) along-u along-v (parametersU t b) (parametersV t b) p q axis ≡ surfaceAt t e b p q axis
   unfolding surfaceAt
   across-is axis =
       surface-cong (direction along-u (parametersU t b)) (direction along-v (parametersV t b)) p q
-      (λ i j. controlAt (t .v) (t .corners) (e .first) axis (j * along-u .controls + i)) (gridOf t e b axis)
+      (λ i j. controlAt (t .vertices .v) (t .elements .corners) (e .corners .first) axis (j * along-u .controls + i)) (gridOf t e b axis)
       (λ i j. space-control t e b p axis other (j * along-u .controls + i))
 
-  surface-is : pointAnswer (surfaceBy (t .v) (t .corners) (e .first) along-u along-v (parametersU t b) (parametersV t b) p q) ≡ surfacePoint t e b p q
+  surface-is : pointAnswer (surfaceBy (t .vertices .v) (t .elements .corners) (e .corners .first) along-u along-v (parametersU t b) (parametersV t b) p q) ≡ surfacePoint t e b p q
   unfolding surfaceBy surfacePoint
   surface-is = ap pointAnswer (space-eq (across-is 0) (across-is 1) (across-is 2))
 
@@ -50,7 +50,7 @@ no-curve2 kind s = ne-eqb kind 5 (λ k. omega (arith, s))
 
 -- the tables that a surface's points are made of
 abbrev pub surface-tables : Tables → Tables
-surface-tables t = tables (t .v) [] [] [] (t .corners) [] [] [] (t .parameters) [] []
+surface-tables t = tables (t .vertices .v) [] [] [] (t .elements .corners) [] [] [] (t .bodies .parameters) [] []
 
 pub surface-lent : {t : Tables} {e : Element} {b : Body} → Surfaced t e b → Surfaced (surface-tables t) e b
 surface-lent c = record { kind = c .kind; run = c .run; counted = c .counted; held = c .held; along-u = c .along-u; along-v = c .along-v }
@@ -69,7 +69,7 @@ module _ (t : Tables) (e : Element) (b : Body) (p q : ℤ) where
     outside-v h = rw (in-u, h)
 
     pub surface-there : e .kind ≡ 6 → inside (b .«start_v») (b .«end_v») q ≡ true
-        → pointAnswer (surfaceBy (t .v) (t .corners) (e .first) (bodyDirection (b .basis) (b .«degree_u») (b .«count_u»)) (bodyDirection (b .basis) (b .«degree_v») (b .«count_v»)) (parametersU t b) (parametersV t b) p q)
+        → pointAnswer (surfaceBy (t .vertices .v) (t .elements .corners) (e .corners .first) (bodyDirection (b .basis) (b .«degree_u») (b .«count_u»)) (bodyDirection (b .basis) (b .«degree_v») (b .«count_v»)) (parametersU t b) (parametersV t b) p q)
         ≡ answerOnSurface t e b p q
     unfolding answerOnSurface
     surface-there k h = rw (in-u, h) (surface-is t e b p q (no-curve2 (e .kind) k))
@@ -96,7 +96,7 @@ module _ {used : Used} {t : Tables} {number : ℕ} (p q : ℤ) where
 
 -- what was read of the element and its body
 pub record Laid (t : Tables) (e : Element) (b : Body) (first from m n : ℕ) (u v : BodyDirection) : Type 0 where
-  pub first-is : first ≡ e .first
+  pub first-is : first ≡ e .corners .first
   pub from-is : from ≡ b .«first_parameter»
   pub count-u-is : m ≡ b .«count_u»
   pub count-v-is : n ≡ b .«count_v»
@@ -104,19 +104,19 @@ pub record Laid (t : Tables) (e : Element) (b : Body) (first from m n : ℕ) (u 
   pub along-v-is : v ≡ bodyDirection (b .basis) (b .«degree_v») (b .«count_v»)
 
 module _ {t : Tables} {e : Element} {b : Body} {first from m n : ℕ} {u v : BodyDirection} (r : Laid t e b first from m n u v) where
-  u-run : take (from + m - from) (drop from (t .parameters)) ≡ parametersU t b
-  u-run = part-is (t .parameters) from m ∙ rw (r .from-is, r .count-u-is)
+  u-run : take (from + m - from) (drop from (t .bodies .parameters)) ≡ parametersU t b
+  u-run = part-is (t .bodies .parameters) from m ∙ rw (r .from-is, r .count-u-is)
 
-  v-run : take (from + m + n - (from + m)) (drop (from + m) (t .parameters)) ≡ parametersV t b
-  v-run = part-is (t .parameters) (from + m) n ∙ rw (r .from-is, r .count-u-is, r .count-v-is)
+  v-run : take (from + m + n - (from + m)) (drop (from + m) (t .bodies .parameters)) ≡ parametersV t b
+  v-run = part-is (t .bodies .parameters) (from + m) n ∙ rw (r .from-is, r .count-u-is, r .count-v-is)
 
   pub surface-asked : (p p′ q q′ : ℤ) → p′ ≡ p → q′ ≡ q → Surfaced t e b → inside (b .«start_u») (b .«end_u») p ≡ true → inside (b .«start_v») (b .«end_v») q ≡ true
-      → ControlsLent (t .v) (t .corners) first 0 (u .controls * v .controls) × Sound u (take (from + m - from) (drop from (t .parameters))) p′
-      × Sound v (take (from + m + n - (from + m)) (drop (from + m) (t .parameters))) q′
+      → ControlsLent (t .vertices .v) (t .elements .corners) first 0 (u .controls * v .controls) × Sound u (take (from + m - from) (drop from (t .bodies .parameters))) p′
+      × Sound v (take (from + m + n - (from + m)) (drop (from + m) (t .bodies .parameters))) q′
   surface-asked p p′ q q′ k l c g h =
       rw (v-run, u-run, k, l, r .first-is, r .along-u-is, r .along-v-is) (c .held, sound-inside (c .along-u .ranged) p g, sound-inside (c .along-v .ranged) q h)
 
   pub surface-read : (p p′ q q′ : ℤ) → p′ ≡ p → q′ ≡ q
-      → surfaceBy (t .v) (t .corners) first u v (take (from + m - from) (drop from (t .parameters))) (take (from + m + n - (from + m)) (drop (from + m) (t .parameters))) p′ q′
-      ≡ surfaceBy (t .v) (t .corners) (e .first) (bodyDirection (b .basis) (b .«degree_u») (b .«count_u»)) (bodyDirection (b .basis) (b .«degree_v») (b .«count_v»)) (parametersU t b) (parametersV t b) p q
+      → surfaceBy (t .vertices .v) (t .elements .corners) first u v (take (from + m - from) (drop from (t .bodies .parameters))) (take (from + m + n - (from + m)) (drop (from + m) (t .bodies .parameters))) p′ q′
+      ≡ surfaceBy (t .vertices .v) (t .elements .corners) (e .corners .first) (bodyDirection (b .basis) (b .«degree_u») (b .«count_u»)) (bodyDirection (b .basis) (b .«degree_v») (b .«count_v»)) (parametersU t b) (parametersV t b) p q
   surface-read p p′ q q′ k l = rw (v-run, u-run, k, l, r .first-is, r .along-u-is, r .along-v-is)

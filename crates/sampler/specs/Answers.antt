@@ -77,7 +77,7 @@ bodyOf t number = bodyAt t (elementOf t number .body - 1)
 unfoldable pub refusalOf : (surface : Bool) → Used → Tables → ℕ → ℕ
 refusalOf surface used t number =
     cond (leb 1 number && leb number (used .elements))
-    (cond (leb (elementWidth * number) (length (t .elements)))
+    (cond (leb (elementWidth * number) (length (t .elements .elements)))
     (cond (wanted surface (elementOf t number .kind))
     (cond (obeys used t (curvesBefore t (number - 1)) (number - 1))
     (cond (carried (bodyOf t number .rational) (bodyOf t number .basis)) 0 18)

@@ -4,6 +4,7 @@ use mathlib.Core.List.{List}
 use Prim.Native.Nat.{ℕ, _+_, _*_}
 use lib.Dec.{eqb}
 use lib.IntN.{ℤ}
+use Rattle.tables.specs.Records.{curve2Kind}
 use Rattle.point_exact.specs.Sampled.{curveSampled, surfaceSampled}
 use Rattle.point_rows.specs.Places.{direction}
 use Rattle.point_rows.specs.Controls.{controlAt}
@@ -16,7 +17,7 @@ coordinateBy values corners first along x t axis = curveSampled (direction along
 
 unfoldable pub pointBy : (kind : ℕ) → List ℤ → List ℤ → List ℕ → (first : ℕ) → BodyDirection → List ℤ → (t : ℤ) → PointResult
 pointBy kind v vp corners first along x t =
-    cond (eqb kind 5)
+    cond (eqb kind curve2Kind)
     (sampled.Plane (coordinateBy vp corners first along x t 1) (coordinateBy vp corners first along x t 2))
     (sampled.Space (coordinateBy v corners first along x t 0) (coordinateBy v corners first along x t 1) (coordinateBy v corners first along x t 2))
 

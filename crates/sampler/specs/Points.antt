@@ -31,8 +31,8 @@ directionV t b = direction (bodyDirection (b .basis) (b .«degree_v») (b .«cou
 unfoldable pub controlOf : Tables → Element → (axis i : ℕ) → ℤ
 controlOf t e axis i =
     cond (eqb (e .kind) curve2Kind)
-    (valueAt vpWidth (t .vp) (cornerAt t (e .first) i .v - 1) (1 + axis))
-    (valueAt vWidth (t .v) (cornerAt t (e .first) i .v - 1) axis)
+    (valueAt vpWidth (t .vertices .vp) (cornerAt t (e .corners) i .v - 1) (1 + axis))
+    (valueAt vWidth (t .vertices .v) (cornerAt t (e .corners) i .v - 1) axis)
 
 abbrev pub axesOf : Element → ℕ
 axesOf e = cond (eqb (e .kind) curve2Kind) 2 3

@@ -7,7 +7,7 @@ use lib.Dec.{leb, eqb}
 use lib.ListN.{length, take, drop}
 use lib.IntN.{ℤ}
 use Rattle.tables.specs.Tables.{Tables}
-use Rattle.tables.specs.Records.{surfaceKind}
+use Rattle.tables.specs.Records.{surfaceKind, curve2Kind}
 use Rattle.tables.specs.declared.Body.{Body}
 use Rattle.tables.specs.declared.Element.{Element}
 use Rattle.point_rows.specs.Finding.{Sized}
@@ -26,19 +26,19 @@ pub record Directed (l : List ℤ) (first type n p : ℕ) (s e : ℤ) : Type 0 w
 
 -- a curve whose records obey: its parameters and controls are lent, its directions those of a curve
 pub record Curved (t : Tables) (e : Element) (b : Body) : Type 0 where
-  pub run : b .«first_parameter» + (b .«count_u» + b .«count_v») ≤ length (t .parameters)
-  pub counted : e .count ≡ bodyDirection (b .basis) (b .«degree_u») (b .«count_u») .controls
-  pub held : ControlsLent (cond (eqb (e .kind) 5) (t .vp) (t .v)) (t .corners) (e .first) 0 (bodyDirection (b .basis) (b .«degree_u») (b .«count_u») .controls)
-  pub along : Directed (t .parameters) (b .«first_parameter») (b .basis) (b .«degree_u») (b .«count_u») (b .«start_u») (b .«end_u»)
+  pub run : b .«first_parameter» + (b .«count_u» + b .«count_v») ≤ length (t .bodies .parameters)
+  pub counted : e .corners .count ≡ bodyDirection (b .basis) (b .«degree_u») (b .«count_u») .controls
+  pub held : ControlsLent (cond (eqb (e .kind) curve2Kind) (t .vertices .vp) (t .vertices .v)) (t .elements .corners) (e .corners .first) 0 (bodyDirection (b .basis) (b .«degree_u») (b .«count_u») .controls)
+  pub along : Directed (t .bodies .parameters) (b .«first_parameter») (b .basis) (b .«degree_u») (b .«count_u») (b .«start_u») (b .«end_u»)
 
 -- the same of a surface
 pub record Surfaced (t : Tables) (e : Element) (b : Body) : Type 0 where
   pub kind : e .kind ≡ surfaceKind
-  pub run : b .«first_parameter» + (b .«count_u» + b .«count_v») ≤ length (t .parameters)
-  pub counted : e .count ≡ bodyDirection (b .basis) (b .«degree_u») (b .«count_u») .controls * bodyDirection (b .basis) (b .«degree_v») (b .«count_v») .controls
-  pub held : ControlsLent (t .v) (t .corners) (e .first) 0 (bodyDirection (b .basis) (b .«degree_u») (b .«count_u») .controls * bodyDirection (b .basis) (b .«degree_v») (b .«count_v») .controls)
-  pub along-u : Directed (t .parameters) (b .«first_parameter») (b .basis) (b .«degree_u») (b .«count_u») (b .«start_u») (b .«end_u»)
-  pub along-v : Directed (t .parameters) (b .«first_parameter» + b .«count_u») (b .basis) (b .«degree_v») (b .«count_v») (b .«start_v») (b .«end_v»)
+  pub run : b .«first_parameter» + (b .«count_u» + b .«count_v») ≤ length (t .bodies .parameters)
+  pub counted : e .corners .count ≡ bodyDirection (b .basis) (b .«degree_u») (b .«count_u») .controls * bodyDirection (b .basis) (b .«degree_v») (b .«count_v») .controls
+  pub held : ControlsLent (t .vertices .v) (t .elements .corners) (e .corners .first) 0 (bodyDirection (b .basis) (b .«degree_u») (b .«count_u») .controls * bodyDirection (b .basis) (b .«degree_v») (b .«count_v») .controls)
+  pub along-u : Directed (t .bodies .parameters) (b .«first_parameter») (b .basis) (b .«degree_u») (b .«count_u») (b .«start_u») (b .«end_u»)
+  pub along-v : Directed (t .bodies .parameters) (b .«first_parameter» + b .«count_u») (b .basis) (b .«degree_v») (b .«count_v») (b .«start_v») (b .«end_v»)
 
 -- "19 parameter outside start..end", and the point
 unfoldable pub answerOnCurve : Tables → Element → Body → (p : ℤ) → PointAnswer

@@ -34,7 +34,8 @@ pub fn curve_at(
     let from = body.first_parameter as usize;
     let to = from + body.count_u as usize;
     let x = &parameters[from..to];
-    curve_point(element.kind, v, vp, corners, element.first, x, along, t)
+    let first = element.corners.first;
+    curve_point(element.kind, v, vp, corners, first, x, along, t)
 }
 
 pub fn surface_at(
@@ -62,7 +63,8 @@ pub fn surface_at(
     let to = middle + body.count_v as usize;
     let x = &parameters[from..middle];
     let y = &parameters[middle..to];
-    surface_point(v, corners, element.first, x, along_u, s, y, along_v, t)
+    let first = element.corners.first;
+    surface_point(v, corners, first, x, along_u, s, y, along_v, t)
 }
 
 pub fn run_at(
@@ -102,7 +104,7 @@ pub fn run_at(
         v,
         vp,
         corners,
-        element.first,
+        element.corners.first,
         x,
         along,
         body.start_u,

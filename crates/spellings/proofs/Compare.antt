@@ -84,7 +84,7 @@ pub record Compared (s : List ℕ) (at : ℕ) (t : List ℕ) (from i j : ℕ) : 
 abbrev pub compareOf : List ℕ → ℕ → List ℕ → ℕ → ℕ
 compareOf s at t from = cond (same (wordOf (drop at s)) (wordOf (drop from t))) (endOf s at) at
 
-module _ (s : List ℕ) (at : ℕ) (t : List ℕ) (from i j : ℕ) (c : Compared s at t from i j) where
+module _ {s : List ℕ} {at : ℕ} {t : List ℕ} {from i j : ℕ} (c : Compared s at t from i j) where
   pub turn : wordAhead (drop i s) ≡ true → j < length t → getD s i 0 ≡ getD t j 0 → Compared s at t from (i + 1) (j + 1)
   turn h k e =
       let w = ahead-is s i h in

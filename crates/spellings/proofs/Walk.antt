@@ -46,7 +46,7 @@ ahead-first : (n : ℕ) (t : List ℕ) → 0 < n → aheadIn n t ≡ true → wo
 ahead-first zero t h a = absurd (omega arith)
 ahead-first (suc n) t h a = and-left (wordAhead t) (aheadIn n (drop 12 t)) a
 
-module _ (s : List ℕ) (at : ℕ) (t : List ℕ) (rows from left : ℕ) (c : Walked s at t rows from left) where
+module _ {s : List ℕ} {at : ℕ} {t : List ℕ} {rows from left : ℕ} (c : Walked s at t rows from left) where
   module _ (more : 0 < left) where
     pub turn : sameAt s at t from ≡ false → Walked s at t rows (from + 12) (left - 1)
     turn f =

@@ -26,7 +26,7 @@ at-row : (n : ℕ) (t : List ℕ) (k : ℕ) → 0 < n → eqb k (getD t 11 0) �
 at-row zero t k h f = absurd (omega arith)
 at-row (suc n) t k h f = rw f refl
 
-module _ (t : List ℕ) (k rows from left : ℕ) (c : Sought t k rows from left) where
+module _ {t : List ℕ} {k rows from left : ℕ} (c : Sought t k rows from left) where
   pub further : 0 < left → (k ≡ getD t (from + 11) 0 → ⊥) → Sought t k rows (from + 12) (left - 1)
   further h n =
       let e : eqb k (getD (drop from t) 11 0) ≡ false = rw (getD-drop from t 11 0) (ne-eqb k (getD t (from + 11) 0) n) in
@@ -45,7 +45,7 @@ pub record Copied (s : List ℕ) (from : ℕ) (o : List ℕ) (at : ℕ) (l : Lis
   pub end : j + length (wordOf (drop i s)) ≡ at + length (wordOf (drop from s))
   pub size : length l ≡ length o
 
-module _ (s : List ℕ) (from : ℕ) (o : List ℕ) (at : ℕ) (l : List ℕ) (i j : ℕ) (c : Copied s from o at l i j) where
+module _ {s : List ℕ} {from : ℕ} {o : List ℕ} {at : ℕ} {l : List ℕ} {i j : ℕ} (c : Copied s from o at l i j) where
   pub room : at + length (wordOf (drop from s)) ≤ length o → wordAhead (drop i s) ≡ true → j < length l
   room h a = let n = ap length (word-at s i a) in omega (arith, c .end, c .size)
 

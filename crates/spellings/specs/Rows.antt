@@ -23,6 +23,9 @@ pub record Row (K : Type 0) : Type 0 where
   pub spelling : String
   pub kind : K
 
+abbrev pub spells : {K : Type 0} → String → K → Row K
+spells s k = record { spelling = s; kind = k }
+
 -- the number of the row that the word w finds, from 0: the first that is spelled so, byte by byte; where none is, how many rows there are
 abbrev pub rowOf : {K : Type 0} → List (Row K) → List ℕ → ℕ
 rowOf [] w = 0

@@ -1,9 +1,9 @@
-use crate::Carried;
 use crate::Free;
 use crate::Shape;
 use crate::VertexKind;
+use tables::kinds;
 ghost use mathlib.Core.Path.{_≡_};
-ghost use Rattle.statements.specs.Rules.{vertexCount, fewest, parts, rangeWords, fewestControls, controlForm, rulesOf, allowedBy, countedBy, fewestBy, mostBy, formBy};
+ghost use Rattle.statements.specs.Rules.{vertexCount, fewest, parts, rangeWords, fewestControls, controlForm, allowedBy, countedBy, fewestBy, mostBy, formBy};
 ghost use Rattle.statements.specs.Numbered.{freeNumbered};
 
 // Which parts a corner may have besides v.
@@ -143,91 +143,6 @@ pub fn control_form(free: Free) -> WordForm
     }
 }
 
-fn plain_rules(count: Count, form: WordForm) -> Rules
-    ensures { λ r. ⌜ r ≡ record { standing = Standing.Outside; count = count; forms = Forms.All form; held = Held.Nothing } ⌝ }
-{
-    Rules {
-        standing: Standing::Outside,
-        count: count,
-        forms: Forms::All(form),
-        held: Held::Nothing,
-    }
-}
-
-fn element_rules(shape: Shape) -> Rules
-    ensures { λ r. ⌜ r ≡ rulesOf (Carried.Element shape) ⌝ }
-{
-    let parts = corner_parts(shape);
-    Rules {
-        standing: Standing::Outside,
-        count: Count::AtLeast(fewest_corners(shape)),
-        forms: Forms::All(WordForm::Corner(parts)),
-        held: Held::Corners(parts),
-    }
-}
-
-fn body_rules(free: Free) -> Rules
-    ensures { λ r. ⌜ r ≡ rulesOf (Carried.Body free) ⌝ }
-{
-    let words = range_words(free);
-    Rules {
-        standing: Standing::Outside,
-        count: Count::AtLeast(words + fewest_controls(free)),
-        forms: Forms::Range {
-            words: words,
-            control: control_form(free),
-        },
-        held: Held::Body(free),
-    }
-}
-
-fn inner_rules(standing: Standing, count: Count, forms: Forms, held: Held) -> Rules
-    ensures { λ r. ⌜ r ≡ record { standing = standing; count = count; forms = forms; held = held } ⌝ }
-{
-    Rules {
-        standing: standing,
-        count: count,
-        forms: forms,
-        held: held,
-    }
-}
-
-// 01, "Words after the keyword", "Corner patterns" and "Bodies", a row for each statement.
-pub fn rules_of(statement: Carried) -> Rules
-    ensures { λ r. ⌜ r ≡ rulesOf statement ⌝ }
-{
-    match statement {
-        Carried::Vertex(kind) => plain_rules(vertex_count(kind), WordForm::Number),
-        Carried::Element(shape) => element_rules(shape),
-        Carried::Body(free) => body_rules(free),
-        Carried::Parameters => inner_rules(
-            Standing::Parameters,
-            Count::AtLeast(3),
-            Forms::Parameters,
-            Held::Nothing,
-        ),
-        Carried::Trim => inner_rules(Standing::Surface, Count::Threes, Forms::Loop, Held::Nothing),
-        Carried::Hole => inner_rules(Standing::Surface, Count::Threes, Forms::Loop, Held::Nothing),
-        Carried::End => inner_rules(
-            Standing::Body,
-            Count::Exactly(0),
-            Forms::All(WordForm::Anything),
-            Held::End,
-        ),
-        Carried::BodyType => inner_rules(
-            Standing::Outside,
-            Count::Within { least: 1, most: 2 },
-            Forms::Type,
-            Held::Nothing,
-        ),
-        Carried::Degree => plain_rules(Count::Within { least: 1, most: 2 }, WordForm::Degree),
-        Carried::Group => plain_rules(Count::Any, WordForm::Name),
-        Carried::Smoothing => plain_rules(Count::Exactly(1), WordForm::Smoothing),
-        Carried::Material => plain_rules(Count::Exactly(1), WordForm::Name),
-        Carried::PassedOver => plain_rules(Count::Any, WordForm::Anything),
-    }
-}
-
 // Whether the statement may stand in the body of an element of the kind, 0 for none; `v` is said by a parm along v.
 pub fn allowed(standing: Standing, kind: u32, v: bool) -> bool
     ensures { λ r. ⌜ r ≡ allowedBy standing (freeNumbered kind) v ⌝ }
@@ -235,12 +150,12 @@ pub fn allowed(standing: Standing, kind: u32, v: bool) -> bool
     match standing {
         Standing::Outside => kind == 0,
         Standing::Body => kind != 0,
-        Standing::Surface => kind == 6,
+        Standing::Surface => kind == kinds::SURFACE,
         Standing::Parameters => {
             if kind == 0 {
                 return false;
             }
-            if kind == 6 {
+            if kind == kinds::SURFACE {
                 return true;
             }
             !v

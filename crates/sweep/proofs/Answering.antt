@@ -12,7 +12,7 @@ use lib.ListN.{length, getD, take, drop, length-append, List·getD-append}
 use lib.Seq.{sets, sets-eq, length-sets, take-at, getD-append-add}
 use Rattle.lists.specs.Lists.{filled}
 use Rattle.lists.proofs.Tests.{test}
-use Rattle.table_store.proofs.Clearing.{tables-eq}
+use Rattle.tables.proofs.Groups.{vertex-tables-eq, element-tables-eq, body-tables-eq, tables-eq}
 use Rattle.tables.specs.Tables.{Tables, tables}
 use Rattle.tables.specs.Records.{elementAt, cornerAt, curve2Kind}
 use Rattle.tables.specs.declared.Used.{Used}
@@ -29,7 +29,8 @@ use Rattle.sweep.specs.Swept.{sweepAnswer, sweepInto, sweptUsed, dropped
 use Rattle.sweep.specs.Vertices.{VerticesSwept, fewer, refusalOf}
 use Rattle.sweep.specs.declared.Dropped.{Dropped}
 use Rattle.sweep.specs.declared.SweepResult.the-variants as result
-use Rattle.sweep.proofs.Whole.{Lent, lent-facts, whole-parts}
+use Rattle.table_rules.proofs.Lent.{Lent, lent-facts}
+use Rattle.sweep.proofs.Whole.{whole-parts}
 use Rattle.sweep.proofs.References.{references-within, corners-follow, corners-end}
 
 -- ---- a number looked up is the record's new number
@@ -103,24 +104,24 @@ module _ (used : Used) (t : Tables) (rest : List ℕ) where
         ap₂ (λ (x : ℕ) (y : List ℕ). x ∷ y) a (ap₂ (λ (x y : ℕ). x ∷ y ∷ []) b d)
 
   module _ (h : wholeObeys used t ≡ true) where
-    runs-are : runsBy used list (t .elements) (t .corners) (used .elements) ≡ cornersAfter used t
+    runs-are : runsBy used list (t .elements .elements) (t .elements .corners) (used .elements) ≡ cornersAfter used t
     unfolding runsBy runBy cornersAfter
     runs-are =
         flatBelow-same _ _ (used .elements) (λ i l.
-        flatBelow-same _ _ (elementAt t i .count) (λ j k.
-        corner-after (elementAt t i .kind) (cornerAt t (elementAt t i .first) j) (λ kind. references-within used t h kind i j l k)))
+        flatBelow-same _ _ (elementAt t i .corners .count) (λ j k.
+        corner-after (elementAt t i .kind) (cornerAt t (elementAt t i .corners) j) (λ kind. references-within used t h kind i j l k)))
 
     -- the corners renumbered, and the entries after the used ones cleared
-    pub corners-are : {once twice : List ℕ} → used .corners ≤ length (t .corners) → once ≡ sets (t .corners) 0 (runsBy used list (t .elements) (t .corners) (used .elements)) →
-        twice ≡ filled (length once) 0 (take (used .corners) once) → twice ≡ filled (length (t .corners)) 0 (cornersAfter used t)
+    pub corners-are : {once twice : List ℕ} → used .corners ≤ length (t .elements .corners) → once ≡ sets (t .elements .corners) 0 (runsBy used list (t .elements .elements) (t .elements .corners) (used .elements)) →
+        twice ≡ filled (length once) 0 (take (used .corners) once) → twice ≡ filled (length (t .elements .corners)) 0 (cornersAfter used t)
     corners-are {once} {twice} lent a b =
-        let xs : List ℕ = runsBy used list (t .elements) (t .corners) (used .elements) in
-        let many : length xs ≡ used .corners = length-runs used list (t .elements) (t .corners) (used .elements) ∙ corners-end used t h in
-        let fits : 0 + length xs ≤ length (t .corners) = omega arith in
-        let stored : once ≡ xs ++ drop (0 + length xs) (t .corners) = a ∙ sets-eq xs (t .corners) 0 fits in
+        let xs : List ℕ = runsBy used list (t .elements .elements) (t .elements .corners) (used .elements) in
+        let many : length xs ≡ used .corners = length-runs used list (t .elements .elements) (t .elements .corners) (used .elements) ∙ corners-end used t h in
+        let fits : 0 + length xs ≤ length (t .elements .corners) = omega arith in
+        let stored : once ≡ xs ++ drop (0 + length xs) (t .elements .corners) = a ∙ sets-eq xs (t .elements .corners) 0 fits in
         b
-        ∙ ap₂ (λ (n : ℕ) (x : List ℕ). filled n 0 x) (ap length a ∙ length-sets (t .corners) 0 xs) (ap (take (used .corners)) stored ∙ take-at xs _ (used .corners) many)
-        ∙ ap (filled (length (t .corners)) 0) runs-are
+        ∙ ap₂ (λ (n : ℕ) (x : List ℕ). filled n 0 x) (ap length a ∙ length-sets (t .elements .corners) 0 xs) (ap (take (used .corners)) stored ∙ take-at xs _ (used .corners) many)
+        ∙ ap (filled (length (t .elements .corners)) 0) runs-are
 
 -- ---- refused
 module _ (used : Used) (t : Tables) (list : List ℕ) where
@@ -150,7 +151,7 @@ module _ (used : Used) (t : Tables) (list : List ℕ) where
 
   -- ---- swept: by the tables that the passes look at
   abbrev looked : Tables
-  looked = tables (t .v) (t .vt) (t .vn) (t .vp) (t .corners) (t .elements) [] [] [] [] []
+  looked = tables (t .vertices .v) (t .vertices .vt) (t .vertices .vn) (t .vertices .vp) (t .elements .corners) (t .elements .elements) [] [] [] [] []
 
   module _ {after : Used} {v vt vn vp : List ℤ} {numbers : List ℕ} (s : VerticesSwept used looked list after v vt vn vp numbers) where
     in-full : VerticesSwept used t list after v vt vn vp numbers
@@ -172,24 +173,25 @@ module _ (used : Used) (t : Tables) (list : List ℕ) where
     dropped-are = rw (in-full .counts, left-over geometric, left-over texture, left-over normal, left-over parametric)
 
     pub swept-is : Passed → {once corners elements bodies loops : List ℕ} {ranges parameters spans : List ℤ} {dropped : Dropped}
-        → used .corners ≤ length (t .corners)
-        → once ≡ sets (t .corners) 0 (runsBy used numbers (t .elements) (t .corners) (used .elements))
+        → used .corners ≤ length (t .elements .corners)
+        → once ≡ sets (t .elements .corners) 0 (runsBy used numbers (t .elements .elements) (t .elements .corners) (used .elements))
         → corners ≡ filled (length once) 0 (take (used .corners) once)
-        → elements ≡ filled (length (t .elements)) 0 (take (9 * used .elements) (t .elements))
-        → bodies ≡ filled (length (t .bodies)) 0 (take (9 * used .bodies) (t .bodies))
-        → ranges ≡ filled (length (t .ranges)) (pos 0) (take (4 * used .bodies) (t .ranges))
-        → parameters ≡ filled (length (t .parameters)) (pos 0) (take (used .parameters) (t .parameters))
-        → loops ≡ filled (length (t .loops)) 0 (take (2 * used .loops) (t .loops))
-        → spans ≡ filled (length (t .spans)) (pos 0) (take (2 * used .loops) (t .spans))
+        → elements ≡ filled (length (t .elements .elements)) 0 (take (9 * used .elements) (t .elements .elements))
+        → bodies ≡ filled (length (t .bodies .bodies)) 0 (take (9 * used .bodies) (t .bodies .bodies))
+        → ranges ≡ filled (length (t .bodies .ranges)) (pos 0) (take (4 * used .bodies) (t .bodies .ranges))
+        → parameters ≡ filled (length (t .bodies .parameters)) (pos 0) (take (used .parameters) (t .bodies .parameters))
+        → loops ≡ filled (length (t .bodies .loops)) 0 (take (2 * used .loops) (t .bodies .loops))
+        → spans ≡ filled (length (t .bodies .spans)) (pos 0) (take (2 * used .loops) (t .bodies .spans))
         → dropped ≡ fewer used after
         → sweepAnswer (result.Swept after dropped) (tables v vt vn vp corners elements bodies ranges parameters loops spans) numbers ≡ sweepInto used t list
     unfolding sweepInto sweptTables
     swept-is p {once} {corners} {elements} {bodies} {loops} {ranges} {parameters} {spans} {dropped} lent a c e b r q l x d =
         let f = in-full in
-        let moved : once ≡ sets (t .corners) 0 (runsBy used (numbersOf used t ++ drop (numbersNeeded used) list) (t .elements) (t .corners) (used .elements)) =
-        a ∙ ap (λ (k : List ℕ). sets (t .corners) 0 (runsBy used k (t .elements) (t .corners) (used .elements))) (f .numbers-are) in
+        let moved : once ≡ sets (t .elements .corners) 0 (runsBy used (numbersOf used t ++ drop (numbersNeeded used) list) (t .elements .elements) (t .elements .corners) (used .elements)) =
+        a ∙ ap (λ (k : List ℕ). sets (t .elements .corners) 0 (runsBy used k (t .elements .elements) (t .elements .corners) (used .elements))) (f .numbers-are) in
         let all : tables v vt vn vp corners elements bodies ranges parameters loops spans ≡ sweptTables used t =
-        tables-eq (f .v-is) (f .vt-is) (f .vn-is) (f .vp-is) (corners-are used t (drop (numbersNeeded used) list) (p .whole) lent moved c) e b r q l x in
+        tables-eq (vertex-tables-eq (f .v-is) (f .vt-is) (f .vn-is) (f .vp-is))
+        (element-tables-eq (corners-are used t (drop (numbersNeeded used) list) (p .whole) lent moved c) e) (body-tables-eq b r q l x) in
         let left : dropped ≡ droppedOf used t = d ∙ dropped-are in
         let counts : after ≡ sweptUsed used t = f .counts in
         let listed : numbers ≡ numbersOf used t ++ drop (numbersNeeded used) list = f .numbers-are in
@@ -202,12 +204,12 @@ module _ (used : Used) (t : Tables) (list : List ℕ) (p : Passed used t list) w
   pub lent : Lent used t
   lent = lent-facts used t (whole-parts used t (p .whole) .lent)
 
-  pub vertices-lent : (4 * used .v ≤ length (t .v)) × (3 * used .vt ≤ length (t .vt)) × (3 * used .vn ≤ length (t .vn)) × (4 * used .vp ≤ length (t .vp)) × (numbersNeeded used ≤ length list)
-  vertices-lent = (lent .v, lent .vt, lent .vn, lent .vp, p .room)
+  pub vertices-lent : (4 * used .v ≤ length (t .vertices .v)) × (3 * used .vt ≤ length (t .vertices .vt)) × (3 * used .vn ≤ length (t .vertices .vn)) × (4 * used .vp ≤ length (t .vertices .vp)) × (numbersNeeded used ≤ length list)
+  vertices-lent = (lent .vertices .v, lent .vertices .vt, lent .vertices .vn, lent .vertices .vp, p .room)
 
-  pub corners-lent : ((i : ℕ) → i < used .elements → elementAt t i .first ≡ cornersUpto (t .elements) i) × (cornersUpto (t .elements) (used .elements) ≤ length (t .corners))
-  corners-lent = (corners-follow used t (p .whole), rw (corners-end used t (p .whole)) (lent .corners))
+  pub corners-lent : ((i : ℕ) → i < used .elements → elementAt t i .corners .first ≡ cornersUpto (t .elements .elements) i) × (cornersUpto (t .elements .elements) (used .elements) ≤ length (t .elements .corners))
+  corners-lent = (corners-follow used t (p .whole), rw (corners-end used t (p .whole)) (lent .elements .corners))
 
-  pub rest-lent : {n : ℕ} → n ≡ length (t .corners) →
-      (used .corners ≤ n) × (9 * used .elements ≤ length (t .elements)) × (9 * used .bodies ≤ length (t .bodies)) × (4 * used .bodies ≤ length (t .ranges)) × (used .parameters ≤ length (t .parameters)) × (2 * used .loops ≤ length (t .loops)) × (2 * used .loops ≤ length (t .spans))
-  rest-lent e = (rw e (lent .corners), lent .elements, lent .bodies, lent .ranges, lent .parameters, lent .loops, lent .spans)
+  pub rest-lent : {n : ℕ} → n ≡ length (t .elements .corners) →
+      (used .corners ≤ n) × (9 * used .elements ≤ length (t .elements .elements)) × (9 * used .bodies ≤ length (t .bodies .bodies)) × (4 * used .bodies ≤ length (t .bodies .ranges)) × (used .parameters ≤ length (t .bodies .parameters)) × (2 * used .loops ≤ length (t .bodies .loops)) × (2 * used .loops ≤ length (t .bodies .spans))
+  rest-lent e = (rw e (lent .elements .corners), lent .elements .elements, lent .bodies .bodies, lent .bodies .ranges, lent .bodies .parameters, lent .bodies .loops, lent .bodies .spans)

@@ -20,7 +20,7 @@ use Rattle.sweep.specs.Swept.{sweptUsed, numbersOf}
 use Rattle.sweep.specs.Vertices.{VerticesSwept}
 
 -- what is named is asked of two tables alone
-pub named-in : (used : Used) (t : Tables) (kind : VertexKind) → namedIn (used .elements) (t .elements) (t .corners) kind ≡ named used t kind
+pub named-in : (used : Used) (t : Tables) (kind : VertexKind) → namedIn (used .elements) (t .elements .elements) (t .elements .corners) kind ≡ named used t kind
 unfolding named namedIn
 named-in used t kind = refl
 
@@ -60,13 +60,13 @@ Swept f w a n kept list numbers before after =
 
 module _ (used : Used) (t : Tables) (list : List ℕ) where
   abbrev test : VertexKind → ℕ → Bool
-  test kind = namedIn (used .elements) (t .elements) (t .corners) kind
+  test kind = namedIn (used .elements) (t .elements .elements) (t .elements .corners) kind
 
   pub vertices-swept : {k₁ k₂ k₃ k₄ : ℕ} {l₁ l₂ l₃ l₄ : List ℕ} {v vt vn vp : List ℤ}
-      → Swept (test geometric) 4 0 (used .v) k₁ list l₁ (t .v) v
-      → Swept (test texture) 3 (used .v) (used .vt) k₂ l₁ l₂ (t .vt) vt
-      → Swept (test normal) 3 (used .v + used .vt) (used .vn) k₃ l₂ l₃ (t .vn) vn
-      → Swept (test parametric) 4 (used .v + used .vt + used .vn) (used .vp) k₄ l₃ l₄ (t .vp) vp
+      → Swept (test geometric) 4 0 (used .v) k₁ list l₁ (t .vertices .v) v
+      → Swept (test texture) 3 (used .v) (used .vt) k₂ l₁ l₂ (t .vertices .vt) vt
+      → Swept (test normal) 3 (used .v + used .vt) (used .vn) k₃ l₂ l₃ (t .vertices .vn) vn
+      → Swept (test parametric) 4 (used .v + used .vt + used .vn) (used .vp) k₄ l₃ l₄ (t .vertices .vp) vp
       → VerticesSwept used t list (record { v = k₁; vt = k₂; vn = k₃; vp = k₄; corners = used .corners; elements = used .elements; bodies = used .bodies; parameters = used .parameters; loops = used .loops }) v vt vn vp l₄
   unfolding named namedIn numbersOf sweptUsed
   vertices-swept p q r s =

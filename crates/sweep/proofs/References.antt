@@ -38,17 +38,17 @@ attribute-within allowed l used first k = go (eqb k 0) refl
 
 -- ---- a corner
 pub record CornerParts (used : Used) (t : Tables) (kind : ℕ) (first c : Corner) : Type 0 where
-  pub point : pointObeys used (t .v) (t .vp) kind (c .v) ≡ true
-  pub vt : attributeObeys (withTexture kind) (t .vt) (used .vt) (first .vt) (c .vt) ≡ true
-  pub vn : attributeObeys (withNormal kind) (t .vn) (used .vn) (first .vn) (c .vn) ≡ true
+  pub point : pointObeys used (t .vertices .v) (t .vertices .vp) kind (c .v) ≡ true
+  pub vt : attributeObeys (withTexture kind) (t .vertices .vt) (used .vt) (first .vt) (c .vt) ≡ true
+  pub vn : attributeObeys (withNormal kind) (t .vertices .vn) (used .vn) (first .vn) (c .vn) ≡ true
 
 module _ (used : Used) (t : Tables) (kind : ℕ) (first c : Corner) where
   pub corner-parts : cornerObeys used t kind first c ≡ true → CornerParts used t kind first c
   unfolding cornerObeys
   corner-parts h =
-      let p = pointObeys used (t .v) (t .vp) kind (c .v) in
-      let a = attributeObeys (withTexture kind) (t .vt) (used .vt) (first .vt) (c .vt) in
-      let b = attributeObeys (withNormal kind) (t .vn) (used .vn) (first .vn) (c .vn) in
+      let p = pointObeys used (t .vertices .v) (t .vertices .vp) kind (c .v) in
+      let a = attributeObeys (withTexture kind) (t .vertices .vt) (used .vt) (first .vt) (c .vt) in
+      let b = attributeObeys (withNormal kind) (t .vertices .vn) (used .vn) (first .vn) (c .vn) in
       let two = and-left (p && a) b h in
       record { point = and-left p a two; vt = and-right p a two; vn = and-right (p && a) b h }
 
@@ -57,40 +57,40 @@ module _ (used : Used) (t : Tables) (kind : ℕ) (first c : Corner) where
   unfolding pointObeys
   reference-within p geometric = go (eqb kind 5) (p .point)
     where
-      go : (b : Bool) → cond b (controlObeys (t .vp) (used .vp) (c .v)) (vertexObeys 4 (t .v) (used .v) (c .v)) ≡ true → cond b 0 (c .v) ≤ used .v
+      go : (b : Bool) → cond b (controlObeys (t .vertices .vp) (used .vp) (c .v)) (vertexObeys 4 (t .vertices .v) (used .v) (c .v)) ≡ true → cond b 0 (c .v) ≤ used .v
       go true h = omega arith
-      go false h = vertex-facts 4 (t .v) (used .v) (c .v) h .used-one
-  reference-within p texture = attribute-within (withTexture kind) (t .vt) (used .vt) (first .vt) (c .vt) (p .vt)
-  reference-within p normal = attribute-within (withNormal kind) (t .vn) (used .vn) (first .vn) (c .vn) (p .vn)
+      go false h = vertex-facts 4 (t .vertices .v) (used .v) (c .v) h .used-one
+  reference-within p texture = attribute-within (withTexture kind) (t .vertices .vt) (used .vt) (first .vt) (c .vt) (p .vt)
+  reference-within p normal = attribute-within (withNormal kind) (t .vertices .vn) (used .vn) (first .vn) (c .vn) (p .vn)
   reference-within p parametric = go (eqb kind 5) (p .point)
     where
-      go : (b : Bool) → cond b (controlObeys (t .vp) (used .vp) (c .v)) (vertexObeys 4 (t .v) (used .v) (c .v)) ≡ true → cond b (c .v) 0 ≤ used .vp
-      go true h = control-facts (t .vp) (used .vp) (c .v) h .used-one
+      go : (b : Bool) → cond b (controlObeys (t .vertices .vp) (used .vp) (c .v)) (vertexObeys 4 (t .vertices .v) (used .v) (c .v)) ≡ true → cond b (c .v) 0 ≤ used .vp
+      go true h = control-facts (t .vertices .vp) (used .vp) (c .v) h .used-one
       go false h = omega arith
 
 -- ---- all of them
 module _ (used : Used) (t : Tables) where
-  upto-ends : (n : ℕ) → endsBefore t n .corners ≡ cornersUpto (t .elements) n
+  upto-ends : (n : ℕ) → endsBefore t n .corners ≡ cornersUpto (t .elements .elements) n
   upto-ends zero = refl
-  upto-ends (suc n) = ap (λ (k : ℕ). k + 3 * elementAt t n .count) (upto-ends n)
+  upto-ends (suc n) = ap (λ (k : ℕ). k + 3 * elementAt t n .corners .count) (upto-ends n)
 
   module _ (h : wholeObeys used t ≡ true) where
     abbrev parts : Whole used t
     parts = whole-parts used t h
 
-    pub references-within : (kind : VertexKind) (i j : ℕ) → i < used .elements → j < elementAt t i .count →
-        reference kind (elementAt t i .kind) (cornerAt t (elementAt t i .first) j) ≤ usedOf kind used
+    pub references-within : (kind : VertexKind) (i j : ℕ) → i < used .elements → j < elementAt t i .corners .count →
+        reference kind (elementAt t i .kind) (cornerAt t (elementAt t i .corners) j) ≤ usedOf kind used
     references-within kind i j l k =
         let e = elementAt t i in
         let o = obeys-facts used t _ i (elements-facts used t (parts .elements) i l) in
-        let first = cornerAt t (e .first) 0 in
-        let c = cornerAt t (e .first) j in
+        let first = cornerAt t (e .corners) 0 in
+        let c = cornerAt t (e .corners) j in
         reference-within used t (e .kind) first c (corner-parts used t (e .kind) first c (o .corners .each j k)) kind
 
-    pub corners-follow : (i : ℕ) → i < used .elements → elementAt t i .first ≡ cornersUpto (t .elements) i
-    corners-follow i l = eqb-true _ _ (and-left (eqb (elementAt t i .first) (endsBefore t i .corners)) _ (runs-at used t (parts .runs) i l)) ∙ upto-ends i
+    pub corners-follow : (i : ℕ) → i < used .elements → elementAt t i .corners .first ≡ cornersUpto (t .elements .elements) i
+    corners-follow i l = eqb-true _ _ (and-left (eqb (elementAt t i .corners .first) (endsBefore t i .corners)) _ (runs-at used t (parts .runs) i l)) ∙ upto-ends i
 
-    pub corners-end : cornersUpto (t .elements) (used .elements) ≡ used .corners
+    pub corners-end : cornersUpto (t .elements .elements) (used .elements) ≡ used .corners
     corners-end =
         let n = endsBefore t (used .elements) in
         let a = eqb (n .corners) (used .corners) in

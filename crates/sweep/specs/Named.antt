@@ -21,10 +21,10 @@ usedOf normal used = used .vn
 usedOf parametric used = used .vp
 
 abbrev pub tableIn : VertexKind → Tables → List ℤ
-tableIn geometric t = t .v
-tableIn texture t = t .vt
-tableIn normal t = t .vn
-tableIn parametric t = t .vp
+tableIn geometric t = t .vertices .v
+tableIn texture t = t .vertices .vt
+tableIn normal t = t .vertices .vn
+tableIn parametric t = t .vertices .vp
 
 abbrev pub widthIn : VertexKind → ℕ
 widthIn geometric = vWidth
@@ -36,7 +36,7 @@ widthIn parametric = vpWidth
 unfoldable pub named : Used → Tables → VertexKind → ℕ → Bool
 named used t kind k =
     anyBelow (used .elements) (λ i.
-    anyBelow (elementAt t i .count) (λ j. eqb (reference kind (elementAt t i .kind) (cornerAt t (elementAt t i .first) j)) k))
+    anyBelow (elementAt t i .corners .count) (λ j. eqb (reference kind (elementAt t i .kind) (cornerAt t (elementAt t i .corners) j)) k))
 
 -- a corner of an element of kind e, its references renumbered
 abbrev pub cornerAfter : Used → Tables → (e : ℕ) → Corner → List ℕ
@@ -48,4 +48,4 @@ cornerAfter used t e c =
 unfoldable pub cornersAfter : Used → Tables → List ℕ
 cornersAfter used t =
     flatBelow (used .elements) (λ i.
-    flatBelow (elementAt t i .count) (λ j. cornerAfter used t (elementAt t i .kind) (cornerAt t (elementAt t i .first) j)))
+    flatBelow (elementAt t i .corners .count) (λ j. cornerAfter used t (elementAt t i .kind) (cornerAt t (elementAt t i .corners) j)))

@@ -5,10 +5,13 @@ use mathlib.Core.List.{List, _++_}
 use mathlib.Core.Bool.{cond}
 use lib.ListN.{length, take, drop}
 use lib.Dec.{leb}
-use lib.IntN.{ℤ, pos}
-use Rattle.lists.specs.Lists.{filled}
+use lib.IntN.{ℤ}
+use Rattle.tables.specs.VertexTables.{vertexTables, vertexLengths, vertexFilled}
+use Rattle.tables.specs.ElementTables.{elementTables, elementLengths, elementFilled}
+use Rattle.tables.specs.BodyTables.{bodyLengths, bodyFilled, bodyFirst}
 use Rattle.tables.specs.Tables.{Tables}
-use Rattle.tables.specs.Records.{elementWidth, bodyWidth, rangeWidth, loopWidth, spanWidth}
+use Rattle.tables.specs.Records.{elementWidth}
+use Rattle.tables.specs.UsedRooms.{usedBodies}
 use Rattle.tables.specs.declared.Used.{Used}
 use Rattle.model.specs.Model.{VertexKind, geometric, texture, normal, parametric}
 use Rattle.model.specs.Layout.{noneUsed}
@@ -84,17 +87,10 @@ rowsAfter used t kind = keptRows (widthIn kind) (named used t kind) (tableIn kin
 unfoldable pub sweptTables : Used → Tables → Tables
 sweptTables used t =
     record {
-      v = filled (length (t .v)) (pos 0) (rowsAfter used t geometric);
-      vt = filled (length (t .vt)) (pos 0) (rowsAfter used t texture);
-      vn = filled (length (t .vn)) (pos 0) (rowsAfter used t normal);
-      vp = filled (length (t .vp)) (pos 0) (rowsAfter used t parametric);
-      corners = filled (length (t .corners)) 0 (cornersAfter used t);
-      elements = filled (length (t .elements)) 0 (take (elementWidth * used .elements) (t .elements));
-      bodies = filled (length (t .bodies)) 0 (take (bodyWidth * used .bodies) (t .bodies));
-      ranges = filled (length (t .ranges)) (pos 0) (take (rangeWidth * used .bodies) (t .ranges));
-      parameters = filled (length (t .parameters)) (pos 0) (take (used .parameters) (t .parameters));
-      loops = filled (length (t .loops)) 0 (take (loopWidth * used .loops) (t .loops));
-      spans = filled (length (t .spans)) (pos 0) (take (spanWidth * used .loops) (t .spans));
+      vertices = vertexFilled (vertexLengths (t .vertices))
+          (vertexTables (rowsAfter used t geometric) (rowsAfter used t texture) (rowsAfter used t normal) (rowsAfter used t parametric));
+      elements = elementFilled (elementLengths (t .elements)) (elementTables (cornersAfter used t) (take (elementWidth * used .elements) (t .elements .elements)));
+      bodies = bodyFilled (bodyLengths (t .bodies)) (bodyFirst (usedBodies used) (t .bodies));
     }
 
 -- "for each old record, all v, then vt, vn, vp, its new number, or 0 if dropped"

@@ -16,10 +16,10 @@ use Rattle.sweep.specs.Swept.{rowsAfter, sweptUsed, numbersOf, numbersNe
 
 pub record VerticesSwept (used : Used) (t : Tables) (list : List ℕ) (after : Used) (v vt vn vp : List ℤ) (numbers : List ℕ) : Type 0 where
   pub counts : after ≡ sweptUsed used t
-  pub v-is : v ≡ filled (length (t .v)) (pos 0) (rowsAfter used t geometric)
-  pub vt-is : vt ≡ filled (length (t .vt)) (pos 0) (rowsAfter used t texture)
-  pub vn-is : vn ≡ filled (length (t .vn)) (pos 0) (rowsAfter used t normal)
-  pub vp-is : vp ≡ filled (length (t .vp)) (pos 0) (rowsAfter used t parametric)
+  pub v-is : v ≡ filled (length (t .vertices .v)) (pos 0) (rowsAfter used t geometric)
+  pub vt-is : vt ≡ filled (length (t .vertices .vt)) (pos 0) (rowsAfter used t texture)
+  pub vn-is : vn ≡ filled (length (t .vertices .vn)) (pos 0) (rowsAfter used t normal)
+  pub vp-is : vp ≡ filled (length (t .vertices .vp)) (pos 0) (rowsAfter used t parametric)
   pub numbers-are : numbers ≡ numbersOf used t ++ drop (numbersNeeded used) list
 
 -- how many of each kind are fewer afterwards

@@ -4,6 +4,7 @@ use mathlib.Core.Path.{_≡_, refl, sym, ap, ap₂, _∙_}
 use mathlib.Core.List.{List}
 use mathlib.Core.Bool.{Bool, true, false, cond, _||_, or-true, or-false, or-assoc}
 use mathlib.Core.Logic.{_⊎_, inl, inr}
+use native.Mathlib.Nat.{add-zero}
 use native.Mathlib.Numerals.{add-one}
 use native.Mathlib.Omega.{arith}
 use borrow.Author.Tests.{eq-eqb, ne-eqb, eqb-true, eqb-false}
@@ -11,11 +12,13 @@ use lib.Dec.{eqb}
 use lib.ListN.{length, getD, set, replicate, length-set, length-replicate, getD-replicate}
 use lib.Seq.{set-out, getD-set-same, getD-set-other}
 use Rattle.lists.proofs.Tests.{test}
-use Rattle.tables.specs.Records.{elementIn, cornerIn, cornersEnd, curve2Kind}
+use Rattle.tables.specs.Records.{elementIn, cornerIn, cornerPlace, curve2Kind}
+use Rattle.tables.specs.declared.Corner.{Corner}
+use Rattle.tables.specs.declared.CornerRun.{CornerRun}
 use Rattle.tables.specs.declared.Element.{Element}
 use Rattle.model.specs.Model.{VertexKind, geometric, texture, normal, parametric}
 use Rattle.sweep_marks.specs.Counting.{reference, anyBelow}
-use Rattle.sweep_marks.specs.Marks.{placeOf, namedIn, markNumber, markEvery, markElement, markElements, markedIn}
+use Rattle.sweep_marks.specs.Marks.{placeOf, namedIn, numberIn, markNumber, markEvery, markElement, markElements, markedIn}
 use Rattle.sweep_marks.proofs.Counting.{any-same, any-none}
 
 -- ---- one number
@@ -35,53 +38,56 @@ mark-number l (suc k) i h = go (test (eqb i k))
         let n : i ≡ k → ⊥ = eqb-false i k t in
         rw (getD-set-other l k i 1 0 n, ne-eqb (suc k) (suc i) (λ e. n (omega arith))) (sym (or-false (markedIn l (suc i))))
 
--- ---- every third number
-module _ (corners : List ℕ) (at : ℕ) where
-  pub length-every : (n : ℕ) (l : List ℕ) → length (markEvery corners at n l) ≡ length l
+-- ---- a number of each corner
+module _ (corners : List ℕ) (run : CornerRun) (place : ℕ) where
+  pub length-every : (n : ℕ) (l : List ℕ) → length (markEvery corners run place n l) ≡ length l
   length-every zero l = refl
-  length-every (suc n) l = length-mark (markEvery corners at n l) (getD corners (at + 3 * n) 0) ∙ length-every n l
+  length-every (suc n) l = length-mark (markEvery corners run place n l) (numberIn corners run n place) ∙ length-every n l
 
   mark-every : (n : ℕ) (l : List ℕ) (i : ℕ) → i < length l →
-      markedIn (markEvery corners at n l) (suc i) ≡ (markedIn l (suc i) || anyBelow n (λ j. eqb (getD corners (at + 3 * j) 0) (suc i)))
+      markedIn (markEvery corners run place n l) (suc i) ≡ (markedIn l (suc i) || anyBelow n (λ j. eqb (numberIn corners run j place) (suc i)))
   mark-every zero l i h = sym (or-false (markedIn l (suc i)))
   mark-every (suc n) l i h =
-      let any : Bool = anyBelow n (λ j. eqb (getD corners (at + 3 * j) 0) (suc i)) in
-      let last : Bool = eqb (getD corners (at + 3 * n) 0) (suc i) in
-      mark-number (markEvery corners at n l) (getD corners (at + 3 * n) 0) i (rw (length-every n l) h)
+      let any : Bool = anyBelow n (λ j. eqb (numberIn corners run j place) (suc i)) in
+      let last : Bool = eqb (numberIn corners run n place) (suc i) in
+      mark-number (markEvery corners run place n l) (numberIn corners run n place) i (rw (length-every n l) h)
       ∙ ap (λ (b : Bool). b || last) (mark-every n l i h)
       ∙ or-assoc (markedIn l (suc i)) any last
 
 -- ---- an element
-module _ (corners : List ℕ) (first j : ℕ) where
+module _ (corners : List ℕ) (run : CornerRun) (j : ℕ) where
+  abbrev corner : Corner
+  corner = cornerIn corners (cornerPlace run j)
+
+  first-placed : numberIn corners run j 0 ≡ corner .v
+  first-placed = rw add-zero refl
+
   -- the number in the place of that kind, where it has one
-  placed : (kind : VertexKind) (e : ℕ) → eqb (placeOf kind e) 3 ≡ false →
-      getD corners ((first + placeOf kind e) + 3 * j) 0 ≡ reference kind e (cornerIn corners (cornersEnd first j))
+  placed : (kind : VertexKind) (e : ℕ) → eqb (placeOf kind e) 3 ≡ false → numberIn corners run j (placeOf kind e) ≡ reference kind e corner
   placed geometric e h = go (test (eqb e curve2Kind))
     where
-      go : (eqb e curve2Kind ≡ true) ⊎ (eqb e curve2Kind ≡ false) →
-          getD corners ((first + placeOf geometric e) + 3 * j) 0 ≡ reference geometric e (cornerIn corners (cornersEnd first j))
+      go : (eqb e curve2Kind ≡ true) ⊎ (eqb e curve2Kind ≡ false) → numberIn corners run j (placeOf geometric e) ≡ reference geometric e corner
       go (inl t) = absurd (let z : true ≡ false = (rw t at h) in let n : _≡_ {A = ℕ} 0 1 = cc in omega arith)
-      go (inr t) = rw t (ap (λ (n : ℕ). getD corners n 0) (let z : (first + 0) + 3 * j ≡ first + 3 * j = omega arith in z))
-  placed texture e h = ap (λ (n : ℕ). getD corners n 0) (let z : (first + 1) + 3 * j ≡ first + 3 * j + 1 = omega arith in z)
-  placed normal e h = ap (λ (n : ℕ). getD corners n 0) (let z : (first + 2) + 3 * j ≡ first + 3 * j + 2 = omega arith in z)
+      go (inr t) = rw t first-placed
+  placed texture e h = refl
+  placed normal e h = refl
   placed parametric e h = go (test (eqb e curve2Kind))
     where
-      go : (eqb e curve2Kind ≡ true) ⊎ (eqb e curve2Kind ≡ false) →
-          getD corners ((first + placeOf parametric e) + 3 * j) 0 ≡ reference parametric e (cornerIn corners (cornersEnd first j))
-      go (inl t) = rw t (ap (λ (n : ℕ). getD corners n 0) (let z : (first + 0) + 3 * j ≡ first + 3 * j = omega arith in z))
+      go : (eqb e curve2Kind ≡ true) ⊎ (eqb e curve2Kind ≡ false) → numberIn corners run j (placeOf parametric e) ≡ reference parametric e corner
+      go (inl t) = rw t first-placed
       go (inr t) = absurd (let z : true ≡ false = (rw t at h) in let n : _≡_ {A = ℕ} 0 1 = cc in omega arith)
 
-  unplaced : (kind : VertexKind) (e : ℕ) → eqb (placeOf kind e) 3 ≡ true → reference kind e (cornerIn corners (cornersEnd first j)) ≡ 0
+  unplaced : (kind : VertexKind) (e : ℕ) → eqb (placeOf kind e) 3 ≡ true → reference kind e corner ≡ 0
   unplaced geometric e h = go (test (eqb e curve2Kind))
     where
-      go : (eqb e curve2Kind ≡ true) ⊎ (eqb e curve2Kind ≡ false) → reference geometric e (cornerIn corners (cornersEnd first j)) ≡ 0
+      go : (eqb e curve2Kind ≡ true) ⊎ (eqb e curve2Kind ≡ false) → reference geometric e corner ≡ 0
       go (inl t) = rw t
       go (inr t) = absurd (let z : false ≡ true = (rw t at h) in let n : _≡_ {A = ℕ} 0 1 = cc in omega arith)
   unplaced texture e h = absurd (let z : false ≡ true = h in let n : _≡_ {A = ℕ} 0 1 = cc in omega arith)
   unplaced normal e h = absurd (let z : false ≡ true = h in let n : _≡_ {A = ℕ} 0 1 = cc in omega arith)
   unplaced parametric e h = go (test (eqb e curve2Kind))
     where
-      go : (eqb e curve2Kind ≡ true) ⊎ (eqb e curve2Kind ≡ false) → reference parametric e (cornerIn corners (cornersEnd first j)) ≡ 0
+      go : (eqb e curve2Kind ≡ true) ⊎ (eqb e curve2Kind ≡ false) → reference parametric e corner ≡ 0
       go (inl t) = absurd (let z : false ≡ true = (rw t at h) in let n : _≡_ {A = ℕ} 0 1 = cc in omega arith)
       go (inr t) = rw t
 
@@ -89,13 +95,13 @@ module _ (kind : VertexKind) (corners : List ℕ) where
   pub length-element : (e : Element) (l : List ℕ) → length (markElement kind corners e l) ≡ length l
   length-element e l = go (eqb (placeOf kind (e .kind)) 3)
     where
-      go : (b : Bool) → length (cond b l (markEvery corners (e .first + placeOf kind (e .kind)) (e .count) l)) ≡ length l
+      go : (b : Bool) → length (cond b l (markEvery corners (e .corners) (placeOf kind (e .kind)) (e .corners .count) l)) ≡ length l
       go true = refl
-      go false = length-every corners (e .first + placeOf kind (e .kind)) (e .count) l
+      go false = length-every corners (e .corners) (placeOf kind (e .kind)) (e .corners .count) l
 
   -- some corner of the element names record k
   abbrev inElement : Element → ℕ → Bool
-  inElement e k = anyBelow (e .count) (λ j. eqb (reference kind (e .kind) (cornerIn corners (cornersEnd (e .first) j))) k)
+  inElement e k = anyBelow (e .corners .count) (λ j. eqb (reference kind (e .kind) (cornerIn corners (cornerPlace (e .corners) j))) k)
 
   mark-element : (e : Element) (l : List ℕ) (i : ℕ) → i < length l → markedIn (markElement kind corners e l) (suc i) ≡ (markedIn l (suc i) || inElement e (suc i))
   mark-element e l i h = go (test (eqb (placeOf kind (e .kind)) 3))
@@ -103,12 +109,12 @@ module _ (kind : VertexKind) (corners : List ℕ) where
       go : (eqb (placeOf kind (e .kind)) 3 ≡ true) ⊎ (eqb (placeOf kind (e .kind)) 3 ≡ false) →
           markedIn (markElement kind corners e l) (suc i) ≡ (markedIn l (suc i) || inElement e (suc i))
       go (inl t) =
-          let none : inElement e (suc i) ≡ false = any-none _ (e .count) (λ j. rw (unplaced corners (e .first) j kind (e .kind) t) (ne-eqb 0 (suc i) (λ z. omega arith))) in
+          let none : inElement e (suc i) ≡ false = any-none _ (e .corners .count) (λ j. rw (unplaced corners (e .corners) j kind (e .kind) t) (ne-eqb 0 (suc i) (λ z. omega arith))) in
           rw (t, none) (sym (or-false (markedIn l (suc i))))
       go (inr t) =
-          let same : anyBelow (e .count) (λ j. eqb (getD corners ((e .first + placeOf kind (e .kind)) + 3 * j) 0) (suc i)) ≡ inElement e (suc i)
-          = any-same _ _ (e .count) (λ j. ap (λ (n : ℕ). eqb n (suc i)) (placed corners (e .first) j kind (e .kind) t)) in
-          rw t (mark-every corners (e .first + placeOf kind (e .kind)) (e .count) l i h ∙ ap (λ (b : Bool). markedIn l (suc i) || b) same)
+          let same : anyBelow (e .corners .count) (λ j. eqb (numberIn corners (e .corners) j (placeOf kind (e .kind))) (suc i)) ≡ inElement e (suc i)
+          = any-same _ _ (e .corners .count) (λ j. ap (λ (n : ℕ). eqb n (suc i)) (placed corners (e .corners) j kind (e .kind) t)) in
+          rw t (mark-every corners (e .corners) (placeOf kind (e .kind)) (e .corners .count) l i h ∙ ap (λ (b : Bool). markedIn l (suc i) || b) same)
 
   -- ---- all elements
   module _ (elements : List ℕ) where
@@ -154,9 +160,9 @@ module _ (l : List ℕ) where
   mark-outside zero h b = absurd (omega arith)
   mark-outside (suc k) h b = sym (set-out l k 1 (omega arith))
 
-pub every-more : (corners : List ℕ) (at j : ℕ) (l : List ℕ) {m m′ : List ℕ} {number : ℕ} → m ≡ markEvery corners at j l → number ≡ getD corners (at + 3 * j) 0 →
-    m′ ≡ markNumber m number → m′ ≡ markEvery corners at (suc j) l
-every-more corners at j l a b c = c ∙ ap₂ markNumber a b
+pub every-more : (corners : List ℕ) (run : CornerRun) (place j : ℕ) (l : List ℕ) {m m′ : List ℕ} {number : ℕ} → m ≡ markEvery corners run place j l →
+    number ≡ numberIn corners run j place → m′ ≡ markNumber m number → m′ ≡ markEvery corners run place (suc j) l
+every-more corners run place j l a b c = c ∙ ap₂ markNumber a b
 
 -- ---- the place of a number in a corner
 module _ (e : ℕ) where
@@ -171,10 +177,10 @@ module _ (kind : VertexKind) (corners : List ℕ) (e : Element) (l : List ℕ) {
   pub element-none : place ≡ 3 → l ≡ markElement kind corners e l
   element-none h = let t : eqb (placeOf kind (e .kind)) 3 ≡ true = eq-eqb _ 3 (sym is ∙ h) in rw t
 
-  pub element-some : {m : List ℕ} → (place ≡ 3 → ⊥) → m ≡ markEvery corners (e .first + place) (e .count) l → m ≡ markElement kind corners e l
+  pub element-some : {m : List ℕ} → (place ≡ 3 → ⊥) → m ≡ markEvery corners (e .corners) place (e .corners .count) l → m ≡ markElement kind corners e l
   element-some h stored =
       let t : eqb (placeOf kind (e .kind)) 3 ≡ false = ne-eqb _ 3 (λ z. h (is ∙ z)) in
-      stored ∙ ap (λ (p : ℕ). markEvery corners (e .first + p) (e .count) l) is ∙ rw t
+      stored ∙ ap (λ (p : ℕ). markEvery corners (e .corners) p (e .corners .count) l) is ∙ rw t
 
 pub elements-more : (kind : VertexKind) (elements corners : List ℕ) (i : ℕ) (l : List ℕ) {m m′ : List ℕ} {e : Element} → m ≡ markElements kind elements corners i l →
     e ≡ elementIn elements i → m′ ≡ markElement kind corners e m → m′ ≡ markElements kind elements corners (suc i) l

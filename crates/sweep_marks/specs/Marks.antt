@@ -4,10 +4,11 @@ use mathlib.Core.List.{List, [], _∷_}
 use mathlib.Core.Bool.{Bool, false, cond, not}
 use lib.ListN.{getD, set}
 use lib.Dec.{eqb}
-use Rattle.tables.specs.Records.{elementIn, cornerIn, cornersEnd, curve2Kind}
+use Rattle.tables.specs.Records.{elementIn, cornerIn, cornerPlace, cornersLength, curve2Kind}
 use Rattle.tables.specs.declared.Used.{Used}
 use Rattle.tables.specs.declared.Element.{Element}
 use Rattle.tables.specs.declared.Corner.{Corner}
+use Rattle.tables.specs.declared.CornerRun.{CornerRun}
 use Rattle.model.specs.Model.{VertexKind, geometric, texture, normal, parametric}
 use Rattle.sweep_marks.specs.Counting.{reference, anyBelow, flatBelow}
 use Rattle.sweep_marks.specs.declared.VertexTable.{VertexTable}
@@ -30,8 +31,8 @@ placeOf parametric e = cond (eqb e curve2Kind) 0 3
 unfoldable pub namedIn : ℕ → List ℕ → List ℕ → VertexKind → ℕ → Bool
 namedIn n elements corners kind k =
     anyBelow n (λ i.
-    anyBelow (elementIn elements i .count) (λ j.
-    eqb (reference kind (elementIn elements i .kind) (cornerIn corners (cornersEnd (elementIn elements i .first) j))) k))
+    anyBelow (elementIn elements i .corners .count) (λ j.
+    eqb (reference kind (elementIn elements i .kind) (cornerIn corners (cornerPlace (elementIn elements i .corners) j))) k))
 
 -- ---- marks: record k has the entry k - 1
 
@@ -40,15 +41,19 @@ abbrev pub markNumber : List ℕ → ℕ → List ℕ
 markNumber l zero = l
 markNumber l (suc k) = set l k 1
 
--- the marks after n numbers of the corners, every third from `at` on
-abbrev pub markEvery : List ℕ → (at : ℕ) → ℕ → List ℕ → List ℕ
-markEvery corners at zero l = l
-markEvery corners at (suc n) l = markNumber (markEvery corners at n l) (getD corners (at + 3 * n) 0)
+-- the number in that place of corner k of a run
+abbrev pub numberIn : List ℕ → CornerRun → (k place : ℕ) → ℕ
+numberIn corners run k place = getD corners (cornerPlace run k + place) 0
+
+-- the marks after the number in that place of the first n corners of a run
+abbrev pub markEvery : List ℕ → CornerRun → (place : ℕ) → ℕ → List ℕ → List ℕ
+markEvery corners run place zero l = l
+markEvery corners run place (suc n) l = markNumber (markEvery corners run place n l) (numberIn corners run n place)
 
 -- the marks after an element, and after the first n
 abbrev pub markElement : VertexKind → List ℕ → Element → List ℕ → List ℕ
 markElement kind corners e l =
-    cond (eqb (placeOf kind (e .kind)) 3) l (markEvery corners (e .first + placeOf kind (e .kind)) (e .count) l)
+    cond (eqb (placeOf kind (e .kind)) 3) l (markEvery corners (e .corners) (placeOf kind (e .kind)) (e .corners .count) l)
 
 abbrev pub markElements : VertexKind → List ℕ → List ℕ → ℕ → List ℕ → List ℕ
 markElements kind elements corners zero l = l
@@ -78,16 +83,16 @@ cornerBy used numbers e c =
 abbrev pub cornerNumbers : Corner → List ℕ
 cornerNumbers c = c .v ∷ c .vt ∷ c .vn ∷ []
 
--- those of `count` corners from the number `first` on, and of the first n elements
-unfoldable pub runBy : Used → List ℕ → List ℕ → (e first count : ℕ) → List ℕ
-runBy used numbers corners e first count =
-    flatBelow count (λ j. cornerNumbers (cornerBy used numbers e (cornerIn corners (cornersEnd first j))))
+-- those of the first n corners of a run, and of the first n elements
+unfoldable pub runBy : Used → List ℕ → List ℕ → (e : ℕ) → CornerRun → (n : ℕ) → List ℕ
+runBy used numbers corners e run n =
+    flatBelow n (λ j. cornerNumbers (cornerBy used numbers e (cornerIn corners (cornerPlace run j))))
 
 unfoldable pub runsBy : Used → List ℕ → List ℕ → List ℕ → ℕ → List ℕ
 runsBy used numbers elements corners n =
-    flatBelow n (λ i. runBy used numbers corners (elementIn elements i .kind) (elementIn elements i .first) (elementIn elements i .count))
+    flatBelow n (λ i. runBy used numbers corners (elementIn elements i .kind) (elementIn elements i .corners) (elementIn elements i .corners .count))
 
 -- where the corners of the first n elements end, where they follow on
 abbrev pub cornersUpto : List ℕ → ℕ → ℕ
 cornersUpto elements zero = 0
-cornersUpto elements (suc n) = cornersEnd (cornersUpto elements n) (elementIn elements n .count)
+cornersUpto elements (suc n) = cornersUpto elements n + cornersLength (elementIn elements n .corners)

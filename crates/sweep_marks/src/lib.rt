@@ -1,14 +1,17 @@
 // Which records of one kind the corners name, and their new numbers.
 ghost use mathlib.Core.Path.{_≡_};
 ghost use mathlib.Core.Bool.{cond};
-ghost use Prim.Native.Nat.{_+_, _*_, _≤_};
+ghost use Prim.Native.Nat.{_+_, _≤_};
 ghost use lib.Dec.{eqb};
 ghost use lib.ListN.{length, getD, set};
 ghost use Rattle.sweep_marks.specs.Counting.{keptUpto, newNumbers};
 ghost use Rattle.sweep_marks.specs.Marks.{kindOf, placeOf, markNumber, markEvery, markElement, markElements, markedIn};
+use tables::CORNER_V;
+use tables::CORNER_VN;
+use tables::CORNER_VT;
+use tables::CornerRun;
 use tables::Element;
 use tables::kinds;
-use tables::widths;
 
 // The tables of vertices.
 pub enum VertexTable {
@@ -27,13 +30,13 @@ fn place_of(table: VertexTable, kind: u32) -> u32
             if kind == kinds::CURVE2 {
                 return 3;
             }
-            0
+            CORNER_V
         }
-        VertexTable::Vt => 1,
-        VertexTable::Vn => 2,
+        VertexTable::Vt => CORNER_VT,
+        VertexTable::Vn => CORNER_VN,
         VertexTable::Vp => {
             if kind == kinds::CURVE2 {
-                return 0;
+                return CORNER_V;
             }
             3
         }
@@ -53,13 +56,12 @@ fn mark(marks: &mut [u32], number: u32)
     }
 }
 
-fn mark_every(corners: &[u32], at: usize, count: u32, marks: &mut [u32])
-    requires { ⌜ at ≤ 4294967298 ⌝ }
-    ensures { λ r. ⌜ now (marks .exit) ≡ markEvery (now (corners .entry)) at count (now (marks .entry)) ⌝ }
+fn mark_every(corners: &[u32], run: CornerRun, place: u32, marks: &mut [u32])
+    ensures { λ r. ⌜ now (marks .exit) ≡ markEvery (now (corners .entry)) run place (run .count) (now (marks .entry)) ⌝ }
 {
     let mut j: u32 = 0;
-    while j < count {
-        let number = tables::number_in(corners, at + widths::CORNER * j as usize);
+    while j < run.count {
+        let number = tables::corner_number(corners, run, j, place);
         mark(marks, number);
         j += 1;
     }
@@ -72,12 +74,7 @@ fn mark_element(table: VertexTable, corners: &[u32], element: Element, marks: &m
     if place == 3 {
         return;
     }
-    mark_every(
-        corners,
-        element.first as usize + place as usize,
-        element.count,
-        marks,
-    );
+    mark_every(corners, element.corners, place, marks);
 }
 
 pub fn mark_elements(

@@ -11,9 +11,10 @@ use lib.Dec.{leb}
 use lib.ListN.{length, getD, length-append}
 use lib.Seq.{sets, length-sets}
 use Rattle.lists.proofs.Laws.{sets-append}
-use Rattle.tables.specs.Records.{elementIn, cornerIn, cornersEnd}
+use Rattle.tables.specs.Records.{elementIn, cornerIn, cornerPlace, cornersEnd}
 use Rattle.tables.specs.declared.Used.{Used}
 use Rattle.tables.specs.declared.Corner.{Corner}
+use Rattle.tables.specs.declared.CornerRun.{CornerRun}
 use Rattle.sweep_marks.specs.Counting.{flatBelow}
 use Rattle.sweep_marks.specs.Marks.{numberListed, cornerBy, cornerNumbers, runBy, runsBy, cornersUpto}
 use Rattle.sweep_marks.proofs.FlatBelow.{flatBelow-same, flatBelow-length}
@@ -28,40 +29,40 @@ corner-past l i vs at h =
     rw (a, b, c)
 
 module _ (used : Used) (numbers : List ℕ) where
-  length-run : (l : List ℕ) (kind first count : ℕ) → length (runBy used numbers l kind first count) ≡ 3 * count
+  length-run : (l : List ℕ) (kind : ℕ) (run : CornerRun) (n : ℕ) → length (runBy used numbers l kind run n) ≡ 3 * n
   unfolding runBy
-  length-run l kind first count = flatBelow-length _ 3 count (λ j h. refl)
+  length-run l kind run n = flatBelow-length _ 3 n (λ j h. refl)
 
   -- ---- an element: j of its corners
-  pub record Renumbered (l m : List ℕ) (kind first count j : ℕ) : Type 0 where
-    pub within : j ≤ count
+  pub record Renumbered (l m : List ℕ) (kind : ℕ) (run : CornerRun) (j : ℕ) : Type 0 where
+    pub within : j ≤ run .count
     pub long : length m ≡ length l
-    pub stored : m ≡ sets l first (runBy used numbers l kind first j)
+    pub stored : m ≡ sets l (run .first) (runBy used numbers l kind run j)
 
-  pub renumbered-none : (l : List ℕ) (kind first count : ℕ) → Renumbered l l kind first count 0
+  pub renumbered-none : (l : List ℕ) (kind : ℕ) (run : CornerRun) → Renumbered l l kind run 0
   unfolding runBy
-  renumbered-none l kind first count = record { within = omega arith; long = refl; stored = refl }
+  renumbered-none l kind run = record { within = omega arith; long = refl; stored = refl }
 
-  module _ {l m : List ℕ} {kind first count j : ℕ} (c : Renumbered l m kind first count j) (lent : first + 3 * count ≤ length l) where
-    pub renumbered-more : {old new : Corner} {room : Bool} {m′ : List ℕ} → j < count → old ≡ cornerIn m (cornersEnd first j) → new ≡ cornerBy used numbers kind old →
-        room ≡ leb (first + 3 * j + 3) (length m) → m′ ≡ cond room (sets m (first + 3 * j) (cornerNumbers new)) m → Renumbered l m′ kind first count (j + 1)
+  module _ {l m : List ℕ} {kind : ℕ} {run : CornerRun} {j : ℕ} (c : Renumbered l m kind run j) (lent : cornersEnd run ≤ length l) where
+    pub renumbered-more : {old new : Corner} {room : Bool} {m′ : List ℕ} → j < run .count → old ≡ cornerIn m (cornerPlace run j) → new ≡ cornerBy used numbers kind old →
+        room ≡ leb (cornerPlace run j + 3) (length m) → m′ ≡ cond room (sets m (cornerPlace run j) (cornerNumbers new)) m → Renumbered l m′ kind run (j + 1)
     unfolding runBy
     renumbered-more {old} {new} {room} {m′} h a b found stored =
-        let run : List ℕ = runBy used numbers l kind first j in
-        let many : length run ≡ 3 * j = length-run l kind first j in
-        let here : old ≡ cornerIn l (cornersEnd first j) =
-        a ∙ ap (λ (x : List ℕ). cornerIn x (cornersEnd first j)) (c .stored) ∙ corner-past l first run (cornersEnd first j) (omega arith) in
-        let fits : room ≡ true = found ∙ le-leb (first + 3 * j + 3) (length m) (let e = c .long in omega arith) in
-        let next : m′ ≡ sets l first (runBy used numbers l kind first (suc j)) =
+        let stores : List ℕ = runBy used numbers l kind run j in
+        let many : length stores ≡ 3 * j = length-run l kind run j in
+        let here : old ≡ cornerIn l (cornerPlace run j) =
+        a ∙ ap (λ (x : List ℕ). cornerIn x (cornerPlace run j)) (c .stored) ∙ corner-past l (run .first) stores (cornerPlace run j) (omega arith) in
+        let fits : room ≡ true = found ∙ le-leb (cornerPlace run j + 3) (length m) (let e = c .long in omega arith) in
+        let next : m′ ≡ sets l (run .first) (runBy used numbers l kind run (suc j)) =
         stored
-        ∙ ap (λ (r : Bool). cond r (sets m (first + 3 * j) (cornerNumbers new)) m) fits
-        ∙ ap₂ (λ (x : List ℕ) (k : Corner). sets x (first + 3 * j) (cornerNumbers k)) (c .stored) (b ∙ ap (cornerBy used numbers kind) here)
-        ∙ ap (λ (k : ℕ). sets (sets l first run) (first + k) (cornerNumbers (cornerBy used numbers kind (cornerIn l (cornersEnd first j))))) (sym many)
-        ∙ sym (sets-append l first run (cornerNumbers (cornerBy used numbers kind (cornerIn l (cornersEnd first j))))) in
-        record { within = omega arith; long = ap length next ∙ length-sets l first (runBy used numbers l kind first (suc j)); stored = rw add-one next }
+        ∙ ap (λ (r : Bool). cond r (sets m (cornerPlace run j) (cornerNumbers new)) m) fits
+        ∙ ap₂ (λ (x : List ℕ) (k : Corner). sets x (cornerPlace run j) (cornerNumbers k)) (c .stored) (b ∙ ap (cornerBy used numbers kind) here)
+        ∙ ap (λ (k : ℕ). sets (sets l (run .first) stores) (run .first + k) (cornerNumbers (cornerBy used numbers kind (cornerIn l (cornerPlace run j))))) (sym many)
+        ∙ sym (sets-append l (run .first) stores (cornerNumbers (cornerBy used numbers kind (cornerIn l (cornerPlace run j))))) in
+        record { within = omega arith; long = ap length next ∙ length-sets l (run .first) (runBy used numbers l kind run (suc j)); stored = rw add-one next }
 
-    pub renumbered-all : count ≤ j → m ≡ sets l first (runBy used numbers l kind first count)
-    renumbered-all h = c .stored ∙ ap (λ (k : ℕ). sets l first (runBy used numbers l kind first k)) (let w = c .within in let e : j ≡ count = omega arith in e)
+    pub renumbered-all : run .count ≤ j → m ≡ sets l (run .first) (runBy used numbers l kind run (run .count))
+    renumbered-all h = c .stored ∙ ap (λ (k : ℕ). sets l (run .first) (runBy used numbers l kind run k)) (let w = c .within in let e : j ≡ run .count = omega arith in e)
 
   -- ---- all elements
   module _ (elements : List ℕ) where
@@ -71,15 +72,15 @@ module _ (used : Used) (numbers : List ℕ) where
     length-runs l (suc n) =
         let e = elementIn elements n in
         let a = length-runs l n in
-        let b = length-run l (e .kind) (e .first) (e .count) in
-        length-append (runsBy used numbers elements l n) (runBy used numbers l (e .kind) (e .first) (e .count)) ∙ (let z : length (runsBy used numbers elements l n) + length (runBy used numbers l (e .kind) (e .first) (e .count)) ≡ cornersUpto elements n + 3 * e .count = omega arith in z)
+        let b = length-run l (e .kind) (e .corners) (e .corners .count) in
+        length-append (runsBy used numbers elements l n) (runBy used numbers l (e .kind) (e .corners) (e .corners .count)) ∙ (let z : length (runsBy used numbers elements l n) + length (runBy used numbers l (e .kind) (e .corners) (e .corners .count)) ≡ cornersUpto elements n + 3 * e .corners .count = omega arith in z)
 
-    pub upto-more : (i n : ℕ) → i < n → cornersUpto elements i + 3 * elementIn elements i .count ≤ cornersUpto elements n
+    pub upto-more : (i n : ℕ) → i < n → cornersUpto elements i + 3 * elementIn elements i .corners .count ≤ cornersUpto elements n
     upto-more i zero h = absurd (omega arith)
     upto-more i (suc n) h = go (decLe (suc i) n) (upto-more i n)
       where
-        go : Dec (suc i ≤ n) → (i < n → cornersUpto elements i + 3 * elementIn elements i .count ≤ cornersUpto elements n) →
-            cornersUpto elements i + 3 * elementIn elements i .count ≤ cornersUpto elements n + 3 * elementIn elements n .count
+        go : Dec (suc i ≤ n) → (i < n → cornersUpto elements i + 3 * elementIn elements i .corners .count ≤ cornersUpto elements n) →
+            cornersUpto elements i + 3 * elementIn elements i .corners .count ≤ cornersUpto elements n + 3 * elementIn elements n .corners .count
         go (yes k) r = let q = r k in omega arith
         go (no k) r = let e : i ≡ n = omega arith in rw e (omega arith)
 
@@ -96,31 +97,31 @@ module _ (used : Used) (numbers : List ℕ) where
       pub runs-all : n ≤ i → m ≡ sets l 0 (runsBy used numbers elements l n)
       runs-all h = c .stored ∙ ap (λ (k : ℕ). sets l 0 (runsBy used numbers elements l k)) (let w = c .within in let e : i ≡ n = omega arith in e)
 
-      module _ (h : i < n) (follows : elementIn elements i .first ≡ cornersUpto elements i) where
-        pub run-fits : cornersUpto elements n ≤ length l → elementIn elements i .first + 3 * elementIn elements i .count ≤ length m
+      module _ (h : i < n) (follows : elementIn elements i .corners .first ≡ cornersUpto elements i) where
+        pub run-fits : cornersUpto elements n ≤ length l → elementIn elements i .corners .first + 3 * elementIn elements i .corners .count ≤ length m
         run-fits lent = let e = c .long in let q = upto-more i n h in omega arith
 
         -- the element's corners have not been written yet
-        run-same : let e = elementIn elements i in runBy used numbers m (e .kind) (e .first) (e .count) ≡ runBy used numbers l (e .kind) (e .first) (e .count)
+        run-same : let e = elementIn elements i in runBy used numbers m (e .kind) (e .corners) (e .corners .count) ≡ runBy used numbers l (e .kind) (e .corners) (e .corners .count)
         unfolding runBy
         run-same =
             let e = elementIn elements i in
             let runs : List ℕ = runsBy used numbers elements l i in
             let many = length-runs l i in
-            flatBelow-same _ _ (e .count) (λ j k.
+            flatBelow-same _ _ (e .corners .count) (λ j k.
             ap (λ (x : Corner). cornerNumbers (cornerBy used numbers (e .kind) x))
-            (ap (λ (x : List ℕ). cornerIn x (cornersEnd (e .first) j)) (c .stored) ∙ corner-past l 0 runs (cornersEnd (e .first) j) (omega arith)))
+            (ap (λ (x : List ℕ). cornerIn x (cornerPlace (e .corners) j)) (c .stored) ∙ corner-past l 0 runs (cornerPlace (e .corners) j) (omega arith)))
 
-        pub runs-more : {m′ : List ℕ} → (let e = elementIn elements i in m′ ≡ sets m (e .first) (runBy used numbers m (e .kind) (e .first) (e .count))) → RunsRenumbered l m′ n (i + 1)
+        pub runs-more : {m′ : List ℕ} → (let e = elementIn elements i in m′ ≡ sets m (e .corners .first) (runBy used numbers m (e .kind) (e .corners) (e .corners .count))) → RunsRenumbered l m′ n (i + 1)
         unfolding runsBy
         runs-more {m′} stored =
             let e = elementIn elements i in
             let runs : List ℕ = runsBy used numbers elements l i in
-            let run : List ℕ = runBy used numbers l (e .kind) (e .first) (e .count) in
+            let run : List ℕ = runBy used numbers l (e .kind) (e .corners) (e .corners .count) in
             let next : m′ ≡ sets l 0 (runsBy used numbers elements l (suc i)) =
             stored
-            ∙ ap₂ (λ (x : List ℕ) (k : List ℕ). sets x (e .first) k) (c .stored) run-same
-            ∙ ap (λ (k : ℕ). sets (sets l 0 runs) k run) (let many = length-runs l i in let z : e .first ≡ 0 + length runs = omega arith in z)
+            ∙ ap₂ (λ (x : List ℕ) (k : List ℕ). sets x (e .corners .first) k) (c .stored) run-same
+            ∙ ap (λ (k : ℕ). sets (sets l 0 runs) k run) (let many = length-runs l i in let z : e .corners .first ≡ 0 + length runs = omega arith in z)
             ∙ sym (sets-append l 0 runs run) in
             record { within = omega arith; long = ap length next ∙ length-sets l 0 (runsBy used numbers elements l (suc i)); stored = rw add-one next }
 

@@ -8,9 +8,9 @@ ghost use lib.Seq.{sets};
 ghost use Rattle.tables.specs.Records.{cornersEnd, elementIn, curve2Kind};
 ghost use Rattle.sweep_marks.specs.Marks.{numberListed, cornerBy, runBy, runsBy, cornersUpto};
 use tables::Corner;
+use tables::CornerRun;
 use tables::Used;
 use tables::kinds;
-use tables::widths;
 
 // The new number of record `number` of a kind whose numbers begin at `base`; 0 stays 0.
 fn number_of(numbers: &[u32], base: usize, number: u32) -> u32
@@ -44,33 +44,28 @@ fn corner_by(used: Used, numbers: &[u32], kind: u32, corner: Corner) -> Corner
     }
 }
 
-fn renumber_run(used: Used, numbers: &[u32], corners: &mut [u32], kind: u32, first: u32, count: u32)
-    requires { ⌜ cornersEnd first count ≤ length (now corners) ⌝ }
-    ensures { λ r. ⌜ now (corners .exit) ≡ sets (now (corners .entry)) first (runBy used (now (numbers .entry)) (now (corners .entry)) kind first count) ⌝ }
+fn renumber_run(used: Used, numbers: &[u32], corners: &mut [u32], kind: u32, run: CornerRun)
+    requires { ⌜ cornersEnd run ≤ length (now corners) ⌝ }
+    ensures { λ r. ⌜ now (corners .exit) ≡ sets (now (corners .entry)) (run .first) (runBy used (now (numbers .entry)) (now (corners .entry)) kind run (run .count)) ⌝ }
 {
     let mut j: u32 = 0;
-    while j < count {
-        let old = tables::corner_at(corners, first, j as usize);
+    while j < run.count {
+        let k = j as usize;
+        let old = tables::lent_corner(corners, run, k);
         let new = corner_by(used, numbers, kind, old);
-        table_store::put3_u32(
-            corners,
-            first as usize + widths::CORNER * j as usize,
-            new.v,
-            new.vt,
-            new.vn,
-        );
+        table_store::put3_u32(corners, tables::corner_place(run, k), new.v, new.vt, new.vn);
         j += 1;
     }
 }
 
 pub fn renumber(used: Used, numbers: &[u32], elements: &[u32], corners: &mut [u32])
-    requires { ⌜ ((i : ℕ) → i < used .elements → elementIn (now elements) i .first ≡ cornersUpto (now elements) i) × (cornersUpto (now elements) (used .elements) ≤ length (now corners)) ⌝ }
+    requires { ⌜ ((i : ℕ) → i < used .elements → elementIn (now elements) i .corners .first ≡ cornersUpto (now elements) i) × (cornersUpto (now elements) (used .elements) ≤ length (now corners)) ⌝ }
     ensures { λ r. ⌜ now (corners .exit) ≡ sets (now (corners .entry)) 0 (runsBy used (now (numbers .entry)) (now (elements .entry)) (now (corners .entry)) (used .elements)) ⌝ }
 {
     let mut i: u32 = 0;
     while i < used.elements {
         let e = table_asking::element_in(elements, i);
-        renumber_run(used, numbers, corners, e.kind, e.first, e.count);
+        renumber_run(used, numbers, corners, e.kind, e.corners);
         i += 1;
     }
 }

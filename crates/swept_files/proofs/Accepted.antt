@@ -21,6 +21,7 @@ use Rattle.model.proofs.Rows.{summed-append, elementRows-length, cornerRows-len
 use Rattle.model.proofs.Placed.{wide-length}
 use Rattle.tidy_form.proofs.Placed.{vertices-wide}
 use Rattle.record_rules.proofs.Below.{below-all}
+use Rattle.table_rules.proofs.Lent.{lent-of}
 use Rattle.table_rules.specs.Whole.{Ends, isPlain, endsAfter, endsBefore, bodyFollows, elementFollows, followsAt, endsUsed, lentAll, verticesObey, elementsObey, runsFollow, wholeObeys}
 use Rattle.model.proofs.Stands.{Among, among}
 use Rattle.model.proofs.Laid.{Laid, laid}
@@ -80,11 +81,11 @@ module _ (u : Used) (t : Tables) (m : Model) (L : Laid u t m) where
     kind-is : (k : Kind) → a .one .kind ≡ k → elementAt t i .kind ≡ kindNumber k
     kind-is k q = w .kind ∙ ap kindNumber q
 
-    count-is : cornersIn qs + 3 * elementAt t i .count ≡ cornersIn (qs ++ a .one ∷ [])
+    count-is : cornersIn qs + 3 * elementAt t i .corners .count ≡ cornersIn (qs ++ a .one ∷ [])
     count-is = ap (λ (n : ℕ). cornersIn qs + 3 * n) (w .count) ∙ corners-more qs (a .one)
 
-    first-is : eqb (elementAt t i .first) (cornersIn qs) ≡ true
-    first-is = eq-eqb (elementAt t i .first) (cornersIn qs) (w .first)
+    first-is : eqb (elementAt t i .corners .first) (cornersIn qs) ≡ true
+    first-is = eq-eqb (elementAt t i .corners .first) (cornersIn qs) (w .first)
 
     plain-test : (k : Shape) → a .one .kind ≡ plain k → isPlain (elementAt t i) ≡ true
     plain-test k q = ap (λ (n : ℕ). leb n 3) (kind-is (plain k) q) ∙ plain-kind k
@@ -105,7 +106,7 @@ module _ (u : Used) (t : Tables) (m : Model) (L : Laid u t m) where
         let p = summed-append (λ (x : Body). length (x .us) + length (x .vs)) (bodiesOf qs) (b ∷ []) in
         let l = summed-append partCount (bodiesOf qs) (b ∷ []) in
         rw (free-test b q, e)
-        (ap (λ (x : records.Body). ends (cornersIn qs + 3 * elementAt t i .count) (suc j) (parametersIn (bodiesOf qs) + (x .«count_u» + x .«count_v»)) (summed partCount (bodiesOf qs) + x .loops)) (body-is b q)
+        (ap (λ (x : records.Body). ends (cornersIn qs + 3 * elementAt t i .corners .count) (suc j) (parametersIn (bodiesOf qs) + (x .«count_u» + x .«count_v»)) (summed partCount (bodiesOf qs) + x .loops)) (body-is b q)
         ∙ ends-same count-is (omega arith) (omega arith) (omega arith))
 
     parts-follow : (N n : ℕ) → cond (eqb n 0) true (eqb (cond (eqb n 0) 0 (0 + N)) N) ≡ true
@@ -165,34 +166,29 @@ module _ (u : Used) (t : Tables) (m : Model) (L : Laid u t m) where
 
     module _ (K : Kept m) where
       lent-all : lentAll u t ≡ true
-      unfolding lentAll
       lent-all =
           let x = m .vertices in
           let bs = bodiesOf es in
-          let v : 4 * u .v ≤ length (t .v) = (let e = wide-length 4 (x .v) (vertices-wide geometric (x .v) (K .v)) in let k = L .v .lent in let j = L .used-v in omega arith) in
-          let vt : 3 * u .vt ≤ length (t .vt) = (let e = wide-length 3 (x .vt) (vertices-wide texture (x .vt) (K .vt)) in let k = L .vt .lent in let j = L .used-vt in omega arith) in
-          let vn : 3 * u .vn ≤ length (t .vn) = (let e = wide-length 3 (x .vn) (vertices-wide normal (x .vn) (K .vn)) in let k = L .vn .lent in let j = L .used-vn in omega arith) in
-          let vp : 4 * u .vp ≤ length (t .vp) = (let e = wide-length 4 (x .vp) (vertices-wide parametric (x .vp) (K .vp)) in let k = L .vp .lent in let j = L .used-vp in omega arith) in
-          let corners : u .corners ≤ length (t .corners) = (let e = cornerRows-length es in let k = L .corners .lent in let j = L .used-corners in omega arith) in
-          let elements : 9 * u .elements ≤ length (t .elements) = (let e = elementRows-length 0 0 es in let k = L .elements .lent in omega arith) in
-          let bodies : 9 * u .bodies ≤ length (t .bodies) = (let e = bodyRows-length 0 0 bs in let k = L .bodies .lent in let j = L .used-bodies in omega arith) in
-          let ranges : 4 * u .bodies ≤ length (t .ranges) = (let e = rangeRows-length bs in let k = L .ranges .lent in let j = L .used-bodies in omega arith) in
-          let parameters : u .parameters ≤ length (t .parameters) = (let k = L .parameters .lent in let j = L .used-parameters in omega arith) in
-          let loops : 2 * u .loops ≤ length (t .loops) = (let e = loopRows-length bs in let k = L .loops .lent in let j = L .used-loops in omega arith) in
-          let spans : 2 * u .loops ≤ length (t .spans) = (let e = spanRows-length bs in let k = L .spans .lent in let j = L .used-loops in omega arith) in
-          rw (
-            le-leb (4 * u .v) (length (t .v)) v,
-            le-leb (3 * u .vt) (length (t .vt)) vt,
-            le-leb (3 * u .vn) (length (t .vn)) vn,
-            le-leb (4 * u .vp) (length (t .vp)) vp,
-            le-leb (u .corners) (length (t .corners)) corners,
-            le-leb (9 * u .elements) (length (t .elements)) elements,
-            le-leb (9 * u .bodies) (length (t .bodies)) bodies,
-            le-leb (4 * u .bodies) (length (t .ranges)) ranges,
-            le-leb (u .parameters) (length (t .parameters)) parameters,
-            le-leb (2 * u .loops) (length (t .loops)) loops,
-            le-leb (2 * u .loops) (length (t .spans)) spans,
-          )
+          lent-of u t
+          (record {
+            vertices = record {
+              v = (let e = wide-length 4 (x .v) (vertices-wide geometric (x .v) (K .v)) in let k = L .v .lent in let j = L .used-v in omega arith);
+              vt = (let e = wide-length 3 (x .vt) (vertices-wide texture (x .vt) (K .vt)) in let k = L .vt .lent in let j = L .used-vt in omega arith);
+              vn = (let e = wide-length 3 (x .vn) (vertices-wide normal (x .vn) (K .vn)) in let k = L .vn .lent in let j = L .used-vn in omega arith);
+              vp = (let e = wide-length 4 (x .vp) (vertices-wide parametric (x .vp) (K .vp)) in let k = L .vp .lent in let j = L .used-vp in omega arith);
+            };
+            elements = record {
+              corners = (let e = cornerRows-length es in let k = L .corners .lent in let j = L .used-corners in omega arith);
+              elements = (let e = elementRows-length 0 0 es in let k = L .elements .lent in omega arith);
+            };
+            bodies = record {
+              bodies = (let e = bodyRows-length 0 0 bs in let k = L .bodies .lent in let j = L .used-bodies in omega arith);
+              ranges = (let e = rangeRows-length bs in let k = L .ranges .lent in let j = L .used-bodies in omega arith);
+              parameters = (let k = L .parameters .lent in let j = L .used-parameters in omega arith);
+              loops = (let e = loopRows-length bs in let k = L .loops .lent in let j = L .used-loops in omega arith);
+              spans = (let e = spanRows-length bs in let k = L .spans .lent in let j = L .used-loops in omega arith);
+            };
+          })
 
       vertices-obey : verticesObey u t ≡ true
       unfolding verticesObey
@@ -201,10 +197,10 @@ module _ (u : Used) (t : Tables) (m : Model) (L : Laid u t m) where
           and-both
           (and-both
           (and-both
-          (below-all _ (u .v) (λ k h. vertex-obeys geometric (t .v) (x .v) (K .v) (L .v) 4 (u .v) (suc k) refl (L .used-v) (omega arith) (let e = L .used-v in omega arith)))
-          (below-all _ (u .vt) (λ k h. vertex-obeys texture (t .vt) (x .vt) (K .vt) (L .vt) 3 (u .vt) (suc k) refl (L .used-vt) (omega arith) (let e = L .used-vt in omega arith))))
-          (below-all _ (u .vn) (λ k h. vertex-obeys normal (t .vn) (x .vn) (K .vn) (L .vn) 3 (u .vn) (suc k) refl (L .used-vn) (omega arith) (let e = L .used-vn in omega arith))))
-          (below-all _ (u .vp) (λ k h. parameter-obeys (t .vp) (x .vp) (K .vp) (L .vp) (u .vp) (suc k) (L .used-vp) (omega arith) (let e = L .used-vp in omega arith)))
+          (below-all _ (u .v) (λ k h. vertex-obeys geometric (t .vertices .v) (x .v) (K .v) (L .v) 4 (u .v) (suc k) refl (L .used-v) (omega arith) (let e = L .used-v in omega arith)))
+          (below-all _ (u .vt) (λ k h. vertex-obeys texture (t .vertices .vt) (x .vt) (K .vt) (L .vt) 3 (u .vt) (suc k) refl (L .used-vt) (omega arith) (let e = L .used-vt in omega arith))))
+          (below-all _ (u .vn) (λ k h. vertex-obeys normal (t .vertices .vn) (x .vn) (K .vn) (L .vn) 3 (u .vn) (suc k) refl (L .used-vn) (omega arith) (let e = L .used-vn in omega arith))))
+          (below-all _ (u .vp) (λ k h. parameter-obeys (t .vertices .vp) (x .vp) (K .vp) (L .vp) (u .vp) (suc k) (L .used-vp) (omega arith) (let e = L .used-vp in omega arith)))
 
       elements-obey : elementsObey u t ≡ true
       unfolding elementsObey

@@ -46,12 +46,12 @@ module _ (used : Used) (t : Tables) (all : (kind : VertexKind) (k : ℕ) → 1 �
   new-same : (kind : VertexKind) (k : ℕ) → named used t kind k ≡ true → k ≤ usedOf kind used → newNumber (named used t kind) k ≡ k
   new-same kind k e h = new-named (named used t kind) k e ∙ kept-all (named used t kind) k (λ j a b. all kind j a (omega arith))
 
-  module _ (s : Standing used t) (i j : ℕ) (h : i < used .elements) (l : j < elementAt t i .count) where
+  module _ (s : Standing used t) (i j : ℕ) (h : i < used .elements) (l : j < elementAt t i .corners .count) where
     abbrev e : ℕ
     e = elementAt t i .kind
 
     abbrev c : Corner
-    c = cornerAt t (elementAt t i .first) j
+    c = cornerAt t (elementAt t i .corners) j
 
     held-same : (kind : VertexKind) → newNumber (named used t kind) (referenceIn kind t i j) ≡ referenceIn kind t i j
     held-same kind = let r = reference-in used t s kind i j h l in new-same kind (referenceIn kind t i j) (r .names) (r .within)

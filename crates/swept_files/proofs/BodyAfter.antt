@@ -21,7 +21,7 @@ use Rattle.record_rules.specs.Bodies.{curveObeys, directionsObey, surfaceObeys,
 use Rattle.record_rules.proofs.Below.{below-at, below-all}
 use Rattle.record_rules.proofs.Runs.{run-lent, run-small}
 use Rattle.sweep.specs.Swept.{sweptUsed, sweptTables}
-use Rattle.sweep.proofs.Whole.{Lent}
+use Rattle.table_rules.proofs.Lent.{Lent}
 use Rattle.swept_files.proofs.Others.{lengths, bodies-same, parts-same, parameters-same, parameters-part}
 use Rattle.swept_files.proofs.Counted.{same-counts}
 
@@ -32,26 +32,26 @@ module _ (used : Used) (t : Tables) (lent : Lent used t) where
   abbrev W : Tables
   W = sweptTables used t
 
-  run-after : (first n : ℕ) → first + n ≤ used .parameters → runInRange (t .parameters) first n ≡ true → runInRange (W .parameters) first n ≡ true
+  run-after : (first n : ℕ) → first + n ≤ used .parameters → runInRange (t .bodies .parameters) first n ≡ true → runInRange (W .bodies .parameters) first n ≡ true
   unfolding runInRange
   run-after first n h r =
-      and-both (le-leb (first + n) (length (W .parameters)) (let a = run-lent (t .parameters) first n r in let b = lengths used t lent .parameters in omega arith))
-      (below-all (λ k. inRange (getD (W .parameters) (first + k) (pos 0))) n
-      (λ k l. ap inRange (parameters-same used t lent (first + k) (omega arith)) ∙ run-small (t .parameters) first n r k l))
+      and-both (le-leb (first + n) (length (W .bodies .parameters)) (let a = run-lent (t .bodies .parameters) first n r in let b = lengths used t lent .parameters in omega arith))
+      (below-all (λ k. inRange (getD (W .bodies .parameters) (first + k) (pos 0))) n
+      (λ k l. ap inRange (parameters-same used t lent (first + k) (omega arith)) ∙ run-small (t .bodies .parameters) first n r k l))
 
-  module _ (surface : Bool) (first p q : ℕ) (h : parametersObey surface (t .parameters) (used .parameters) first p q ≡ true) where
+  module _ (surface : Bool) (first p q : ℕ) (h : parametersObey surface (t .bodies .parameters) (used .parameters) first p q ≡ true) where
     parameters-used : first + (p + q) ≤ used .parameters
     unfolding parametersObey
     parameters-used =
         let a = leb (first + (p + q)) (used .parameters) in
-        let b = runInRange (t .parameters) first (p + q) in
+        let b = runInRange (t .bodies .parameters) first (p + q) in
         leb-true (first + (p + q)) (used .parameters) (and-left a b (and-left (a && b) (leb 2 p) (and-left (a && b && leb 2 p) (cond surface (leb 2 q) (eqb q 0)) h)))
 
-    parameters-after : parametersObey surface (W .parameters) (U .parameters) first p q ≡ true
+    parameters-after : parametersObey surface (W .bodies .parameters) (U .parameters) first p q ≡ true
     unfolding parametersObey
     parameters-after =
         let a = leb (first + (p + q)) (used .parameters) in
-        let b = runInRange (t .parameters) first (p + q) in
+        let b = runInRange (t .bodies .parameters) first (p + q) in
         let d = cond surface (leb 2 q) (eqb q 0) in
         let three = and-left (a && b && leb 2 p) d h in
         let two = and-left (a && b) (leb 2 p) three in
@@ -71,14 +71,14 @@ module _ (used : Used) (t : Tables) (lent : Lent used t) where
 
       go : (z : Bool)
           → cond z (eqb first 0)
-          (leb (first + count) (used .loops) && leb (2 * (first + count)) (length (t .loops)) && leb (2 * (first + count)) (length (t .spans)) && eachPart t curves first count) ≡ true
+          (leb (first + count) (used .loops) && leb (2 * (first + count)) (length (t .bodies .loops)) && leb (2 * (first + count)) (length (t .bodies .spans)) && eachPart t curves first count) ≡ true
           → cond z (eqb first 0)
-          (leb (first + count) (U .loops) && leb (2 * (first + count)) (length (W .loops)) && leb (2 * (first + count)) (length (W .spans)) && eachPart W curves first count) ≡ true
+          (leb (first + count) (U .loops) && leb (2 * (first + count)) (length (W .bodies .loops)) && leb (2 * (first + count)) (length (W .bodies .spans)) && eachPart W curves first count) ≡ true
       go true h = h
       go false h =
           let a = leb (first + count) (used .loops) in
-          let b = leb (2 * (first + count)) (length (t .loops)) in
-          let c = leb (2 * (first + count)) (length (t .spans)) in
+          let b = leb (2 * (first + count)) (length (t .bodies .loops)) in
+          let c = leb (2 * (first + count)) (length (t .bodies .spans)) in
           let e = eachPart t curves first count in
           let three = and-left (a && b && c) e h in
           let two = and-left (a && b) c three in
@@ -114,7 +114,7 @@ module _ (used : Used) (t : Tables) (lent : Lent used t) where
     unfolding recordObeys
     record-after h =
         let y = typeObeys (eqb kind 6) (b .basis) (b .rational) (b .«degree_u») (b .«degree_v») in
-        let p = parametersObey (eqb kind 6) (t .parameters) (used .parameters) (b .«first_parameter») (b .«count_u») (b .«count_v») in
+        let p = parametersObey (eqb kind 6) (t .bodies .parameters) (used .parameters) (b .«first_parameter») (b .«count_u») (b .«count_v») in
         let k = cond (eqb kind 6) (surfaceObeys (used .loops) t curves count b) (curveObeys (eqb kind 5) (parametersU t b) b count) in
         let two = and-left (y && p) k h in
         let r = parameters-used (eqb kind 6) (b .«first_parameter») (b .«count_u») (b .«count_v») (and-right y p two) in
@@ -131,28 +131,28 @@ module _ (used : Used) (t : Tables) (lent : Lent used t) where
       pub some : 1 ≤ k
       pub used-one : k ≤ used .bodies
 
-    pub held-body : bodyHeld used (t .bodies) (t .ranges) k ≡ true → HeldBody
+    pub held-body : bodyHeld used (t .bodies .bodies) (t .bodies .ranges) k ≡ true → HeldBody
     unfolding bodyHeld held
     held-body h =
         let a = leb 1 k in
         let b = leb k (used .bodies) in
-        let c = leb (9 * k) (length (t .bodies)) in
-        let two = and-left (a && b) c (and-left (a && b && c) (leb (4 * k) (length (t .ranges))) h) in
+        let c = leb (9 * k) (length (t .bodies .bodies)) in
+        let two = and-left (a && b) c (and-left (a && b && c) (leb (4 * k) (length (t .bodies .ranges))) h) in
         record { some = leb-true 1 k (and-left a b two); used-one = leb-true k (used .bodies) (and-right a b two) }
 
-    held-after : bodyHeld used (t .bodies) (t .ranges) k ≡ true → bodyHeld U (W .bodies) (W .ranges) k ≡ true
+    held-after : bodyHeld used (t .bodies .bodies) (t .bodies .ranges) k ≡ true → bodyHeld U (W .bodies .bodies) (W .bodies .ranges) k ≡ true
     unfolding bodyHeld held
     held-after h = rw (same-counts used t .bodies, lengths used t lent .bodies, lengths used t lent .ranges) h
 
     module _ (curves kind count : ℕ) (h : bodyObeys used t curves kind count k ≡ true) where
       pub body-held : HeldBody
       unfolding bodyObeys
-      body-held = held-body (and-left (bodyHeld used (t .bodies) (t .ranges) k) (recordObeys used t curves kind count (bodyAt t (k - 1))) h)
+      body-held = held-body (and-left (bodyHeld used (t .bodies .bodies) (t .bodies .ranges) k) (recordObeys used t curves kind count (bodyAt t (k - 1))) h)
 
       pub body-after : bodyObeys U W curves kind count k ≡ true
       unfolding bodyObeys
       body-after =
-          let b = bodyHeld used (t .bodies) (t .ranges) k in
+          let b = bodyHeld used (t .bodies .bodies) (t .bodies .ranges) k in
           let r = recordObeys used t curves kind count (bodyAt t (k - 1)) in
           let q = body-held in
           and-both (held-after (and-left b r h))

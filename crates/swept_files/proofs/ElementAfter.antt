@@ -42,21 +42,21 @@ module _ (used : Used) (t : Tables) (s : Standing used t) where
 
   -- ---- a corner
   point-after : (e k : ℕ) → named used t geometric (cond (eqb e 5) 0 k) ≡ true → named used t parametric (cond (eqb e 5) k 0) ≡ true
-      → pointObeys used (t .v) (t .vp) e k ≡ true
-      → pointObeys U (W .v) (W .vp) e (cond (eqb e 5) (newNumber (named used t parametric) k) (newNumber (named used t geometric) k)) ≡ true
+      → pointObeys used (t .vertices .v) (t .vertices .vp) e k ≡ true
+      → pointObeys U (W .vertices .v) (W .vertices .vp) e (cond (eqb e 5) (newNumber (named used t parametric) k) (newNumber (named used t geometric) k)) ≡ true
   unfolding pointObeys
   point-after e k = go (eqb e 5)
     where
       go : (b : Bool) → named used t geometric (cond b 0 k) ≡ true → named used t parametric (cond b k 0) ≡ true
-          → cond b (controlObeys (t .vp) (used .vp) k) (vertexObeys 4 (t .v) (used .v) k) ≡ true
-          → cond b (controlObeys (W .vp) (U .vp) (cond b (newNumber (named used t parametric) k) (newNumber (named used t geometric) k)))
-          (vertexObeys 4 (W .v) (U .v) (cond b (newNumber (named used t parametric) k) (newNumber (named used t geometric) k))) ≡ true
+          → cond b (controlObeys (t .vertices .vp) (used .vp) k) (vertexObeys 4 (t .vertices .v) (used .v) k) ≡ true
+          → cond b (controlObeys (W .vertices .vp) (U .vp) (cond b (newNumber (named used t parametric) k) (newNumber (named used t geometric) k)))
+          (vertexObeys 4 (W .vertices .v) (U .v) (cond b (newNumber (named used t parametric) k) (newNumber (named used t geometric) k))) ≡ true
       go true g p h =
-          let v = control-facts (t .vp) (used .vp) k h in
-          control-after (t .vp) (W .vp) (used .vp) (U .vp) k (newNumber (named used t parametric) k) (moved-to used t (s .lent) parametric k (v .some) (v .used-one) p) h
+          let v = control-facts (t .vertices .vp) (used .vp) k h in
+          control-after (t .vertices .vp) (W .vertices .vp) (used .vp) (U .vp) k (newNumber (named used t parametric) k) (moved-to used t (s .lent) parametric k (v .some) (v .used-one) p) h
       go false g p h =
-          let v = vertex-facts 4 (t .v) (used .v) k h in
-          vertex-after 4 (t .v) (W .v) (used .v) (U .v) k (newNumber (named used t geometric) k) (moved-to used t (s .lent) geometric k (v .some) (v .used-one) g) h
+          let v = vertex-facts 4 (t .vertices .v) (used .v) k h in
+          vertex-after 4 (t .vertices .v) (W .vertices .v) (used .v) (U .v) k (newNumber (named used t geometric) k) (moved-to used t (s .lent) geometric k (v .some) (v .used-one) g) h
 
   -- a corner each of whose references names a record, or none
   pub record Names (e : ℕ) (c : Corner) : Type 0 where
@@ -66,49 +66,49 @@ module _ (used : Used) (t : Tables) (s : Standing used t) where
   parts-after e first c f n p =
       record {
         point = point-after e (c .v) (n .all geometric) (n .all parametric) (p .point);
-        vt = attribute-after (named used t texture) (withTexture e) (t .vt) (W .vt) (used .vt) (U .vt) (first .vt) (c .vt) (f .all texture) (n .all texture)
+        vt = attribute-after (named used t texture) (withTexture e) (t .vertices .vt) (W .vertices .vt) (used .vt) (U .vt) (first .vt) (c .vt) (f .all texture) (n .all texture)
             (λ a b. moved-to used t (s .lent) texture (c .vt) a b (n .all texture)) (p .vt);
-        vn = attribute-after (named used t normal) (withNormal e) (t .vn) (W .vn) (used .vn) (U .vn) (first .vn) (c .vn) (f .all normal) (n .all normal)
+        vn = attribute-after (named used t normal) (withNormal e) (t .vertices .vn) (W .vertices .vn) (used .vn) (U .vn) (first .vn) (c .vn) (f .all normal) (n .all normal)
             (λ a b. moved-to used t (s .lent) normal (c .vn) a b (n .all normal)) (p .vn);
       }
 
-  pub corners-lent : length (W .corners) ≡ length (t .corners)
+  pub corners-lent : length (W .elements .corners) ≡ length (t .elements .corners)
   corners-lent =
       ap length (corners-table used t)
-      ∙ length-filled (length (t .corners)) 0 (cornersAfter used t)
-      (let a = corners-length used t in let b = s .corners in let c = s .lent .corners in omega arith)
+      ∙ length-filled (length (t .elements .corners)) 0 (cornersAfter used t)
+      (let a = corners-length used t in let b = s .corners in let c = s .lent .elements .corners in omega arith)
 
   -- ---- an element
   module _ (i : ℕ) (h : i < used .elements) where
     abbrev e : Element
     e = elementAt t i
 
-    names : (j : ℕ) → j < e .count → Names (e .kind) (cornerAt t (e .first) j)
+    names : (j : ℕ) → j < e .corners .count → Names (e .kind) (cornerAt t (e .corners) j)
     names j l = record { all = λ kind. named-held used t kind i j h l }
 
-    each-after : (j : ℕ) → j < e .count → cornerObeys U W (e .kind) (cornerAt W (e .first) 0) (cornerAt W (e .first) j) ≡ true
+    each-after : (j : ℕ) → j < e .corners .count → cornerObeys U W (e .kind) (cornerAt W (e .corners) 0) (cornerAt W (e .corners) j) ≡ true
     each-after j l =
-        let z : 0 < e .count = omega arith in
+        let z : 0 < e .corners .count = omega arith in
         let n = curvesBefore t i in
         ap₂ (cornerObeys U W (e .kind)) (corner-after used t i 0 h z (s .follows i h)) (corner-after used t i j h l (s .follows i h))
-        ∙ corner-of U W (e .kind) (renumber used t (e .kind) (cornerAt t (e .first) 0)) (renumber used t (e .kind) (cornerAt t (e .first) j))
-        (parts-after (e .kind) (cornerAt t (e .first) 0) (cornerAt t (e .first) j) (names 0 z) (names j l) (corner-there used t n i (s .obeys i h) j l))
+        ∙ corner-of U W (e .kind) (renumber used t (e .kind) (cornerAt t (e .corners) 0)) (renumber used t (e .kind) (cornerAt t (e .corners) j))
+        (parts-after (e .kind) (cornerAt t (e .corners) 0) (cornerAt t (e .corners) j) (names 0 z) (names j l) (corner-there used t n i (s .obeys i h) j l))
 
-    corners-after : cornersObey U W (e .kind) (e .first) (e .count) ≡ true
+    corners-after : cornersObey U W (e .kind) (e .corners) ≡ true
     unfolding cornersObey eachCorner
     corners-after =
         let c = corners-there used t (curvesBefore t i) i (s .obeys i h) in
         and-both
         (and-both
-        (and-both (le-leb (e .first + 3 * e .count) (U .corners) (let a = c .used-run in let b = same-counts used t .corners in omega arith))
-        (le-leb (e .first + 3 * e .count) (length (W .corners)) (let a = c .lent-run in let b = corners-lent in omega arith)))
-        (le-leb (leastCorners (e .kind)) (e .count) (c .least)))
-        (below-all (λ k. cornerObeys U W (e .kind) (cornerAt W (e .first) 0) (cornerAt W (e .first) k)) (e .count) each-after)
+        (and-both (le-leb (e .corners .first + 3 * e .corners .count) (U .corners) (let a = c .used-run in let b = same-counts used t .corners in omega arith))
+        (le-leb (e .corners .first + 3 * e .corners .count) (length (W .elements .corners)) (let a = c .lent-run in let b = corners-lent in omega arith)))
+        (le-leb (leastCorners (e .kind)) (e .corners .count) (c .least)))
+        (below-all (λ k. cornerObeys U W (e .kind) (cornerAt W (e .corners) 0) (cornerAt W (e .corners) k)) (e .corners .count) each-after)
 
-    body-part : (n : ℕ) → (b : Bool) → cond b (eqb (e .body) 0) (bodyObeys used t n (e .kind) (e .count) (e .body)) ≡ true
-        → cond b (eqb (e .body) 0) (bodyObeys U W n (e .kind) (e .count) (e .body)) ≡ true
+    body-part : (n : ℕ) → (b : Bool) → cond b (eqb (e .body) 0) (bodyObeys used t n (e .kind) (e .corners .count) (e .body)) ≡ true
+        → cond b (eqb (e .body) 0) (bodyObeys U W n (e .kind) (e .corners .count) (e .body)) ≡ true
     body-part n true q = q
-    body-part n false q = body-after used t (s .lent) (e .body) n (e .kind) (e .count) q
+    body-part n false q = body-after used t (s .lent) (e .body) n (e .kind) (e .corners .count) q
 
     element-after : elementObeys U W (curvesBefore t i) e ≡ true
     element-after =

@@ -23,16 +23,16 @@ use Rattle.sweep.proofs.References.{CornerParts, corner-parts, reference-within
 -- ---- an element
 pub record ElementParts (used : Used) (t : Tables) (curves : ℕ) (e : Element) : Type 0 where
   pub own : (leb 1 (e .kind) && leb (e .kind) 6 && leb (e .smoothing) 65535) ≡ true
-  pub corners : cornersObey used t (e .kind) (e .first) (e .count) ≡ true
-  pub body : cond (leb (e .kind) 3) (eqb (e .body) 0) (bodyObeys used t curves (e .kind) (e .count) (e .body)) ≡ true
+  pub corners : cornersObey used t (e .kind) (e .corners) ≡ true
+  pub body : cond (leb (e .kind) 3) (eqb (e .body) 0) (bodyObeys used t curves (e .kind) (e .corners .count) (e .body)) ≡ true
 
 module _ (used : Used) (t : Tables) (curves : ℕ) where
   pub element-parts : (e : Element) → elementObeys used t curves e ≡ true → ElementParts used t curves e
   unfolding elementObeys
   element-parts e h =
       let own = leb 1 (e .kind) && leb (e .kind) 6 && leb (e .smoothing) 65535 in
-      let c = cornersObey used t (e .kind) (e .first) (e .count) in
-      let b = cond (leb (e .kind) 3) (eqb (e .body) 0) (bodyObeys used t curves (e .kind) (e .count) (e .body)) in
+      let c = cornersObey used t (e .kind) (e .corners) in
+      let b = cond (leb (e .kind) 3) (eqb (e .body) 0) (bodyObeys used t curves (e .kind) (e .corners .count) (e .body)) in
       let two = and-left (own && c) b h in
       record { own = and-left own c two; corners = and-right own c two; body = and-right (own && c) b h }
 
@@ -40,15 +40,15 @@ module _ (used : Used) (t : Tables) (curves : ℕ) where
   unfolding elementObeys
   element-of e p = and-both (and-both (p .own) (p .corners)) (p .body)
 
-  pub obeys-lent : (i : ℕ) → obeys used t curves i ≡ true → leb (9 * i + 9) (length (t .elements)) ≡ true
+  pub obeys-lent : (i : ℕ) → obeys used t curves i ≡ true → leb (9 * i + 9) (length (t .elements .elements)) ≡ true
   unfolding obeys
-  obeys-lent i h = and-left (leb (9 * i + 9) (length (t .elements))) (elementObeys used t curves (elementAt t i)) h
+  obeys-lent i h = and-left (leb (9 * i + 9) (length (t .elements .elements))) (elementObeys used t curves (elementAt t i)) h
 
   pub obeys-element : (i : ℕ) → obeys used t curves i ≡ true → elementObeys used t curves (elementAt t i) ≡ true
   unfolding obeys
-  obeys-element i h = and-right (leb (9 * i + 9) (length (t .elements))) (elementObeys used t curves (elementAt t i)) h
+  obeys-element i h = and-right (leb (9 * i + 9) (length (t .elements .elements))) (elementObeys used t curves (elementAt t i)) h
 
-  pub obeys-of : (i : ℕ) → leb (9 * i + 9) (length (t .elements)) ≡ true → elementObeys used t curves (elementAt t i) ≡ true → obeys used t curves i ≡ true
+  pub obeys-of : (i : ℕ) → leb (9 * i + 9) (length (t .elements .elements)) ≡ true → elementObeys used t curves (elementAt t i) ≡ true → obeys used t curves i ≡ true
   unfolding obeys
   obeys-of i a b = and-both a b
 
@@ -59,18 +59,18 @@ module _ (used : Used) (t : Tables) (kind : ℕ) (first c : Corner) where
   corner-of p = and-both (and-both (p .point) (p .vt)) (p .vn)
 
 module _ (used : Used) (t : Tables) (curves i : ℕ) (h : obeys used t curves i ≡ true) where
-  pub corners-there : Corners used t (elementAt t i .kind) (elementAt t i .first) (elementAt t i .count)
+  pub corners-there : Corners used t (elementAt t i .kind) (elementAt t i .corners)
   corners-there =
       let e = elementAt t i in
-      corners-facts used t (e .kind) (e .first) (e .count) (element-parts used t curves e (obeys-element used t curves i h) .corners)
+      corners-facts used t (e .kind) (e .corners) (element-parts used t curves e (obeys-element used t curves i h) .corners)
 
-  pub corner-there : (j : ℕ) → j < elementAt t i .count
-      → CornerParts used t (elementAt t i .kind) (cornerAt t (elementAt t i .first) 0) (cornerAt t (elementAt t i .first) j)
+  pub corner-there : (j : ℕ) → j < elementAt t i .corners .count
+      → CornerParts used t (elementAt t i .kind) (cornerAt t (elementAt t i .corners) 0) (cornerAt t (elementAt t i .corners) j)
   corner-there j l =
       let e = elementAt t i in
-      corner-parts used t (e .kind) (cornerAt t (e .first) 0) (cornerAt t (e .first) j) (corners-there .each j l)
+      corner-parts used t (e .kind) (cornerAt t (e .corners) 0) (cornerAt t (e .corners) j) (corners-there .each j l)
 
-  pub held-within : (k : VertexKind) (j : ℕ) → j < elementAt t i .count → referenceIn k t i j ≤ usedOf k used
+  pub held-within : (k : VertexKind) (j : ℕ) → j < elementAt t i .corners .count → referenceIn k t i j ≤ usedOf k used
   held-within k j l =
       let e = elementAt t i in
-      reference-within used t (e .kind) (cornerAt t (e .first) 0) (cornerAt t (e .first) j) (corner-there j l) k
+      reference-within used t (e .kind) (cornerAt t (e .corners) 0) (cornerAt t (e .corners) j) (corner-there j l) k

@@ -10,7 +10,7 @@ use Rattle.lists.specs.Lists.{flat, filled}
 use Rattle.tables.specs.Tables.{Tables}
 use Rattle.tables.specs.declared.Used.{Used}
 use Rattle.tables.proofs.Filled.{length-filled}
-use Rattle.read_state.proofs.Rooms.{fits-parts}
+use Rattle.model.proofs.Rooms.{fits-parts}
 use Rattle.model.specs.Model.{VertexKind, geometric, texture, normal, parametric, Body, Element, Model, isCurve2}
 use Rattle.model.specs.Room.{Rooms, summed, ofKind, partCount}
 use Rattle.model.specs.Read.{read, readOf}
@@ -114,23 +114,29 @@ module _ (R : Rooms) (s : List ℕ) (m : Model) (h : readOf R s ≡ read m) wher
       let K = kept R s m h in
       let L = laid R m in
       record {
-        v = table-left geometric (R .v) (m .vertices .v) (K .v) (L .v) (subst (λ (k : Model). 4 * length (k .vertices .v) ≤ R .v) (c .model) (w .v)) i;
-        vt = table-left texture (R .vt) (m .vertices .vt) (K .vt) (L .vt) (subst (λ (k : Model). 3 * length (k .vertices .vt) ≤ R .vt) (c .model) (w .vt)) i;
-        vn = table-left normal (R .vn) (m .vertices .vn) (K .vn) (L .vn) (subst (λ (k : Model). 3 * length (k .vertices .vn) ≤ R .vn) (c .model) (w .vn)) i;
-        vp = table-left parametric (R .vp) (m .vertices .vp) (K .vp) (L .vp) (subst (λ (k : Model). 4 * length (k .vertices .vp) ≤ R .vp) (c .model) (w .vp)) i;
-        corners = corners-left i;
-        elements = (kept-whole (R .elements) 0 (elementRows 0 0 es) (9 * length es) (elementRows-length 0 0 es) ∙ ap (filled (R .elements) 0) (sym (rows-kept m 0 0 es))) i;
-        bodies = (kept-whole (R .bodies) 0 (bodyRows 0 0 bs) (9 * length bs) (bodyRows-length 0 0 bs) ∙ ap (λ (x : List Body). filled (R .bodies) 0 (bodyRows 0 0 x)) (sym (bodies-kept m es))) i;
-        ranges = (kept-whole (R .ranges) (pos 0) (flat rangeRow bs) (4 * length bs) (rangeRows-length bs) ∙ ap (λ (x : List Body). filled (R .ranges) (pos 0) (flat rangeRow x)) (sym (bodies-kept m es))) i;
-        parameters = (kept-whole (R .parameters) (pos 0) (flat parameterRow bs) (summed (λ b. length (b .us) + length (b .vs)) bs) (parameterRows-length bs) ∙ ap (λ (x : List Body). filled (R .parameters) (pos 0) (flat parameterRow x)) (sym (bodies-kept m es))) i;
-        loops = (kept-whole (R .loops) 0 (flat loopRows bs) (2 * summed partCount bs) (loopRows-length bs) ∙ ap (λ (x : List Body). filled (R .loops) 0 (flat loopRows x)) (sym (bodies-kept m es))) i;
-        spans = (kept-whole (R .spans) (pos 0) (flat spanRows bs) (2 * summed partCount bs) (spanRows-length bs) ∙ ap (λ (x : List Body). filled (R .spans) (pos 0) (flat spanRows x)) (sym (bodies-kept m es))) i;
+        vertices = record {
+          v = table-left geometric (R .vertices .v) (m .vertices .v) (K .v) (L .v) (subst (λ (k : Model). 4 * length (k .vertices .v) ≤ R .vertices .v) (c .model) (w .vertices .v)) i;
+          vt = table-left texture (R .vertices .vt) (m .vertices .vt) (K .vt) (L .vt) (subst (λ (k : Model). 3 * length (k .vertices .vt) ≤ R .vertices .vt) (c .model) (w .vertices .vt)) i;
+          vn = table-left normal (R .vertices .vn) (m .vertices .vn) (K .vn) (L .vn) (subst (λ (k : Model). 3 * length (k .vertices .vn) ≤ R .vertices .vn) (c .model) (w .vertices .vn)) i;
+          vp = table-left parametric (R .vertices .vp) (m .vertices .vp) (K .vp) (L .vp) (subst (λ (k : Model). 4 * length (k .vertices .vp) ≤ R .vertices .vp) (c .model) (w .vertices .vp)) i;
+        };
+        elements = record {
+          corners = corners-left i;
+          elements = (kept-whole (R .elements .elements) 0 (elementRows 0 0 es) (9 * length es) (elementRows-length 0 0 es) ∙ ap (filled (R .elements .elements) 0) (sym (rows-kept m 0 0 es))) i;
+        };
+        bodies = record {
+          bodies = (kept-whole (R .bodies .bodies) 0 (bodyRows 0 0 bs) (9 * length bs) (bodyRows-length 0 0 bs) ∙ ap (λ (x : List Body). filled (R .bodies .bodies) 0 (bodyRows 0 0 x)) (sym (bodies-kept m es))) i;
+          ranges = (kept-whole (R .bodies .ranges) (pos 0) (flat rangeRow bs) (4 * length bs) (rangeRows-length bs) ∙ ap (λ (x : List Body). filled (R .bodies .ranges) (pos 0) (flat rangeRow x)) (sym (bodies-kept m es))) i;
+          parameters = (kept-whole (R .bodies .parameters) (pos 0) (flat parameterRow bs) (summed (λ b. length (b .us) + length (b .vs)) bs) (parameterRows-length bs) ∙ ap (λ (x : List Body). filled (R .bodies .parameters) (pos 0) (flat parameterRow x)) (sym (bodies-kept m es))) i;
+          loops = (kept-whole (R .bodies .loops) 0 (flat loopRows bs) (2 * summed partCount bs) (loopRows-length bs) ∙ ap (λ (x : List Body). filled (R .bodies .loops) 0 (flat loopRows x)) (sym (bodies-kept m es))) i;
+          spans = (kept-whole (R .bodies .spans) (pos 0) (flat spanRows bs) (2 * summed partCount bs) (spanRows-length bs) ∙ ap (λ (x : List Body). filled (R .bodies .spans) (pos 0) (flat spanRows x)) (sym (bodies-kept m es))) i;
+        };
       }
     where
-      corners-left : filled (length (filled (R .corners) 0 (flat cornerRows es))) 0 (cornersAfter u t) ≡ filled (R .corners) 0 (flat cornerRows (map (sweptElement m) es))
+      corners-left : filled (length (filled (R .elements .corners) 0 (flat cornerRows es))) 0 (cornersAfter u t) ≡ filled (R .elements .corners) 0 (flat cornerRows (map (sweptElement m) es))
       corners-left =
-          ap (filled (length (filled (R .corners) 0 (flat cornerRows es))) 0) (corners-after R s m h)
-          ∙ refilled (R .corners) 0 (flat cornerRows es) (flat cornerRows (map (sweptElement m) es))
+          ap (filled (length (filled (R .elements .corners) 0 (flat cornerRows es))) 0) (corners-after R s m h)
+          ∙ refilled (R .elements .corners) 0 (flat cornerRows es) (flat cornerRows (map (sweptElement m) es))
           (cornerRows-length (map (sweptElement m) es) ∙ ap (λ (k : ℕ). 3 * k) (corners-kept m es) ∙ sym (cornerRows-length es))
 
 pub swept-files : SweptFiles

@@ -10,6 +10,7 @@ use Rattle.lists.specs.Lists.{flat}
 use Rattle.references.specs.Corner.{Corner}
 use Rattle.tables.specs.Tables.{Tables}
 use Rattle.tables.specs.Records.{elementAt, cornerAt}
+use Rattle.tables.specs.declared.CornerRun.{CornerRun}
 use Rattle.tables.specs.declared.Used.{Used}
 use Rattle.model.specs.Model.{VertexKind, geometric, texture, normal, parametric, Free, curve, curve2, surface, point, line, face, Kind, plain, free, Element, Model, isCurve2, start}
 use Rattle.model.specs.Room.{Rooms}
@@ -19,7 +20,7 @@ use Rattle.tidy_form.proofs.Good.{GoodVertices}
 use Rattle.model.proofs.Stands.{Stands, Among, among, among-at}
 use Rattle.sampled_files.proofs.Vertices.{width, vertex-at}
 use Rattle.model.proofs.Laid.{laid}
-use Rattle.model.proofs.ElementRows.{cornersIn, Row, row-of, corners-stand, noCorner, laidCorner, corner-at}
+use Rattle.model.proofs.ElementRows.{cornersIn, laidRun, Row, row-of, corners-stand, noCorner, laidCorner, corner-at}
 use Rattle.sweep_marks.specs.Counting.{reference, anyBelow, flatBelow, keptRows}
 use Rattle.sweep.specs.Named.{widthIn, named, cornerAfter, cornersAfter}
 use Rattle.swept_files.specs.Files.{numberIn, anyOf, namedIn, keptOf, sweptCorner, sweptElement}
@@ -98,23 +99,23 @@ module _ (R : Rooms) (s : List ℕ) (m : Model) (h : readOf R s ≡ read m) wher
     kind-is : elementAt t i .kind ≡ kindNumber (e .kind)
     kind-is = row .kind ∙ ap (λ (x : Element). kindNumber (x .kind)) one-is
 
-    count-is : elementAt t i .count ≡ length (e .corners)
+    count-is : elementAt t i .corners .count ≡ length (e .corners)
     count-is = row .count ∙ ap (λ (x : Element). length (x .corners)) one-is
 
-    corner-is : (j : ℕ) → j < length (e .corners) → cornerAt t (elementAt t i .first) j ≡ laidCorner (getD (e .corners) j noCorner)
+    corner-is : (j : ℕ) → j < length (e .corners) → cornerAt t (elementAt t i .corners) j ≡ laidCorner (getD (e .corners) j noCorner)
     corner-is =
-        subst (λ (x : Element). (j : ℕ) → j < length (x .corners) → cornerAt t (elementAt t i .first) j ≡ laidCorner (getD (x .corners) j noCorner)) one-is
-        (λ j b. ap (λ (first : ℕ). cornerAt t first j) (row .first)
-        ∙ corner-at t (cornersIn (at .before)) (at .one .corners) (corners-stand t es i (laid R m .corners) at) j b)
+        subst (λ (x : Element). (j : ℕ) → j < length (x .corners) → cornerAt t (elementAt t i .corners) j ≡ laidCorner (getD (x .corners) j noCorner)) one-is
+        (λ j b. ap (λ (run : CornerRun). cornerAt t run j) (row .run)
+        ∙ corner-at t (laidRun (cornersIn (at .before)) (at .one .corners)) (at .one .corners) (corners-stand t es i (laid R m .corners) at) j b)
 
   -- some corner names record k
   named-at : (kind : VertexKind) (k : ℕ) → named u t kind k ≡ namedIn m kind k
   unfolding named namedIn usedOf
   named-at kind k =
-      any-by (λ i. anyBelow (elementAt t i .count) (λ j. eqb (reference kind (elementAt t i .kind) (cornerAt t (elementAt t i .first) j)) k))
+      any-by (λ i. anyBelow (elementAt t i .corners .count) (λ j. eqb (reference kind (elementAt t i .kind) (cornerAt t (elementAt t i .corners) j)) k))
       (λ (x : Element). anyOf (λ c. eqb (numberIn kind (isCurve2 (x .kind)) c) k) (x .corners)) noElement es
-      (λ i l. ap (λ (n : ℕ). anyBelow n (λ j. eqb (reference kind (elementAt t i .kind) (cornerAt t (elementAt t i .first) j)) k)) (count-is i l)
-      ∙ any-by (λ j. eqb (reference kind (elementAt t i .kind) (cornerAt t (elementAt t i .first) j)) k) (λ c. eqb (numberIn kind (isCurve2 (e i l .kind)) c) k) noCorner (e i l .corners)
+      (λ i l. ap (λ (n : ℕ). anyBelow n (λ j. eqb (reference kind (elementAt t i .kind) (cornerAt t (elementAt t i .corners) j)) k)) (count-is i l)
+      ∙ any-by (λ j. eqb (reference kind (elementAt t i .kind) (cornerAt t (elementAt t i .corners) j)) k) (λ c. eqb (numberIn kind (isCurve2 (e i l .kind)) c) k) noCorner (e i l .corners)
       (λ j b. ap (λ (n : ℕ). eqb n k) (ap₂ (reference kind) (kind-is i l) (corner-is i l j b) ∙ reference-is kind (e i l .kind) (getD (e i l .corners) j noCorner))))
 
   pub named-same : (kind : VertexKind) → named u t kind ≡ namedIn m kind
@@ -127,10 +128,10 @@ module _ (R : Rooms) (s : List ℕ) (m : Model) (h : readOf R s ≡ read m) wher
   pub corners-after : cornersAfter u t ≡ flat cornerRows (map (sweptElement m) es)
   unfolding cornersAfter usedOf
   corners-after =
-      flat-by (λ i. flatBelow (elementAt t i .count) (λ j. cornerAfter u t (elementAt t i .kind) (cornerAt t (elementAt t i .first) j)))
+      flat-by (λ i. flatBelow (elementAt t i .corners .count) (λ j. cornerAfter u t (elementAt t i .kind) (cornerAt t (elementAt t i .corners) j)))
       (λ (x : Element). cornerRows (sweptElement m x)) noElement es
-      (λ i l. ap (λ (n : ℕ). flatBelow n (λ j. cornerAfter u t (elementAt t i .kind) (cornerAt t (elementAt t i .first) j))) (count-is i l)
-      ∙ flat-by (λ j. cornerAfter u t (elementAt t i .kind) (cornerAt t (elementAt t i .first) j)) (λ c. cornerRow (sweptCorner m (isCurve2 (e i l .kind)) c)) noCorner (e i l .corners)
+      (λ i l. ap (λ (n : ℕ). flatBelow n (λ j. cornerAfter u t (elementAt t i .kind) (cornerAt t (elementAt t i .corners) j))) (count-is i l)
+      ∙ flat-by (λ j. cornerAfter u t (elementAt t i .kind) (cornerAt t (elementAt t i .corners) j)) (λ c. cornerRow (sweptCorner m (isCurve2 (e i l .kind)) c)) noCorner (e i l .corners)
       (λ j b. ap₂ (cornerAfter u t) (kind-is i l) (corner-is i l j b) ∙ corner-after (e i l .kind) (getD (e i l .corners) j noCorner))
       ∙ flat-mapped cornerRow (sweptCorner m (isCurve2 (e i l .kind))) (e i l .corners))
       ∙ flat-mapped cornerRows (sweptElement m) es

@@ -20,13 +20,13 @@ use Rattle.sweep_marks.proofs.Counting.{kept-most}
 use Rattle.swept_files.proofs.Counting.{kept-named, kept-more, new-named, new-zero, Old, kept-old}
 use Rattle.swept_files.proofs.Parts.{row-within}
 use Rattle.swept_files.proofs.Rows.{rows-fit, table-row}
-use Rattle.sweep.proofs.Whole.{Lent}
+use Rattle.table_rules.proofs.Lent.{Lent}
 
 pub lent-in : (used : Used) (t : Tables) → Lent used t → (kind : VertexKind) → widthIn kind * usedOf kind used ≤ length (tableIn kind t)
-lent-in used t l geometric = l .v
-lent-in used t l texture = l .vt
-lent-in used t l normal = l .vn
-lent-in used t l parametric = l .vp
+lent-in used t l geometric = l .vertices .v
+lent-in used t l texture = l .vertices .vt
+lent-in used t l normal = l .vertices .vn
+lent-in used t l parametric = l .vertices .vp
 
 module _ (used : Used) (t : Tables) where
   pub used-in : (kind : VertexKind) → usedOf kind (sweptUsed used t) ≡ keptIn used t kind

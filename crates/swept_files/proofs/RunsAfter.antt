@@ -40,9 +40,9 @@ module _ (used : Used) (t : Tables) (s : Standing used t) where
       let n = endsBefore t i in
       let g = bodyFollows n (bodyAt t (n .bodies)) in
       let c = curvesBefore t i in
-      let f = rw p at (and-right (eqb (e .first) (n .corners)) (cond (isPlain e) true (eqb (e .body) (suc (n .bodies)) && g)) (s .follows i h)) in
+      let f = rw p at (and-right (eqb (e .corners .first) (n .corners)) (cond (isPlain e) true (eqb (e .body) (suc (n .bodies)) && g)) (s .follows i h)) in
       let k = eqb-true (e .body) (suc (n .bodies)) (and-left (eqb (e .body) (suc (n .bodies))) g f) in
-      let b = body-held used t (s .lent) (e .body) c (e .kind) (e .count) (rw p at (element-parts used t c e (obeys-element used t c i (s .obeys i h)) .body)) in
+      let b = body-held used t (s .lent) (e .body) c (e .kind) (e .corners .count) (rw p at (element-parts used t c e (obeys-element used t c i (s .obeys i h)) .body)) in
       let m = b .used-one in
       omega arith
 

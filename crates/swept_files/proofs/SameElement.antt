@@ -78,24 +78,24 @@ module _ (used : Used) (t : Tables) (u : Used) (w : Tables) (h : wholeObeys used
   element-same = s .elements i l
 
   -- ---- its controls
-  corners-after : Corners u w (e .kind) (e .first) (e .count)
-  corners-after = subst (λ (x : Element). Corners u w (x .kind) (x .first) (x .count)) element-same (facts-after .corners)
+  corners-after : Corners u w (e .kind) (e .corners)
+  corners-after = subst (λ (x : Element). Corners u w (x .kind) (x .corners)) element-same (facts-after .corners)
 
-  shown-same : (kind : VertexKind) (j : ℕ) → j < e .count
-      → rowNumbered kind w (reference kind (e .kind) (cornerAt w (e .first) j)) ≡ rowNumbered kind t (reference kind (e .kind) (cornerAt t (e .first) j))
-  shown-same kind j c = ap (λ (x : Element). rowNumbered kind w (reference kind (x .kind) (cornerAt w (x .first) j))) (sym element-same) ∙ s .coordinates kind i j l c
+  shown-same : (kind : VertexKind) (j : ℕ) → j < e .corners .count
+      → rowNumbered kind w (reference kind (e .kind) (cornerAt w (e .corners) j)) ≡ rowNumbered kind t (reference kind (e .kind) (cornerAt t (e .corners) j))
+  shown-same kind j c = ap (λ (x : Element). rowNumbered kind w (reference kind (x .kind) (cornerAt w (x .corners) j))) (sym element-same) ∙ s .coordinates kind i j l c
 
-  value-same : (kind : VertexKind) (j n : ℕ) → j < e .count → n < widthIn kind
-      → 1 ≤ reference kind (e .kind) (cornerAt w (e .first) j) → 1 ≤ reference kind (e .kind) (cornerAt t (e .first) j)
-      → valueAt (widthIn kind) (tableIn kind w) (reference kind (e .kind) (cornerAt w (e .first) j) - 1) n
-      ≡ valueAt (widthIn kind) (tableIn kind t) (reference kind (e .kind) (cornerAt t (e .first) j) - 1) n
+  value-same : (kind : VertexKind) (j n : ℕ) → j < e .corners .count → n < widthIn kind
+      → 1 ≤ reference kind (e .kind) (cornerAt w (e .corners) j) → 1 ≤ reference kind (e .kind) (cornerAt t (e .corners) j)
+      → valueAt (widthIn kind) (tableIn kind w) (reference kind (e .kind) (cornerAt w (e .corners) j) - 1) n
+      ≡ valueAt (widthIn kind) (tableIn kind t) (reference kind (e .kind) (cornerAt t (e .corners) j) - 1) n
   value-same kind j n c d p q =
-      let a = reference kind (e .kind) (cornerAt w (e .first) j) in
-      let o = reference kind (e .kind) (cornerAt t (e .first) j) in
+      let a = reference kind (e .kind) (cornerAt w (e .corners) j) in
+      let o = reference kind (e .kind) (cornerAt t (e .corners) j) in
       part-values (tableIn kind w) (tableIn kind t) (widthIn kind * (a - 1)) (widthIn kind * (o - 1)) (widthIn kind) n (pos 0)
       (sym (record-is kind w a p) ∙ shown-same kind j c ∙ record-is kind t o q) d
 
-  pub control-same : (axis j : ℕ) → axis < 3 → j < e .count → controlOf w e axis j ≡ controlOf t e axis j
+  pub control-same : (axis j : ℕ) → axis < 3 → j < e .corners .count → controlOf w e axis j ≡ controlOf t e axis j
   unfolding controlOf
   control-same axis j a c = ⊎-elim plane space (test (eqb (e .kind) 5))
     where
@@ -103,24 +103,24 @@ module _ (used : Used) (t : Tables) (u : Used) (w : Tables) (h : wholeObeys used
       plane q =
           let five = eqb-true (e .kind) 5 q in
           let v = value-same parametric j (1 + axis) c (omega arith) in
-          rw q ((rw q at v) (corner-control u w (e .kind) (e .first) (e .count) corners-after j c five .some)
-          (corner-control used t (e .kind) (e .first) (e .count) (facts .corners) j c five .some))
+          rw q ((rw q at v) (corner-control u w (e .kind) (e .corners) corners-after j c five .some)
+          (corner-control used t (e .kind) (e .corners) (facts .corners) j c five .some))
 
       space : eqb (e .kind) 5 ≡ false → controlOf w e axis j ≡ controlOf t e axis j
       space q =
           let other : e .kind ≡ 5 → ⊥ = λ f. never (sym q ∙ eq-eqb (e .kind) 5 f) in
           let v = value-same geometric j axis c (omega arith) in
-          rw q ((rw q at v) (corner-vertex u w (e .kind) (e .first) (e .count) corners-after j c other .some)
-          (corner-vertex used t (e .kind) (e .first) (e .count) (facts .corners) j c other .some))
+          rw q ((rw q at v) (corner-vertex u w (e .kind) (e .corners) corners-after j c other .some)
+          (corner-vertex used t (e .kind) (e .corners) (facts .corners) j c other .some))
 
   -- ---- its body, where it has one
   module _ (four : 4 ≤ e .kind) where
     recorded-before : Recorded used t (e .kind) (e .body)
-    recorded-before = recorded used t (curvesBefore t i) (e .kind) (e .count) (e .body) (body-of facts four)
+    recorded-before = recorded used t (curvesBefore t i) (e .kind) (e .corners .count) (e .body) (body-of facts four)
 
     recorded-after : Recorded u w (elementAt w i .kind) (elementAt w i .body)
     recorded-after =
-        recorded u w (curvesBefore w i) (elementAt w i .kind) (elementAt w i .count) (elementAt w i .body)
+        recorded u w (curvesBefore w i) (elementAt w i .kind) (elementAt w i .corners .count) (elementAt w i .body)
         (body-of facts-after (subst (λ (x : Element). 4 ≤ x .kind) (sym element-same) four))
 
     pub body-same : bodyAt w (elementAt w i .body - 1) ≡ b
@@ -128,12 +128,12 @@ module _ (used : Used) (t : Tables) (u : Used) (w : Tables) (h : wholeObeys used
         ap (λ (x : Element). bodyAt w (x .body - 1)) element-same
         ∙ s .bodies (e .body - 1) (omega (arith, recorded-before .some, recorded-before .used-one))
 
-    lent-after : b .«first_parameter» + (b .«count_u» + b .«count_v») ≤ length (w .parameters)
-    lent-after = subst (λ (x : Body). x .«first_parameter» + (x .«count_u» + x .«count_v») ≤ length (w .parameters)) body-same (recorded-after .run .lent-ones)
+    lent-after : b .«first_parameter» + (b .«count_u» + b .«count_v») ≤ length (w .bodies .parameters)
+    lent-after = subst (λ (x : Body). x .«first_parameter» + (x .«count_u» + x .«count_v») ≤ length (w .bodies .parameters)) body-same (recorded-after .run .lent-ones)
 
-    run-same : (j n : ℕ) → j + n ≤ b .«first_parameter» + (b .«count_u» + b .«count_v») → take n (drop j (w .parameters)) ≡ take n (drop j (t .parameters))
+    run-same : (j n : ℕ) → j + n ≤ b .«first_parameter» + (b .«count_u» + b .«count_v») → take n (drop j (w .bodies .parameters)) ≡ take n (drop j (t .bodies .parameters))
     run-same j n c =
-        part-same (w .parameters) (t .parameters) j n (omega (arith, lent-after)) (omega (arith, recorded-before .run .lent-ones))
+        part-same (w .bodies .parameters) (t .bodies .parameters) j n (omega (arith, lent-after)) (omega (arith, recorded-before .run .lent-ones))
         (λ x y. s .parameters x (omega (arith, recorded-before .run .used-ones)))
 
     direction-u : directionU w b ≡ directionU t b
@@ -142,13 +142,13 @@ module _ (used : Used) (t : Tables) (u : Used) (w : Tables) (h : wholeObeys used
     direction-v : directionV w b ≡ directionV t b
     direction-v = ap (direction (bodyDirection (b .basis) (b .«degree_v») (b .«count_v»))) (run-same (b .«first_parameter» + b .«count_u») (b .«count_v») (omega arith))
 
-    pub curve-same : (p : ℤ) → Rules (directionU t b) p → e .count ≡ directionU t b .controls → (axis : ℕ) → axis < 3 → curveAt w e b p axis ≡ curveAt t e b p axis
+    pub curve-same : (p : ℤ) → Rules (directionU t b) p → e .corners .count ≡ directionU t b .controls → (axis : ℕ) → axis < 3 → curveAt w e b p axis ≡ curveAt t e b p axis
     unfolding curveAt
     curve-same p r c axis a =
         ap (λ (d : Direction). curveSampled d p (controlOf w e axis)) direction-u
         ∙ curve-held (directionU t b) p r (controlOf w e axis) (controlOf t e axis) (λ j q. control-same axis j a (omega (arith, c)))
 
-    pub surface-same : (p q : ℤ) → Rules (directionU t b) p → Rules (directionV t b) q → e .count ≡ directionU t b .controls * directionV t b .controls
+    pub surface-same : (p q : ℤ) → Rules (directionU t b) p → Rules (directionV t b) q → e .corners .count ≡ directionU t b .controls * directionV t b .controls
         → (axis : ℕ) → axis < 3 → surfaceAt w e b p q axis ≡ surfaceAt t e b p q axis
     unfolding surfaceAt
     surface-same p q r o c axis a =

@@ -57,8 +57,8 @@ refusal-is : (surface : Bool) (used : Used) (t : Tables) (number : ℕ) → whol
 unfolding refusalOf
 refusal-is surface used t number h a c =
     let o = elements-facts used t (whole-parts used t h .elements) (number - 1) (omega arith) in
-    let l : 9 * number ≤ length (t .elements) = omega (arith, obeys-facts used t (curvesBefore t (number - 1)) (number - 1) o .lent-one) in
-    rw (le-leb 1 number a, le-leb number (used .elements) c, le-leb (9 * number) (length (t .elements)) l, o)
+    let l : 9 * number ≤ length (t .elements .elements) = omega (arith, obeys-facts used t (curvesBefore t (number - 1)) (number - 1) o .lent-one) in
+    rw (le-leb 1 number a, le-leb number (used .elements) c, le-leb (9 * number) (length (t .elements .elements)) l, o)
 
 module _ (used : Used) (t : Tables) (u : Used) (w : Tables) (count : u .elements ≡ used .elements)
     (h : wholeObeys used t ≡ true) (k : wholeObeys u w ≡ true) (s : SameShown used t w) (number : ℕ) where

@@ -8,7 +8,8 @@ use native.Mathlib.Nat.{mul-le-mul-left}
 use lib.ListN.{length}
 use lib.IntN.{ℤ, pos}
 use Rattle.lists.specs.Lists.{filled}
-use Rattle.tables.specs.Tables.{Tables, tables}
+use Rattle.tables.specs.Tables.{Tables}
+use Rattle.tables.proofs.Groups.{vertex-tables-eq, element-tables-eq, body-tables-eq, tables-eq}
 use Rattle.tables.specs.Records.{elementAt, cornerAt}
 use Rattle.tables.specs.declared.Used.{Used}
 use Rattle.tables.specs.declared.Element.{Element}
@@ -32,12 +33,6 @@ use Rattle.swept_files.proofs.ElementAfter.{corners-lent}
 use Rattle.swept_files.proofs.SweptObeys.{swept-obeys}
 use Rattle.swept_files.proofs.Given.{sweep-is}
 use Rattle.swept_files.proofs.AllNamed.{cornerNumbers, used-same, dropped-none, rows-same, corner-same}
-
-tables-same : (a b : Tables) → a .v ≡ b .v → a .vt ≡ b .vt → a .vn ≡ b .vn → a .vp ≡ b .vp → a .corners ≡ b .corners → a .elements ≡ b .elements
-    → a .bodies ≡ b .bodies → a .ranges ≡ b .ranges → a .parameters ≡ b .parameters → a .loops ≡ b .loops → a .spans ≡ b .spans → a ≡ b
-tables-same a b v vt vn vp corners elements bodies ranges parameters loops spans =
-    let e : tables (a .v) (a .vt) (a .vn) (a .vp) (a .corners) (a .elements) (a .bodies) (a .ranges) (a .parameters) (a .loops) (a .spans) ≡ b =
-    rw (v, vt, vn, vp, corners, elements, bodies, ranges, parameters, loops, spans) refl in e
 
 module _ (used : Used) (t : Tables) (h : wholeObeys used t ≡ true) where
   abbrev U : Used
@@ -64,7 +59,7 @@ module _ (used : Used) (t : Tables) (h : wholeObeys used t ≡ true) where
       let g : referenceIn kind W i j ≡ suc m =
       r .after ∙ ap (λ (k : ℕ). newNumber f k) (x .holds) ∙ new-named f (suc (o .index)) (o .passes) ∙ kept-named f (o .index) (o .passes) ∙ o .counted in
       let p : i < U .elements = (let c = same-counts used t .elements in let d = x .used-one in omega arith) in
-      let q : j < elementAt W i .count = (let c = ap (λ (e : Element). e .count) (elements-same used t (s .lent) i (x .used-one)) in let d = x .one-of-its in omega arith) in
+      let q : j < elementAt W i .corners .count = (let c = ap (λ (e : Element). e .corners .count) (elements-same used t (s .lent) i (x .used-one)) in let d = x .one-of-its in omega arith) in
       subst (λ (k : ℕ). named U W kind k ≡ true) g (named-held U W kind i j p q)
 
   -- ---- each table
@@ -82,29 +77,29 @@ module _ (used : Used) (t : Tables) (h : wholeObeys used t ≡ true) where
       ∙ front-filled (length l) (pos 0) (rowsAfter used t kind) (w * keptUpto f n) (rows-length w f l n lent) k
       ∙ sym (table-in used t kind)
 
-  corner-again : (i j : ℕ) → i < used .elements → j < elementAt t i .count
-      → cornerAfter U W (elementAt t i .kind) (cornerAt W (elementAt t i .first) j) ≡ cornerAfter used t (elementAt t i .kind) (cornerAt t (elementAt t i .first) j)
+  corner-again : (i j : ℕ) → i < used .elements → j < elementAt t i .corners .count
+      → cornerAfter U W (elementAt t i .kind) (cornerAt W (elementAt t i .corners) j) ≡ cornerAfter used t (elementAt t i .kind) (cornerAt t (elementAt t i .corners) j)
   corner-again i j a b =
       let e = elements-same used t (s .lent) i a in
       let p : i < U .elements = (let c = same-counts used t .elements in omega arith) in
-      let q : j < elementAt W i .count = (let c = ap (λ (e : Element). e .count) e in omega arith) in
-      sym (ap (λ (e : Element). cornerAfter U W (e .kind) (cornerAt W (e .first) j)) e)
+      let q : j < elementAt W i .corners .count = (let c = ap (λ (e : Element). e .corners .count) e in omega arith) in
+      sym (ap (λ (e : Element). cornerAfter U W (e .kind) (cornerAt W (e .corners) j)) e)
       ∙ corner-same U W still-named again i j p q
-      ∙ ap (λ (e : Element). cornerNumbers (cornerAt W (e .first) j)) e
+      ∙ ap (λ (e : Element). cornerNumbers (cornerAt W (e .corners) j)) e
       ∙ ap cornerNumbers (corner-after used t i j a b (s .follows i a))
 
   corners-same : cornersAfter U W ≡ cornersAfter used t
   unfolding cornersAfter
   corners-same =
-      let run : Used → Tables → Element → List ℕ = λ u w e. flatBelow (e .count) (λ j. cornerAfter u w (e .kind) (cornerAt w (e .first) j)) in
+      let run : Used → Tables → Element → List ℕ = λ u w e. flatBelow (e .corners .count) (λ j. cornerAfter u w (e .kind) (cornerAt w (e .corners) j)) in
       ap (λ (n : ℕ). flatBelow n (λ i. run U W (elementAt W i))) (same-counts used t .elements)
       ∙ flatBelow-same (λ i. run U W (elementAt W i)) (λ i. run used t (elementAt t i)) (used .elements)
       (λ i a.
       ap (run U W) (elements-same used t (s .lent) i a)
-      ∙ flatBelow-same (λ j. cornerAfter U W (elementAt t i .kind) (cornerAt W (elementAt t i .first) j))
-      (λ j. cornerAfter used t (elementAt t i .kind) (cornerAt t (elementAt t i .first) j)) (elementAt t i .count) (λ j b. corner-again i j a b))
+      ∙ flatBelow-same (λ j. cornerAfter U W (elementAt t i .kind) (cornerAt W (elementAt t i .corners) j))
+      (λ j. cornerAfter used t (elementAt t i .kind) (cornerAt t (elementAt t i .corners) j)) (elementAt t i .corners .count) (λ j b. corner-again i j a b))
 
-  corners-again : sweptTables U W .corners ≡ W .corners
+  corners-again : sweptTables U W .elements .corners ≡ W .elements .corners
   corners-again =
       corners-table U W ∙ ap₂ (λ (n : ℕ) (x : List ℕ). filled n 0 x) (corners-lent used t s) corners-same ∙ sym (corners-table used t)
 
@@ -115,13 +110,15 @@ module _ (used : Used) (t : Tables) (h : wholeObeys used t ≡ true) where
   tables-again =
       let c = same-counts used t in
       let l = s .lent in
-      tables-same (sweptTables U W) W (rows-again geometric) (rows-again texture) (rows-again normal) (rows-again parametric) corners-again
-      (fronts U W .elements ∙ front-same 0 (9 * U .elements) (9 * used .elements) (t .elements) (W .elements) (fronts used t .elements) (ap (λ (n : ℕ). 9 * n) (c .elements)) (l .elements))
-      (fronts U W .bodies ∙ front-same 0 (9 * U .bodies) (9 * used .bodies) (t .bodies) (W .bodies) (fronts used t .bodies) (ap (λ (n : ℕ). 9 * n) (c .bodies)) (l .bodies))
-      (fronts U W .ranges ∙ front-same (pos 0) (4 * U .bodies) (4 * used .bodies) (t .ranges) (W .ranges) (fronts used t .ranges) (ap (λ (n : ℕ). 4 * n) (c .bodies)) (l .ranges))
-      (fronts U W .parameters ∙ front-same (pos 0) (U .parameters) (used .parameters) (t .parameters) (W .parameters) (fronts used t .parameters) (c .parameters) (l .parameters))
-      (fronts U W .loops ∙ front-same 0 (2 * U .loops) (2 * used .loops) (t .loops) (W .loops) (fronts used t .loops) (ap (λ (n : ℕ). 2 * n) (c .loops)) (l .loops))
-      (fronts U W .spans ∙ front-same (pos 0) (2 * U .loops) (2 * used .loops) (t .spans) (W .spans) (fronts used t .spans) (ap (λ (n : ℕ). 2 * n) (c .loops)) (l .spans))
+      tables-eq (vertex-tables-eq (rows-again geometric) (rows-again texture) (rows-again normal) (rows-again parametric))
+      (element-tables-eq corners-again
+      (fronts U W .elements ∙ front-same 0 (9 * U .elements) (9 * used .elements) (t .elements .elements) (W .elements .elements) (fronts used t .elements) (ap (λ (n : ℕ). 9 * n) (c .elements)) (l .elements .elements)))
+      (body-tables-eq
+      (fronts U W .bodies ∙ front-same 0 (9 * U .bodies) (9 * used .bodies) (t .bodies .bodies) (W .bodies .bodies) (fronts used t .bodies) (ap (λ (n : ℕ). 9 * n) (c .bodies)) (l .bodies .bodies))
+      (fronts U W .ranges ∙ front-same (pos 0) (4 * U .bodies) (4 * used .bodies) (t .bodies .ranges) (W .bodies .ranges) (fronts used t .ranges) (ap (λ (n : ℕ). 4 * n) (c .bodies)) (l .bodies .ranges))
+      (fronts U W .parameters ∙ front-same (pos 0) (U .parameters) (used .parameters) (t .bodies .parameters) (W .bodies .parameters) (fronts used t .parameters) (c .parameters) (l .bodies .parameters))
+      (fronts U W .loops ∙ front-same 0 (2 * U .loops) (2 * used .loops) (t .bodies .loops) (W .bodies .loops) (fronts used t .loops) (ap (λ (n : ℕ). 2 * n) (c .loops)) (l .bodies .loops))
+      (fronts U W .spans ∙ front-same (pos 0) (2 * U .loops) (2 * used .loops) (t .bodies .spans) (W .bodies .spans) (fronts used t .spans) (ap (λ (n : ℕ). 2 * n) (c .loops)) (l .bodies .spans)))
 
 pub all-named : (used : Used) (t : Tables) → wholeObeys used t ≡ true → AllNamed (sweptUsed used t) (sweptTables used t)
 all-named used t h kind k a b = holder (sweptUsed used t) (sweptTables used t) kind k (still-named used t h kind k a b)

@@ -15,7 +15,8 @@ use Rattle.sweep_marks.specs.Counting.{newNumber}
 use Rattle.sweep.specs.Named.{usedOf, named}
 use Rattle.sweep.specs.Swept.{sweptTables}
 use Rattle.swept_files.specs.Promises.{referenceIn}
-use Rattle.sweep.proofs.Whole.{Lent, lent-facts, whole-parts, elements-facts, runs-at, runs-end}
+use Rattle.table_rules.proofs.Lent.{Lent, lent-facts}
+use Rattle.sweep.proofs.Whole.{whole-parts, elements-facts, runs-at, runs-end}
 use Rattle.swept_files.proofs.CornersAfter.{named-held, held-after}
 use Rattle.swept_files.proofs.ElementParts.{held-within}
 
@@ -48,7 +49,7 @@ pub record Reference (used : Used) (t : Tables) (kind : VertexKind) (i j : ℕ) 
   pub names : named used t kind (referenceIn kind t i j) ≡ true
   pub after : referenceIn kind (sweptTables used t) i j ≡ newNumber (named used t kind) (referenceIn kind t i j)
 
-pub reference-in : (used : Used) (t : Tables) → Standing used t → (kind : VertexKind) (i j : ℕ) → i < used .elements → j < elementAt t i .count → Reference used t kind i j
+pub reference-in : (used : Used) (t : Tables) → Standing used t → (kind : VertexKind) (i j : ℕ) → i < used .elements → j < elementAt t i .corners .count → Reference used t kind i j
 reference-in used t s kind i j h l =
     record {
       within = held-within used t (curvesBefore t i) i (s .obeys i h) kind j l;

@@ -16,7 +16,8 @@ use Rattle.record_rules.proofs.Below.{below-at, below-all}
 use Rattle.table_rules.specs.Whole.{verticesObey, wholeObeys}
 use Rattle.sweep.specs.Named.{usedOf, tableIn, widthIn}
 use Rattle.sweep.specs.Swept.{sweptUsed, sweptTables}
-use Rattle.sweep.proofs.Whole.{whole-parts, whole-of, Lent, lent-of, elements-of}
+use Rattle.table_rules.proofs.Lent.{Lent, lent-of}
+use Rattle.sweep.proofs.Whole.{whole-parts, whole-of, elements-of}
 use Rattle.swept_files.proofs.OneKind.{Moved, rows-lent, moved, moved-from}
 use Rattle.swept_files.proofs.Others.{lengths}
 use Rattle.swept_files.proofs.VertexAfter.{vertex-after, parameter-after}
@@ -37,17 +38,23 @@ module _ (used : Used) (t : Tables) (s : Standing used t) where
       let c = same-counts used t in
       let l = s .lent in
       record {
-        v = rows-lent used t l geometric;
-        vt = rows-lent used t l texture;
-        vn = rows-lent used t l normal;
-        vp = rows-lent used t l parametric;
-        corners = (let a = c .corners in let b = corners-lent used t s in let d = l .corners in omega arith);
-        elements = (let a = c .elements in let b = lengths used t l .elements in let d = l .elements in omega arith);
-        bodies = (let a = c .bodies in let b = lengths used t l .bodies in let d = l .bodies in omega arith);
-        ranges = (let a = c .bodies in let b = lengths used t l .ranges in let d = l .ranges in omega arith);
-        parameters = (let a = c .parameters in let b = lengths used t l .parameters in let d = l .parameters in omega arith);
-        loops = (let a = c .loops in let b = lengths used t l .loops in let d = l .loops in omega arith);
-        spans = (let a = c .loops in let b = lengths used t l .spans in let d = l .spans in omega arith);
+        vertices = record {
+          v = rows-lent used t l geometric;
+          vt = rows-lent used t l texture;
+          vn = rows-lent used t l normal;
+          vp = rows-lent used t l parametric;
+        };
+        elements = record {
+          corners = (let a = c .corners in let b = corners-lent used t s in let d = l .elements .corners in omega arith);
+          elements = (let a = c .elements in let b = lengths used t l .elements in let d = l .elements .elements in omega arith);
+        };
+        bodies = record {
+          bodies = (let a = c .bodies in let b = lengths used t l .bodies in let d = l .bodies .bodies in omega arith);
+          ranges = (let a = c .bodies in let b = lengths used t l .ranges in let d = l .bodies .ranges in omega arith);
+          parameters = (let a = c .parameters in let b = lengths used t l .parameters in let d = l .bodies .parameters in omega arith);
+          loops = (let a = c .loops in let b = lengths used t l .loops in let d = l .bodies .loops in omega arith);
+          spans = (let a = c .loops in let b = lengths used t l .spans in let d = l .bodies .spans in omega arith);
+        };
       }
 
   -- a test of a record that looks at its numbers alone holds of every record that is left, where it held of all
@@ -67,10 +74,10 @@ module _ (used : Used) (t : Tables) (s : Standing used t) where
   vertices-after : verticesObey used t ≡ true → verticesObey U W ≡ true
   unfolding verticesObey
   vertices-after h =
-      let v = allBelow (used .v) (λ k. vertexObeys 4 (t .v) (used .v) (suc k)) in
-      let vt = allBelow (used .vt) (λ k. vertexObeys 3 (t .vt) (used .vt) (suc k)) in
-      let vn = allBelow (used .vn) (λ k. vertexObeys 3 (t .vn) (used .vn) (suc k)) in
-      let vp = allBelow (used .vp) (λ k. parameterVertexObeys (t .vp) (used .vp) (suc k)) in
+      let v = allBelow (used .v) (λ k. vertexObeys 4 (t .vertices .v) (used .v) (suc k)) in
+      let vt = allBelow (used .vt) (λ k. vertexObeys 3 (t .vertices .vt) (used .vt) (suc k)) in
+      let vn = allBelow (used .vn) (λ k. vertexObeys 3 (t .vertices .vn) (used .vn) (suc k)) in
+      let vp = allBelow (used .vp) (λ k. parameterVertexObeys (t .vertices .vp) (used .vp) (suc k)) in
       let three = and-left (v && vt && vn) vp h in
       let two = and-left (v && vt) vn three in
       and-both

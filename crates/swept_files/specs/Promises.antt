@@ -22,7 +22,7 @@ rowNumbered kind t (suc k) = take (widthIn kind) (drop (widthIn kind * k) (table
 
 -- the reference of a kind that corner j of element i holds, and the record that it names: its coordinates
 abbrev pub referenceIn : VertexKind → Tables → (i j : ℕ) → ℕ
-referenceIn kind t i j = reference kind (elementAt t i .kind) (cornerAt t (elementAt t i .first) j)
+referenceIn kind t i j = reference kind (elementAt t i .kind) (cornerAt t (elementAt t i .corners) j)
 
 abbrev pub shownBy : VertexKind → Tables → (i j : ℕ) → List ℤ
 shownBy kind t i j = rowNumbered kind t (referenceIn kind t i j)
@@ -32,7 +32,7 @@ pub record NamedBy (used : Used) (t : Tables) (kind : VertexKind) (k : ℕ) : Ty
   pub element : ℕ
   pub corner : ℕ
   pub used-one : element < used .elements
-  pub one-of-its : corner < elementAt t element .count
+  pub one-of-its : corner < elementAt t element .corners .count
   pub holds : referenceIn kind t element corner ≡ k
 
 -- "removes every v, vt, vn and vp that no corner names": those that are left, a corner names
@@ -43,9 +43,9 @@ AllNamed used t = (kind : VertexKind) (k : ℕ) → 1 ≤ k → k ≤ usedOf kin
 pub record SameShown (used : Used) (t w : Tables) : Type 0 where
   pub elements : (i : ℕ) → i < used .elements → elementAt w i ≡ elementAt t i
   pub bodies : (i : ℕ) → i < used .bodies → bodyAt w i ≡ bodyAt t i
-  pub parameters : (i : ℕ) → i < used .parameters → getD (w .parameters) i (pos 0) ≡ getD (t .parameters) i (pos 0)
+  pub parameters : (i : ℕ) → i < used .parameters → getD (w .bodies .parameters) i (pos 0) ≡ getD (t .bodies .parameters) i (pos 0)
   pub parts : (i : ℕ) → i < used .loops → partAt w i ≡ partAt t i
-  pub coordinates : (kind : VertexKind) (i j : ℕ) → i < used .elements → j < elementAt t i .count → shownBy kind w i j ≡ shownBy kind t i j
+  pub coordinates : (kind : VertexKind) (i j : ℕ) → i < used .elements → j < elementAt t i .corners .count → shownBy kind w i j ≡ shownBy kind t i j
 
 -- no element, corner, body, parameter or loop part is added or left out
 pub record SameCounts (used after : Used) : Type 0 where
@@ -89,7 +89,7 @@ pub record Renumbered (used : Used) (t : Tables) (a : SweepAnswer) (kind : Verte
       → numberAfter kind used (a .numbers) j < numberAfter kind used (a .numbers) k
   pub contents : (k : ℕ) → 1 ≤ k → k ≤ usedOf kind used → named used t kind k ≡ true
       → rowNumbered kind (a .tables) (numberAfter kind used (a .numbers) k) ≡ rowNumbered kind t k
-  pub references : (i j : ℕ) → i < used .elements → j < elementAt t i .count
+  pub references : (i j : ℕ) → i < used .elements → j < elementAt t i .corners .count
       → referenceIn kind (a .tables) i j ≡ numberAfter kind used (a .numbers) (referenceIn kind t i j)
 
 -- "in a lent list whose rest stays as it was"

@@ -8,7 +8,9 @@ ghost use Rattle.tables.specs.Records.{bodyWidth, rangeWidth, elementIn, bodyIn
 ghost use Rattle.tables.specs.Asking.{held, askedElement, bodyHeld, askedBody, cornerWith, askedCorner, partOf, askedGroup, askedMaterial};
 use tables::Body;
 use tables::Corner;
+use tables::CornerRun;
 use tables::Element;
+use tables::NameRun;
 use tables::Used;
 use tables::widths;
 
@@ -36,14 +38,20 @@ pub fn element_in(elements: &[u32], index: u32) -> Element
     let at = widths::ELEMENT * index as usize;
     Element {
         kind: tables::number_in(elements, at),
-        first: tables::number_in(elements, at + 1),
-        count: tables::number_in(elements, at + 2),
+        corners: CornerRun {
+            first: tables::number_in(elements, at + 1),
+            count: tables::number_in(elements, at + 2),
+        },
         body: tables::number_in(elements, at + 3),
         smoothing: tables::number_in(elements, at + 4),
-        group_place: tables::number_in(elements, at + 5),
-        group_length: tables::number_in(elements, at + 6),
-        material_place: tables::number_in(elements, at + 7),
-        material_length: tables::number_in(elements, at + 8),
+        group: NameRun {
+            place: tables::number_in(elements, at + 5),
+            length: tables::number_in(elements, at + 6),
+        },
+        material: NameRun {
+            place: tables::number_in(elements, at + 7),
+            length: tables::number_in(elements, at + 8),
+        },
     }
 }
 
@@ -56,14 +64,17 @@ pub fn element_of(used: Used, elements: &[u32], element: u32) -> Element
     }
     Element {
         kind: 0,
-        first: 0,
-        count: 0,
+        corners: CornerRun { first: 0, count: 0 },
         body: 0,
         smoothing: 0,
-        group_place: 0,
-        group_length: 0,
-        material_place: 0,
-        material_length: 0,
+        group: NameRun {
+            place: 0,
+            length: 0,
+        },
+        material: NameRun {
+            place: 0,
+            length: 0,
+        },
     }
 }
 
@@ -142,17 +153,18 @@ pub fn corner_with(used: Used, corners: &[u32], element: Element, k: u32) -> Cor
     ensures { λ r. ⌜ r ≡ cornerWith used (now (corners .entry)) element k ⌝ }
 {
     let none = Corner { v: 0, vt: 0, vn: 0 };
-    if element.count <= k {
+    let run = element.corners;
+    if run.count <= k {
         return none;
     }
-    let at = tables::corners_end(element.first, k);
+    let at = tables::corner_place(run, k as usize);
     if (used.corners as usize) < at + widths::CORNER {
         return none;
     }
     if corners.len() < at + widths::CORNER {
         return none;
     }
-    tables::corner_at(corners, element.first, k as usize)
+    tables::corner_at(corners, run, k as usize)
 }
 
 // Corner `k`, counted from 0, of the element of that number, counted from 1; three zeros for no such corner.
@@ -163,11 +175,12 @@ pub fn corner_of(used: Used, elements: &[u32], corners: &[u32], element: u32, k:
     corner_with(used, corners, e, k)
 }
 
-fn part_of(text: &[u8], place: u32, count: u32) -> &[u8]
-    ensures { λ r. ⌜ now r ≡ partOf (now (text .entry)) place count ⌝ }
+// The part of the text that a run of names takes up; empty where it passes the text's end.
+pub fn part_of(text: &[u8], run: NameRun) -> &[u8]
+    ensures { λ r. ⌜ now r ≡ partOf (now (text .entry)) run ⌝ }
 {
-    let from = place as usize;
-    let to = from + (count as usize);
+    let from = run.place as usize;
+    let to = from + (run.length as usize);
     if to <= text.len() {
         return &text[from..to];
     }
@@ -180,7 +193,7 @@ pub fn group_of<'a, 'b>(text: &'a [u8], used: Used, elements: &'b [u32], element
     ensures { λ r. ⌜ now r ≡ askedGroup (now (text .entry)) used (now (elements .entry)) element ⌝ }
 {
     let e = element_of(used, elements, element);
-    part_of(text, e.group_place, e.group_length)
+    part_of(text, e.group)
 }
 
 // The same of its material's name.
@@ -193,5 +206,5 @@ pub fn material_of<'a, 'b>(
     ensures { λ r. ⌜ now r ≡ askedMaterial (now (text .entry)) used (now (elements .entry)) element ⌝ }
 {
     let e = element_of(used, elements, element);
-    part_of(text, e.material_place, e.material_length)
+    part_of(text, e.material)
 }

@@ -32,7 +32,7 @@ module _ (used : Used) (t : Tables) (curves i : ℕ) where
 
   -- the element's body as it is asked for
   abbrev b : Body
-  b = askedBody used (t .bodies) (t .ranges) (e .body)
+  b = askedBody used (t .bodies .bodies) (t .bodies .ranges) (e .body)
 
   module _ (h : obeys used t curves i ≡ true) (n : Ends) where
     abbrev next : Body
@@ -41,7 +41,7 @@ module _ (used : Used) (t : Tables) (curves i : ℕ) where
     abbrev facts : Obeys used t curves i
     facts = obeys-facts used t curves i h
 
-    bodied : isPlain e ≡ false → bodyObeys used t curves (e .kind) (e .count) (e .body) ≡ true
+    bodied : isPlain e ≡ false → bodyObeys used t curves (e .kind) (e .corners .count) (e .body) ≡ true
     bodied k = body-of facts (leb-false (e .kind) 3 k)
 
     own-is : e .body ≡ suc (n .bodies) → bodyAt t (e .body - 1) ≡ next
@@ -49,7 +49,7 @@ module _ (used : Used) (t : Tables) (curves i : ℕ) where
 
     body-next : isPlain e ≡ false → e .body ≡ suc (n .bodies) → b ≡ next
     body-next k m =
-        body-there used t curves (e .kind) (e .count) (e .body) (sym (body-is used t curves (e .kind) (e .count) (e .body)) ∙ bodied k)
+        body-there used t curves (e .kind) (e .corners .count) (e .body) (sym (body-is used t curves (e .kind) (e .corners .count) (e .body)) ∙ bodied k)
         ∙ own-is m
 
     pub follows-are : elementFollows n e b ≡ elementFollows n e next
@@ -62,11 +62,11 @@ module _ (used : Used) (t : Tables) (curves i : ℕ) where
         go (inr k) (inr m) = rw (k, m)
 
     module _ (f : elementFollows n e next ≡ true) where
-      first-is : e .first ≡ n .corners
-      first-is = eqb-true _ _ (and-left (eqb (e .first) (n .corners)) _ f)
+      first-is : e .corners .first ≡ n .corners
+      first-is = eqb-true _ _ (and-left (eqb (e .corners .first) (n .corners)) _ f)
 
       rest : isPlain e ≡ false → (eqb (e .body) (suc (n .bodies)) && bodyFollows n next) ≡ true
-      rest k = rw k at (and-right (eqb (e .first) (n .corners)) _ f)
+      rest k = rw k at (and-right (eqb (e .corners .first) (n .corners)) _ f)
 
       number-is : isPlain e ≡ false → e .body ≡ suc (n .bodies)
       number-is k = eqb-true _ _ (and-left (eqb (e .body) (suc (n .bodies))) _ (rest k))
@@ -87,20 +87,20 @@ module _ (used : Used) (t : Tables) (curves i : ℕ) where
       both : isPlain e ≡ false → (parameters-test && parts-test) ≡ true
       both k = and-right (eqb (e .body) (suc (n .bodies))) (parameters-test && parts-test) (rest k)
 
-      corners-end : n .corners + 3 * e .count ≤ used .corners
+      corners-end : n .corners + 3 * e .corners .count ≤ used .corners
       corners-end = omega (arith, first-is, facts .corners .used-run)
 
       parameters-end : isPlain e ≡ false → n .parameters + (next .«count_u» + next .«count_v») ≤ used .parameters
       parameters-end k =
           let first = eqb-true (next .«first_parameter») (n .parameters) (and-left parameters-test parts-test (both k)) in
-          let run = recorded used t curves (e .kind) (e .count) (e .body) (bodied k) .run .used-ones in
+          let run = recorded used t curves (e .kind) (e .corners .count) (e .body) (bodied k) .run .used-ones in
           omega (arith, first, subst (λ (x : Body). x .«first_parameter» + (x .«count_u» + x .«count_v») ≤ used .parameters) (own-is (number-is k)) run)
 
       parts-end : isPlain e ≡ false → n .parts ≤ used .loops → n .parts + next .loops ≤ used .loops
       parts-end k w = go (test (eqb (next .loops) 0))
         where
           run : (next .loops ≡ 0 → ⊥) → next .«first_loop» + next .loops ≤ used .loops
-          run = subst (λ (x : Body). (x .loops ≡ 0 → ⊥) → x .«first_loop» + x .loops ≤ used .loops) (own-is (number-is k)) (parts-used used t curves (e .kind) (e .count) (e .body) (bodied k))
+          run = subst (λ (x : Body). (x .loops ≡ 0 → ⊥) → x .«first_loop» + x .loops ≤ used .loops) (own-is (number-is k)) (parts-used used t curves (e .kind) (e .corners .count) (e .body) (bodied k))
 
           go : (eqb (next .loops) 0 ≡ true) ⊎ (eqb (next .loops) 0 ≡ false) → n .parts + next .loops ≤ used .loops
           go (inl z) = omega (arith, eqb-true (next .loops) 0 z, w)
@@ -117,7 +117,7 @@ module _ (used : Used) (t : Tables) (curves i : ℕ) where
               rw k
               record {
                 corners = corners-end;
-                bodies = omega (arith, number-is k, recorded used t curves (e .kind) (e .count) (e .body) (bodied k) .used-one);
+                bodies = omega (arith, number-is k, recorded used t curves (e .kind) (e .corners .count) (e .body) (bodied k) .used-one);
                 parameters = parameters-end k;
                 parts = parts-end k (w .parts);
               }

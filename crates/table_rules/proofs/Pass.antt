@@ -58,8 +58,8 @@ module _ (used : Used) (t : Tables) where
       rw (obeyed, followed, to)
 
   -- the element at i, with its body
-  module _ {i curves : ℕ} {ends : Ends} (p : Passed i curves ends) (more : i < used .elements) (lent : 9 * used .elements ≤ length (t .elements))
-      (e : Element) (b : Body) (e-is : e ≡ elementAt t i) (b-is : b ≡ askedBody used (t .bodies) (t .ranges) (e .body)) where
+  module _ {i curves : ℕ} {ends : Ends} (p : Passed i curves ends) (more : i < used .elements) (lent : 9 * used .elements ≤ length (t .elements .elements))
+      (e : Element) (b : Body) (e-is : e ≡ elementAt t i) (b-is : b ≡ askedBody used (t .bodies .bodies) (t .bodies .ranges) (e .body)) where
     obeys-here : recordsObey used t curves e b ≡ obeysAt i
     obeys-here = rw (b-is, e-is, p .counted) (records-are used t (curvesBefore t i) i (omega arith))
 
@@ -92,7 +92,7 @@ module _ (used : Used) (t : Tables) where
             record {
               most = omega arith;
               few = omega arith;
-              counted = curves-more (t .elements) i curves c (e .kind) (p .counted) (ap (λ (x : Element). x .kind) e-is) c-is;
+              counted = curves-more (t .elements .elements) i curves c (e .kind) (p .counted) (ap (λ (x : Element). x .kind) e-is) c-is;
               ends-are = to;
               within = rw (to, add-one) (ends-within used t (curvesBefore t i) i obeyed-here (endsBefore t i) followed-here (rw (p .ends-are) at (p .within)));
               obeyed = below-more obeysAt i (p .obeyed) obeyed-here;

@@ -3,10 +3,13 @@
 -- don't follow on to the last used entry as reading lays them".
 use Prim.Native.Nat.{ℕ, zero, suc, _+_, _*_}
 use mathlib.Core.Bool.{Bool, true, cond, _&&_}
-use lib.ListN.{length}
 use lib.Dec.{leb, eqb}
+use Rattle.tables.specs.VertexTables.{vertexLengths, vertexWithin}
+use Rattle.tables.specs.ElementTables.{elementLengths, elementWithin}
+use Rattle.tables.specs.BodyTables.{bodyLengths, bodyWithin}
+use Rattle.tables.specs.UsedRooms.{usedVertices, usedElements, usedBodies}
 use Rattle.tables.specs.Tables.{Tables}
-use Rattle.tables.specs.Records.{vWidth, vtWidth, vnWidth, vpWidth, elementWidth, bodyWidth, rangeWidth, loopWidth, spanWidth, elementAt, bodyAt, cornersEnd, faceKind}
+use Rattle.tables.specs.Records.{vWidth, vtWidth, vnWidth, elementAt, bodyAt, cornersLength, faceKind}
 use Rattle.tables.specs.declared.Used.{Used}
 use Rattle.tables.specs.declared.Element.{Element}
 use Rattle.tables.specs.declared.Body.{Body}
@@ -18,25 +21,17 @@ use Rattle.table_rules.specs.declared.ends.Ends as declared
 -- all used entries are lent: here, and not for sampling, a used count past its slice is a fault by itself
 unfoldable pub lentAll : Used → Tables → Bool
 lentAll used t =
-    leb (vWidth * used .v) (length (t .v))
-    && leb (vtWidth * used .vt) (length (t .vt))
-    && leb (vnWidth * used .vn) (length (t .vn))
-    && leb (vpWidth * used .vp) (length (t .vp))
-    && leb (used .corners) (length (t .corners))
-    && leb (elementWidth * used .elements) (length (t .elements))
-    && leb (bodyWidth * used .bodies) (length (t .bodies))
-    && leb (rangeWidth * used .bodies) (length (t .ranges))
-    && leb (used .parameters) (length (t .parameters))
-    && leb (loopWidth * used .loops) (length (t .loops))
-    && leb (spanWidth * used .loops) (length (t .spans))
+    vertexWithin (usedVertices used) (vertexLengths (t .vertices))
+    && elementWithin (usedElements used) (elementLengths (t .elements))
+    && bodyWithin (usedBodies used) (bodyLengths (t .bodies))
 
 -- every v, vt, vn and vp, named or not
 unfoldable pub verticesObey : Used → Tables → Bool
 verticesObey used t =
-    allBelow (used .v) (λ k. vertexObeys vWidth (t .v) (used .v) (suc k))
-    && allBelow (used .vt) (λ k. vertexObeys vtWidth (t .vt) (used .vt) (suc k))
-    && allBelow (used .vn) (λ k. vertexObeys vnWidth (t .vn) (used .vn) (suc k))
-    && allBelow (used .vp) (λ k. parameterVertexObeys (t .vp) (used .vp) (suc k))
+    allBelow (used .v) (λ k. vertexObeys vWidth (t .vertices .v) (used .v) (suc k))
+    && allBelow (used .vt) (λ k. vertexObeys vtWidth (t .vertices .vt) (used .vt) (suc k))
+    && allBelow (used .vn) (λ k. vertexObeys vnWidth (t .vertices .vn) (used .vn) (suc k))
+    && allBelow (used .vp) (λ k. parameterVertexObeys (t .vertices .vp) (used .vp) (suc k))
 
 -- every element, with its corners and its body
 unfoldable pub elementsObey : Used → Tables → Bool
@@ -59,7 +54,7 @@ isPlain e = leb (e .kind) faceKind
 abbrev pub endsAfter : Ends → Element → Body → Ends
 endsAfter n e b =
     record {
-      corners = cornersEnd (n .corners) (e .count);
+      corners = n .corners + cornersLength (e .corners);
       bodies = cond (isPlain e) (n .bodies) (suc (n .bodies));
       parameters = cond (isPlain e) (n .parameters) (n .parameters + (b .«count_u» + b .«count_v»));
       parts = cond (isPlain e) (n .parts) (n .parts + b .loops);
@@ -77,7 +72,7 @@ bodyFollows n b = eqb (b .«first_parameter») (n .parameters) && cond (eqb (b .
 -- an element's corners begin at those ends, and its body is the next one
 abbrev pub elementFollows : Ends → Element → Body → Bool
 elementFollows n e b =
-    eqb (e .first) (n .corners) && cond (isPlain e) true (eqb (e .body) (suc (n .bodies)) && bodyFollows n b)
+    eqb (e .corners .first) (n .corners) && cond (isPlain e) true (eqb (e .body) (suc (n .bodies)) && bodyFollows n b)
 
 abbrev pub followsAt : Tables → ℕ → Bool
 followsAt t i = elementFollows (endsBefore t i) (elementAt t i) (bodyAt t (endsBefore t i .bodies))

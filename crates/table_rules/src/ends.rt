@@ -6,7 +6,6 @@ use tables::Body;
 use tables::Element;
 use tables::Used;
 use tables::kinds;
-use tables::widths;
 
 // Numbers of corners, bodies, parameters and loop parts.
 pub struct Ends {
@@ -21,7 +20,7 @@ pub fn ends_after(ends: Ends, element: Element, body: Body) -> Ends
     requires { ⌜ (ends .corners ≤ 4294967295) × (ends .bodies ≤ 4294967295) × (ends .parameters ≤ 4294967295) × (ends .parts ≤ 4294967295) ⌝ }
     ensures { λ r. ⌜ r ≡ endsAfter ends element body ⌝ }
 {
-    let corners = ends.corners + widths::CORNER * element.count as usize;
+    let corners = ends.corners + tables::corners_length(element.corners);
     if element.kind <= kinds::FACE {
         return Ends {
             corners: corners,
@@ -55,7 +54,8 @@ pub fn element_follows(ends: Ends, element: Element, body: Body) -> bool
     requires { ⌜ ends .bodies ≤ 4294967295 ⌝ }
     ensures { λ r. ⌜ r ≡ elementFollows ends element body ⌝ }
 {
-    let first = element.first as usize;
+    let run = element.corners;
+    let first = run.first as usize;
     let end = ends.corners;
     if first != end {
         return false;

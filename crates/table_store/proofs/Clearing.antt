@@ -1,14 +1,12 @@
--- What a clearing loop has done after i turns, over the element type: one store more is one zero more at the front. And equal lists make equal tables.
+-- What a clearing loop has done after i turns, over the element type: one store more is one zero more at the front.
 use Prim.Native.Nat.{ℕ, zero, suc, _+_, _≤_, _<_}
 use mathlib.Core.Path.{_≡_, refl, ap, _∙_}
 use mathlib.Core.List.{List, [], _∷_, _++_, append-nil}
 use native.Mathlib.Nat.{le-of-suc-le-suc}
 use native.Mathlib.Numerals.{add-one}
 use native.Mathlib.Omega.{arith}
-use lib.IntN.{ℤ}
 use lib.ListN.{length, replicate, set, drop, length-set}
 use lib.Seq.{drop-length}
-use Rattle.tables.specs.Tables.{tables}
 
 pub record Cleared {A : Type 0} (z : A) (before now : List A) (i : ℕ) : Type 0 where
   pub within : i ≤ length before
@@ -37,8 +35,3 @@ module _ {A : Type 0} {z : A} {l m : List A} {i : ℕ} (c : Cleared z l m i) whe
       let w : i ≤ length l = c .within in
       let k : i ≡ length l = omega arith in
       c .front ∙ ap (λ (n : ℕ). replicate n z ++ drop n l) k ∙ ap (λ (t : List A). replicate (length l) z ++ t) (drop-length l) ∙ append-nil (replicate (length l) z)
-
-pub tables-eq : {v v′ vt vt′ vn vn′ vp vp′ : List ℤ} {corners corners′ elements elements′ bodies bodies′ : List ℕ} {ranges ranges′ parameters parameters′ : List ℤ} {loops loops′ : List ℕ} {spans spans′ : List ℤ} →
-    v ≡ v′ → vt ≡ vt′ → vn ≡ vn′ → vp ≡ vp′ → corners ≡ corners′ → elements ≡ elements′ → bodies ≡ bodies′ → ranges ≡ ranges′ → parameters ≡ parameters′ → loops ≡ loops′ → spans ≡ spans′ →
-    tables v vt vn vp corners elements bodies ranges parameters loops spans ≡ tables v′ vt′ vn′ vp′ corners′ elements′ bodies′ ranges′ parameters′ loops′ spans′
-tables-eq v vt vn vp corners elements bodies ranges parameters loops spans = cc

@@ -11,9 +11,11 @@ use lib.ListN.{length, getD, take, drop, List·getD-eq-default}
 use lib.IntN.{ℤ, pos}
 use lib.Pow.{pow-pos, pow-add}
 use Rattle.lists.proofs.Tests.{and-left, and-right}
-use Rattle.tables.specs.Records.{elementIn, bodyIn, cornerIn}
+use Rattle.tables.specs.Records.{elementIn, bodyIn, cornerPlace, cornerIn}
 use Rattle.tables.specs.Asking.{held, askedElement, noElement, bodyHeld, askedBody, noBody, cornerWith, askedCorner, noCorner, partOf, askedGroup, askedMaterial}
 use Rattle.tables.specs.declared.Used.{Used}
+use Rattle.tables.specs.declared.CornerRun.{CornerRun}
+use Rattle.tables.specs.declared.NameRun.{NameRun}
 use Rattle.tables.specs.declared.Element.{Element}
 use Rattle.tables.specs.declared.Body.{Body}
 use Rattle.tables.specs.declared.Corner.{Corner}
@@ -105,50 +107,53 @@ pub body-lent : (bodies : List ℕ) (ranges : List ℤ) (i : ℕ) {p q r s : ℤ
 body-lent bodies ranges i a b c d = rw (a, b, c, d, add-zero, add-zero) refl
 
 -- no corner begins past as many entries
-pub corner-past : (corners : List ℕ) (first k : ℕ) → length corners ≤ k → noCorner ≡ cornerIn corners (first + 3 * k)
-corner-past corners first k h =
-    let v : getD corners (first + 3 * k) 0 ≡ 0 = List·getD-eq-default corners 0 (omega arith) in
-    let vt : getD corners (first + 3 * k + 1) 0 ≡ 0 = List·getD-eq-default corners 0 (omega arith) in
-    let vn : getD corners (first + 3 * k + 2) 0 ≡ 0 = List·getD-eq-default corners 0 (omega arith) in
+pub corner-past : (corners : List ℕ) (run : CornerRun) (k : ℕ) → length corners ≤ k → noCorner ≡ cornerIn corners (cornerPlace run k)
+corner-past corners run k h =
+    let v : getD corners (cornerPlace run k) 0 ≡ 0 = List·getD-eq-default corners 0 (omega arith) in
+    let vt : getD corners (cornerPlace run k + 1) 0 ≡ 0 = List·getD-eq-default corners 0 (omega arith) in
+    let vn : getD corners (cornerPlace run k + 2) 0 ≡ 0 = List·getD-eq-default corners 0 (omega arith) in
     rw (v, vt, vn) refl
 
 module _ (used : Used) (corners : List ℕ) (e : Element) (k : ℕ) where
-  pub corner-lacked : e .count ≤ k → noCorner ≡ cornerWith used corners e k
-  unfolding cornerWith
-  corner-lacked h = rw (le-ltb k (e .count) h) refl
+  abbrev at : ℕ
+  at = cornerPlace (e .corners) k
 
-  pub corner-unused : k < e .count → used .corners < e .first + 3 * k + 3 → noCorner ≡ cornerWith used corners e k
+  pub corner-lacked : e .corners .count ≤ k → noCorner ≡ cornerWith used corners e k
   unfolding cornerWith
-  corner-unused h u = rw (lt-ltb k (e .count) h, lt-leb (e .first + 3 * k + 3) (used .corners) u) refl
+  corner-lacked h = rw (le-ltb k (e .corners .count) h) refl
 
-  pub corner-unlent : k < e .count → e .first + 3 * k + 3 ≤ used .corners → length corners < e .first + 3 * k + 3 → noCorner ≡ cornerWith used corners e k
+  pub corner-unused : k < e .corners .count → used .corners < at + 3 → noCorner ≡ cornerWith used corners e k
   unfolding cornerWith
-  corner-unlent h u l = rw (lt-ltb k (e .count) h, le-leb (e .first + 3 * k + 3) (used .corners) u, lt-leb (e .first + 3 * k + 3) (length corners) l) refl
+  corner-unused h u = rw (lt-ltb k (e .corners .count) h, lt-leb (at + 3) (used .corners) u) refl
 
-  pub corner-there : k < e .count → e .first + 3 * k + 3 ≤ used .corners → e .first + 3 * k + 3 ≤ length corners → cornerIn corners (e .first + 3 * k) ≡ cornerWith used corners e k
+  pub corner-unlent : k < e .corners .count → at + 3 ≤ used .corners → length corners < at + 3 → noCorner ≡ cornerWith used corners e k
   unfolding cornerWith
-  corner-there h u l = rw (lt-ltb k (e .count) h, le-leb (e .first + 3 * k + 3) (used .corners) u, le-leb (e .first + 3 * k + 3) (length corners) l) refl
+  corner-unlent h u l = rw (lt-ltb k (e .corners .count) h, le-leb (at + 3) (used .corners) u, lt-leb (at + 3) (length corners) l) refl
+
+  pub corner-there : k < e .corners .count → at + 3 ≤ used .corners → at + 3 ≤ length corners → cornerIn corners at ≡ cornerWith used corners e k
+  unfolding cornerWith
+  corner-there h u l = rw (lt-ltb k (e .corners .count) h, le-leb (at + 3) (used .corners) u, le-leb (at + 3) (length corners) l) refl
 
 pub corner-asked : (used : Used) (elements corners : List ℕ) (number k : ℕ) {e : Element} {c : Corner} → e ≡ askedElement used elements number → c ≡ cornerWith used corners e k → c ≡ askedCorner used elements corners number k
 unfolding askedCorner
 corner-asked used elements corners number k p q = q ∙ ap (λ (e : Element). cornerWith used corners e k) p
 
-module _ (text : List ℕ) (place count : ℕ) where
-  pub part-there : place + count ≤ length text → take (place + count - place) (drop place text) ≡ partOf text place count
+module _ (text : List ℕ) (run : NameRun) where
+  pub part-there : run .place + run .length ≤ length text → take (run .place + run .length - run .place) (drop (run .place) text) ≡ partOf text run
   unfolding partOf
   part-there h =
-      let e : place + count - place ≡ count = omega arith in
-      rw (le-leb (place + count) (length text) h, e) refl
+      let e : run .place + run .length - run .place ≡ run .length = omega arith in
+      rw (le-leb (run .place + run .length) (length text) h, e) refl
 
-  pub part-past : length text < place + count → [] ≡ partOf text place count
+  pub part-past : length text < run .place + run .length → [] ≡ partOf text run
   unfolding partOf
-  part-past h = rw (lt-leb (place + count) (length text) h) refl
+  part-past h = rw (lt-leb (run .place + run .length) (length text) h) refl
 
 module _ (text : List ℕ) (used : Used) (elements : List ℕ) (number : ℕ) {e : Element} {part : List ℕ} (p : e ≡ askedElement used elements number) where
-  pub group-asked : part ≡ partOf text (e .«group_place») (e .«group_length») → part ≡ askedGroup text used elements number
+  pub group-asked : part ≡ partOf text (e .group) → part ≡ askedGroup text used elements number
   unfolding askedGroup
-  group-asked q = q ∙ ap (λ (e : Element). partOf text (e .«group_place») (e .«group_length»)) p
+  group-asked q = q ∙ ap (λ (e : Element). partOf text (e .group)) p
 
-  pub material-asked : part ≡ partOf text (e .«material_place») (e .«material_length») → part ≡ askedMaterial text used elements number
+  pub material-asked : part ≡ partOf text (e .material) → part ≡ askedMaterial text used elements number
   unfolding askedMaterial
-  material-asked q = q ∙ ap (λ (e : Element). partOf text (e .«material_place») (e .«material_length»)) p
+  material-asked q = q ∙ ap (λ (e : Element). partOf text (e .material)) p

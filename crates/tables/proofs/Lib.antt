@@ -5,3 +5,5 @@ pub mod Flat
 pub mod Examples
 pub mod Types
 pub mod Knots
+pub mod Groups
+pub mod Within

@@ -6,8 +6,9 @@ use mathlib.Core.Bool.{Bool, cond, _&&_}
 use lib.ListN.{length, take, drop}
 use lib.Dec.{ltb, leb}
 use lib.IntN.{ℤ, pos}
-use Rattle.tables.specs.Records.{elementWidth, bodyWidth, rangeWidth, cornerWidth, elementIn, bodyIn, cornersEnd, cornerIn}
+use Rattle.tables.specs.Records.{elementWidth, bodyWidth, rangeWidth, cornerWidth, elementIn, bodyIn, cornerPlace, cornerIn}
 use Rattle.tables.specs.declared.Used.{Used}
+use Rattle.tables.specs.declared.NameRun.{NameRun}
 use Rattle.tables.specs.declared.Element.{Element}
 use Rattle.tables.specs.declared.Body.{Body}
 use Rattle.tables.specs.declared.Corner.{Corner}
@@ -20,14 +21,11 @@ abbrev pub noElement : Element
 noElement =
     record {
       kind = 0;
-      first = 0;
-      count = 0;
+      corners = record { first = 0; count = 0 };
       body = 0;
       smoothing = 0;
-      «group_place» = 0;
-      «group_length» = 0;
-      «material_place» = 0;
-      «material_length» = 0;
+      group = record { place = 0; length = 0 };
+      material = record { place = 0; length = 0 };
     }
 
 -- the element of that number, all zeros for no such element
@@ -67,9 +65,9 @@ noCorner = record { v = 0; vt = 0; vn = 0 }
 -- corner k of an element, three zeros for one that it lacks or that passes the used or the lent entries; the used corners are counted in numbers
 unfoldable pub cornerWith : Used → List ℕ → Element → ℕ → Corner
 cornerWith used corners e k =
-    let at = cornersEnd (e .first) k in
+    let at = cornerPlace (e .corners) k in
     cond
-    (ltb k (e .count) && leb (at + cornerWidth) (used .corners) && leb (at + cornerWidth) (length corners))
+    (ltb k (e .corners .count) && leb (at + cornerWidth) (used .corners) && leb (at + cornerWidth) (length corners))
     (cornerIn corners at)
     noCorner
 
@@ -77,16 +75,12 @@ unfoldable pub askedCorner : Used → List ℕ → List ℕ → ℕ → ℕ → 
 askedCorner used elements corners number k = cornerWith used corners (askedElement used elements number) k
 
 -- "that part of the caller's own text"; "a run past the text's end, gives an empty part"
-unfoldable pub partOf : List ℕ → ℕ → ℕ → List ℕ
-partOf text place count = cond (leb (place + count) (length text)) (take count (drop place text)) []
+unfoldable pub partOf : List ℕ → NameRun → List ℕ
+partOf text run = cond (leb (run .place + run .length) (length text)) (take (run .length) (drop (run .place) text)) []
 
 -- "Place and length are 0 where none is set": the empty part then, and for no such element
 unfoldable pub askedGroup : List ℕ → Used → List ℕ → ℕ → List ℕ
-askedGroup text used elements number =
-    let e = askedElement used elements number in
-    partOf text (e .«group_place») (e .«group_length»)
+askedGroup text used elements number = partOf text (askedElement used elements number .group)
 
 unfoldable pub askedMaterial : List ℕ → Used → List ℕ → ℕ → List ℕ
-askedMaterial text used elements number =
-    let e = askedElement used elements number in
-    partOf text (e .«material_place») (e .«material_length»)
+askedMaterial text used elements number = partOf text (askedElement used elements number .material)

@@ -1,5 +1,9 @@
+pub mod VertexTables
+pub mod ElementTables
+pub mod BodyTables
 pub mod Tables
 pub mod Records
+pub mod UsedRooms
 pub mod Bodies
 pub mod Asking
 pub mod Vertices

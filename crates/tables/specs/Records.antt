@@ -5,6 +5,7 @@ use mathlib.Core.List.{List}
 use lib.ListN.{getD, take, drop}
 use lib.IntN.{ℤ, pos}
 use Rattle.tables.specs.Tables.{Tables}
+use Rattle.tables.specs.declared.CornerRun.{CornerRun}
 use Rattle.tables.specs.declared.Element.{Element}
 use Rattle.tables.specs.declared.Body.{Body}
 use Rattle.tables.specs.declared.Corner.{Corner}
@@ -53,30 +54,36 @@ abbrev pub elementIn : List ℕ → ℕ → Element
 elementIn elements i =
     record {
       kind = numberAt elementWidth elements i 0;
-      first = numberAt elementWidth elements i 1;
-      count = numberAt elementWidth elements i 2;
+      corners = record { first = numberAt elementWidth elements i 1; count = numberAt elementWidth elements i 2 };
       body = numberAt elementWidth elements i 3;
       smoothing = numberAt elementWidth elements i 4;
-      «group_place» = numberAt elementWidth elements i 5;
-      «group_length» = numberAt elementWidth elements i 6;
-      «material_place» = numberAt elementWidth elements i 7;
-      «material_length» = numberAt elementWidth elements i 8;
+      group = record { place = numberAt elementWidth elements i 5; length = numberAt elementWidth elements i 6 };
+      material = record { place = numberAt elementWidth elements i 7; length = numberAt elementWidth elements i 8 };
     }
 
 abbrev pub elementAt : Tables → ℕ → Element
-elementAt t i = elementIn (t .elements) i
+elementAt t i = elementIn (t .elements .elements) i
 
 -- "A corner is v, vt, vn (0 for none); a curv2 control holds its vp number in the first place."
 abbrev pub cornerIn : List ℕ → ℕ → Corner
 cornerIn corners at = record { v = getD corners at 0; vt = getD corners (at + 1) 0; vn = getD corners (at + 2) 0 }
 
--- where `count` corners that begin at the number `first` end
-abbrev pub cornersEnd : ℕ → ℕ → ℕ
-cornersEnd first count = first + cornerWidth * count
+-- the number that corner k begins at, of those from the number `first` on, and of a run
+abbrev pub cornerStart : ℕ → ℕ → ℕ
+cornerStart first k = first + cornerWidth * k
 
--- corner k of an element whose corners begin at the number `first`
-abbrev pub cornerAt : Tables → ℕ → ℕ → Corner
-cornerAt t first k = cornerIn (t .corners) (cornersEnd first k)
+abbrev pub cornerPlace : CornerRun → ℕ → ℕ
+cornerPlace run k = cornerStart (run .first) k
+
+-- how many numbers a run has, and the number after its last
+abbrev pub cornersLength : CornerRun → ℕ
+cornersLength run = cornerWidth * run .count
+
+abbrev pub cornersEnd : CornerRun → ℕ
+cornersEnd run = run .first + cornersLength run
+
+abbrev pub cornerAt : Tables → CornerRun → ℕ → Corner
+cornerAt t run k = cornerIn (t .elements .corners) (cornerPlace run k)
 
 -- "A body holds type, rational or not, degrees, ranges, parameters (u, then v), loops; a curve's v entries are 0."
 abbrev pub bodyIn : List ℕ → List ℤ → ℕ → Body
@@ -98,14 +105,14 @@ bodyIn bodies ranges i =
     }
 
 abbrev pub bodyAt : Tables → ℕ → Body
-bodyAt t i = bodyIn (t .bodies) (t .ranges) i
+bodyAt t i = bodyIn (t .bodies .bodies) (t .bodies .ranges) i
 
 -- the parameters of a body along u, and along v
 abbrev pub parametersU : Tables → Body → List ℤ
-parametersU t b = take (b .«count_u») (drop (b .«first_parameter») (t .parameters))
+parametersU t b = take (b .«count_u») (drop (b .«first_parameter») (t .bodies .parameters))
 
 abbrev pub parametersV : Tables → Body → List ℤ
-parametersV t b = take (b .«count_v») (drop (b .«first_parameter» + b .«count_u») (t .parameters))
+parametersV t b = take (b .«count_v») (drop (b .«first_parameter» + b .«count_u») (t .bodies .parameters))
 
 -- a part of a trimming loop: what begins with it (1 a trim, 2 a hole, 0 nothing), its curv2's number, its two numbers
 abbrev pub partIn : List ℕ → List ℤ → ℕ → LoopPart
@@ -118,7 +125,7 @@ partIn loops spans i =
     }
 
 abbrev pub partAt : Tables → ℕ → LoopPart
-partAt t i = partIn (t .loops) (t .spans) i
+partAt t i = partIn (t .bodies .loops) (t .bodies .spans) i
 
 -- ---- the numbers of kinds and types
 abbrev pub pointKind : ℕ

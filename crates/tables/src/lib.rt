@@ -1,10 +1,10 @@
 // The lent tables: how many records of each kind are used, and where the numbers of a record stand.
 ghost use mathlib.Core.Path.{_≡_};
-ghost use Prim.Native.Nat.{_+_, _*_, _≤_};
+ghost use Prim.Native.Nat.{_+_, _*_, _^_, _≤_};
 ghost use lib.IntN.{pos};
 ghost use lib.Dec.{leb};
 ghost use lib.ListN.{length, getD};
-ghost use Rattle.tables.specs.Records.{elementWidth, bodyWidth, rangeWidth, cornerWidth, numberAt, elementIn, bodyIn, cornersEnd, cornerIn};
+ghost use Rattle.tables.specs.Records.{elementWidth, bodyWidth, rangeWidth, cornerWidth, numberAt, elementIn, bodyIn, cornerStart, cornerPlace, cornersLength, cornersEnd, cornerIn};
 
 pub mod bases;
 pub mod kinds;
@@ -27,17 +27,26 @@ pub struct Used {
     pub loops: u32,
 }
 
+// A run of an element's corners: the number of the corners' table that it begins at, counted from 0, and how many corners it has.
+pub struct CornerRun {
+    pub first: u32,
+    pub count: u32,
+}
+
+// A run of names in the text, from the first name to the last; both numbers are 0 for none.
+pub struct NameRun {
+    pub place: u32,
+    pub length: u32,
+}
+
 // The numbers of an element's record, in their order; docs/RECORDS.md says what each is.
 pub struct Element {
     pub kind: u32,
-    pub first: u32,
-    pub count: u32,
+    pub corners: CornerRun,
     pub body: u32,
     pub smoothing: u32,
-    pub group_place: u32,
-    pub group_length: u32,
-    pub material_place: u32,
-    pub material_length: u32,
+    pub group: NameRun,
+    pub material: NameRun,
 }
 
 // The numbers of a body's record and of its range, in their order.
@@ -106,14 +115,20 @@ pub fn lent_element(elements: &[u32], index: u32) -> Element
     let at = widths::ELEMENT * index as usize;
     Element {
         kind: elements[at],
-        first: elements[at + 1],
-        count: elements[at + 2],
+        corners: CornerRun {
+            first: elements[at + 1],
+            count: elements[at + 2],
+        },
         body: elements[at + 3],
         smoothing: elements[at + 4],
-        group_place: elements[at + 5],
-        group_length: elements[at + 6],
-        material_place: elements[at + 7],
-        material_length: elements[at + 8],
+        group: NameRun {
+            place: elements[at + 5],
+            length: elements[at + 6],
+        },
+        material: NameRun {
+            place: elements[at + 7],
+            length: elements[at + 8],
+        },
     }
 }
 
@@ -141,19 +156,50 @@ pub fn lent_body(bodies: &[u32], ranges: &[i32], index: u32) -> Body
     }
 }
 
-// Where `count` corners that begin at the number `first` end, and the next one would begin.
-pub fn corners_end(first: u32, count: u32) -> usize
-    ensures { λ r. ⌜ r ≡ cornersEnd first count ⌝ }
+// The number that corner `k`, counted from 0, begins at, of those from the number `first` on.
+fn corner_start(first: u32, k: usize) -> usize
+    requires { ⌜ k ≤ 2 ^ 62 ⌝ }
+    ensures { λ r. ⌜ r ≡ cornerStart first k ⌝ }
 {
-    first as usize + widths::CORNER * count as usize
+    first as usize + widths::CORNER * k
 }
 
-// Corner `k`, counted from 0, of those that begin at the number `first`, which stands whole within the lent entries.
-pub fn lent_corner(corners: &[u32], first: u32, k: usize) -> Corner
-    requires { ⌜ cornersEnd first k + cornerWidth ≤ length (now corners) ⌝ }
-    ensures { λ r. ⌜ r ≡ cornerIn (now (corners .entry)) (cornersEnd first k) ⌝ }
+// The same of a run.
+pub fn corner_place(run: CornerRun, k: usize) -> usize
+    requires { ⌜ k ≤ 2 ^ 62 ⌝ }
+    ensures { λ r. ⌜ r ≡ cornerPlace run k ⌝ }
 {
-    let at = first as usize + widths::CORNER * k;
+    corner_start(run.first, k)
+}
+
+// How many numbers a run has.
+pub fn corners_length(run: CornerRun) -> usize
+    ensures { λ r. ⌜ r ≡ cornersLength run ⌝ }
+{
+    widths::CORNER * run.count as usize
+}
+
+// The number after a run's last.
+pub fn corners_end(run: CornerRun) -> usize
+    ensures { λ r. ⌜ r ≡ cornersEnd run ⌝ }
+{
+    run.first as usize + widths::CORNER * run.count as usize
+}
+
+// Corner `k`, counted from 0, of a run, which stands whole within the lent entries.
+pub fn lent_corner(corners: &[u32], run: CornerRun, k: usize) -> Corner
+    requires { ⌜ cornerPlace run k + cornerWidth ≤ length (now corners) ⌝ }
+    ensures { λ r. ⌜ r ≡ cornerIn (now (corners .entry)) (cornerPlace run k) ⌝ }
+{
+    lent_corner_from(corners, run.first, k)
+}
+
+// The same, of the corners from the number `first` on.
+pub fn lent_corner_from(corners: &[u32], first: u32, k: usize) -> Corner
+    requires { ⌜ cornerStart first k + cornerWidth ≤ length (now corners) ⌝ }
+    ensures { λ r. ⌜ r ≡ cornerIn (now (corners .entry)) (cornerStart first k) ⌝ }
+{
+    let at = corner_start(first, k);
     Corner {
         v: corners[at],
         vt: corners[at + 1],
@@ -162,19 +208,33 @@ pub fn lent_corner(corners: &[u32], first: u32, k: usize) -> Corner
 }
 
 // The same corner; a number past the table's end is 0.
-pub fn corner_at(corners: &[u32], first: u32, k: usize) -> Corner
-    ensures { λ r. ⌜ r ≡ cornerIn (now (corners .entry)) (cornersEnd first k) ⌝ }
+pub fn corner_at(corners: &[u32], run: CornerRun, k: usize) -> Corner
+    ensures { λ r. ⌜ r ≡ cornerIn (now (corners .entry)) (cornerPlace run k) ⌝ }
 {
     if corners.len() <= k {
         return Corner { v: 0, vt: 0, vn: 0 };
     }
-    let at = first as usize + widths::CORNER * k;
+    let at = corner_place(run, k);
     if at + 2 < corners.len() {
-        return lent_corner(corners, first, k);
+        return lent_corner(corners, run, k);
     }
     Corner {
         v: number_in(corners, at),
         vt: number_in(corners, at + 1),
         vn: number_in(corners, at + 2),
     }
+}
+
+// Which number of a corner names a v (of a curv2 a vp), a vt and a vn.
+pub const CORNER_V: u32 = 0;
+
+pub const CORNER_VT: u32 = 1;
+
+pub const CORNER_VN: u32 = 2;
+
+// That number of corner `k` of a run; 0 past the table's end.
+pub fn corner_number(corners: &[u32], run: CornerRun, k: u32, which: u32) -> u32
+    ensures { λ r. ⌜ r ≡ getD (now (corners .entry)) (cornerPlace run k + which) 0 ⌝ }
+{
+    number_in(corners, corner_place(run, k as usize) + which as usize)
 }

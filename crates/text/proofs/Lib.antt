@@ -7,3 +7,4 @@ pub mod Scans
 pub mod LineByLine
 pub mod Tokens
 pub mod ReadBack
+mod Examples

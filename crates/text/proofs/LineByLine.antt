@@ -4,7 +4,7 @@ use mathlib.Core.Path.{_≡_, refl, sym, ap, _∙_}
 use mathlib.Core.List.{List, [], _∷_}
 use mathlib.Core.Bool.{Bool, true, false, cond}
 use mathlib.Core.Logic.{⊎-elim}
-use lib.ListN.{length, drop, drop-of-length-le, length-drop}
+use lib.ListN.{length, take, drop, drop-of-length-le, length-take, length-drop}
 use lib.Seq.{drop-drop}
 use lib.Dec.{eqb}
 use native.Mathlib.Omega.{arith}
@@ -16,6 +16,7 @@ use Rattle.text.specs.Rest.{restAt, linesAt}
 use Rattle.text.proofs.Cut.{goes-ends, ends-refused}
 use Rattle.text.proofs.Walk.{strideIn}
 use Rattle.text.proofs.Places.{ending-some}
+use Rattle.text.proofs.Tokens.{few}
 
 -- ---- a line's ending stands where a byte ends it
 ends-tested : (w k e f g : Bool) → cond w (goes word) (cond k (goes gap) (cond e ends (cond f (cond g (goes join) refused) refused))) ≡ ends → e ≡ true
@@ -61,6 +62,16 @@ stride-some m (b ∷ bs) h = (stride-step m b bs (λ n. stride-within n bs) (loo
 pub next-to : (s : List ℕ) (at : ℕ) → at ≤ length s → (at ≤ (restAt s at) .next) × ((restAt s at) .next ≤ length s)
 unfolding restAt
 next-to s at h = let x = stride-within gap (drop at s) in let y = length-drop at s in (omega arith, omega arith)
+
+-- a line has no more words than bytes
+pub words-within : (s : List ℕ) (at : ℕ) → at + length ((restAt s at) .words) ≤ (restAt s at) .next
+unfolding restAt
+words-within s at =
+    let e : ℕ = extent gap (drop at s) in
+    let a = few gap at (take e (drop at s)) in
+    let b : length (take e (drop at s)) ≡ Prim.Native.Nat.min e (length (drop at s)) = length-take e (drop at s) in
+    let c : ℕ = ending (drop e (drop at s)) in
+    omega arith
 
 pub next-ahead : (s : List ℕ) (at : ℕ) → at < length s → at < (restAt s at) .next
 unfolding restAt

@@ -21,7 +21,7 @@ pub record InWord (s : List ℕ) (at i : ℕ) : Type 0 where
   pub to : i ≤ length s
   pub ends : endOf s i ≡ endOf s at
 
-module _ (s : List ℕ) (at i : ℕ) (w : InWord s at i) where
+module _ {s : List ℕ} {at i : ℕ} (w : InWord s at i) where
   pub word-done : length s ≤ i → (i ≡ endOf s at) × (i ≤ length s)
   word-done h =
       let z : wordOf (drop i s) ≡ [] = rw (drop-of-length-le s h) refl in
@@ -61,7 +61,7 @@ comment-holds s at h e =
           ∙ ap (λ (q : ℕ). W.restIn comment q (drop (at + 1) s)) (sym (add-one at));
     }
 
-module _ (s : List ℕ) (at i : ℕ) (w : InComment s at i) where
+module _ {s : List ℕ} {at i : ℕ} (w : InComment s at i) where
   pub comment-done : length s ≤ i → EndMet s at i
   comment-done h =
       let x = w .from in
@@ -99,7 +99,7 @@ pub record InBlanks (s : List ℕ) (at i : ℕ) : Type 0 where
   pub to : i ≤ length s
   pub rest : restAt s at ≡ restAt s i
 
-module _ (s : List ℕ) (at p : ℕ) (w : InBlanks s at p) where
+module _ {s : List ℕ} {at p : ℕ} (w : InBlanks s at p) where
   pub gap-blank : p < length s → (t : Bool) → t ≡ isBlank (getD s p 0) → t ≡ true → InBlanks s at (p + 1)
   gap-blank h t e u = let x = w .from in record { from = omega arith; to = omega arith; rest = w .rest ∙ P.rest-blank s p h (sym e ∙ u) }
 

@@ -4,4 +4,3 @@ pub mod Words
 pub mod Rest
 pub mod Written
 pub mod Tokens
-pub mod Examples

@@ -14,8 +14,9 @@ use Rattle.keywords.specs.declared.Argument.the-variants.{Rational, Bezier, Bsp
 use Rattle.statements.specs.declared.Carried.the-variants.{Smoothing}
 use Rattle.tables.specs.Tables.{Tables}
 use Rattle.tables.specs.Bodies.{bezier, bspline, cardinal, taylor, basisOf}
-use Rattle.tables.specs.Records.{bodyAt, partAt, cornerWidth}
+use Rattle.tables.specs.Records.{bodyAt, partAt, cornerPlace}
 use Rattle.tables.specs.Asking.{askedElement}
+use Rattle.tables.specs.declared.CornerRun.{CornerRun}
 use Rattle.tables.specs.declared.Used.{Used}
 use Rattle.tables.specs.declared.Element as records-element
 use Rattle.tables.specs.declared.Body as records-body
@@ -26,7 +27,7 @@ use Rattle.model.specs.Layout.{runOf, listed, shapeNumber, freeNumber, kindNumb
 use Rattle.model.specs.In.{each, cornersFrom, begunIn, kindFrom}
 use Rattle.model.proofs.Stands.{Among}
 use Rattle.model.proofs.Placed.{NamesStand}
-use Rattle.model.proofs.ElementRows.{laidElement}
+use Rattle.model.proofs.ElementRows.{laidRun, laidElement}
 use Rattle.tidy_form.specs.declared.Weights.{Weights}
 use Rattle.tidy_form.specs.Tidied.{groupLines, smoothingLines, materialLines, elementLines, elementsLines}
 use Rattle.tidy_form.specs.Printed as printing
@@ -59,20 +60,20 @@ type-words b = go (eqb (b .rational) 1) (ap argumentBytes (basis-argument (b .ba
 
 module _ (W : Weights) (t : Tables) (r : records-element.Element) where
   abbrev own : List (List (List ℕ))
-  own = ownLines (t .corners) (t .bodies) (t .ranges) (t .parameters) (t .loops) (t .spans) r
+  own = ownLines (t .elements .corners) (t .bodies .bodies) (t .bodies .ranges) (t .bodies .parameters) (t .bodies .loops) (t .bodies .spans) r
 
   abbrev b : records-body.Body
   b = bodyAt t (r .body - 1)
 
-  corner-words : map writtenCorner (rows.cornersFrom (r .count) (drop (r .first) (t .corners))) ≡ map writtenCorner (cornersFrom t r)
+  corner-words : map writtenCorner (rows.cornersFrom (r .corners .count) (drop (r .corners .first) (t .elements .corners))) ≡ map writtenCorner (cornersFrom t r)
   corner-words =
-      ap (λ (k : ℕ). map writtenCorner (rows.cornersFrom (r .count) (drop k (t .corners)))) (let e : r .first ≡ r .first + cornerWidth * 0 = omega arith in e)
-      ∙ ap (map writtenCorner) (corners-are t (r .first) (r .count) 0)
+      ap (λ (k : ℕ). map writtenCorner (rows.cornersFrom (r .corners .count) (drop k (t .elements .corners)))) (let e : r .corners .first ≡ cornerPlace (r .corners) 0 = omega arith in e)
+      ∙ ap (map writtenCorner) (corners-are t (r .corners) (r .corners .count) 0)
 
   abbrev ls : List Loop
   ls = begunIn (each (partAt t) (b .loops) (b .«first_loop»)) .loops
 
-  loop-lines : bodyLoops (t .loops) (t .spans) b ++ endLine ∷ [] ≡ map (printed W) (map loop ls ++ end ∷ [])
+  loop-lines : bodyLoops (t .bodies .loops) (t .bodies .spans) b ++ endLine ∷ [] ≡ map (printed W) (map loop ls ++ end ∷ [])
   loop-lines =
       ap (λ (o : List (List (List ℕ))). o ++ endLine ∷ []) (loops-are t W (b .loops) (b .«first_loop»))
       ∙ sym (map-append (printed W) (map loop ls) (end ∷ []))
@@ -111,36 +112,33 @@ module _ {A : Type 0} where
       ∙ ap (λ (q : List C). map f a ++ q) (map-append f b (c ++ (d ++ r)) ∙ ap (λ (q : List C). map f b ++ q) (map-append f c (d ++ r) ∙ ap (λ (q : List C). map f c ++ q) (map-append f d r)))
 
 -- ---- one after the other; a record by the names n
-abbrev named : ℕ → ℕ → ℕ → ℕ → Names → records-element.Element
-named kind first count number n =
+abbrev named : ℕ → CornerRun → ℕ → Names → records-element.Element
+named kind run number n =
     record {
       kind = kind;
-      first = first;
-      count = count;
+      corners = run;
       body = number;
       smoothing = n .smoothing;
-      «group_place» = runOf (n .group) .place;
-      «group_length» = runOf (n .group) .length;
-      «material_place» = runOf (listed (n .material)) .place;
-      «material_length» = runOf (listed (n .material)) .length;
+      group = runOf (n .group);
+      material = runOf (listed (n .material));
     }
 
 module _ (W : Weights) (s : List ℕ) (used : Used) (t : Tables) where
   abbrev pub linesFrom : ℕ → ℕ → List (List (List ℕ))
-  linesFrom n i = elementsFrom s used (t .elements) (t .corners) (t .bodies) (t .ranges) (t .parameters) (t .loops) (t .spans) n i
+  linesFrom n i = elementsFrom s used (t .elements .elements) (t .elements .corners) (t .bodies .bodies) (t .bodies .ranges) (t .bodies .parameters) (t .bodies .loops) (t .bodies .spans) n i
 
   -- element i, which counts from 1, is e: its record, and what that gives
   pub record Told (i : ℕ) (e : Element) : Type 0 where
     pub first : ℕ
     pub body : ℕ
-    pub is : askedElement used (t .elements) i ≡ laidElement first body e
+    pub is : askedElement used (t .elements .elements) i ≡ laidElement first body e
     pub kind : kindFrom t (laidElement first body e) ≡ e .kind
     pub corners : cornersFrom t (laidElement first body e) ≡ e .corners
 
-  names-lines : (k f c b k' f' c' b' : ℕ) (m n : Names) → NamesStand s m → NamesStand s n → stays (m .material) (n .material) ≡ true
-      → namesLines s (named k f c b m) (named k' f' c' b' n)
+  names-lines : (k : ℕ) (c : CornerRun) (b k' : ℕ) (c' : CornerRun) (b' : ℕ) (m n : Names) → NamesStand s m → NamesStand s n → stays (m .material) (n .material) ≡ true
+      → namesLines s (named k c b m) (named k' c' b' n)
       ≡ map (printed W) (groupLines (m .group) (n .group)) ++ (map (printed W) (smoothingLines (m .smoothing) (n .smoothing)) ++ map (printed W) (materialLines (m .material) (n .material)))
-  names-lines k f c b k' f' c' b' m n x y z =
+  names-lines k c b k' c' b' m n x y z =
       ap₂ (λ (u v : List (List (List ℕ))). u ++ v) (sym (group-lines s W (m .group) (n .group) (x .group) (y .group)))
       (ap₂ (λ (u v : List (List (List ℕ))). u ++ v) (smoothing-lines W (m .smoothing) (n .smoothing)) (sym (material-lines s W (m .material) (n .material) z (x .material) (y .material))))
 
@@ -150,10 +148,10 @@ module _ (W : Weights) (s : List ℕ) (used : Used) (t : Tables) where
       ∙ ap₂ (λ (k : Kind) (cs : List Corner). map (printed W) (elementLines k cs)) (o .kind) (o .corners)
 
   -- all that are left, after an element of the names n
-  pub elements-are : (i : ℕ) (n : Names) (es : List Element) (kind first count number : ℕ) → askedElement used (t .elements) i ≡ named kind first count number n
+  pub elements-are : (i : ℕ) (n : Names) (es : List Element) (kind : ℕ) (run : CornerRun) (number : ℕ) → askedElement used (t .elements .elements) i ≡ named kind run number n
       → NamesStand s n → NamesGo s (n .material) es → ((k : ℕ) (a : Among es k) → Told (i + suc k) (a .one)) → linesFrom (length es) i ≡ map (printed W) (elementsLines n es)
-  elements-are i n [] kind first count number q x y o = refl
-  elements-are i n (e ∷ es) kind first count number q x y o =
+  elements-are i n [] kind run number q x y o = refl
+  elements-are i n (e ∷ es) kind run number q x y o =
       let w = o 0 (record { before = []; one = e; after = es; is = refl; many = refl }) in
       let m = e .names in
       let g = groupLines (n .group) (m .group) in
@@ -161,15 +159,15 @@ module _ (W : Weights) (s : List ℕ) (used : Used) (t : Tables) where
       let l = materialLines (n .material) (m .material) in
       let d = elementLines (e .kind) (e .corners) in
       let k' = kindNumber (e .kind) in
-      let c' = length (e .corners) in
+      let c' = laidRun (w .first) (e .corners) in
       let b' = bodyNumber (e .kind) (w .body) in
       let rest = linesFrom (length es) (i + 1) in
       let rec : rest ≡ map (printed W) (elementsLines m es) =
-      elements-are (i + 1) m es k' (w .first) c' b' (w .is) (y .0) (y .2)
+      elements-are (i + 1) m es k' c' b' (w .is) (y .0) (y .2)
       (λ k a. subst (λ (j : ℕ). Told j (a .one)) (let z : i + suc (suc k) ≡ i + 1 + suc k = omega arith in z)
       (o (suc k) (record { before = e ∷ a .before; one = a .one; after = a .after; is = ap (λ (r : List Element). e ∷ r) (a .is); many = ap suc (a .many) }))) in
       ap₂ (λ (u v : records-element.Element). (namesLines s u v ++ own W t v) ++ rest) q (w .is)
-      ∙ ap₂ (λ (u v : List (List (List ℕ))). (u ++ v) ++ rest) (names-lines kind first count number k' (w .first) c' b' n m x (y .0) (y .1)) (told-lines (i + 1) e w)
+      ∙ ap₂ (λ (u v : List (List (List ℕ))). (u ++ v) ++ rest) (names-lines kind run number k' c' b' n m x (y .0) (y .1)) (told-lines (i + 1) e w)
       ∙ ap (λ (u : List (List (List ℕ))). ((map (printed W) g ++ (map (printed W) h ++ map (printed W) l)) ++ map (printed W) d) ++ u) rec
       ∙ regroup (map (printed W) g) (map (printed W) h) (map (printed W) l) (map (printed W) d) (map (printed W) (elementsLines m es))
       ∙ sym (map-five (printed W) g h l d (elementsLines m es))

@@ -13,8 +13,9 @@ use Rattle.lists.specs.Lists.{flat}
 use Rattle.references.specs.Corner.{Corner}
 use Rattle.references.specs.Written.{writtenNumber, writtenWhole}
 use Rattle.keywords.specs.Keywords.{keywordOf}
+use Rattle.tables.specs.declared.CornerRun.{CornerRun}
 use Rattle.tables.specs.Tables.{Tables}
-use Rattle.tables.specs.Records.{cornerWidth, loopWidth, spanWidth, cornerIn, cornerAt, partAt}
+use Rattle.tables.specs.Records.{cornerWidth, loopWidth, spanWidth, cornerIn, cornerPlace, cornerAt, partAt}
 use Rattle.model.specs.Model.{VertexKind}
 use Rattle.model.specs.Statements.{vertex, loop}
 use Rattle.model.specs.In.{each, rowAt, cornerFrom, partFrom, Begun, goesOn, begins, begunIn}
@@ -39,39 +40,39 @@ vertices-are W X k counted c w l (suc n) i =
     ∙ ap (λ (y : List (List (List ℕ))). (keywordOf (vertexKeyword k) ∷ map writtenNumber (coordinates W k (rowAt w l i))) ∷ y) (vertices-are W X k counted c w l n (suc i))
 
 -- ---- corners
-pub corners-are : (t : Tables) (first n k : ℕ) → cornersFrom n (drop (first + cornerWidth * k) (t .corners)) ≡ each (λ j. cornerFrom (cornerAt t first j)) n k
-corners-are t first zero k = refl
-corners-are t first (suc n) k =
-    let l = t .corners in
-    let at = first + cornerWidth * k in
+pub corners-are : (t : Tables) (run : CornerRun) (n k : ℕ) → cornersFrom n (drop (cornerPlace run k) (t .elements .corners)) ≡ each (λ j. cornerFrom (cornerAt t run j)) n k
+corners-are t run zero k = refl
+corners-are t run (suc n) k =
+    let l = t .elements .corners in
+    let at = cornerPlace run k in
     let c : record { v = getD (drop at l) 0 0; vt = getD (drop at l) 1 0; vn = getD (drop at l) 2 0 } ≡ cornerFrom (cornerIn l at) = rw (here at l 0, getD-drop at l 1 0, getD-drop at l 2 0) refl in
-    let d : drop cornerWidth (drop at l) ≡ drop (first + cornerWidth * suc k) l =
-    drop-drop cornerWidth at l ∙ ap (λ (j : ℕ). drop j l) (let e : first + cornerWidth * k + cornerWidth ≡ first + cornerWidth * suc k = omega arith in e) in
-    ap₂ (λ (x : Corner) (y : List ℕ). x ∷ cornersFrom n y) c d ∙ ap (λ (y : List Corner). cornerFrom (cornerAt t first k) ∷ y) (corners-are t first n (suc k))
+    let d : drop cornerWidth (drop at l) ≡ drop (cornerPlace run (suc k)) l =
+    drop-drop cornerWidth at l ∙ ap (λ (j : ℕ). drop j l) (let e : cornerPlace run k + cornerWidth ≡ cornerPlace run (suc k) = omega arith in e) in
+    ap₂ (λ (x : Corner) (y : List ℕ). x ∷ cornersFrom n y) c d ∙ ap (λ (y : List Corner). cornerFrom (cornerAt t run k) ∷ y) (corners-are t run n (suc k))
 
 -- ---- parts: those that go on, and the lines of the loops that begin
 module _ (t : Tables) where
   abbrev L : ℕ → List ℕ
-  L i = drop (loopWidth * i) (t .loops)
+  L i = drop (loopWidth * i) (t .bodies .loops)
 
   abbrev S : ℕ → List ℤ
-  S i = drop (spanWidth * i) (t .spans)
+  S i = drop (spanWidth * i) (t .bodies .spans)
 
   abbrev begun : ℕ → ℕ → Begun
   begun n i = begunIn (each (partAt t) n i)
 
   words-are : (i : ℕ) → partWords (L i) (S i) ≡ printing.partWords (partFrom (partAt t i))
   words-are i =
-      rw (here (spanWidth * i) (t .spans) (pos 0), getD-drop (spanWidth * i) (t .spans) 1 (pos 0), getD-drop (loopWidth * i) (t .loops) 1 0)
-      (ap (λ (k : ℕ). writtenNumber (getD (t .spans) k (pos 0)) ∷ writtenNumber (partAt t i .to) ∷ writtenWhole (partAt t i .curve) ∷ []) (let e : spanWidth * i ≡ spanWidth * i + 0 = omega arith in e))
+      rw (here (spanWidth * i) (t .bodies .spans) (pos 0), getD-drop (spanWidth * i) (t .bodies .spans) 1 (pos 0), getD-drop (loopWidth * i) (t .bodies .loops) 1 0)
+      (ap (λ (k : ℕ). writtenNumber (getD (t .bodies .spans) k (pos 0)) ∷ writtenNumber (partAt t i .to) ∷ writtenWhole (partAt t i .curve) ∷ []) (let e : spanWidth * i ≡ spanWidth * i + 0 = omega arith in e))
 
   begins-are : (i : ℕ) → getD (L i) 0 0 ≡ partAt t i .begins
-  begins-are i = getD-drop (loopWidth * i) (t .loops) 0 0
+  begins-are i = getD-drop (loopWidth * i) (t .bodies .loops) 0 0
 
   pub goes-on : (n i : ℕ) → goingOn n (L i) (S i) ≡ flat printing.partWords (begun n i .on)
   goes-on zero i = refl
   goes-on (suc n) i =
-      ap₂ (λ (l : List ℕ) (z : List ℤ). cond (eqb (getD (L i) 0 0) 0) (partWords (L i) (S i) ++ goingOn n l z) []) (onward loopWidth i (t .loops)) (onward spanWidth i (t .spans))
+      ap₂ (λ (l : List ℕ) (z : List ℤ). cond (eqb (getD (L i) 0 0) 0) (partWords (L i) (S i) ++ goingOn n l z) []) (onward loopWidth i (t .bodies .loops)) (onward spanWidth i (t .bodies .spans))
       ∙ ap₂ (λ (b : ℕ) (w : List (List ℕ)). cond (eqb b 0) (w ++ goingOn n (L (suc i)) (S (suc i))) []) (begins-are i) (words-are i)
       ∙ go (eqb (partAt t i .begins) 0) (begun n (suc i)) (goingOn n (L (suc i)) (S (suc i))) (goes-on n (suc i))
     where
@@ -85,7 +86,7 @@ module _ (t : Tables) where
   loops-are W zero i = refl
   loops-are W (suc n) i =
       ap₂ (λ (l : List ℕ) (z : List ℤ). cond (eqb (getD (L i) 0 0) 0) [] ((keywordOf (loopKeyword (eqb (getD (L i) 0 0) 2)) ∷ (partWords (L i) (S i) ++ goingOn n l z)) ∷ []) ++ loopLines n l z)
-      (onward loopWidth i (t .loops)) (onward spanWidth i (t .spans))
+      (onward loopWidth i (t .bodies .loops)) (onward spanWidth i (t .bodies .spans))
       ∙ ap₂
       (λ (b : ℕ) (w : List (List ℕ)).
       cond (eqb b 0) [] ((keywordOf (loopKeyword (eqb b 2)) ∷ (w ++ goingOn n (L (suc i)) (S (suc i)))) ∷ []) ++ loopLines n (L (suc i)) (S (suc i)))

@@ -45,13 +45,13 @@ map-four {A} {C} f a b c d =
     map-append f a (b ++ (c ++ d)) ∙ ap (λ (q : List C). map f a ++ q) (map-append f b (c ++ d) ∙ ap (λ (q : List C). map f b ++ q) (map-append f c d))
 
 -- the vertices of any tables, as `modelIn` reads them
-vertices-from : (W : Weights) (u : Used) (t : Tables) → verticesFrom W u (t .v) (t .vt) (t .vn) (t .vp) ≡ map (printed W) (vertexLines (model.verticesFrom u t))
+vertices-from : (W : Weights) (u : Used) (t : Tables) → verticesFrom W u (t .vertices .v) (t .vertices .vt) (t .vertices .vn) (t .vertices .vp) ≡ map (printed W) (vertexLines (model.verticesFrom u t))
 vertices-from W u t =
     let x = model.verticesFrom u t in
-    ap₂ (λ (a b : List (List (List ℕ))). a ++ b) (vertices-are W W geometric false (λ z. refl) vWidth (t .v) (u .v) 0)
-    (ap₂ (λ (a b : List (List (List ℕ))). a ++ b) (vertices-are W Always texture false (λ z. refl) vtWidth (t .vt) (u .vt) 0)
-    (ap₂ (λ (a b : List (List (List ℕ))). a ++ b) (vertices-are W Always normal false (λ z. refl) vnWidth (t .vn) (u .vn) 0)
-    (vertices-are W W parametric true (λ z. refl) vpWidth (t .vp) (u .vp) 0)))
+    ap₂ (λ (a b : List (List (List ℕ))). a ++ b) (vertices-are W W geometric false (λ z. refl) vWidth (t .vertices .v) (u .v) 0)
+    (ap₂ (λ (a b : List (List (List ℕ))). a ++ b) (vertices-are W Always texture false (λ z. refl) vtWidth (t .vertices .vt) (u .vt) 0)
+    (ap₂ (λ (a b : List (List (List ℕ))). a ++ b) (vertices-are W Always normal false (λ z. refl) vnWidth (t .vertices .vn) (u .vn) 0)
+    (vertices-are W W parametric true (λ z. refl) vpWidth (t .vertices .vp) (u .vp) 0)))
     ∙ sym (map-four (printed W) (map (vertex geometric) (x .v)) (map (vertex texture) (x .vt)) (map (vertex normal) (x .vn)) (map (vertex parametric) (x .vp)))
 
 module _ (W : Weights) (R : Rooms) (s : List ℕ) (m : Model) (h : readOf R s ≡ read m) where
@@ -64,7 +64,7 @@ module _ (W : Weights) (R : Rooms) (s : List ℕ) (m : Model) (h : readOf R s �
   P : Placed s m
   P = read-placed R s m h
 
-  vertices : verticesFrom W u (T .v) (T .vt) (T .vn) (T .vp) ≡ map (printed W) (vertexLines (m .vertices))
+  vertices : verticesFrom W u (T .vertices .v) (T .vertices .vt) (T .vertices .vn) (T .vertices .vp) ≡ map (printed W) (vertexLines (m .vertices))
   unfolding modelIn
   vertices = vertices-from W u T ∙ ap (λ (k : Model). map (printed W) (vertexLines (k .vertices))) (model-in s R m P)
 
@@ -86,8 +86,8 @@ module _ (W : Weights) (R : Rooms) (s : List ℕ) (m : Model) (h : readOf R s �
         first = c;
         body = b;
         is =
-            ap₂ (λ (x : Bool) (i : ℕ). cond x (elementIn (T .elements) i) noElement)
-            (and-both (and-both (le-leb 1 (0 + suc k) (omega arith)) (le-leb (0 + suc k) (u .elements) (omega arith))) (le-leb (elementWidth * (0 + suc k)) (length (T .elements)) (omega arith)))
+            ap₂ (λ (x : Bool) (i : ℕ). cond x (elementIn (T .elements .elements) i) noElement)
+            (and-both (and-both (le-leb 1 (0 + suc k) (omega arith)) (le-leb (0 + suc k) (u .elements) (omega arith))) (le-leb (elementWidth * (0 + suc k)) (length (T .elements .elements)) (omega arith)))
             (let i : 0 + suc k - 1 ≡ k = omega arith in i)
             ∙ r .is;
         kind = ap (λ (y : Element). y .kind) f;
@@ -96,7 +96,7 @@ module _ (W : Weights) (R : Rooms) (s : List ℕ) (m : Model) (h : readOf R s �
 
   elements : linesFrom W s u T (u .elements) 0 ≡ map (printed W) (elementsLines (start .names) (m .elements))
   unfolding usedOf
-  elements = let n = names-go s R m h in elements-are W s u T 0 (start .names) (m .elements) 0 0 0 0 (no-element u (T .elements)) (n .0) (n .1) told
+  elements = let n = names-go s R m h in elements-are W s u T 0 (start .names) (m .elements) 0 (noElement .corners) 0 (no-element u (T .elements .elements)) (n .0) (n .1) told
 
   pub tidy-from : tidyFrom W s (usedOf m) (tablesOf R m) ≡ tidyText W m
   unfolding tidyFrom tidyText tidied

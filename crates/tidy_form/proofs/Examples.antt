@@ -22,7 +22,7 @@ use Rattle.tidy_form.specs.Tidied.{tidied}
 use Rattle.tidy_form.specs.Printed.{tidyText}
 
 many : Rooms
-many = record { v = 100; vt = 100; vn = 100; vp = 100; corners = 100; elements = 100; bodies = 100; ranges = 100; parameters = 100; loops = 100; spans = 100 }
+many = record { vertices = record { v = 100; vt = 100; vn = 100; vp = 100 }; elements = record { corners = 100; elements = 100 }; bodies = record { bodies = 100; ranges = 100; parameters = 100; loops = 100; spans = 100 } }
 
 -- the tidy text of a text, or the number and place of its refusal
 tidyOf : Weights → Answer → List ℕ

@@ -7,7 +7,7 @@ use lib.Seq.{getD-take, getD-drop, getD-append-add}
 use native.Mathlib.Omega.{arith}
 use Rattle.text.specs.Written.{bytesOf}
 use Rattle.tables.specs.Tables.{Tables}
-use Rattle.tables.specs.Records.{elementWidth, cornerWidth, numberAt}
+use Rattle.tables.specs.Records.{elementWidth, cornerWidth, numberAt, elementIn}
 use Rattle.model.specs.Model.{Element}
 use Rattle.model.specs.Room.{ofKind}
 use Rattle.model.specs.Layout.{listed, kindNumber, bodyNumber, elementRows}
@@ -40,8 +40,7 @@ names-in t c b (e ∷ es) z h =
 
 -- ---- the same tables with another table of elements
 abbrev pub withElements : List ℕ → Tables → Tables
-withElements l t =
-    record { v = t .v; vt = t .vt; vn = t .vn; vp = t .vp; corners = t .corners; elements = l; bodies = t .bodies; ranges = t .ranges; parameters = t .parameters; loops = t .loops; spans = t .spans }
+withElements l t = record { vertices = t .vertices; elements = record { corners = t .elements .corners; elements = l }; bodies = t .bodies }
 
 -- ---- read by index
 next-record : (l : List ℕ) (i k : ℕ) → numberAt elementWidth (drop elementWidth l) i k ≡ numberAt elementWidth l (suc i) k
@@ -63,16 +62,16 @@ unnamed-at (suc n) l h (suc i) k a b =
     ap (λ (j : ℕ). getD (unnamed (suc n) l) j 0) c ∙ getD-append-add (take 5 l) (unnamed n (drop elementWidth l)) (5 * i + k) 0
     ∙ unnamed-at n (drop elementWidth l) (omega arith) i k (omega arith) b ∙ next-record l i k
 
-pub group-at : (s : List ℕ) (n : ℕ) (l : List ℕ) (i : ℕ) → i < n → getD (namesShown s n l) (2 * i) [] ≡ wordsAt s (numberAt elementWidth l i 5) (numberAt elementWidth l i 6)
+pub group-at : (s : List ℕ) (n : ℕ) (l : List ℕ) (i : ℕ) → i < n → getD (namesShown s n l) (2 * i) [] ≡ wordsAt s (elementIn l i .group)
 group-at s zero l i a = absurd (omega arith)
 group-at s (suc n) l zero a = refl
 group-at s (suc n) l (suc i) a =
     ap (λ (j : ℕ). getD (namesShown s (suc n) l) j []) (let e : 2 * suc i ≡ suc (suc (2 * i)) = omega arith in e)
-    ∙ group-at s n (drop elementWidth l) i (omega arith) ∙ ap₂ (wordsAt s) (next-record l i 5) (next-record l i 6)
+    ∙ group-at s n (drop elementWidth l) i (omega arith) ∙ ap₂ (λ (p q : ℕ). wordsAt s (record { place = p; length = q })) (next-record l i 5) (next-record l i 6)
 
-pub material-at : (s : List ℕ) (n : ℕ) (l : List ℕ) (i : ℕ) → i < n → getD (namesShown s n l) (2 * i + 1) [] ≡ wordsAt s (numberAt elementWidth l i 7) (numberAt elementWidth l i 8)
+pub material-at : (s : List ℕ) (n : ℕ) (l : List ℕ) (i : ℕ) → i < n → getD (namesShown s n l) (2 * i + 1) [] ≡ wordsAt s (elementIn l i .material)
 material-at s zero l i a = absurd (omega arith)
 material-at s (suc n) l zero a = refl
 material-at s (suc n) l (suc i) a =
     ap (λ (j : ℕ). getD (namesShown s (suc n) l) j []) (let e : 2 * suc i + 1 ≡ suc (suc (2 * i + 1)) = omega arith in e)
-    ∙ material-at s n (drop elementWidth l) i (omega arith) ∙ ap₂ (wordsAt s) (next-record l i 7) (next-record l i 8)
+    ∙ material-at s n (drop elementWidth l) i (omega arith) ∙ ap₂ (λ (p q : ℕ). wordsAt s (record { place = p; length = q })) (next-record l i 7) (next-record l i 8)

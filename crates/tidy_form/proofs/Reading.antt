@@ -8,7 +8,7 @@ use mathlib.Core.Logic.{_⊎_, inl, inr}
 use lib.ListN.{length, length-append}
 use lib.Dec.{leb}
 use native.Mathlib.Omega.{arith}
-use borrow.Author.Tests.{leb-true, le-leb}
+use borrow.Author.Tests.{leb-true}
 use Rattle.lists.specs.Lists.{all}
 use Rattle.lists.proofs.Tests.{and-right}
 use Rattle.text.specs.Lines.{Line as JoinedLine, linesOf}
@@ -19,7 +19,7 @@ use Rattle.keywords.specs.Keywords.{statementOf}
 use Rattle.model.specs.Model.{geometric, texture, normal, parametric, Vertices, Kind, plain, Model, Open, State, isCurve2, curves, start}
 use Rattle.model.specs.Statements.{Statement, vertex, element, group, smoothing, material, type, degree, body, parameters, loop, end, passed, apply, ended, closed}
 use Rattle.model.specs.Parse.{Parsed, fine, fault, unless, parse}
-use Rattle.model.specs.Room.{Rooms, needed, fits}
+use Rattle.model.specs.Room.{Rooms, fits}
 use Rattle.model.specs.Read.{keywordOf, statement, step, Answer, read, refused, finish, onParsed, readLines, readOf}
 use Rattle.tidy_form.proofs.Texts.{words-tokens, lines-length}
 use Rattle.tidy_form.proofs.Words.{Small, then-fine}
@@ -28,7 +28,7 @@ use Rattle.tidy_form.proofs.Ready.{Ready, must-fine, unless-fine}
 use Rattle.tidy_form.proofs.Parsed.{fit}
 use Rattle.tidy_form.proofs.Good.{Good, plus}
 use Rattle.tidy_form.proofs.More.{More, more-same, more-join, more-vertex}
-use Rattle.tidy_form.proofs.Rooms.{together}
+use Rattle.model.proofs.Rooms.{parts-fit}
 use Rattle.tidy_form.proofs.Keep.{keep, curves-add, ended-vertices}
 
 -- ---- a line changes nothing, or does what one ready statement does
@@ -190,22 +190,7 @@ always-none x =
     }
 
 start-fits : (R : Rooms) → fits R start ≡ true
-unfolding fits
-start-fits R =
-    together (needed start) R
-    (record {
-      v = le-leb 0 (R .v) (omega arith);
-      vt = le-leb 0 (R .vt) (omega arith);
-      vn = le-leb 0 (R .vn) (omega arith);
-      vp = le-leb 0 (R .vp) (omega arith);
-      corners = le-leb 0 (R .corners) (omega arith);
-      elements = le-leb 0 (R .elements) (omega arith);
-      bodies = le-leb 0 (R .bodies) (omega arith);
-      ranges = le-leb 0 (R .ranges) (omega arith);
-      parameters = le-leb 0 (R .parameters) (omega arith);
-      loops = le-leb 0 (R .loops) (omega arith);
-      spans = le-leb 0 (R .spans) (omega arith);
-    })
+start-fits R = parts-fit R start (record { vertices = omega arith; elements = omega arith; bodies = omega arith })
 
 -- an accepted text is not too long
 pub sized : (R : Rooms) (t : List ℕ) (m : Model) → readOf R t ≡ read m → (length t ≤ 16777216) × (readLines R (length t) (linesOf t) start ≡ read m)

@@ -2,18 +2,17 @@
 use Prim.Native.Nat.{ℕ, _+_, _*_, _≤_}
 use mathlib.Core.Path.{_≡_, refl, ap}
 use mathlib.Core.List.{List, [], _∷_, _++_}
-use mathlib.Core.Bool.{true, _&&_}
+use mathlib.Core.Bool.{true}
 use mathlib.Core.Option.{Option, none, some}
 use lib.ListN.{length, length-append}
-use lib.Dec.{leb}
 use lib.IntN.{ℤ}
 use native.Mathlib.Omega.{arith}
-use borrow.Author.Tests.{leb-true, le-leb}
-use Rattle.lists.proofs.Tests.{and-left, and-right, and-both, never}
+use Rattle.lists.proofs.Tests.{never}
 use Rattle.model.specs.Model.{geometric, texture, normal, parametric, Free, curve, curve2, surface, ParmDirection, along-u, along-v, Loop, Body, plain, Element, Open, State}
 use Rattle.model.specs.Statements.{Statement, vertex, element, group, smoothing, material, type, degree, body, parameters, loop, end, passed, apply, closed, onOpen, withBody, withParameters, withLoop, settled}
 use Rattle.model.specs.Standing.{outsideBody}
-use Rattle.model.specs.Room.{Rooms, summed, ofKind, ofOpen, partCount, cornerCount, elementCount, bodyCount, parameterCount, loopPartCount, needed, within, fits}
+use Rattle.model.specs.Room.{Rooms, summed, ofKind, ofOpen, partCount, cornerCount, elementCount, bodyCount, parameterCount, loopPartCount, fits}
+use Rattle.model.proofs.Rooms.{fits-parts, parts-fit}
 use Rattle.tidy_form.proofs.Standing.{Here}
 
 -- x needs no more than y
@@ -34,85 +33,31 @@ no-more-same x = omega arith
 pub no-more-join : (x y z : State) → NoMore x y → NoMore y z → NoMore x z
 no-more-join x y z a b = omega arith
 
-down : (w a b r : ℕ) → a ≤ b → leb (w * b) r ≡ true → leb (w * a) r ≡ true
-down w a b r l h = let k = leb-true (w * b) r h in let m = native.Mathlib.Nat.mul-le-mul-left w l in le-leb (w * a) r (omega arith)
-
-down-one : (a b r : ℕ) → a ≤ b → leb b r ≡ true → leb a r ≡ true
-down-one a b r l h = let k = leb-true b r h in le-leb a r (omega arith)
-
--- each table has room
-pub record Has (a b : Rooms) : Type 0 where
-  pub v : leb (a .v) (b .v) ≡ true
-  pub vt : leb (a .vt) (b .vt) ≡ true
-  pub vn : leb (a .vn) (b .vn) ≡ true
-  pub vp : leb (a .vp) (b .vp) ≡ true
-  pub corners : leb (a .corners) (b .corners) ≡ true
-  pub elements : leb (a .elements) (b .elements) ≡ true
-  pub bodies : leb (a .bodies) (b .bodies) ≡ true
-  pub ranges : leb (a .ranges) (b .ranges) ≡ true
-  pub parameters : leb (a .parameters) (b .parameters) ≡ true
-  pub loops : leb (a .loops) (b .loops) ≡ true
-  pub spans : leb (a .spans) (b .spans) ≡ true
-
-pub apart : (a b : Rooms) → within a b ≡ true → Has a b
-apart a b h =
-    let p₁ = leb (a .v) (b .v) in
-    let p₂ = p₁ && leb (a .vt) (b .vt) in
-    let p₃ = p₂ && leb (a .vn) (b .vn) in
-    let p₄ = p₃ && leb (a .vp) (b .vp) in
-    let p₅ = p₄ && leb (a .corners) (b .corners) in
-    let p₆ = p₅ && leb (a .elements) (b .elements) in
-    let p₇ = p₆ && leb (a .bodies) (b .bodies) in
-    let p₈ = p₇ && leb (a .ranges) (b .ranges) in
-    let p₉ = p₈ && leb (a .parameters) (b .parameters) in
-    let p₁₀ = p₉ && leb (a .loops) (b .loops) in
-    let h₁₀ = and-left p₁₀ (leb (a .spans) (b .spans)) h in
-    let h₉ = and-left p₉ (leb (a .loops) (b .loops)) h₁₀ in
-    let h₈ = and-left p₈ (leb (a .parameters) (b .parameters)) h₉ in
-    let h₇ = and-left p₇ (leb (a .ranges) (b .ranges)) h₈ in
-    let h₆ = and-left p₆ (leb (a .bodies) (b .bodies)) h₇ in
-    let h₅ = and-left p₅ (leb (a .elements) (b .elements)) h₆ in
-    let h₄ = and-left p₄ (leb (a .corners) (b .corners)) h₅ in
-    let h₃ = and-left p₃ (leb (a .vp) (b .vp)) h₄ in
-    let h₂ = and-left p₂ (leb (a .vn) (b .vn)) h₃ in
-    let h₁ = and-left p₁ (leb (a .vt) (b .vt)) h₂ in
-    record {
-      v = h₁;
-      vt = and-right p₁ (leb (a .vt) (b .vt)) h₂;
-      vn = and-right p₂ (leb (a .vn) (b .vn)) h₃;
-      vp = and-right p₃ (leb (a .vp) (b .vp)) h₄;
-      corners = and-right p₄ (leb (a .corners) (b .corners)) h₅;
-      elements = and-right p₅ (leb (a .elements) (b .elements)) h₆;
-      bodies = and-right p₆ (leb (a .bodies) (b .bodies)) h₇;
-      ranges = and-right p₇ (leb (a .ranges) (b .ranges)) h₈;
-      parameters = and-right p₈ (leb (a .parameters) (b .parameters)) h₉;
-      loops = and-right p₉ (leb (a .loops) (b .loops)) h₁₀;
-      spans = and-right p₁₀ (leb (a .spans) (b .spans)) h;
-    }
-
-pub together : (a b : Rooms) → Has a b → within a b ≡ true
-together a b h =
-    let four = and-both (and-both (and-both (h .v) (h .vt)) (h .vn)) (h .vp) in
-    let seven = and-both (and-both (and-both four (h .corners)) (h .elements)) (h .bodies) in
-    and-both (and-both (and-both (and-both seven (h .ranges)) (h .parameters)) (h .loops)) (h .spans)
+down : (w a b r : ℕ) → a ≤ b → w * b ≤ r → w * a ≤ r
+down w a b r l h = let m = native.Mathlib.Nat.mul-le-mul-left w l in omega arith
 
 pub fits-down : (R : Rooms) (x y : State) → NoMore x y → fits R y ≡ true → fits R x ≡ true
-unfolding fits
 fits-down R x y n h =
-    let k = apart (needed y) R h in
-    together (needed x) R
+    let k = fits-parts R y h in
+    parts-fit R x
     (record {
-      v = down 4 (length (x .model .vertices .v)) (length (y .model .vertices .v)) (R .v) (n .v) (k .v);
-      vt = down 3 (length (x .model .vertices .vt)) (length (y .model .vertices .vt)) (R .vt) (n .vt) (k .vt);
-      vn = down 3 (length (x .model .vertices .vn)) (length (y .model .vertices .vn)) (R .vn) (n .vn) (k .vn);
-      vp = down 4 (length (x .model .vertices .vp)) (length (y .model .vertices .vp)) (R .vp) (n .vp) (k .vp);
-      corners = down 3 (cornerCount x) (cornerCount y) (R .corners) (n .corners) (k .corners);
-      elements = down 9 (elementCount x) (elementCount y) (R .elements) (n .elements) (k .elements);
-      bodies = down 9 (bodyCount x) (bodyCount y) (R .bodies) (n .bodies) (k .bodies);
-      ranges = down 4 (bodyCount x) (bodyCount y) (R .ranges) (n .bodies) (k .ranges);
-      parameters = down-one (parameterCount x) (parameterCount y) (R .parameters) (n .parameters) (k .parameters);
-      loops = down 2 (loopPartCount x) (loopPartCount y) (R .loops) (n .loops) (k .loops);
-      spans = down 2 (loopPartCount x) (loopPartCount y) (R .spans) (n .loops) (k .spans);
+      vertices = record {
+        v = down 4 _ _ (R .vertices .v) (n .v) (k .vertices .v);
+        vt = down 3 _ _ (R .vertices .vt) (n .vt) (k .vertices .vt);
+        vn = down 3 _ _ (R .vertices .vn) (n .vn) (k .vertices .vn);
+        vp = down 4 _ _ (R .vertices .vp) (n .vp) (k .vertices .vp);
+      };
+      elements = record {
+        corners = down 3 (cornerCount x) (cornerCount y) (R .elements .corners) (n .corners) (k .elements .corners);
+        elements = down 9 (elementCount x) (elementCount y) (R .elements .elements) (n .elements) (k .elements .elements);
+      };
+      bodies = record {
+        bodies = down 9 (bodyCount x) (bodyCount y) (R .bodies .bodies) (n .bodies) (k .bodies .bodies);
+        ranges = down 4 (bodyCount x) (bodyCount y) (R .bodies .ranges) (n .bodies) (k .bodies .ranges);
+        parameters = let p = n .parameters in let q = k .bodies .parameters in omega arith;
+        loops = down 2 (loopPartCount x) (loopPartCount y) (R .bodies .loops) (n .loops) (k .bodies .loops);
+        spans = down 2 (loopPartCount x) (loopPartCount y) (R .bodies .spans) (n .loops) (k .bodies .spans);
+      };
     })
 
 summed-add : {A : Type 0} (f : A → ℕ) (xs : List A) (a : A) → summed f (xs ++ a ∷ []) ≡ summed f xs + f a

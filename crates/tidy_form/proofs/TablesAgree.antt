@@ -6,15 +6,18 @@ use mathlib.Core.List.{List, [], _∷_, _++_}
 use mathlib.Core.Option.{Option, none, some}
 use native.Mathlib.Omega.{arith}
 use lib.ListN.{length, getD, replicate, take}
-use Rattle.lists.specs.Lists.{flat}
+use Rattle.lists.specs.Lists.{flat, filled}
 use Rattle.text.specs.Words.{Word}
 use Rattle.text.specs.Written.{bytesOf}
+use Rattle.tables.specs.VertexTables.{VertexTables, vertexTables, VertexRooms, vertexFilled, vertexFirst}
+use Rattle.tables.specs.BodyTables.{BodyTables, bodyTables, BodyRooms, bodyFilled, bodyFirst}
 use Rattle.tables.specs.Tables.{Tables}
 use Rattle.tables.specs.Records.{elementWidth, cornerWidth, numberAt, elementAt, vWidth, vtWidth, vnWidth, vpWidth, bodyWidth, rangeWidth, loopWidth, spanWidth}
 use Rattle.tables.specs.declared.Used.{Used}
 use Rattle.tables.specs.declared.Element as records
+use Rattle.tables.proofs.Groups.{vertex-tables-eq, element-tables-eq, body-tables-eq, tables-eq}
 use Rattle.model.specs.Model.{Vertices, Body, Element, Model}
-use Rattle.model.specs.Room.{Rooms, summed, ofKind, partCount}
+use Rattle.model.specs.Room.{Rooms, summed, ofKind, partCount, neededVertices}
 use Rattle.model.specs.Read.{read, readOf}
 use Rattle.model.specs.Layout.{listed, kindNumber, bodyNumber, cornerRows, elementRows, bodyOfKind, bodiesOf, bodyRows, rangeRow, parameterRow, loopRows, spanRows, itself, tablesOf, usedOf, wordsIn}
 use Rattle.model.specs.In.{each, verticesFrom, firstOf, elementFrom, modelIn}
@@ -60,6 +63,12 @@ pub agreed : {A : Type 0} (f : List Element → A) → ((es : List Element) → 
 agreed f h es fs e = sym (h es) ∙ ap f e ∙ h fs
 
 -- ---- what is used of each table is the rows
+abbrev vertex-rows : Vertices → VertexTables
+vertex-rows x = vertexTables (flat itself (x .v)) (flat itself (x .vt)) (flat itself (x .vn)) (flat itself (x .vp))
+
+abbrev body-rows : List Body → BodyTables
+body-rows bs = bodyTables (bodyRows 0 0 bs) (flat rangeRow bs) (flat parameterRow bs) (flat loopRows bs) (flat spanRows bs)
+
 module _ (R : Rooms) (t : List ℕ) (m : Model) (p : Placed t m) where
   abbrev es : List Element
   es = m .elements
@@ -67,19 +76,18 @@ module _ (R : Rooms) (t : List ℕ) (m : Model) (p : Placed t m) where
   abbrev bs : List Body
   bs = bodiesOf es
 
+  abbrev rooms : VertexRooms
+  rooms = neededVertices (m .vertices)
+
+  abbrev body-rooms : BodyRooms
+  body-rooms = record { bodies = bodyWidth * length bs; ranges = rangeWidth * length bs; parameters = summed (λ b. length (b .us) + length (b .vs)) bs; loops = loopWidth * summed partCount bs; spans = spanWidth * summed partCount bs }
+
   record UsedRows : Type 0 where
-    v : take (vWidth * length (m .vertices .v)) (tablesOf R m .v) ≡ flat itself (m .vertices .v)
-    vt : take (vtWidth * length (m .vertices .vt)) (tablesOf R m .vt) ≡ flat itself (m .vertices .vt)
-    vn : take (vnWidth * length (m .vertices .vn)) (tablesOf R m .vn) ≡ flat itself (m .vertices .vn)
-    vp : take (vpWidth * length (m .vertices .vp)) (tablesOf R m .vp) ≡ flat itself (m .vertices .vp)
-    corners : take (cornerWidth * summed (λ e. length (e .corners)) es) (tablesOf R m .corners) ≡ flat cornerRows es
-    elements : unnamed (length es) (tablesOf R m .elements) ≡ fives 0 0 es
-    bodies : take (bodyWidth * length bs) (tablesOf R m .bodies) ≡ bodyRows 0 0 bs
-    ranges : take (rangeWidth * length bs) (tablesOf R m .ranges) ≡ flat rangeRow bs
-    parameters : take (summed (λ b. length (b .us) + length (b .vs)) bs) (tablesOf R m .parameters) ≡ flat parameterRow bs
-    loops : take (loopWidth * summed partCount bs) (tablesOf R m .loops) ≡ flat loopRows bs
-    spans : take (spanWidth * summed partCount bs) (tablesOf R m .spans) ≡ flat spanRows bs
-    names : namesShown t (length es) (tablesOf R m .elements) ≡ namesOf es
+    vertices : vertexFirst rooms (tablesOf R m .vertices) ≡ vertex-rows (m .vertices)
+    corners : take (cornerWidth * summed (λ e. length (e .corners)) es) (tablesOf R m .elements .corners) ≡ flat cornerRows es
+    elements : unnamed (length es) (tablesOf R m .elements .elements) ≡ fives 0 0 es
+    bodies : bodyFirst body-rooms (tablesOf R m .bodies) ≡ body-rows bs
+    names : namesShown t (length es) (tablesOf R m .elements .elements) ≡ namesOf es
 
   used-rows : UsedRows
   unfolding tablesOf
@@ -88,19 +96,21 @@ module _ (R : Rooms) (t : List ℕ) (m : Model) (p : Placed t m) where
       let w = p .rows in
       let L = laid R m in
       let T = tablesOf R m in
-      let spare : List ℕ = replicate (R .elements - length (elementRows 0 0 es)) 0 in
+      let spare : List ℕ = replicate (R .elements .elements - length (elementRows 0 0 es)) 0 in
       record {
-        v = stands-used (T .v) (flat itself (x .v)) (vWidth * length (x .v)) (wide-length vWidth (x .v) (w .0)) (L .v);
-        vt = stands-used (T .vt) (flat itself (x .vt)) (vtWidth * length (x .vt)) (wide-length vtWidth (x .vt) (w .1)) (L .vt);
-        vn = stands-used (T .vn) (flat itself (x .vn)) (vnWidth * length (x .vn)) (wide-length vnWidth (x .vn) (w .2)) (L .vn);
-        vp = stands-used (T .vp) (flat itself (x .vp)) (vpWidth * length (x .vp)) (wide-length vpWidth (x .vp) (w .3)) (L .vp);
-        corners = stands-used (T .corners) (flat cornerRows es) (cornerWidth * summed (λ e. length (e .corners)) es) (cornerRows-length es) (L .corners);
+        vertices = vertex-tables-eq
+            (stands-used (T .vertices .v) (flat itself (x .v)) (vWidth * length (x .v)) (wide-length vWidth (x .v) (w .0)) (L .v))
+            (stands-used (T .vertices .vt) (flat itself (x .vt)) (vtWidth * length (x .vt)) (wide-length vtWidth (x .vt) (w .1)) (L .vt))
+            (stands-used (T .vertices .vn) (flat itself (x .vn)) (vnWidth * length (x .vn)) (wide-length vnWidth (x .vn) (w .2)) (L .vn))
+            (stands-used (T .vertices .vp) (flat itself (x .vp)) (vpWidth * length (x .vp)) (wide-length vpWidth (x .vp) (w .3)) (L .vp));
+        corners = stands-used (T .elements .corners) (flat cornerRows es) (cornerWidth * summed (λ e. length (e .corners)) es) (cornerRows-length es) (L .corners);
         elements = unnamed-is 0 0 es spare;
-        bodies = stands-used (T .bodies) (bodyRows 0 0 bs) (bodyWidth * length bs) (bodyRows-length 0 0 bs) (L .bodies);
-        ranges = stands-used (T .ranges) (flat rangeRow bs) (rangeWidth * length bs) (rangeRows-length bs) (L .ranges);
-        parameters = stands-used (T .parameters) (flat parameterRow bs) (summed (λ b. length (b .us) + length (b .vs)) bs) (parameterRows-length bs) (L .parameters);
-        loops = stands-used (T .loops) (flat loopRows bs) (loopWidth * summed partCount bs) (loopRows-length bs) (L .loops);
-        spans = stands-used (T .spans) (flat spanRows bs) (spanWidth * summed partCount bs) (spanRows-length bs) (L .spans);
+        bodies = body-tables-eq
+            (stands-used (T .bodies .bodies) (bodyRows 0 0 bs) (bodyWidth * length bs) (bodyRows-length 0 0 bs) (L .bodies))
+            (stands-used (T .bodies .ranges) (flat rangeRow bs) (rangeWidth * length bs) (rangeRows-length bs) (L .ranges))
+            (stands-used (T .bodies .parameters) (flat parameterRow bs) (summed (λ b. length (b .us) + length (b .vs)) bs) (parameterRows-length bs) (L .parameters))
+            (stands-used (T .bodies .loops) (flat loopRows bs) (loopWidth * summed partCount bs) (loopRows-length bs) (L .loops))
+            (stands-used (T .bodies .spans) (flat spanRows bs) (spanWidth * summed partCount bs) (spanRows-length bs) (L .spans));
         names = names-in t 0 0 es spare (p .names);
       }
 
@@ -111,13 +121,13 @@ bare-first [] (w ∷ ws) e = absurd (let z : _≡_ {A = ℕ} 0 1 = cc in omega a
 bare-first (v ∷ vs) [] e = absurd (let z : _≡_ {A = ℕ} 0 1 = cc in omega arith)
 bare-first (v ∷ vs) (w ∷ ws) e = let z : v .bytes ≡ w .bytes = cc in ap (λ (b : List ℕ). some (record { place = 0; bytes = b })) z
 
-same-from : (t u : List ℕ) (T : Tables) (r q : records.Element) → r .kind ≡ q .kind → r .first ≡ q .first → r .count ≡ q .count → r .body ≡ q .body → r .smoothing ≡ q .smoothing
-    → wordsAt t (r .«group_place») (r .«group_length») ≡ wordsAt u (q .«group_place») (q .«group_length»)
-    → wordsAt t (r .«material_place») (r .«material_length») ≡ wordsAt u (q .«material_place») (q .«material_length»)
+same-from : (t u : List ℕ) (T : Tables) (r q : records.Element) → r .kind ≡ q .kind → r .corners .first ≡ q .corners .first → r .corners .count ≡ q .corners .count → r .body ≡ q .body → r .smoothing ≡ q .smoothing
+    → wordsAt t (r .group) ≡ wordsAt u (q .group)
+    → wordsAt t (r .material) ≡ wordsAt u (q .material)
     → bareElement (elementFrom t T r) ≡ bareElement (elementFrom u T q)
 same-from t u T r q e₁ e₂ e₃ e₄ e₅ g o =
-    let b = bare-words (wordsIn t (r .«group_place») (r .«group_length»)) (wordsIn u (q .«group_place») (q .«group_length»)) g in
-    let f = bare-first (wordsIn t (r .«material_place») (r .«material_length»)) (wordsIn u (q .«material_place») (q .«material_length»)) o in
+    let b = bare-words (wordsIn t (r .group)) (wordsIn u (q .group)) g in
+    let f = bare-first (wordsIn t (r .material)) (wordsIn u (q .material)) o in
     rw (e₁, e₂, e₃, e₄, e₅, b, f) refl
 
 each-bare : (f g : ℕ → Element) (n i : ℕ) → ((k : ℕ) → k < i + n → bareElement (f k) ≡ bareElement (g k)) → bareElements (each f n i) ≡ bareElements (each g n i)
@@ -142,17 +152,10 @@ module _ (R S : Rooms) (t u : List ℕ) (m n : Model) (h : Placed t m) (k : Plac
       let N = used-rows S u n k in
       record {
         used = rw (x, c, l, b) refl;
-        v = M .v ∙ ap (λ (y : Vertices). flat itself (y .v)) x ∙ sym (N .v);
-        vt = M .vt ∙ ap (λ (y : Vertices). flat itself (y .vt)) x ∙ sym (N .vt);
-        vn = M .vn ∙ ap (λ (y : Vertices). flat itself (y .vn)) x ∙ sym (N .vn);
-        vp = M .vp ∙ ap (λ (y : Vertices). flat itself (y .vp)) x ∙ sym (N .vp);
+        vertices = M .vertices ∙ ap vertex-rows x ∙ sym (N .vertices);
         corners = M .corners ∙ agreed (flat cornerRows) corners-bare es fs q ∙ sym (N .corners);
         elements = M .elements ∙ agreed (fives 0 0) (fives-bare 0 0) es fs q ∙ sym (N .elements);
-        bodies = M .bodies ∙ ap (bodyRows 0 0) b ∙ sym (N .bodies);
-        ranges = M .ranges ∙ ap (flat rangeRow) b ∙ sym (N .ranges);
-        parameters = M .parameters ∙ ap (flat parameterRow) b ∙ sym (N .parameters);
-        loops = M .loops ∙ ap (flat loopRows) b ∙ sym (N .loops);
-        spans = M .spans ∙ ap (flat spanRows) b ∙ sym (N .spans);
+        bodies = M .bodies ∙ ap body-rows b ∙ sym (N .bodies);
         names = M .names ∙ agreed namesOf words-bare es fs q ∙ sym (N .names);
       }
 
@@ -170,45 +173,36 @@ module _ (R S : Rooms) (t u : List ℕ) (m n : Model) (h : Placed t m) (k : Plac
     abbrev U : Tables
     U = tablesOf R n
 
-    pub others-same : withElements (U .elements) T ≡ U
+    pub others-same : withElements (U .elements .elements) T ≡ U
     unfolding tablesOf usedOf
     others-same =
-        rw (
-          sym (M .v) ∙ a .v ∙ N .v,
-          sym (M .vt) ∙ a .vt ∙ N .vt,
-          sym (M .vn) ∙ a .vn ∙ N .vn,
-          sym (M .vp) ∙ a .vp ∙ N .vp,
-          sym (M .corners) ∙ a .corners ∙ N .corners,
-          sym (M .bodies) ∙ a .bodies ∙ N .bodies,
-          sym (M .ranges) ∙ a .ranges ∙ N .ranges,
-          sym (M .parameters) ∙ a .parameters ∙ N .parameters,
-          sym (M .loops) ∙ a .loops ∙ N .loops,
-          sym (M .spans) ∙ a .spans ∙ N .spans,
-        ) refl
+        tables-eq (ap (vertexFilled (R .vertices)) (sym (M .vertices) ∙ a .vertices ∙ N .vertices))
+        (element-tables-eq (ap (filled (R .elements .corners) 0) (sym (M .corners) ∙ a .corners ∙ N .corners)) refl)
+        (ap (bodyFilled (R .bodies)) (sym (M .bodies) ∙ a .bodies ∙ N .bodies))
 
     pub counts-same : length (m .elements) ≡ length (n .elements)
     unfolding usedOf
     counts-same = ap (λ (p : Used). p .elements) (a .used)
 
-    pub number-same : (i j : ℕ) → i < length (m .elements) → j < 5 → numberAt elementWidth (T .elements) i j ≡ numberAt elementWidth (U .elements) i j
+    pub number-same : (i j : ℕ) → i < length (m .elements) → j < 5 → numberAt elementWidth (T .elements .elements) i j ≡ numberAt elementWidth (U .elements .elements) i j
     unfolding usedOf
     number-same i j l b =
         let c = counts-same in
         let x = elementRows-length 0 0 (m .elements) in
         let y = elementRows-length 0 0 (n .elements) in
-        sym (unnamed-at (length (m .elements)) (T .elements) (let s = laid R m .elements .lent in omega arith) i j l b)
+        sym (unnamed-at (length (m .elements)) (T .elements .elements) (let s = laid R m .elements .lent in omega arith) i j l b)
         ∙ ap (λ (r : List ℕ). getD r (5 * i + j) 0) (a .elements ∙ N .elements ∙ sym (used-rows R u n k .elements))
-        ∙ unnamed-at (length (n .elements)) (U .elements) (let s = laid R n .elements .lent in omega arith) i j (omega arith) b
+        ∙ unnamed-at (length (n .elements)) (U .elements .elements) (let s = laid R n .elements .lent in omega arith) i j (omega arith) b
 
-    names-same : namesShown t (length (m .elements)) (T .elements) ≡ namesShown u (length (n .elements)) (U .elements)
+    names-same : namesShown t (length (m .elements)) (T .elements .elements) ≡ namesShown u (length (n .elements)) (U .elements .elements)
     unfolding usedOf
     names-same = a .names ∙ N .names ∙ sym (used-rows R u n k .names)
 
     element-same : (i : ℕ) → i < length (m .elements) → bareElement (elementFrom t T (elementAt T i)) ≡ bareElement (elementFrom u U (elementAt U i))
     element-same i l =
         let c = counts-same in
-        let g = sym (group-at t (length (m .elements)) (T .elements) i l) ∙ ap (λ (r : List (List (List ℕ))). getD r (2 * i) []) names-same ∙ group-at u (length (n .elements)) (U .elements) i (omega arith) in
-        let o = sym (material-at t (length (m .elements)) (T .elements) i l) ∙ ap (λ (r : List (List (List ℕ))). getD r (2 * i + 1) []) names-same ∙ material-at u (length (n .elements)) (U .elements) i (omega arith) in
+        let g = sym (group-at t (length (m .elements)) (T .elements .elements) i l) ∙ ap (λ (r : List (List (List ℕ))). getD r (2 * i) []) names-same ∙ group-at u (length (n .elements)) (U .elements .elements) i (omega arith) in
+        let o = sym (material-at t (length (m .elements)) (T .elements .elements) i l) ∙ ap (λ (r : List (List (List ℕ))). getD r (2 * i + 1) []) names-same ∙ material-at u (length (n .elements)) (U .elements .elements) i (omega arith) in
         same-from t u T (elementAt T i) (elementAt U i) (number-same i 0 l (omega arith)) (number-same i 1 l (omega arith)) (number-same i 2 l (omega arith)) (number-same i 3 l (omega arith)) (number-same i 4 l (omega arith)) g o
         ∙ ap (λ (w : Tables). bareElement (elementFrom u w (elementAt U i))) others-same
 

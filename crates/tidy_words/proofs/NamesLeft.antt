@@ -8,6 +8,7 @@ use lib.Seq.{sets}
 use Rattle.text.specs.Words.{wordOf}
 use Rattle.text.specs.Rest.{endOf}
 use Rattle.tables.specs.Asking.{partOf}
+use Rattle.tables.specs.declared.NameRun.{NameRun}
 use Rattle.tidy_form.specs.Agree.{wordsAt}
 use Rattle.tidy_words.specs.Emitting.{Emitted}
 use Rattle.tidy_words.specs.Naming.{partNames, NextMet}
@@ -53,6 +54,6 @@ module _ {s : List ℕ} {at : ℕ} {l m : List ℕ} {i to : ℕ} (c : NamesLeft 
       let k : spaced (namesFrom s i) ≡ spaced (wordOf (drop p s) ∷ namesFrom s e) = ap spaced (names-word s i w) ∙ ap (λ (q : ℕ). spaced (wordOf (drop p s) ∷ namesFrom s q)) (sym d) in
       (record { within = omega arith; left = left-turn {v = 32 ∷ wordOf (drop p s)} (c .left) k (emitted-then a b) }, omega arith)
 
-pub names-emitted : (s : List ℕ) (place count at : ℕ) {r : ℕ} {k l m : List ℕ} → k ≡ partOf s place count → Emitted at (spaced (partNames k)) l m r
-    → Emitted at (spaced (wordsAt s place count)) l m r
-names-emitted s place count at {r} {k} {l} {m} p h = rw (ap spaced (ap partNames p ∙ part-names s place count)) at h
+pub names-emitted : (s : List ℕ) (run : NameRun) (at : ℕ) {r : ℕ} {k l m : List ℕ} → k ≡ partOf s run → Emitted at (spaced (partNames k)) l m r
+    → Emitted at (spaced (wordsAt s run)) l m r
+names-emitted s run at {r} {k} {l} {m} p h = rw (ap spaced (ap partNames p ∙ part-names s run)) at h

@@ -17,6 +17,7 @@ use Rattle.text.specs.Rest.{Rest, restAt, endOf, WordMet}
 use Rattle.text.specs.Written.{bytesOf}
 use Rattle.text.proofs.Cut.{words-cut}
 use Rattle.tables.specs.Asking.{partOf}
+use Rattle.tables.specs.declared.NameRun.{NameRun}
 use Rattle.model.specs.Layout.{runOf}
 use Rattle.tidy_form.specs.Tidied.{sameWords}
 use Rattle.tidy_form.specs.Agree.{wordsAt}
@@ -50,8 +51,8 @@ moved : (m : Mode) (p q : ℕ) (l : List ℕ) → bytesOf (words m p l) ≡ byte
 moved m p q [] = refl
 moved m p q (b ∷ bs) = moved-step m p q b bs (λ n. moved n (suc p) (suc q) bs) (look m b bs) refl
 
-pub part-names : (s : List ℕ) (place count : ℕ) → partNames (partOf s place count) ≡ wordsAt s place count
-part-names s place count = moved gap 0 place (partOf s place count)
+pub part-names : (s : List ℕ) (run : NameRun) → partNames (partOf s run) ≡ wordsAt s run
+part-names s run = moved gap 0 (run .place) (partOf s run)
 
 -- the names from a place on, which is between words
 abbrev pub namesFrom : List ℕ → ℕ → List (List ℕ)
@@ -85,7 +86,7 @@ pub record Comparing (s t : List ℕ) (i j : ℕ) : Type 0 where
 pub comparing : (s t : List ℕ) → Comparing s t 0 0
 comparing s t = record { to = omega arith; other-to = omega arith; rest = ap₂ sameBytes (names-all s) (names-all t) }
 
-module _ (s t : List ℕ) (i j : ℕ) (c : Comparing s t i j) {p q : ℕ} (m : NextMet s i p) (n : NextMet t j q) where
+module _ {s t : List ℕ} {i j : ℕ} (c : Comparing s t i j) {p q : ℕ} (m : NextMet s i p) (n : NextMet t j q) where
   -- one part has no word more: the same exactly where the other has none
   pub compared-end : length s ≤ p → leb (length t) q ≡ sameBytes (partNames s) (partNames t)
   compared-end h =
@@ -129,12 +130,12 @@ module _ (s t : List ℕ) (i j : ℕ) (c : Comparing s t i j) {p q : ℕ} (m : N
           (test (same (wordOf (drop p s)) (wordOf (drop q t))))
 
 -- ---- `same_names`
-pub names-same : (s : List ℕ) (place count place′ count′ : ℕ) {l m : List ℕ} {r : Bool} → l ≡ partOf s place count → m ≡ partOf s place′ count′
-    → r ≡ sameBytes (partNames l) (partNames m) → r ≡ sameBytes (wordsAt s place count) (wordsAt s place′ count′)
-names-same s place count place′ count′ p q e =
-    e ∙ ap₂ (λ (x y : List ℕ). sameBytes (partNames x) (partNames y)) p q ∙ ap₂ sameBytes (part-names s place count) (part-names s place′ count′)
+pub names-same : (s : List ℕ) (run other : NameRun) {l m : List ℕ} {r : Bool} → l ≡ partOf s run → m ≡ partOf s other
+    → r ≡ sameBytes (partNames l) (partNames m) → r ≡ sameBytes (wordsAt s run) (wordsAt s other)
+names-same s run other p q e =
+    e ∙ ap₂ (λ (x y : List ℕ). sameBytes (partNames x) (partNames y)) p q ∙ ap₂ sameBytes (part-names s run) (part-names s other)
 
 -- names that stand in the text are compared as the words of their parts
 pub named-same : (s : List ℕ) (v w : List Word) → WordsStand s v → WordsStand s w
-    → sameWords v w ≡ sameBytes (wordsAt s (runOf v .place) (runOf v .length)) (wordsAt s (runOf w .place) (runOf w .length))
+    → sameWords v w ≡ sameBytes (wordsAt s (runOf v)) (wordsAt s (runOf w))
 named-same s v w p q = words-bytes v w ∙ sym (ap₂ sameBytes (ap bytesOf p) (ap bytesOf q))

@@ -6,29 +6,15 @@ ghost use lib.ListN.{length, drop};
 ghost use Rattle.lists.specs.Lists.{flat};
 ghost use Rattle.text.specs.Words.{wordOf};
 ghost use Rattle.text.specs.Rest.{endOf};
-ghost use Rattle.tables.specs.Asking.{partOf};
 ghost use Rattle.tidy_form.specs.Agree.{wordsAt};
 ghost use Rattle.tidy_words.specs.Naming.{sameBytes, partNames, NextMet};
 ghost use Rattle.tidy_words.specs.Emitting.{emission, emittedWhole, Emitted};
 use crate::emit_byte;
 use crate::place_after;
 use crate::room_in;
+use table_asking::part_of;
+use tables::NameRun;
 use text::AfterBlanks;
-
-// The part of the text from `place` on; empty where it passes the text's end.
-fn part(text: &[u8], place: usize, count: usize) -> &[u8]
-    ensures { λ r. ⌜ now r ≡ partOf (now (text .entry)) place count ⌝ }
-{
-    let none: usize = 0;
-    if text.len() < place {
-        return &text[none..none];
-    }
-    if text.len() - place < count {
-        return &text[none..none];
-    }
-    let to = place + count;
-    &text[place..to]
-}
 
 // Where the next word starts at or after `at`, which is between words; the text's end where none does before the line's end or a byte that is not allowed.
 fn next_word(text: &[u8], at: usize) -> usize
@@ -73,24 +59,16 @@ fn same_words(one: &[u8], other: &[u8]) -> bool
 }
 
 // 01: "where the names (as words) .. differ": whether two parts of the text hold the same words.
-pub fn same_names(
-    text: &[u8],
-    place: usize,
-    length: usize,
-    other_place: usize,
-    other_length: usize,
-) -> bool
-    ensures { λ r. ⌜ r ≡ sameBytes (wordsAt (now (text .entry)) place length) (wordsAt (now (text .entry)) «other_place» «other_length») ⌝ }
+pub fn same_names(text: &[u8], run: NameRun, other: NameRun) -> bool
+    ensures { λ r. ⌜ r ≡ sameBytes (wordsAt (now (text .entry)) run) (wordsAt (now (text .entry)) other) ⌝ }
 {
     // most elements have the names of the one before, set by the same line
-    if place == other_place {
-        if length == other_length {
+    if run.place == other.place {
+        if run.length == other.length {
             return true;
         }
     }
-    let one = part(text, place, length);
-    let other = part(text, other_place, other_length);
-    same_words(one, other)
+    same_words(part_of(text, run), part_of(text, other))
 }
 
 // The word of the text from `from` to `to`.
@@ -123,9 +101,9 @@ fn emit_words(part: &[u8], out: &mut [u8], at: usize) -> usize
 }
 
 // The names that a part of the text holds, each with a space before it.
-pub fn emit_names(text: &[u8], place: usize, length: usize, out: &mut [u8], at: usize) -> usize
-    ensures { λ r. ⌜ Emitted at (flat (λ (w : List ℕ). 32 ∷ w) (wordsAt (now (text .entry)) place length)) (now (out .entry)) (now (out .exit)) r ⌝ }
+pub fn emit_names(text: &[u8], run: NameRun, out: &mut [u8], at: usize) -> usize
+    ensures { λ r. ⌜ Emitted at (flat (λ (w : List ℕ). 32 ∷ w) (wordsAt (now (text .entry)) run)) (now (out .entry)) (now (out .exit)) r ⌝ }
 {
-    let names = part(text, place, length);
+    let names = part_of(text, run);
     emit_words(names, out, at)
 }

@@ -53,7 +53,7 @@ material-if c (some v) (some w) h = go (sameWords (v ∷ []) (w ∷ []))
 module _ (s : List ℕ) where
   -- the words of the part of s that a record gives for these names
   abbrev pub standing : List Word → List (List ℕ)
-  standing ws = wordsAt s (runOf ws .place) (runOf ws .length)
+  standing ws = wordsAt s (runOf ws)
 
   pub group-lines : (c : Weights) (v w : List Word) → WordsStand s v → WordsStand s w → map (printed c) (groupLines v w) ≡ cond (sameBytes (standing v) (standing w)) [] ((keywordOf Group ∷ standing w) ∷ [])
   group-lines c v w p q =

@@ -14,9 +14,10 @@ use lib.Signed.{mag}
 use mir.Syntax.{w32}
 use mir.Val.{toZ, ofZ}
 use mir.Facts.{toZ-ofZ}
-use Rattle.tables.specs.Records.{partIn, loopWidth, spanWidth, cornerIn, cornersEnd}
+use Rattle.tables.specs.Records.{partIn, loopWidth, spanWidth, cornerIn, cornerPlace}
 use Rattle.tables.specs.declared.parts.LoopPart.{LoopPart}
 use Rattle.tables.specs.declared.Corner.{Corner}
+use Rattle.tables.specs.declared.CornerRun.{CornerRun}
 use Rattle.tables.proofs.Flat.{flat-append}
 use Rattle.text.specs.Written.{writtenLine, writtenLines}
 use Rattle.references.specs.Written.{writtenWhole, writtenNumber, writtenCorner}
@@ -153,14 +154,14 @@ corners-turn l i (suc n) h =
     row : ℕ → ℕ → ℕ → ℕ → List ℕ → List ℕ
     row x y z m t = (32 ∷ writtenCorner (record { v = x; vt = y; vn = z })) ++ spaced (map writtenCorner (cornersFrom m t))
 
--- corner k of those that begin at `first`
-pub corner-turn : (l : List ℕ) (first k n : ℕ) (c : Corner) → 0 < n → c ≡ cornerIn l (cornersEnd first k)
-    → spaced (map writtenCorner (cornersFrom n (drop (cornersEnd first k) l)))
-    ≡ (32 ∷ writtenCorner (record { v = c .v; vt = c .vt; vn = c .vn })) ++ spaced (map writtenCorner (cornersFrom (n - 1) (drop (cornersEnd first (k + 1)) l)))
-corner-turn l first k n c h e =
-    corners-turn l (cornersEnd first k) n h
+-- corner k of a run
+pub corner-turn : (l : List ℕ) (run : CornerRun) (k n : ℕ) (c : Corner) → 0 < n → c ≡ cornerIn l (cornerPlace run k)
+    → spaced (map writtenCorner (cornersFrom n (drop (cornerPlace run k) l)))
+    ≡ (32 ∷ writtenCorner (record { v = c .v; vt = c .vt; vn = c .vn })) ++ spaced (map writtenCorner (cornersFrom (n - 1) (drop (cornerPlace run (k + 1)) l)))
+corner-turn l run k n c h e =
+    corners-turn l (cornerPlace run k) n h
     ∙ ap₂ (λ (x : Corner) (i : ℕ). (32 ∷ writtenCorner (record { v = x .v; vt = x .vt; vn = x .vn })) ++ spaced (map writtenCorner (cornersFrom (n - 1) (drop i l)))) (sym e)
-    (let d : cornersEnd first k + 3 ≡ cornersEnd first (k + 1) = omega arith in d)
+    (let d : cornerPlace run k + 3 ≡ cornerPlace run (k + 1) = omega arith in d)
 
 pub corners-none : (l : List ℕ) (n : ℕ) → n ≤ 0 → spaced (map writtenCorner (cornersFrom n l)) ≡ []
 corners-none l zero h = refl

@@ -55,7 +55,7 @@ rangeNumbers b = b .«start_u» ∷ b .«end_u» ∷ b .«start_v» ∷ b .«end
 abbrev pub elementWords : List ℕ → Body → Element → List (List ℕ)
 elementWords corners b e =
     keywordOf (kindKeyword (e .kind))
-    ∷ (map writtenNumber (take (rangeCount (e .kind)) (rangeNumbers b)) ++ map writtenCorner (cornersFrom (e .count) (drop (e .first) corners)))
+    ∷ (map writtenNumber (take (rangeCount (e .kind)) (rangeNumbers b)) ++ map writtenCorner (cornersFrom (e .corners .count) (drop (e .corners .first) corners)))
 
 -- ---- "Before a body: cstype, deg"
 abbrev pub basisArgument : ℕ → Argument

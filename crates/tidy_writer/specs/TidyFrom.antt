@@ -31,9 +31,9 @@ smoothed before now = cond (eqb before now) [] ((keywordOf Smoothing ∷ written
 -- the names of an element e after the element p
 abbrev pub namesLines : List ℕ → Element → Element → List (List (List ℕ))
 namesLines s p e =
-    changed Group (wordsAt s (p .«group_place») (p .«group_length»)) (wordsAt s (e .«group_place») (e .«group_length»))
+    changed Group (wordsAt s (p .group)) (wordsAt s (e .group))
     ++ (smoothed (p .smoothing) (e .smoothing)
-    ++ changed Material (wordsAt s (p .«material_place») (p .«material_length»)) (wordsAt s (e .«material_place») (e .«material_length»)))
+    ++ changed Material (wordsAt s (p .material)) (wordsAt s (e .material)))
 
 -- "then elements in order": the one after the element of that number, and n of them
 abbrev pub elementLines : List ℕ → Used → List ℕ → List ℕ → List ℕ → List ℤ → List ℤ → List ℕ → List ℤ → ℕ → List (List (List ℕ))
@@ -58,5 +58,5 @@ verticesFrom c used v vt vn vp =
 unfoldable pub tidyFrom : Weights → List ℕ → Used → Tables → List ℕ
 tidyFrom c s used t =
     writtenLines
-    (verticesFrom c used (t .v) (t .vt) (t .vn) (t .vp)
-    ++ elementsFrom s used (t .elements) (t .corners) (t .bodies) (t .ranges) (t .parameters) (t .loops) (t .spans) (used .elements) 0)
+    (verticesFrom c used (t .vertices .v) (t .vertices .vt) (t .vertices .vn) (t .vertices .vp)
+    ++ elementsFrom s used (t .elements .elements) (t .elements .corners) (t .bodies .bodies) (t .bodies .ranges) (t .bodies .parameters) (t .bodies .loops) (t .bodies .spans) (used .elements) 0)

@@ -10,6 +10,7 @@ ghost use Rattle.tidy_words.specs.Emitting.{Emitted};
 ghost use Rattle.tidy_words.specs.Emitting.{spaced};
 ghost use Rattle.tidy_writer.specs.Rows.{kindKeyword, rangeCount, bodyIndex, cornersFrom, elementWords};
 use crate::vertices;
+use tables::CornerRun;
 use tables::kinds;
 
 fn kind_keyword(kind: u32) -> statements::Carried
@@ -46,16 +47,16 @@ pub fn body_index(number: u32) -> u32
     number - 1
 }
 
-// `count` corners from `first` on, each with a space before it.
-fn emit_corners(corners: &[u32], first: u32, count: u32, out: &mut [u8], at: usize) -> usize
+// Each corner of a run, with a space before it.
+fn emit_corners(corners: &[u32], run: CornerRun, out: &mut [u8], at: usize) -> usize
     requires { ⌜ at ≤ 16777217 ⌝ }
-    ensures { λ r. ⌜ Emitted at (spaced (map writtenCorner (cornersFrom count (drop first (now (corners .entry)))))) (now (out .entry)) (now (out .exit)) r ⌝ }
+    ensures { λ r. ⌜ Emitted at (spaced (map writtenCorner (cornersFrom (run .count) (drop (run .first) (now (corners .entry)))))) (now (out .entry)) (now (out .exit)) r ⌝ }
 {
     let mut k: usize = 0;
-    let mut left = count;
+    let mut left = run.count;
     let mut end = at;
     while 0 < left {
-        let corner = tables::corner_at(corners, first, k);
+        let corner = tables::corner_at(corners, run, k);
         end = tidy_words::emit_spaced_corner(out, end, corner.v, corner.vt, corner.vn);
         k += 1;
         left -= 1;
@@ -77,6 +78,6 @@ pub fn element_line(
     let words = tidy_words::emit_keyword(kind_keyword(element.kind), table, out, at);
     let range = [body.start_u, body.end_u, body.start_v, body.end_v];
     let first = vertices::emit_numbers(&range, 0, range_count(element.kind), out, words);
-    let end = emit_corners(corners, element.first, element.count, out, first);
+    let end = emit_corners(corners, element.corners, out, first);
     tidy_words::emit_byte(out, end, b'\n')
 }

@@ -8,35 +8,28 @@ ghost use Rattle.tidy_words.specs.Emitting.{Emitted};
 ghost use Rattle.tidy_writer.specs.TidyFrom.{changed, smoothed, namesLines, elementLines, elementsFrom};
 use crate::body;
 use crate::vertices;
+use tables::NameRun;
 use tidy_words::names;
 
-// The names from `place` on, where they are not those from `before` on.
+// The names of a run, where they are not those of the run before.
 fn name_line(
     statement: statements::Carried,
     table: &[u8; 528],
     text: &[u8],
-    before: u32,
-    before_length: u32,
-    place: u32,
-    length: u32,
+    before: NameRun,
+    run: NameRun,
     out: &mut [u8],
     at: usize,
 ) -> usize
     requires { ⌜ now table ≡ keywordTable ⌝ }
     requires { ⌜ at ≤ 16777217 ⌝ }
-    ensures { λ r. ⌜ Emitted at (writtenLines (changed statement (wordsAt (now (text .entry)) before «before_length») (wordsAt (now (text .entry)) place length))) (now (out .entry)) (now (out .exit)) r ⌝ }
+    ensures { λ r. ⌜ Emitted at (writtenLines (changed statement (wordsAt (now (text .entry)) before) (wordsAt (now (text .entry)) run))) (now (out .entry)) (now (out .exit)) r ⌝ }
 {
-    if names::same_names(
-        text,
-        before as usize,
-        before_length as usize,
-        place as usize,
-        length as usize,
-    ) {
+    if names::same_names(text, before, run) {
         return at;
     }
     let words = tidy_words::emit_keyword(statement, table, out, at);
-    let end = names::emit_names(text, place as usize, length as usize, out, words);
+    let end = names::emit_names(text, run, out, words);
     tidy_words::emit_byte(out, end, b'\n')
 }
 
@@ -75,10 +68,8 @@ fn names_lines(
         statements::Carried::Group,
         table,
         text,
-        before.group_place,
-        before.group_length,
-        element.group_place,
-        element.group_length,
+        before.group,
+        element.group,
         out,
         at,
     );
@@ -87,10 +78,8 @@ fn names_lines(
         statements::Carried::Material,
         table,
         text,
-        before.material_place,
-        before.material_length,
-        element.material_place,
-        element.material_length,
+        before.material,
+        element.material,
         out,
         material,
     )

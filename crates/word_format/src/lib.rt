@@ -6,7 +6,7 @@ ghost use lib.IntN.{natAbs};
 ghost use lib.ListN.{length};
 ghost use lib.Seq.{sets};
 ghost use Rattle.references.specs.Written.{full, writtenWhole, writtenMillionths, writtenNumber, writtenCorner};
-ghost use Rattle.word_format.specs.Parts.{part, parts};
+ghost use Rattle.word_format.specs.Parts.{writtenPart, writtenParts};
 
 // One byte, a blank or a line's end, at `at` of `out`; the place after it.
 pub fn put_byte(out: &mut [u8], at: usize, b: u8) -> usize
@@ -106,15 +106,15 @@ pub fn write_number(out: &mut [u8], at: usize, value: i32) -> usize
 
 // A slash, and a part that is there.
 fn write_part(out: &mut [u8], at: usize, n: u32) -> usize
-    requires { ⌜ at + length (part n) ≤ length (now out) ⌝ }
-    ensures { λ r. ⌜ (r ≡ at + length (part n)) × (now (out .exit) ≡ sets (now (out .entry)) at (part n)) ⌝ }
+    requires { ⌜ at + length (writtenPart n) ≤ length (now out) ⌝ }
+    ensures { λ r. ⌜ (r ≡ at + length (writtenPart n)) × (now (out .exit) ≡ sets (now (out .entry)) at (writtenPart n)) ⌝ }
 {
     let first = put_byte(out, at, 47);
     write_whole(out, first, n)
 }
 
 fn parts_length(vt: u32, vn: u32) -> usize
-    ensures { λ r. ⌜ r ≡ length (parts vt vn) ⌝ }
+    ensures { λ r. ⌜ r ≡ length (writtenParts vt vn) ⌝ }
 {
     if vn == 0 {
         if vt == 0 {
@@ -130,8 +130,8 @@ fn parts_length(vt: u32, vn: u32) -> usize
 
 // What stands after a corner's vertex.
 fn write_parts(out: &mut [u8], at: usize, vt: u32, vn: u32) -> usize
-    requires { ⌜ at + length (parts vt vn) ≤ length (now out) ⌝ }
-    ensures { λ r. ⌜ (r ≡ at + length (parts vt vn)) × (now (out .exit) ≡ sets (now (out .entry)) at (parts vt vn)) ⌝ }
+    requires { ⌜ at + length (writtenParts vt vn) ≤ length (now out) ⌝ }
+    ensures { λ r. ⌜ (r ≡ at + length (writtenParts vt vn)) × (now (out .exit) ≡ sets (now (out .entry)) at (writtenParts vt vn)) ⌝ }
 {
     if vn == 0 {
         if vt == 0 {

@@ -17,11 +17,11 @@ use Rattle.digits.specs.Digits.{isDigit, natOf}
 use Rattle.decimals.specs.Number.{isE}
 use Rattle.lists.specs.Signs.{withSign}
 use Rattle.decimals.specs.Straight.{pointed, magnitudeOf, settleOf, DecimalsAhead}
-use Rattle.digits.specs.Straight.{first, over, run, WholeRead, UptoRead}
+use Rattle.digits.specs.Straight.{first, isEmpty, run, WholeRead, UptoRead}
 use Rattle.word_numbers.specs.Answers.{exactIs}
 use Rattle.word_numbers.specs.declared.Exact.{Exact}
 use Rattle.word_numbers.specs.declared.Exact.the-variants.{Of, Scaled, Other}
-use Rattle.digits.proofs.Fronts.{low-no-word, low-stops, word-over}
+use Rattle.digits.proofs.Fronts.{low-no-word, low-stops, word-over, run-nil}
 use Rattle.digits.proofs.Runs.{few-all, all-whole}
 use Rattle.word_numbers.proofs.Numbers.{fraction-fits, fraction-of, measure-of}
 use Rattle.digits.proofs.Saids.{said}
@@ -31,10 +31,6 @@ pub exact-on : (far gar : ℕ) (x y : Said (ℕ × ℕ)) (p q : ℕ → ℕ → 
 exact-on far gar x y p q (Of m e) h l f g = (g .0 ∙ h, let z = g .1 in omega arith)
 exact-on far gar x y p q (Scaled m e) h l f g = f m e g
 exact-on far gar x y p q Other h l f g = g
-
-run-none : (l : List ℕ) → isDigit (first l) ≡ false → length (run l) ≡ 0
-run-none [] h = refl
-run-none (b ∷ bs) h = rw h refl
 
 -- ---- in_millionths
 pub zero-more : (m i : ℕ) → i < 6 → m * 10 * 10 ^ (6 - (i + 1)) ≡ m * 10 ^ (6 - i)
@@ -47,9 +43,9 @@ zero-more m i h =
     a ∙ ap (λ (y : ℕ). m * y) e
 
 -- ---- decimals_ahead
-module _ (s : List ℕ) (at whole end value : ℕ) (f : UptoRead 6 s at whole end value) (stops : isDigit (first (drop end s)) ≡ false) where
+module _ {s : List ℕ} {at whole end value : ℕ} (f : UptoRead 6 s at whole end value) (stops : isDigit (first (drop end s)) ≡ false) where
   short : length (run (drop at s)) ≤ 6
-  short = few-all 6 s at whole end value f stops
+  short = few-all f stops
 
   seven : UptoRead 7 s at whole end value
   seven =
@@ -62,7 +58,7 @@ module _ (s : List ℕ) (at whole end value : ℕ) (f : UptoRead 6 s at whole en
       }
 
   none : end ≡ end + length (run (drop end s))
-  none = let z = run-none (drop end s) stops in omega arith
+  none = let z = ap length (run-nil (drop end s) stops) in omega arith
 
   tenfold : 10 * 10 ^ (6 - (end - at)) ≡ 10 ^ (7 - (end - at))
   tenfold =
@@ -104,15 +100,15 @@ module _ (s : List ℕ) (at whole end value : ℕ) (f : UptoRead 6 s at whole en
         ∙ fraction-of s at count whole end value end seven none n (word-over (drop end s) (low-no-word (first (drop end s)) l)) (10 * 10 ^ (6 - (end - at))) tenfold
 
 -- ---- measure_ahead
-pub four : (s : List ℕ) (at end value : ℕ) → UptoRead 4 s at 0 end value → isDigit (first (drop end s)) ≡ false → WholeRead s at end value
-four s at end value f o = let m = few-all 4 s at 0 end value f o in all-whole 4 s at end value f m (omega arith)
+pub four : {s : List ℕ} {at end value : ℕ} → UptoRead 4 s at 0 end value → isDigit (first (drop end s)) ≡ false → WholeRead s at end value
+four f o = let m = few-all f o in all-whole f m (omega arith)
 
-pub bare-of : (s : List ℕ) (at end value b : ℕ) → UptoRead 4 s at 0 end value → b ≡ first (drop end s) → b ≤ 32 → (end ≡ at → ⊥)
+pub bare-of : {s : List ℕ} {at end value b : ℕ} → UptoRead 4 s at 0 end value → b ≡ first (drop end s) → b ≤ 32 → (end ≡ at → ⊥)
     → says (10 * (value * 1000000), end) ≡ ended (magnitudeOf (wordOf (drop at s))) (endOf s at)
-bare-of s at end value b f e l n =
+bare-of {s} {at} {end} {value} {b} f e l n =
     let m : 10 * (value * 1000000) ≡ value * 10000000 = omega arith in
     ap (λ (t : ℕ). says (t, end)) m
-    ∙ measure-of s at end value (four s at end value f (low-stops (drop end s) b e l)) b e (λ h. omega arith) n
+    ∙ measure-of s at end value (four f (low-stops (drop end s) b e l)) b e (λ h. omega arith) n
     (word-over (drop end s) (low-no-word (first (drop end s)) (omega arith)))
 
 -- ---- quick_number_at

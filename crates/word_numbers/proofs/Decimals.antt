@@ -17,9 +17,9 @@ use Rattle.digits.specs.Answers.{ended}
 use Rattle.digits.specs.Digits.{isDigit, digits, natOf, negative}
 use Rattle.decimals.specs.Number.{mantissa, exponent, before, after, decimal, numerator, denominator, raised, lowered, nearest, unsigned, limited, valueOf, numberOf}
 use Rattle.decimals.specs.Straight.{tenMillionths, magnitudeOf, pointed, settleOf, hasExponent, shifted, scaledOf, sizeOf}
-use Rattle.digits.specs.Straight.{first, over, run, past, cap}
+use Rattle.digits.specs.Straight.{first, isEmpty, run, past, cap}
 use Rattle.digits.proofs.Rows.{run-digits, natOf-append, ten-pos}
-use Rattle.digits.proofs.Saids.{must-says, ended-says, ended-wrong}
+use Rattle.digits.proofs.Saids.{must-says, must-wrong, ended-says, ended-wrong}
 use Rattle.decimals.proofs.Mantissas.{decimal-plain, must-have}
 use Rattle.decimals.proofs.Points.{before-point, after-point, before-none, after-none, before-other}
 use Rattle.word_numbers.proofs.Rounding.{rounding, settles, cap-settles}
@@ -51,10 +51,10 @@ module _ (l : List ℕ) where
   pub point-at : first (past l) ≡ 46 → magnitudeOf (wordOf l) ≡ pointed (length (run l)) (cap (natOf 0 (run l))) (wordOf (drop 1 (past l)))
   point-at e = ap magnitudeOf (word-run l ∙ ap (λ (r : List ℕ). run l ++ r) (past-word l 46 e refl refl)) ∙ at-point (run l) (wordOf (drop 1 (past l))) (run-digits l)
 
-  pub bare-at : over (wordOf (past l)) ≡ true → 1 ≤ length (run l) → magnitudeOf (wordOf l) ≡ says (cap (natOf 0 (run l)) * 10 ^ 7)
+  pub bare-at : isEmpty (wordOf (past l)) ≡ true → 1 ≤ length (run l) → magnitudeOf (wordOf l) ≡ says (cap (natOf 0 (run l)) * 10 ^ 7)
   bare-at o k = ap magnitudeOf (word-all l o) ∙ no-point (run l) (run-digits l) k
 
-  pub other-at : (first (past l) ≡ 46 → ⊥) → over (wordOf (past l)) ≡ false → magnitudeOf (wordOf l) ≡ wrong 6
+  pub other-at : (first (past l) ≡ 46 → ⊥) → isEmpty (wordOf (past l)) ≡ false → magnitudeOf (wordOf l) ≡ wrong 6
   other-at f o =
       ap magnitudeOf (word-run l ∙ ap (λ (r : List ℕ). run l ++ r) (on-word (past l) o))
       ∙ other-byte (run l) (first (past l)) (wordOf (drop 1 (past l))) (run-digits l) (past-digit l) (ne-eqb (first (past l)) 46 f)
@@ -62,27 +62,27 @@ module _ (l : List ℕ) where
   pub none-at : (first (past l) ≡ 46 → ⊥) → length (run l) ≡ 0 → magnitudeOf (wordOf l) ≡ wrong 6
   none-at f z =
       ⊎-elim
-      (λ (o : over (wordOf (past l)) ≡ true). ap magnitudeOf (word-all l o ∙ length-zero (run l) z) ∙ no-byte)
-      (λ (o : over (wordOf (past l)) ≡ false). other-at f o)
-      (test (over (wordOf (past l))))
+      (λ (o : isEmpty (wordOf (past l)) ≡ true). ap magnitudeOf (word-all l o ∙ length-zero (run l) z) ∙ no-byte)
+      (λ (o : isEmpty (wordOf (past l)) ≡ false). other-at f o)
+      (test (isEmpty (wordOf (past l))))
 
 -- ---- after the point
 module _ (n a : ℕ) (l : List ℕ) where
-  pub pointed-not : over (wordOf (past l)) ≡ false → pointed n a (wordOf l) ≡ wrong 6
+  pub pointed-not : isEmpty (wordOf (past l)) ≡ false → pointed n a (wordOf l) ≡ wrong 6
   unfolding pointed
   pointed-not o = rw (word-not l o) refl
 
   pub pointed-none : n + length (run l) ≡ 0 → pointed n a (wordOf l) ≡ wrong 6
   pointed-none z =
       ⊎-elim
-      (λ (o : over (wordOf (past l)) ≡ true). ap (pointed n a) (word-all l o) ∙ nothing)
-      (λ (o : over (wordOf (past l)) ≡ false). pointed-not o)
-      (test (over (wordOf (past l))))
+      (λ (o : isEmpty (wordOf (past l)) ≡ true). ap (pointed n a) (word-all l o) ∙ nothing)
+      (λ (o : isEmpty (wordOf (past l)) ≡ false). pointed-not o)
+      (test (isEmpty (wordOf (past l))))
     where
       nothing : pointed n a (run l) ≡ wrong 6
       nothing = unfold pointed in rw (run-digits l, lt-leb 1 (n + length (run l)) (omega arith)) refl
 
-  pub pointed-of : over (wordOf (past l)) ≡ true → 1 ≤ n + length (run l)
+  pub pointed-of : isEmpty (wordOf (past l)) ≡ true → 1 ≤ n + length (run l)
       → pointed n a (wordOf l) ≡ says (natOf a (take 7 (run l)) * 10 ^ (7 - length (run l)))
   unfolding pointed
   pointed-of o k = rw (word-all l o, run-digits l, le-leb 1 (n + length (run l)) k) refl
@@ -95,10 +95,6 @@ pub size-scaled : (u : List ℕ) (end : ℕ) (r : Said (ℕ × ℕ)) → wrong 6
 size-scaled u end r h k = rw (ended-wrong (magnitudeOf u) 6 end h) k
 
 -- ---- the number
-must-wrong : (t : Bool) (n a m : ℕ) → must t n (says a) ≡ wrong m → t ≡ false
-must-wrong true n a m h = absurd (let z : _≡_ {A = ℕ} 0 1 = cc in omega arith)
-must-wrong false n a m h = refl
-
 lowered-pos : (x : List ℕ) (d : ℕ) → 0 < d → 0 < lowered x d
 lowered-pos [] d h = h
 lowered-pos (e ∷ x) d h =

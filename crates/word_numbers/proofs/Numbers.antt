@@ -19,7 +19,7 @@ use Rattle.digits.specs.Answers.{ended}
 use Rattle.digits.specs.Digits.{natOf, negative}
 use Rattle.decimals.specs.Number.{isSign, unsigned, numberOf}
 use Rattle.decimals.specs.Straight.{pointed, magnitudeOf, sizeOf, settleOf}
-use Rattle.digits.specs.Straight.{first, over, run, past, cap, WholeRead, UptoRead}
+use Rattle.digits.specs.Straight.{first, isEmpty, run, past, cap, WholeRead, UptoRead}
 use Rattle.digits.proofs.Rows.{run-rest, scaled-small}
 use Rattle.digits.proofs.Fronts.{past-at, next-at, byte-in, word-all, word-run, past-word, byte-word}
 use Rattle.decimals.proofs.Signed as sign
@@ -50,19 +50,19 @@ module _ (s : List ℕ) (at count whole last value end : ℕ) (f : UptoRead 7 s 
   pub fraction-none : count + (end - at) ≡ 0 → wrong 6 ≡ ended (pointed count whole (wordOf (drop at s))) (endOf s at)
   fraction-none z = unsaid _ 6 (endOf s at) (pointed-none count whole (drop at s) (let q = stop in omega arith))
 
-  pub fraction-not : false ≡ over (wordOf (drop end s)) → wrong 6 ≡ ended (pointed count whole (wordOf (drop at s))) (endOf s at)
+  pub fraction-not : false ≡ isEmpty (wordOf (drop end s)) → wrong 6 ≡ ended (pointed count whole (wordOf (drop at s))) (endOf s at)
   fraction-not o =
       unsaid _ 6 (endOf s at)
-      (pointed-not count whole (drop at s) (sym (o ∙ ap (λ (l : List ℕ). over (wordOf l)) (past-at s at end stop))))
+      (pointed-not count whole (drop at s) (sym (o ∙ ap (λ (l : List ℕ). isEmpty (wordOf l)) (past-at s at end stop))))
 
-  pub fraction-of : (count + (end - at) ≡ 0 → ⊥) → true ≡ over (wordOf (drop end s)) → (k : ℕ) → k ≡ 10 ^ (7 - (last - at))
+  pub fraction-of : (count + (end - at) ≡ 0 → ⊥) → true ≡ isEmpty (wordOf (drop end s)) → (k : ℕ) → k ≡ 10 ^ (7 - (last - at))
       → says (value * k, end) ≡ ended (pointed count whole (wordOf (drop at s))) (endOf s at)
   fraction-of n o k e =
       let l : List ℕ = drop at s in
       let q = stop in
       let y = f .end-is in
       let x = length-take 7 (run l) in
-      let p : over (wordOf (past l)) ≡ true = sym (o ∙ ap (λ (l : List ℕ). over (wordOf l)) (past-at s at end stop)) in
+      let p : isEmpty (wordOf (past l)) ≡ true = sym (o ∙ ap (λ (l : List ℕ). isEmpty (wordOf l)) (past-at s at end stop)) in
       let m : 7 - (last - at) ≡ 7 - length (run l) = omega arith in
       let b : 1 ≤ count + length (run l) = omega arith in
       said _ (value * k) (endOf s at) end
@@ -75,8 +75,8 @@ module _ (s : List ℕ) (at end value : ℕ) (w : WholeRead s at end value) wher
   here : drop end s ≡ past (drop at s)
   here = past-at s at end (w .end-is)
 
-  overs : (b : Bool) → b ≡ over (wordOf (drop end s)) → over (wordOf (past (drop at s))) ≡ b
-  overs b o = sym (o ∙ ap (λ (l : List ℕ). over (wordOf l)) here)
+  overs : (b : Bool) → b ≡ isEmpty (wordOf (drop end s)) → isEmpty (wordOf (past (drop at s))) ≡ b
+  overs b o = sym (o ∙ ap (λ (l : List ℕ). isEmpty (wordOf l)) here)
 
   pub measure-in : (b : ℕ) → b ≡ first (drop end s) → b ≡ 46 → end < length s
   measure-in b e p = byte-in s end (ap (λ (n : ℕ). eqb n 10) (sym e ∙ p))
@@ -106,10 +106,10 @@ module _ (s : List ℕ) (at end value : ℕ) (w : WholeRead s at end value) wher
     pub measure-none : end ≡ at → wrong 6 ≡ ended (magnitudeOf (wordOf (drop at s))) (endOf s at)
     measure-none z = unsaid _ 6 (endOf s at) (none-at (drop at s) other (let y = w .end-is in omega arith))
 
-    pub measure-not : false ≡ over (wordOf (drop end s)) → wrong 6 ≡ ended (magnitudeOf (wordOf (drop at s))) (endOf s at)
+    pub measure-not : false ≡ isEmpty (wordOf (drop end s)) → wrong 6 ≡ ended (magnitudeOf (wordOf (drop at s))) (endOf s at)
     measure-not o = unsaid _ 6 (endOf s at) (other-at (drop at s) other (overs false o))
 
-    pub measure-of : (end ≡ at → ⊥) → true ≡ over (wordOf (drop end s)) → says (value * 10000000, end) ≡ ended (magnitudeOf (wordOf (drop at s))) (endOf s at)
+    pub measure-of : (end ≡ at → ⊥) → true ≡ isEmpty (wordOf (drop end s)) → says (value * 10000000, end) ≡ ended (magnitudeOf (wordOf (drop at s))) (endOf s at)
     measure-of n o =
         let l : List ℕ = drop at s in
         let y = w .end-is in

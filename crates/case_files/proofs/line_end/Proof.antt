@@ -3,7 +3,7 @@ use Prim.Native.Nat.{_-_, _≤_, _<_}
 use mathlib.Core.Path.{_≡_, refl}
 use lib.ListN.{length, drop}
 use denote.Ref.{now}
-use Rattle.case_files.specs.Cases.{endFrom, lineEnd}
+use Rattle.case_files.specs.Cases.{endFrom, caseLineEnd}
 use Rattle.case_files.proofs.Turns.{line-ends, line-found, line-turn}
 use borrow.Author.Needs.{needs}
 use Rattle.case_files.proofs.line_end.Statement.{statement}
@@ -12,7 +12,7 @@ use Rattle.case_files.proofs.line_end.Reads as reads
 use Rattle.case_files.proofs.line_end.Lts as lts
 
 abbrev Inv-loop : tie.InvT-loop
-Inv-loop cases at i₀ i = (endFrom i (drop i cases) ≡ lineEnd cases at) × (at ≤ i) × (i ≤ length cases)
+Inv-loop cases at i₀ i = (endFrom i (drop i cases) ≡ caseLineEnd cases at) × (at ≤ i) × (i ≤ length cases)
 
 abbrev μ-loop : tie.MeasureT-loop
 μ-loop cases at i₀ i = length cases - i

@@ -3,7 +3,7 @@ use Prim.Native.Nat.{_-_, _≤_, _<_}
 use mathlib.Core.Path.{_≡_, refl}
 use lib.ListN.{length, drop}
 use denote.Ref.{now}
-use Rattle.case_files.specs.Cases.{numberFrom, numberAt}
+use Rattle.case_files.specs.Cases.{numberFrom, caseNumberAt}
 use Rattle.case_files.proofs.Turns.{number-ends, number-low, number-high, number-full, number-turn}
 use borrow.Author.Needs.{needs}
 use Rattle.case_files.proofs.number_at.Statement.{statement}
@@ -12,7 +12,7 @@ use Rattle.case_files.proofs.number_at.Reads as reads
 use Rattle.case_files.proofs.number_at.Lts as lts
 
 abbrev Inv-loop : tie.InvT-loop
-Inv-loop cases at value₀ i₀ value i = (numberFrom value i (drop i cases) ≡ numberAt cases at) × (value ≤ 50000000000) × (i ≤ length cases)
+Inv-loop cases at value₀ i₀ value i = (numberFrom value i (drop i cases) ≡ caseNumberAt cases at) × (value ≤ 50000000000) × (i ≤ length cases)
 
 abbrev μ-loop : tie.MeasureT-loop
 μ-loop cases at value₀ i₀ value i = length cases - i

@@ -1,5 +1,5 @@
 -- The loop is a turn of `Few` each time; no turn wraps, since all the digits that may be read do not.
-use Prim.Native.Nat.{ℕ, suc, _-_, _*_, _+_, _<_}
+use Prim.Native.Nat.{ℕ, suc, _-_, _*_, _+_, _^_, _<_}
 use mathlib.Core.Path.{_≡_, refl, sym, subst}
 use native.Mathlib.Omega.{arith}
 use lib.ListN.{length}
@@ -31,49 +31,44 @@ digit-requires c κs = search needs
 returns : tie.Need-returns Inv-loop μ-loop
 returns c =
     let b = c .before .before .before .before in
-    let start = b .before .before in
-    let a = start .args in
-    let s = now (a .text) in
+    let s = now (b .before .before .args .text) in
     let more : b .loop .i < length s = (let x = b .loop .inv .within in let y = c .before .before .before .loop-test .taken in omega arith) in
-    few-stop (a .most) s (a .at) (a .whole) (b .loop .i) (b .loop .a) (b .loop .room) (b .loop .inv)
-    (run-no s (b .loop .i) (c .before .digit .result) more (c .before .digit .ensures) (c .if1 .taken))
+    few-stop (b .loop .inv) (run-no s (b .loop .i) (c .before .digit .result) more (c .before .digit .ensures) (c .if1 .taken))
+
+-- one more digit, and room for it
+module _ (c : tie.Else1 Inv-loop μ-loop) where
+  abbrev d : tie.After-digit Inv-loop μ-loop
+  d = c .before
+
+  abbrev b : tie.At-loop Inv-loop μ-loop
+  b = d .before .before .before
+
+  abbrev start : tie.Start Inv-loop μ-loop
+  start = b .before .before
+
+  abbrev k : ℕ
+  k = b .loop .room - 1
+
+  more : (b .loop .room ≡ suc k) × (b .loop .i < length (now (start .args .text)))
+  more = let x = b .loop .inv .within in let y = d .before .before .loop-test .taken in (omega arith, omega arith)
+
+  small : b .loop .a * 10 + d .digit .result < 2 ^ 60
+  small = few-small-turn (b .loop .inv) k (d .digit .result) (more .0) (more .1) (d .digit .ensures) (c .if1 .left) (start .pre .1)
+
+  turn : Few (start .args .most) (now (start .args .text)) (start .args .at) (start .args .whole) (b .loop .i + 1) (b .loop .a * 10 + d .digit .result) k
+  turn = few-turn (b .loop .inv) k (d .digit .result) (more .0) (more .1) (d .digit .ensures) (c .if1 .left)
 
 mul-a : tie.Need-mul-a Inv-loop μ-loop
-mul-a c =
-    let d = c .before in
-    let b = d .before .before .before in
-    let start = b .before .before in
-    let a = start .args in
-    let s = now (a .text) in
-    let k = b .loop .room - 1 in
-    let y = d .before .before .loop-test .taken in
-    let z : b .loop .room ≡ suc k = omega arith in
-    let more : b .loop .i < length s = (let x = b .loop .inv .within in omega arith) in
-    let q = few-small-turn (a .most) s (a .at) (a .whole) (b .loop .i) (b .loop .a) (b .loop .room) (b .loop .inv) k (d .digit .result) z more (d .digit .ensures) (c .if1 .left) (start .pre .1) in
-    omega arith
+mul-a c = let q = small c in omega arith
 
 wide-requires : tie.Need-wide-requires Inv-loop μ-loop
 wide-requires c κs = search needs
 
 add-a : tie.Need-add-a Inv-loop μ-loop
-add-a c =
-    let d = c .before .before in
-    let b = d .before .before .before in
-    let start = b .before .before in
-    let a = start .args in
-    let s = now (a .text) in
-    let k = b .loop .room - 1 in
-    let y = d .before .before .loop-test .taken in
-    let z : b .loop .room ≡ suc k = omega arith in
-    let more : b .loop .i < length s = (let x = b .loop .inv .within in omega arith) in
-    let q = few-small-turn (a .most) s (a .at) (a .whole) (b .loop .i) (b .loop .a) (b .loop .room) (b .loop .inv) k (d .digit .result) z more (d .digit .ensures) (c .before .if1 .left) (start .pre .1) in
-    omega arith
+add-a c = let q = small (c .before) in omega arith
 
 add-i : tie.Need-add-i Inv-loop μ-loop
-add-i c =
-    let b = c .before .before .before .before .before in
-    let x = b .loop .inv .within in
-    search needs
+add-i c = let x = b (c .before) .loop .inv .within in search needs
 
 sub-room : tie.Need-sub-room Inv-loop μ-loop
 sub-room c = search needs
@@ -83,23 +78,12 @@ loop-less c = search needs
 
 loop-again : tie.Need-loop-again Inv-loop μ-loop
 loop-again c =
-    let d = c .before .before in
-    let b = d .before .before .before in
-    let start = b .before .before in
-    let a = start .args in
-    let s = now (a .text) in
-    let k = b .loop .room - 1 in
-    let y = d .before .before .loop-test .taken in
-    let z : b .loop .room ≡ suc k = omega arith in
-    let more : b .loop .i < length s = (let x = b .loop .inv .within in omega arith) in
-    let q = few-turn (a .most) s (a .at) (a .whole) (b .loop .i) (b .loop .a) (b .loop .room) (b .loop .inv) k (d .digit .result) z more (d .digit .ensures) (c .before .if1 .left) in
-    subst (λ (x : ℕ). Few (a .most) s (a .at) (a .whole) (b .loop .i + 1) (b .loop .a * 10 + x) k) (sym (c .wide .ensures)) q
+    let e = c .before in
+    let a = start e .args in
+    subst (λ (x : ℕ). Few (a .most) (now (a .text)) (a .at) (a .whole) (b e .loop .i + 1) (b e .loop .a * 10 + x) (k e)) (sym (c .wide .ensures)) (turn e)
 
 returns-2 : tie.Need-returns-2 Inv-loop μ-loop
-returns-2 c =
-    let b = c .before in
-    let a = b .before .before .args in
-    few-full (a .most) (now (a .text)) (a .at) (a .whole) (b .loop .i) (b .loop .a) (b .loop .room) (b .loop .inv) (let y = c .loop-test .left in omega arith)
+returns-2 c = few-full (c .before .loop .inv) (let y = c .loop-test .left in omega arith)
 
 pub digits-upto-spec : {M : Type 1} → statement M
 digits-upto-spec =

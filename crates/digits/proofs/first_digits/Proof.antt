@@ -32,11 +32,9 @@ digit-requires c κs = search needs
 returns : tie.Need-returns Inv-loop μ-loop
 returns c =
     let b = c .before .before .before .before in
-    let a = b .before .before .args in
-    let s = now (a .text) in
+    let s = now (b .before .before .args .text) in
     let more : b .loop .i < length s = (let x = b .loop .inv .within in let y = c .before .before .before .loop-test .taken in omega arith) in
-    first-stop (a .most) s (a .at) (a .value) (b .loop .i) (b .loop .a) (b .loop .room) (b .loop .inv)
-    (run-no s (b .loop .i) (c .before .digit .result) more (c .before .digit .ensures) (c .if1 .taken))
+    first-stop (b .loop .inv) (run-no s (b .loop .i) (c .before .digit .result) more (c .before .digit .ensures) (c .if1 .taken))
 
 wide-requires : tie.Need-wide-requires Inv-loop μ-loop
 wide-requires c κs = search needs
@@ -61,20 +59,14 @@ loop-again : tie.Need-loop-again Inv-loop μ-loop
 loop-again c =
     let d = c .before .before .before in
     let b = d .before .before .before in
-    let a = b .before .before .args in
-    let s = now (a .text) in
-    let k = b .loop .room - 1 in
     let y = d .before .before .loop-test .taken in
-    let z : b .loop .room ≡ suc k = omega arith in
-    let more : b .loop .i < length s = (let x = b .loop .inv .within in omega arith) in
-    first-turn (a .most) s (a .at) (a .value) (b .loop .i) (b .loop .a) (b .loop .room) (b .loop .inv) k (d .digit .result) (c .push .result) z more (d .digit .ensures) (c .before .before .if1 .left)
+    let z : b .loop .room ≡ suc (b .loop .room - 1) = omega arith in
+    let more : b .loop .i < length (now (b .before .before .args .text)) = (let x = b .loop .inv .within in omega arith) in
+    first-turn (b .loop .inv) _ (d .digit .result) (c .push .result) z more (d .digit .ensures) (c .before .before .if1 .left)
     (c .push .ensures ∙ ap (λ (n : ℕ). cap (b .loop .a * 10 + n)) (c .before .wide .ensures))
 
 returns-2 : tie.Need-returns-2 Inv-loop μ-loop
-returns-2 c =
-    let b = c .before in
-    let a = b .before .before .args in
-    first-full (a .most) (now (a .text)) (a .at) (a .value) (b .loop .i) (b .loop .a) (b .loop .room) (b .loop .inv) (let y = c .loop-test .left in omega arith)
+returns-2 c = first-full (c .before .loop .inv) (let y = c .loop-test .left in omega arith)
 
 pub first-digits-spec : {M : Type 1} → statement M
 first-digits-spec =

@@ -28,9 +28,7 @@ digit-requires c κs = search needs
 returns : tie.Need-returns Inv-loop μ-loop
 returns c =
     let b = c .before .before .before .before in
-    let s = now (b .before .before .args .text) in
-    whole-stop s (b .before .before .args .at) (b .loop .i) (b .loop .a) (b .loop .inv)
-    (run-no s (b .loop .i) (c .before .digit .result) (c .before .before .before .loop-test .taken) (c .before .digit .ensures) (c .if1 .taken))
+    whole-stop (b .loop .inv) (run-no (now (b .before .before .args .text)) (b .loop .i) (c .before .digit .result) (c .before .before .before .loop-test .taken) (c .before .digit .ensures) (c .if1 .taken))
 
 wide-requires : tie.Need-wide-requires Inv-loop μ-loop
 wide-requires c κs = search needs
@@ -48,16 +46,13 @@ loop-again : tie.Need-loop-again Inv-loop μ-loop
 loop-again c =
     let d = c .before .before .before in
     let b = d .before .before .before in
-    let s = now (b .before .before .args .text) in
-    whole-turn s (b .before .before .args .at) (b .loop .i) (b .loop .a) (b .loop .inv)
-    (d .digit .result) (c .push .result) (d .before .before .loop-test .taken) (d .digit .ensures) (c .before .before .if1 .left)
+    whole-turn (b .loop .inv) (d .digit .result) (c .push .result) (d .before .before .loop-test .taken) (d .digit .ensures) (c .before .before .if1 .left)
     (c .push .ensures ∙ ap (λ (n : ℕ). cap (b .loop .a * 10 + n)) (c .before .wide .ensures))
 
 returns-2 : tie.Need-returns-2 Inv-loop μ-loop
 returns-2 c =
     let b = c .before in
-    let s = now (b .before .before .args .text) in
-    whole-stop s (b .before .before .args .at) (b .loop .i) (b .loop .a) (b .loop .inv) (run-end s (b .loop .i) (c .loop-test .left))
+    whole-stop (b .loop .inv) (run-end (now (b .before .before .args .text)) (b .loop .i) (c .loop-test .left))
 
 pub whole-run-spec : {M : Type 1} → statement M
 whole-run-spec =

@@ -1,5 +1,5 @@
 -- The row of the statement that the keyword is, number by number.
-use mathlib.Core.Path.{ap, _∙_}
+use mathlib.Core.Path.{_≡_, ap, _∙_}
 use denote.Ref.{now}
 use Rattle.text.specs.Words.{wordOf}
 use Rattle.keywords.specs.Keywords.{statementOf}
@@ -44,12 +44,23 @@ multiple-of-requires c κs = search needs
 form-number-requires : tie.Need-form-number-requires
 form-number-requires c κs = search needs
 
+-- the statement of the keyword
+module _ (c : tie.After-rules-of) where
+  abbrev a : tie.Start
+  a = c .before .before .before .before .before .before
+
+  rules : c .rules-of .result ≡ rulesOf (carriedOf (statementOf (wordOf (now (a .args .keyword)))))
+  rules =
+      c .rules-of .ensures
+      ∙ ap rulesOf (c .before .carried-of .ensures ∙ ap carriedOf (statement-at (now (a .args .keyword)) 0 _ (c .before .before .keyword-at .ensures)))
+
 returns : tie.Need-returns
 returns c =
-    let start = c .before .before .before .before .before .before .before .before .before .before .before .before .before .before in
-    let k = statement-at (now (start .args .keyword)) 0 (c .before .before .before .before .before .before .before .before .before .before .keyword-at .result) (c .before .before .before .before .before .before .before .before .before .before .keyword-at .ensures) in
-    row-eq (carriedOf (statementOf (wordOf (now (start .args .keyword))))) (start .args .words) (start .args .index) (c .before .before .before .before .before .before .before .before .rules-of .result) (c .before .before .before .before .before .before .before .form-at .result) (c .before .before .before .before .before .before .limits-of .result) (c .before .before .before .before .before .standing-number .result) (c .before .before .before .before .fewest-words .result) (c .before .before .before .most-words .result) (c .before .before .multiple-of .result) (c .before .form-number .result) _ _
-    (c .before .before .before .before .before .before .before .before .rules-of .ensures ∙ ap rulesOf (c .before .before .before .before .before .before .before .before .before .carried-of .ensures ∙ ap carriedOf k)) (c .before .before .before .before .before .before .before .form-at .ensures) (c .before .before .before .before .before .before .limits-of .ensures) (c .before .before .before .before .before .standing-number .ensures) (c .before .before .before .before .fewest-words .ensures) (c .before .before .before .most-words .ensures) (c .before .before .multiple-of .ensures) (c .before .form-number .ensures) (read-back-given (c .struct-told .given .0 .1)) (read-back-given (c .struct-told .given .1 .0 .1))
+    let n = c .before .before .before .before in
+    let l = n .before .before in
+    let r = l .before .before in
+    row-eq (carriedOf (statementOf (wordOf (now (a r .args .keyword))))) (a r .args .words) (a r .args .index) (r .rules-of .result) (l .before .form-at .result) (l .limits-of .result) (n .before .standing-number .result) (n .fewest-words .result) (c .before .before .before .most-words .result) (c .before .before .multiple-of .result) (c .before .form-number .result) _ _
+    (rules r) (l .before .form-at .ensures) (l .limits-of .ensures) (n .before .standing-number .ensures) (n .fewest-words .ensures) (c .before .before .before .most-words .ensures) (c .before .before .multiple-of .ensures) (c .before .form-number .ensures) (read-back-given (c .struct-told .given .0 .1)) (read-back-given (c .struct-told .given .1 .0 .1))
 
 pub rules-of-keyword-spec : {M : Type 1} → statement M
 rules-of-keyword-spec =

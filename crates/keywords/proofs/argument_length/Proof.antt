@@ -22,8 +22,9 @@ sub-result c = search needs
 
 returns : tie.Need-returns
 returns c =
-    let w = argument-row (now (c .before .before .before .before .before .args .table)) (c .before .before .row-of .result) (c .before .before .before .sign-of .result) (c .before .before .before .before .before .args .argument) (c .before .before .before .before .before .pre) (c .before .before .row-of .ensures .1) (c .before .before .before .sign-of .ensures) in
-    let n = ap length w in
+    let r = c .before .before in
+    let a = r .before .before .before in
+    let n = ap length (argument-row (now (a .args .table)) (r .row-of .result) _ (a .args .argument) (a .pre) (r .row-of .ensures .1) (r .before .sign-of .ensures)) in
     omega arith
 
 pub argument-length-spec : {M : Type 1} → statement M

@@ -22,8 +22,9 @@ sub-result c = search needs
 
 returns : tie.Need-returns
 returns c =
-    let w = keyword-row (now (c .before .before .before .before .before .args .table)) (c .before .before .row-of .result) (c .before .before .before .letter-of .result) (c .before .before .before .before .before .args .statement) (c .before .before .before .before .before .pre) (c .before .before .row-of .ensures .1) (c .before .before .before .letter-of .ensures) in
-    let n = ap length w in
+    let r = c .before .before in
+    let a = r .before .before .before in
+    let n = ap length (keyword-row (now (a .args .table)) (r .row-of .result) _ (a .args .statement) (a .pre) (r .row-of .ensures .1) (r .before .letter-of .ensures)) in
     omega arith
 
 pub keyword-length-spec : {M : Type 1} → statement M

@@ -30,9 +30,10 @@ same-length c = search needs
 
 returns : tie.Need-returns
 returns c =
-    let a = c .before .before .before .before .before .before .before .before .args in
-    let t = c .before .before .before .before .before .before .keyword-table in
-    subst (λ (w : List ℕ). Wrote (now (a .out)) w (c .before .before .write-row .result) (c .before .before .write-row .last .1 .1 .0)) (spelled-in laid (t .result) (a .row) (t .ensures) (c .before .before .before .before .before .if1 .taken)) (c .before .before .write-row .ensures)
+    let w = c .before .before in
+    let t = w .before .before .before .before in
+    let a = t .before .before .args in
+    subst (λ (x : List ℕ). Wrote (now (a .out)) x (w .write-row .result) (w .write-row .last .1 .1 .0)) (spelled-in laid (t .keyword-table .result) (a .row) (t .keyword-table .ensures) (w .before .before .before .if1 .taken)) (w .write-row .ensures)
 
 returns-2 : tie.Need-returns-2
 returns-2 c =

@@ -24,19 +24,18 @@ slice-aggregate-put c = search needs
 put-requires : tie.Need-put-requires
 put-requires c κs = search needs
 
+module _ (c : tie.After-write-keyword) where
+  within : c .write-keyword .result ≤ length (c .write-keyword .last .1 .1 .0)
+  within =
+      let l : length (c .write-keyword .last .1 .1 .0) ≡ 10 = ap length (c .write-keyword .ensures .1) ∙ simp length-sets in
+      let n = short (c .before .before .before .before .args .statement) in
+      omega (arith, c .write-keyword .ensures .0)
+
 array-share-prefix-out : tie.Need-array-share-prefix-out
-array-share-prefix-out c =
-    let w = c .before .before .before .write-keyword in
-    let l : length (w .last .1 .1 .0) ≡ 10 = ap length (w .ensures .1) ∙ simp length-sets in
-    let n = short (c .before .before .before .before .before .before .before .args .statement) in
-    omega (arith, w .ensures .0)
+array-share-prefix-out c = let w = within (c .before .before .before) in omega arith
 
 slice-aggregate-put-2 : tie.Need-slice-aggregate-put-2
-slice-aggregate-put-2 c =
-    let w = c .before .before .before .before .write-keyword in
-    let l : length (w .last .1 .1 .0) ≡ 10 = ap length (w .ensures .1) ∙ simp length-sets in
-    let n = short (c .before .before .before .before .before .before .before .before .args .statement) in
-    sym (length-take-le (w .result) (w .last .1 .1 .0) (omega (arith, w .ensures .0)))
+slice-aggregate-put-2 c = let w = c .before .before .before .before in sym (length-take-le (w .write-keyword .result) (w .write-keyword .last .1 .1 .0) (within w))
 
 put-requires-2 : tie.Need-put-requires-2
 put-requires-2 c κs = search needs

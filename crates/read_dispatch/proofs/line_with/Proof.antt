@@ -3,7 +3,7 @@ use mathlib.Core.Path.{refl}
 use native.Mathlib.Omega.{arith}
 use denote.Ref.{now}
 use Rattle.tables.specs.Tables.{tables}
-use Rattle.read_dispatch.proofs.Sorted.{key-word, key-end, key-bad, keyword-to, line-empty, line-bad, line-taken, line-refuses, line-gave-up}
+use Rattle.read_dispatch.proofs.Sorted.{key-word, key-end, key-bad, keyword-bounds, line-empty, line-bad, line-taken, line-refuses, line-gave-up}
 use borrow.Author.Needs.{needs}
 use Rattle.read_dispatch.proofs.line_with.Statement.{statement}
 use Rattle.read_dispatch.proofs.line_with.Tie as tie
@@ -32,7 +32,7 @@ take-line-requires c κs =
     let start = sorted .before .before .before .before .before .before .before .before .before in
     let a = start .args in
     let word = key-word (now (a .text)) (a .at) (a .key) (start .pre .1 .0) (sorted .before .before .key3 .given .1) in
-    ((keyword-to (now (a .text)) (a .at) _ _ (word .0) (word .1), start .pre .0 .1), start .pre .1 .1 .1)
+    (keyword-bounds (now (a .text)) (a .at) _ _ (word .0) (word .1) (a .state) (start .pre .0 .1), start .pre .1 .1 .1)
 
 enum-known-state : tie.Need-enum-known-state
 enum-known-state c = search needs
@@ -56,7 +56,7 @@ returns : tie.Need-returns
 returns c =
     let start = c .before .before .before .before .before .before .before .before in
     let a = start .args in
-    line-empty (now (a .text)) (a .at) (a .state) (tables (now (a .v)) (now (a .vt)) (now (a .vn)) (now (a .vp)) (now (a .corners)) (now (a .elements)) (now (a .bodies)) (now (a .ranges)) (now (a .parameters)) (now (a .loops)) (now (a .spans))) (key-end (now (a .text)) (a .at) (a .key) (start .pre .1 .0) (c .before .key .given .1))
+    line-empty (now (a .text)) (a .at) (a .state) (tables (now (a .v)) (now (a .vt)) (now (a .vn)) (now (a .vp)) (now (a .corners)) (now (a .elements)) (now (a .bodies)) (now (a .ranges)) (now (a .parameters)) (now (a .loops)) (now (a .spans))) (start .pre .0 .1) (key-end (now (a .text)) (a .at) (a .key) (start .pre .1 .0) (c .before .key .given .1))
 
 returns-2 : tie.Need-returns-2
 returns-2 c =
@@ -106,7 +106,7 @@ returns-3 c =
     let s = now (a .text) in
     let word = key-word s (a .at) (a .key) (start .pre .1 .0) (sorted .before .before .key3 .given .1) in
     line-taken s (a .at) _ (a .state) (tables (now (a .v)) (now (a .vt)) (now (a .vn)) (now (a .vp)) (now (a .corners)) (now (a .elements)) (now (a .bodies)) (now (a .ranges)) (now (a .parameters)) (now (a .loops)) (now (a .spans))) (tables (took .take-line .last .1 .1 .1 .1 .0) (took .take-line .last .1 .1 .1 .1 .1 .0) (took .take-line .last .1 .1 .1 .1 .1 .1 .0) (took .take-line .last .1 .1 .1 .1 .1 .1 .1 .0) (took .take-line .last .1 .1 .1 .1 .1 .1 .1 .1 .0) (took .take-line .last .1 .1 .1 .1 .1 .1 .1 .1 .1 .0) (took .take-line .last .1 .1 .1 .1 .1 .1 .1 .1 .1 .1 .0) (took .take-line .last .1 .1 .1 .1 .1 .1 .1 .1 .1 .1 .1 .0) (took .take-line .last .1 .1 .1 .1 .1 .1 .1 .1 .1 .1 .1 .1 .0) (took .take-line .last .1 .1 .1 .1 .1 .1 .1 .1 .1 .1 .1 .1 .1 .0) (took .take-line .last .1 .1 .1 .1 .1 .1 .1 .1 .1 .1 .1 .1 .1 .1 .0)) _ (sorted .family-of .result) (took .take-line .result)
-    (word .0) (word .1) (sorted .family-of .ensures) (took .take-line .ensures) _ _ (c .before .state .given .1)
+    (word .0) (word .1) (sorted .family-of .ensures) (took .take-line .ensures) (start .pre .0 .1) _ _ (c .before .state .given .1)
 
 same-length-12 : tie.Need-same-length-12
 same-length-12 c = c .before .before .before .before .before .before .before .before .before .before .before .before .before .before .before .before .before .before .take-line .kept .1 .1 .1 .1 .0

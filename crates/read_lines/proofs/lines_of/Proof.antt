@@ -2,7 +2,8 @@
 use mathlib.Core.Path.{_∙_}
 use denote.Ref.{now}
 use Rattle.tables.specs.Tables.{tables}
-use Rattle.read_lines.proofs.Loop.{rooms-eq}
+use Rattle.tables.proofs.Groups.{vertex-rooms-eq, element-rooms-eq, body-rooms-eq}
+use Rattle.model.proofs.Rooms.{rooms-eq}
 use Rattle.read_lines.proofs.Cleared.{all-read, all-refused}
 use borrow.Author.Needs.{needs}
 use Rattle.read_lines.proofs.lines_of.Statement.{statement}
@@ -99,7 +100,7 @@ returns-2 c =
     let went = told .before .before .before .before .before .before .before .before .before .before .before .before .before .before .before .before .before in
     let a = went .before .before .before .before .before .before .before .before .before .before .before .before .before .before .before .before .before .args in
     all-refused (now (a .text)) (tables (now (a .v)) (now (a .vt)) (now (a .vn)) (now (a .vp)) (now (a .corners)) (now (a .elements)) (now (a .bodies)) (now (a .ranges)) (now (a .parameters)) (now (a .loops)) (now (a .spans))) (tables (went .store-lines .last .1 .0) (went .store-lines .last .1 .1 .0) (went .store-lines .last .1 .1 .1 .0) (went .store-lines .last .1 .1 .1 .1 .0) (went .store-lines .last .1 .1 .1 .1 .1 .0) (went .store-lines .last .1 .1 .1 .1 .1 .1 .0) (went .store-lines .last .1 .1 .1 .1 .1 .1 .1 .0) (went .store-lines .last .1 .1 .1 .1 .1 .1 .1 .1 .0) (went .store-lines .last .1 .1 .1 .1 .1 .1 .1 .1 .1 .0) (went .store-lines .last .1 .1 .1 .1 .1 .1 .1 .1 .1 .1 .0) (went .store-lines .last .1 .1 .1 .1 .1 .1 .1 .1 .1 .1 .1 .0)) (went .store-lines .result) (went .store-lines .ensures) _ _ (told .number .given .1)
-    (tables (cleared .clear .last .0) (cleared .clear .last .1 .0) (cleared .clear .last .1 .1 .0) (cleared .clear .last .1 .1 .1 .0) (cleared .clear .last .1 .1 .1 .1 .0) (cleared .clear .last .1 .1 .1 .1 .1 .0) (cleared .clear .last .1 .1 .1 .1 .1 .1 .0) (cleared .clear .last .1 .1 .1 .1 .1 .1 .1 .0) (cleared .clear .last .1 .1 .1 .1 .1 .1 .1 .1 .0) (cleared .clear .last .1 .1 .1 .1 .1 .1 .1 .1 .1 .0) (cleared .clear .last .1 .1 .1 .1 .1 .1 .1 .1 .1 .1 .0)) (cleared .clear .ensures) (rooms-eq (went .store-lines .kept .1 .0) (went .store-lines .kept .1 .1 .0) (went .store-lines .kept .1 .1 .1 .0) (went .store-lines .kept .1 .1 .1 .1 .0) (went .store-lines .kept .1 .1 .1 .1 .1 .0) (went .store-lines .kept .1 .1 .1 .1 .1 .1 .0) (went .store-lines .kept .1 .1 .1 .1 .1 .1 .1 .0) (went .store-lines .kept .1 .1 .1 .1 .1 .1 .1 .1 .0) (went .store-lines .kept .1 .1 .1 .1 .1 .1 .1 .1 .1 .0) (went .store-lines .kept .1 .1 .1 .1 .1 .1 .1 .1 .1 .1 .0) (went .store-lines .kept .1 .1 .1 .1 .1 .1 .1 .1 .1 .1 .1 .0))
+    (tables (cleared .clear .last .0) (cleared .clear .last .1 .0) (cleared .clear .last .1 .1 .0) (cleared .clear .last .1 .1 .1 .0) (cleared .clear .last .1 .1 .1 .1 .0) (cleared .clear .last .1 .1 .1 .1 .1 .0) (cleared .clear .last .1 .1 .1 .1 .1 .1 .0) (cleared .clear .last .1 .1 .1 .1 .1 .1 .1 .0) (cleared .clear .last .1 .1 .1 .1 .1 .1 .1 .1 .0) (cleared .clear .last .1 .1 .1 .1 .1 .1 .1 .1 .1 .0) (cleared .clear .last .1 .1 .1 .1 .1 .1 .1 .1 .1 .1 .0)) (cleared .clear .ensures) (rooms-eq (vertex-rooms-eq (went .store-lines .kept .1 .0) (went .store-lines .kept .1 .1 .0) (went .store-lines .kept .1 .1 .1 .0) (went .store-lines .kept .1 .1 .1 .1 .0)) (element-rooms-eq (went .store-lines .kept .1 .1 .1 .1 .1 .0) (went .store-lines .kept .1 .1 .1 .1 .1 .1 .0)) (body-rooms-eq (went .store-lines .kept .1 .1 .1 .1 .1 .1 .1 .0) (went .store-lines .kept .1 .1 .1 .1 .1 .1 .1 .1 .0) (went .store-lines .kept .1 .1 .1 .1 .1 .1 .1 .1 .1 .0) (went .store-lines .kept .1 .1 .1 .1 .1 .1 .1 .1 .1 .1 .0) (went .store-lines .kept .1 .1 .1 .1 .1 .1 .1 .1 .1 .1 .1 .0)))
 
 pub lines-of-spec : {M : Type 1} → statement M
 lines-of-spec =

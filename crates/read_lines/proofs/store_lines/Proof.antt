@@ -6,7 +6,9 @@ use denote.Ref.{now}
 use borrow.Author.Needs.{needs}
 use Rattle.tables.specs.Tables.{tables}
 use Rattle.model.specs.Room.{Rooms}
-use Rattle.read_lines.proofs.Loop.{Reached, reached-start, reached-next, reached-stop, reached-open, reached-end, rooms-eq}
+use Rattle.tables.proofs.Groups.{vertex-rooms-eq, element-rooms-eq, body-rooms-eq}
+use Rattle.model.proofs.Rooms.{rooms-eq}
+use Rattle.read_lines.proofs.Loop.{Reached, reached-start, reached-next, reached-stop, reached-open, reached-end}
 use Rattle.read_lines.proofs.store_lines.Statement.{statement}
 use Rattle.read_lines.proofs.store_lines.Tie as tie
 
@@ -30,7 +32,8 @@ loop-holds c =
 line-at-requires : tie.Need-line-at-requires Inv-loop μ-loop
 line-at-requires c κs =
     let start = c .before .before .before .before .before .before .before .before .before .before .before .before .before .before .before .before .before .before .before in
-    ((c .before .before .before .before .before .before .before .before .before .before .before .loop-test .taken, start .pre .0), (start .pre .1 .1 .0, start .pre .1 .1 .1))
+    let test = c .before .before .before .before .before .before .before .before .before .before .before in
+    ((test .loop-test .taken, test .before .loop .inv .going .bounds), (start .pre .1 .1 .0, start .pre .1 .1 .1))
 
 enum-known-after : tie.Need-enum-known-after Inv-loop μ-loop
 enum-known-after c = search needs
@@ -41,7 +44,7 @@ loop-less c =
     let test = went .before .before .before .before .before .before .before .before .before .before .before .before in
     let l = test .before .loop in
     let a = test .before .before .before .before .before .before .before .before .args in
-    reached-next (now (a .text)) (tables (now (a .v)) (now (a .vt)) (now (a .vn)) (now (a .vp)) (now (a .corners)) (now (a .elements)) (now (a .bodies)) (now (a .ranges)) (now (a .parameters)) (now (a .loops)) (now (a .spans))) (tables (l .v) (l .vt) (l .vn) (l .vp) (l .corners) (l .elements) (l .bodies) (l .ranges) (l .parameters) (l .loops) (l .spans)) (l .state) (l .at) (l .inv) (test .loop-test .taken) (tables (went .line-at .last .1 .1 .1 .0) (went .line-at .last .1 .1 .1 .1 .0) (went .line-at .last .1 .1 .1 .1 .1 .0) (went .line-at .last .1 .1 .1 .1 .1 .1 .0) (went .line-at .last .1 .1 .1 .1 .1 .1 .1 .0) (went .line-at .last .1 .1 .1 .1 .1 .1 .1 .1 .0) (went .line-at .last .1 .1 .1 .1 .1 .1 .1 .1 .1 .0) (went .line-at .last .1 .1 .1 .1 .1 .1 .1 .1 .1 .1 .0) (went .line-at .last .1 .1 .1 .1 .1 .1 .1 .1 .1 .1 .1 .0) (went .line-at .last .1 .1 .1 .1 .1 .1 .1 .1 .1 .1 .1 .1 .0) (went .line-at .last .1 .1 .1 .1 .1 .1 .1 .1 .1 .1 .1 .1 .1 .0)) (went .line-at .result) (went .line-at .ensures) _ _ (c .before .after .given .1) (rooms-eq (went .line-at .kept .1 .1 .1 .0) (went .line-at .kept .1 .1 .1 .1 .0) (went .line-at .kept .1 .1 .1 .1 .1 .0) (went .line-at .kept .1 .1 .1 .1 .1 .1 .0) (went .line-at .kept .1 .1 .1 .1 .1 .1 .1 .0) (went .line-at .kept .1 .1 .1 .1 .1 .1 .1 .1 .0) (went .line-at .kept .1 .1 .1 .1 .1 .1 .1 .1 .1 .0) (went .line-at .kept .1 .1 .1 .1 .1 .1 .1 .1 .1 .1 .0) (went .line-at .kept .1 .1 .1 .1 .1 .1 .1 .1 .1 .1 .1 .0) (went .line-at .kept .1 .1 .1 .1 .1 .1 .1 .1 .1 .1 .1 .1 .0) (went .line-at .kept .1 .1 .1 .1 .1 .1 .1 .1 .1 .1 .1 .1 .1 .0)) .1
+    reached-next (now (a .text)) (tables (now (a .v)) (now (a .vt)) (now (a .vn)) (now (a .vp)) (now (a .corners)) (now (a .elements)) (now (a .bodies)) (now (a .ranges)) (now (a .parameters)) (now (a .loops)) (now (a .spans))) (tables (l .v) (l .vt) (l .vn) (l .vp) (l .corners) (l .elements) (l .bodies) (l .ranges) (l .parameters) (l .loops) (l .spans)) (l .state) (l .at) (l .inv) (test .loop-test .taken) (tables (went .line-at .last .1 .1 .1 .0) (went .line-at .last .1 .1 .1 .1 .0) (went .line-at .last .1 .1 .1 .1 .1 .0) (went .line-at .last .1 .1 .1 .1 .1 .1 .0) (went .line-at .last .1 .1 .1 .1 .1 .1 .1 .0) (went .line-at .last .1 .1 .1 .1 .1 .1 .1 .1 .0) (went .line-at .last .1 .1 .1 .1 .1 .1 .1 .1 .1 .0) (went .line-at .last .1 .1 .1 .1 .1 .1 .1 .1 .1 .1 .0) (went .line-at .last .1 .1 .1 .1 .1 .1 .1 .1 .1 .1 .1 .0) (went .line-at .last .1 .1 .1 .1 .1 .1 .1 .1 .1 .1 .1 .1 .0) (went .line-at .last .1 .1 .1 .1 .1 .1 .1 .1 .1 .1 .1 .1 .1 .0)) (went .line-at .result) (went .line-at .ensures) _ _ (c .before .after .given .1) (rooms-eq (vertex-rooms-eq (went .line-at .kept .1 .1 .1 .0) (went .line-at .kept .1 .1 .1 .1 .0) (went .line-at .kept .1 .1 .1 .1 .1 .0) (went .line-at .kept .1 .1 .1 .1 .1 .1 .0)) (element-rooms-eq (went .line-at .kept .1 .1 .1 .1 .1 .1 .1 .0) (went .line-at .kept .1 .1 .1 .1 .1 .1 .1 .1 .0)) (body-rooms-eq (went .line-at .kept .1 .1 .1 .1 .1 .1 .1 .1 .1 .0) (went .line-at .kept .1 .1 .1 .1 .1 .1 .1 .1 .1 .1 .0) (went .line-at .kept .1 .1 .1 .1 .1 .1 .1 .1 .1 .1 .1 .0) (went .line-at .kept .1 .1 .1 .1 .1 .1 .1 .1 .1 .1 .1 .1 .0) (went .line-at .kept .1 .1 .1 .1 .1 .1 .1 .1 .1 .1 .1 .1 .1 .0))) .1
 
 loop-again : tie.Need-loop-again Inv-loop μ-loop
 loop-again c =
@@ -49,43 +52,43 @@ loop-again c =
     let test = went .before .before .before .before .before .before .before .before .before .before .before .before in
     let l = test .before .loop in
     let a = test .before .before .before .before .before .before .before .before .args in
-    reached-next (now (a .text)) (tables (now (a .v)) (now (a .vt)) (now (a .vn)) (now (a .vp)) (now (a .corners)) (now (a .elements)) (now (a .bodies)) (now (a .ranges)) (now (a .parameters)) (now (a .loops)) (now (a .spans))) (tables (l .v) (l .vt) (l .vn) (l .vp) (l .corners) (l .elements) (l .bodies) (l .ranges) (l .parameters) (l .loops) (l .spans)) (l .state) (l .at) (l .inv) (test .loop-test .taken) (tables (went .line-at .last .1 .1 .1 .0) (went .line-at .last .1 .1 .1 .1 .0) (went .line-at .last .1 .1 .1 .1 .1 .0) (went .line-at .last .1 .1 .1 .1 .1 .1 .0) (went .line-at .last .1 .1 .1 .1 .1 .1 .1 .0) (went .line-at .last .1 .1 .1 .1 .1 .1 .1 .1 .0) (went .line-at .last .1 .1 .1 .1 .1 .1 .1 .1 .1 .0) (went .line-at .last .1 .1 .1 .1 .1 .1 .1 .1 .1 .1 .0) (went .line-at .last .1 .1 .1 .1 .1 .1 .1 .1 .1 .1 .1 .0) (went .line-at .last .1 .1 .1 .1 .1 .1 .1 .1 .1 .1 .1 .1 .0) (went .line-at .last .1 .1 .1 .1 .1 .1 .1 .1 .1 .1 .1 .1 .1 .0)) (went .line-at .result) (went .line-at .ensures) _ _ (c .before .after .given .1) (rooms-eq (went .line-at .kept .1 .1 .1 .0) (went .line-at .kept .1 .1 .1 .1 .0) (went .line-at .kept .1 .1 .1 .1 .1 .0) (went .line-at .kept .1 .1 .1 .1 .1 .1 .0) (went .line-at .kept .1 .1 .1 .1 .1 .1 .1 .0) (went .line-at .kept .1 .1 .1 .1 .1 .1 .1 .1 .0) (went .line-at .kept .1 .1 .1 .1 .1 .1 .1 .1 .1 .0) (went .line-at .kept .1 .1 .1 .1 .1 .1 .1 .1 .1 .1 .0) (went .line-at .kept .1 .1 .1 .1 .1 .1 .1 .1 .1 .1 .1 .0) (went .line-at .kept .1 .1 .1 .1 .1 .1 .1 .1 .1 .1 .1 .1 .0) (went .line-at .kept .1 .1 .1 .1 .1 .1 .1 .1 .1 .1 .1 .1 .1 .0)) .0
+    reached-next (now (a .text)) (tables (now (a .v)) (now (a .vt)) (now (a .vn)) (now (a .vp)) (now (a .corners)) (now (a .elements)) (now (a .bodies)) (now (a .ranges)) (now (a .parameters)) (now (a .loops)) (now (a .spans))) (tables (l .v) (l .vt) (l .vn) (l .vp) (l .corners) (l .elements) (l .bodies) (l .ranges) (l .parameters) (l .loops) (l .spans)) (l .state) (l .at) (l .inv) (test .loop-test .taken) (tables (went .line-at .last .1 .1 .1 .0) (went .line-at .last .1 .1 .1 .1 .0) (went .line-at .last .1 .1 .1 .1 .1 .0) (went .line-at .last .1 .1 .1 .1 .1 .1 .0) (went .line-at .last .1 .1 .1 .1 .1 .1 .1 .0) (went .line-at .last .1 .1 .1 .1 .1 .1 .1 .1 .0) (went .line-at .last .1 .1 .1 .1 .1 .1 .1 .1 .1 .0) (went .line-at .last .1 .1 .1 .1 .1 .1 .1 .1 .1 .1 .0) (went .line-at .last .1 .1 .1 .1 .1 .1 .1 .1 .1 .1 .1 .0) (went .line-at .last .1 .1 .1 .1 .1 .1 .1 .1 .1 .1 .1 .1 .0) (went .line-at .last .1 .1 .1 .1 .1 .1 .1 .1 .1 .1 .1 .1 .1 .0)) (went .line-at .result) (went .line-at .ensures) _ _ (c .before .after .given .1) (rooms-eq (vertex-rooms-eq (went .line-at .kept .1 .1 .1 .0) (went .line-at .kept .1 .1 .1 .1 .0) (went .line-at .kept .1 .1 .1 .1 .1 .0) (went .line-at .kept .1 .1 .1 .1 .1 .1 .0)) (element-rooms-eq (went .line-at .kept .1 .1 .1 .1 .1 .1 .1 .0) (went .line-at .kept .1 .1 .1 .1 .1 .1 .1 .1 .0)) (body-rooms-eq (went .line-at .kept .1 .1 .1 .1 .1 .1 .1 .1 .1 .0) (went .line-at .kept .1 .1 .1 .1 .1 .1 .1 .1 .1 .1 .0) (went .line-at .kept .1 .1 .1 .1 .1 .1 .1 .1 .1 .1 .1 .0) (went .line-at .kept .1 .1 .1 .1 .1 .1 .1 .1 .1 .1 .1 .1 .0) (went .line-at .kept .1 .1 .1 .1 .1 .1 .1 .1 .1 .1 .1 .1 .1 .0))) .0
 
 enum-known-number : tie.Need-enum-known-number Inv-loop μ-loop
 enum-known-number c = search needs
 
 same-length : tie.Need-same-length Inv-loop μ-loop
-same-length c = c .before .before .before .before .before .before .before .before .before .before .before .before .before .before .before .before .before .before .line-at .kept .1 .1 .1 .0 ∙ ap (λ (R : Rooms). R .v) (c .before .before .before .before .before .before .before .before .before .before .before .before .before .before .before .before .before .before .before .before .before .before .before .before .before .before .before .before .before .before .before .loop .inv .lengths)
+same-length c = c .before .before .before .before .before .before .before .before .before .before .before .before .before .before .before .before .before .before .line-at .kept .1 .1 .1 .0 ∙ ap (λ (R : Rooms). R .vertices .v) (c .before .before .before .before .before .before .before .before .before .before .before .before .before .before .before .before .before .before .before .before .before .before .before .before .before .before .before .before .before .before .before .loop .inv .lengths)
 
 same-length-2 : tie.Need-same-length-2 Inv-loop μ-loop
-same-length-2 c = c .before .before .before .before .before .before .before .before .before .before .before .before .before .before .before .before .before .before .line-at .kept .1 .1 .1 .1 .0 ∙ ap (λ (R : Rooms). R .vt) (c .before .before .before .before .before .before .before .before .before .before .before .before .before .before .before .before .before .before .before .before .before .before .before .before .before .before .before .before .before .before .before .loop .inv .lengths)
+same-length-2 c = c .before .before .before .before .before .before .before .before .before .before .before .before .before .before .before .before .before .before .line-at .kept .1 .1 .1 .1 .0 ∙ ap (λ (R : Rooms). R .vertices .vt) (c .before .before .before .before .before .before .before .before .before .before .before .before .before .before .before .before .before .before .before .before .before .before .before .before .before .before .before .before .before .before .before .loop .inv .lengths)
 
 same-length-3 : tie.Need-same-length-3 Inv-loop μ-loop
-same-length-3 c = c .before .before .before .before .before .before .before .before .before .before .before .before .before .before .before .before .before .before .line-at .kept .1 .1 .1 .1 .1 .0 ∙ ap (λ (R : Rooms). R .vn) (c .before .before .before .before .before .before .before .before .before .before .before .before .before .before .before .before .before .before .before .before .before .before .before .before .before .before .before .before .before .before .before .loop .inv .lengths)
+same-length-3 c = c .before .before .before .before .before .before .before .before .before .before .before .before .before .before .before .before .before .before .line-at .kept .1 .1 .1 .1 .1 .0 ∙ ap (λ (R : Rooms). R .vertices .vn) (c .before .before .before .before .before .before .before .before .before .before .before .before .before .before .before .before .before .before .before .before .before .before .before .before .before .before .before .before .before .before .before .loop .inv .lengths)
 
 same-length-4 : tie.Need-same-length-4 Inv-loop μ-loop
-same-length-4 c = c .before .before .before .before .before .before .before .before .before .before .before .before .before .before .before .before .before .before .line-at .kept .1 .1 .1 .1 .1 .1 .0 ∙ ap (λ (R : Rooms). R .vp) (c .before .before .before .before .before .before .before .before .before .before .before .before .before .before .before .before .before .before .before .before .before .before .before .before .before .before .before .before .before .before .before .loop .inv .lengths)
+same-length-4 c = c .before .before .before .before .before .before .before .before .before .before .before .before .before .before .before .before .before .before .line-at .kept .1 .1 .1 .1 .1 .1 .0 ∙ ap (λ (R : Rooms). R .vertices .vp) (c .before .before .before .before .before .before .before .before .before .before .before .before .before .before .before .before .before .before .before .before .before .before .before .before .before .before .before .before .before .before .before .loop .inv .lengths)
 
 same-length-5 : tie.Need-same-length-5 Inv-loop μ-loop
-same-length-5 c = c .before .before .before .before .before .before .before .before .before .before .before .before .before .before .before .before .before .before .line-at .kept .1 .1 .1 .1 .1 .1 .1 .0 ∙ ap (λ (R : Rooms). R .corners) (c .before .before .before .before .before .before .before .before .before .before .before .before .before .before .before .before .before .before .before .before .before .before .before .before .before .before .before .before .before .before .before .loop .inv .lengths)
+same-length-5 c = c .before .before .before .before .before .before .before .before .before .before .before .before .before .before .before .before .before .before .line-at .kept .1 .1 .1 .1 .1 .1 .1 .0 ∙ ap (λ (R : Rooms). R .elements .corners) (c .before .before .before .before .before .before .before .before .before .before .before .before .before .before .before .before .before .before .before .before .before .before .before .before .before .before .before .before .before .before .before .loop .inv .lengths)
 
 same-length-6 : tie.Need-same-length-6 Inv-loop μ-loop
-same-length-6 c = c .before .before .before .before .before .before .before .before .before .before .before .before .before .before .before .before .before .before .line-at .kept .1 .1 .1 .1 .1 .1 .1 .1 .0 ∙ ap (λ (R : Rooms). R .elements) (c .before .before .before .before .before .before .before .before .before .before .before .before .before .before .before .before .before .before .before .before .before .before .before .before .before .before .before .before .before .before .before .loop .inv .lengths)
+same-length-6 c = c .before .before .before .before .before .before .before .before .before .before .before .before .before .before .before .before .before .before .line-at .kept .1 .1 .1 .1 .1 .1 .1 .1 .0 ∙ ap (λ (R : Rooms). R .elements .elements) (c .before .before .before .before .before .before .before .before .before .before .before .before .before .before .before .before .before .before .before .before .before .before .before .before .before .before .before .before .before .before .before .loop .inv .lengths)
 
 same-length-7 : tie.Need-same-length-7 Inv-loop μ-loop
-same-length-7 c = c .before .before .before .before .before .before .before .before .before .before .before .before .before .before .before .before .before .before .line-at .kept .1 .1 .1 .1 .1 .1 .1 .1 .1 .0 ∙ ap (λ (R : Rooms). R .bodies) (c .before .before .before .before .before .before .before .before .before .before .before .before .before .before .before .before .before .before .before .before .before .before .before .before .before .before .before .before .before .before .before .loop .inv .lengths)
+same-length-7 c = c .before .before .before .before .before .before .before .before .before .before .before .before .before .before .before .before .before .before .line-at .kept .1 .1 .1 .1 .1 .1 .1 .1 .1 .0 ∙ ap (λ (R : Rooms). R .bodies .bodies) (c .before .before .before .before .before .before .before .before .before .before .before .before .before .before .before .before .before .before .before .before .before .before .before .before .before .before .before .before .before .before .before .loop .inv .lengths)
 
 same-length-8 : tie.Need-same-length-8 Inv-loop μ-loop
-same-length-8 c = c .before .before .before .before .before .before .before .before .before .before .before .before .before .before .before .before .before .before .line-at .kept .1 .1 .1 .1 .1 .1 .1 .1 .1 .1 .0 ∙ ap (λ (R : Rooms). R .ranges) (c .before .before .before .before .before .before .before .before .before .before .before .before .before .before .before .before .before .before .before .before .before .before .before .before .before .before .before .before .before .before .before .loop .inv .lengths)
+same-length-8 c = c .before .before .before .before .before .before .before .before .before .before .before .before .before .before .before .before .before .before .line-at .kept .1 .1 .1 .1 .1 .1 .1 .1 .1 .1 .0 ∙ ap (λ (R : Rooms). R .bodies .ranges) (c .before .before .before .before .before .before .before .before .before .before .before .before .before .before .before .before .before .before .before .before .before .before .before .before .before .before .before .before .before .before .before .loop .inv .lengths)
 
 same-length-9 : tie.Need-same-length-9 Inv-loop μ-loop
-same-length-9 c = c .before .before .before .before .before .before .before .before .before .before .before .before .before .before .before .before .before .before .line-at .kept .1 .1 .1 .1 .1 .1 .1 .1 .1 .1 .1 .0 ∙ ap (λ (R : Rooms). R .parameters) (c .before .before .before .before .before .before .before .before .before .before .before .before .before .before .before .before .before .before .before .before .before .before .before .before .before .before .before .before .before .before .before .loop .inv .lengths)
+same-length-9 c = c .before .before .before .before .before .before .before .before .before .before .before .before .before .before .before .before .before .before .line-at .kept .1 .1 .1 .1 .1 .1 .1 .1 .1 .1 .1 .0 ∙ ap (λ (R : Rooms). R .bodies .parameters) (c .before .before .before .before .before .before .before .before .before .before .before .before .before .before .before .before .before .before .before .before .before .before .before .before .before .before .before .before .before .before .before .loop .inv .lengths)
 
 same-length-10 : tie.Need-same-length-10 Inv-loop μ-loop
-same-length-10 c = c .before .before .before .before .before .before .before .before .before .before .before .before .before .before .before .before .before .before .line-at .kept .1 .1 .1 .1 .1 .1 .1 .1 .1 .1 .1 .1 .0 ∙ ap (λ (R : Rooms). R .loops) (c .before .before .before .before .before .before .before .before .before .before .before .before .before .before .before .before .before .before .before .before .before .before .before .before .before .before .before .before .before .before .before .loop .inv .lengths)
+same-length-10 c = c .before .before .before .before .before .before .before .before .before .before .before .before .before .before .before .before .before .before .line-at .kept .1 .1 .1 .1 .1 .1 .1 .1 .1 .1 .1 .1 .0 ∙ ap (λ (R : Rooms). R .bodies .loops) (c .before .before .before .before .before .before .before .before .before .before .before .before .before .before .before .before .before .before .before .before .before .before .before .before .before .before .before .before .before .before .before .loop .inv .lengths)
 
 same-length-11 : tie.Need-same-length-11 Inv-loop μ-loop
-same-length-11 c = c .before .before .before .before .before .before .before .before .before .before .before .before .before .before .before .before .before .before .line-at .kept .1 .1 .1 .1 .1 .1 .1 .1 .1 .1 .1 .1 .1 .0 ∙ ap (λ (R : Rooms). R .spans) (c .before .before .before .before .before .before .before .before .before .before .before .before .before .before .before .before .before .before .before .before .before .before .before .before .before .before .before .before .before .before .before .loop .inv .lengths)
+same-length-11 c = c .before .before .before .before .before .before .before .before .before .before .before .before .before .before .before .before .before .before .line-at .kept .1 .1 .1 .1 .1 .1 .1 .1 .1 .1 .1 .1 .1 .0 ∙ ap (λ (R : Rooms). R .bodies .spans) (c .before .before .before .before .before .before .before .before .before .before .before .before .before .before .before .before .before .before .before .before .before .before .before .before .before .before .before .before .before .before .before .loop .inv .lengths)
 
 returns : tie.Need-returns Inv-loop μ-loop
 returns c =
@@ -96,37 +99,37 @@ returns c =
     reached-stop (now (a .text)) (tables (now (a .v)) (now (a .vt)) (now (a .vn)) (now (a .vp)) (now (a .corners)) (now (a .elements)) (now (a .bodies)) (now (a .ranges)) (now (a .parameters)) (now (a .loops)) (now (a .spans))) (tables (l .v) (l .vt) (l .vn) (l .vp) (l .corners) (l .elements) (l .bodies) (l .ranges) (l .parameters) (l .loops) (l .spans)) (l .state) (l .at) (l .inv) (test .loop-test .taken) (tables (went .line-at .last .1 .1 .1 .0) (went .line-at .last .1 .1 .1 .1 .0) (went .line-at .last .1 .1 .1 .1 .1 .0) (went .line-at .last .1 .1 .1 .1 .1 .1 .0) (went .line-at .last .1 .1 .1 .1 .1 .1 .1 .0) (went .line-at .last .1 .1 .1 .1 .1 .1 .1 .1 .0) (went .line-at .last .1 .1 .1 .1 .1 .1 .1 .1 .1 .0) (went .line-at .last .1 .1 .1 .1 .1 .1 .1 .1 .1 .1 .0) (went .line-at .last .1 .1 .1 .1 .1 .1 .1 .1 .1 .1 .1 .0) (went .line-at .last .1 .1 .1 .1 .1 .1 .1 .1 .1 .1 .1 .1 .0) (went .line-at .last .1 .1 .1 .1 .1 .1 .1 .1 .1 .1 .1 .1 .1 .0)) (went .line-at .result) (went .line-at .ensures) _ _ (c .before .number .given .1)
 
 same-length-12 : tie.Need-same-length-12 Inv-loop μ-loop
-same-length-12 c = ap (λ (R : Rooms). R .v) (c .before .before .before .before .loop .inv .lengths)
+same-length-12 c = ap (λ (R : Rooms). R .vertices .v) (c .before .before .before .before .loop .inv .lengths)
 
 same-length-13 : tie.Need-same-length-13 Inv-loop μ-loop
-same-length-13 c = ap (λ (R : Rooms). R .vt) (c .before .before .before .before .loop .inv .lengths)
+same-length-13 c = ap (λ (R : Rooms). R .vertices .vt) (c .before .before .before .before .loop .inv .lengths)
 
 same-length-14 : tie.Need-same-length-14 Inv-loop μ-loop
-same-length-14 c = ap (λ (R : Rooms). R .vn) (c .before .before .before .before .loop .inv .lengths)
+same-length-14 c = ap (λ (R : Rooms). R .vertices .vn) (c .before .before .before .before .loop .inv .lengths)
 
 same-length-15 : tie.Need-same-length-15 Inv-loop μ-loop
-same-length-15 c = ap (λ (R : Rooms). R .vp) (c .before .before .before .before .loop .inv .lengths)
+same-length-15 c = ap (λ (R : Rooms). R .vertices .vp) (c .before .before .before .before .loop .inv .lengths)
 
 same-length-16 : tie.Need-same-length-16 Inv-loop μ-loop
-same-length-16 c = ap (λ (R : Rooms). R .corners) (c .before .before .before .before .loop .inv .lengths)
+same-length-16 c = ap (λ (R : Rooms). R .elements .corners) (c .before .before .before .before .loop .inv .lengths)
 
 same-length-17 : tie.Need-same-length-17 Inv-loop μ-loop
-same-length-17 c = ap (λ (R : Rooms). R .elements) (c .before .before .before .before .loop .inv .lengths)
+same-length-17 c = ap (λ (R : Rooms). R .elements .elements) (c .before .before .before .before .loop .inv .lengths)
 
 same-length-18 : tie.Need-same-length-18 Inv-loop μ-loop
-same-length-18 c = ap (λ (R : Rooms). R .bodies) (c .before .before .before .before .loop .inv .lengths)
+same-length-18 c = ap (λ (R : Rooms). R .bodies .bodies) (c .before .before .before .before .loop .inv .lengths)
 
 same-length-19 : tie.Need-same-length-19 Inv-loop μ-loop
-same-length-19 c = ap (λ (R : Rooms). R .ranges) (c .before .before .before .before .loop .inv .lengths)
+same-length-19 c = ap (λ (R : Rooms). R .bodies .ranges) (c .before .before .before .before .loop .inv .lengths)
 
 same-length-20 : tie.Need-same-length-20 Inv-loop μ-loop
-same-length-20 c = ap (λ (R : Rooms). R .parameters) (c .before .before .before .before .loop .inv .lengths)
+same-length-20 c = ap (λ (R : Rooms). R .bodies .parameters) (c .before .before .before .before .loop .inv .lengths)
 
 same-length-21 : tie.Need-same-length-21 Inv-loop μ-loop
-same-length-21 c = ap (λ (R : Rooms). R .loops) (c .before .before .before .before .loop .inv .lengths)
+same-length-21 c = ap (λ (R : Rooms). R .bodies .loops) (c .before .before .before .before .loop .inv .lengths)
 
 same-length-22 : tie.Need-same-length-22 Inv-loop μ-loop
-same-length-22 c = ap (λ (R : Rooms). R .spans) (c .before .before .before .before .loop .inv .lengths)
+same-length-22 c = ap (λ (R : Rooms). R .bodies .spans) (c .before .before .before .before .loop .inv .lengths)
 
 returns-2 : tie.Need-returns-2 Inv-loop μ-loop
 returns-2 c =
@@ -136,37 +139,37 @@ returns-2 c =
     reached-open (now (a .text)) (tables (now (a .v)) (now (a .vt)) (now (a .vn)) (now (a .vp)) (now (a .corners)) (now (a .elements)) (now (a .bodies)) (now (a .ranges)) (now (a .parameters)) (now (a .loops)) (now (a .spans))) (tables (l .v) (l .vt) (l .vn) (l .vp) (l .corners) (l .elements) (l .bodies) (l .ranges) (l .parameters) (l .loops) (l .spans)) (l .state) (l .at) (l .inv) (test .loop-test .left) (c .if1 .taken)
 
 same-length-23 : tie.Need-same-length-23 Inv-loop μ-loop
-same-length-23 c = ap (λ (R : Rooms). R .v) (c .before .before .before .before .before .loop .inv .lengths)
+same-length-23 c = ap (λ (R : Rooms). R .vertices .v) (c .before .before .before .before .before .loop .inv .lengths)
 
 same-length-24 : tie.Need-same-length-24 Inv-loop μ-loop
-same-length-24 c = ap (λ (R : Rooms). R .vt) (c .before .before .before .before .before .loop .inv .lengths)
+same-length-24 c = ap (λ (R : Rooms). R .vertices .vt) (c .before .before .before .before .before .loop .inv .lengths)
 
 same-length-25 : tie.Need-same-length-25 Inv-loop μ-loop
-same-length-25 c = ap (λ (R : Rooms). R .vn) (c .before .before .before .before .before .loop .inv .lengths)
+same-length-25 c = ap (λ (R : Rooms). R .vertices .vn) (c .before .before .before .before .before .loop .inv .lengths)
 
 same-length-26 : tie.Need-same-length-26 Inv-loop μ-loop
-same-length-26 c = ap (λ (R : Rooms). R .vp) (c .before .before .before .before .before .loop .inv .lengths)
+same-length-26 c = ap (λ (R : Rooms). R .vertices .vp) (c .before .before .before .before .before .loop .inv .lengths)
 
 same-length-27 : tie.Need-same-length-27 Inv-loop μ-loop
-same-length-27 c = ap (λ (R : Rooms). R .corners) (c .before .before .before .before .before .loop .inv .lengths)
+same-length-27 c = ap (λ (R : Rooms). R .elements .corners) (c .before .before .before .before .before .loop .inv .lengths)
 
 same-length-28 : tie.Need-same-length-28 Inv-loop μ-loop
-same-length-28 c = ap (λ (R : Rooms). R .elements) (c .before .before .before .before .before .loop .inv .lengths)
+same-length-28 c = ap (λ (R : Rooms). R .elements .elements) (c .before .before .before .before .before .loop .inv .lengths)
 
 same-length-29 : tie.Need-same-length-29 Inv-loop μ-loop
-same-length-29 c = ap (λ (R : Rooms). R .bodies) (c .before .before .before .before .before .loop .inv .lengths)
+same-length-29 c = ap (λ (R : Rooms). R .bodies .bodies) (c .before .before .before .before .before .loop .inv .lengths)
 
 same-length-30 : tie.Need-same-length-30 Inv-loop μ-loop
-same-length-30 c = ap (λ (R : Rooms). R .ranges) (c .before .before .before .before .before .loop .inv .lengths)
+same-length-30 c = ap (λ (R : Rooms). R .bodies .ranges) (c .before .before .before .before .before .loop .inv .lengths)
 
 same-length-31 : tie.Need-same-length-31 Inv-loop μ-loop
-same-length-31 c = ap (λ (R : Rooms). R .parameters) (c .before .before .before .before .before .loop .inv .lengths)
+same-length-31 c = ap (λ (R : Rooms). R .bodies .parameters) (c .before .before .before .before .before .loop .inv .lengths)
 
 same-length-32 : tie.Need-same-length-32 Inv-loop μ-loop
-same-length-32 c = ap (λ (R : Rooms). R .loops) (c .before .before .before .before .before .loop .inv .lengths)
+same-length-32 c = ap (λ (R : Rooms). R .bodies .loops) (c .before .before .before .before .before .loop .inv .lengths)
 
 same-length-33 : tie.Need-same-length-33 Inv-loop μ-loop
-same-length-33 c = ap (λ (R : Rooms). R .spans) (c .before .before .before .before .before .loop .inv .lengths)
+same-length-33 c = ap (λ (R : Rooms). R .bodies .spans) (c .before .before .before .before .before .loop .inv .lengths)
 
 returns-3 : tie.Need-returns-3 Inv-loop μ-loop
 returns-3 c =

@@ -1,51 +1,60 @@
--- By what the line goes on with.
-use mathlib.Core.Path.{sym, ap, _∙_}
-use denote.Ref.{now}
+-- By the names, and by their count.
+use mathlib.Core.Path.{_≡_, sym, _∙_}
+use Prim.Native.Nat.{ℕ}
+use borrow.Author.Tests.{not-true, not-false}
+use Rattle.statements.specs.declared.Carried.the-variants.{Group}
+use Rattle.statements.specs.Rules.{rulesOf, countedBy}
+use Rattle.statements.proofs.RowLaws.{row-counted}
+use Rattle.read_settings.specs.Steps.{withGroup}
+use Rattle.read_settings.proofs.Runs as R
 use borrow.Author.Needs.{needs}
-use Rattle.text.specs.Rest.{restAt}
-use Rattle.text.proofs.Found as F
-use Rattle.read_settings.specs.Steps.{groupTaken}
-use Rattle.read_settings.proofs.Lines as L
-use Rattle.read_settings.proofs.Groups as G
 use Rattle.read_settings.proofs.take_group.Statement.{statement}
 use Rattle.read_settings.proofs.take_group.Tie as tie
 
-skip-blanks-requires : tie.Need-skip-blanks-requires
-skip-blanks-requires c κs = search needs
+-- the names' count, and the row
+module _ (c : tie.After-counted) where
+  abbrev k : tie.Start
+  k = c .before .before .before .before .before .before .before
 
-enum-known-p : tie.Need-enum-known-p
-enum-known-p c = search needs
+  abbrev met : tie.After-run
+  met = c .before .before .before
 
-group-from-requires : tie.Need-group-from-requires
-group-from-requires c κs =
-    let start = c .before .before .before .before .before in
-    let a = start .args in
-    let met = F.word-found (now (a .text)) (a .at) _ (c .before .before .before .skip-blanks .ensures) (c .before .p .given .1) in
-    (met .more, met .to, start .pre .1)
+  row : c .counted .result ≡ countedBy (rulesOf Group .count) (met .run .given .0 .1 .0)
+  row = row-counted Group (met .run .given .0 .1 .0) (c .before .group-rules .ensures) (c .counted .ensures)
 
-enum-known-q : tie.Need-enum-known-q
-enum-known-q c = search needs
+line-names-requires : tie.Need-line-names-requires
+line-names-requires c κs = search needs
 
 enum-told : tie.Need-enum-told
 enum-told c = search needs
 
+enum-known-run : tie.Need-enum-known-run
+enum-known-run c = search needs
+
+group-rules-requires : tie.Need-group-rules-requires
+group-rules-requires c κs = search needs
+
+counted-requires : tie.Need-counted-requires
+counted-requires c κs = search needs
+
 returns : tie.Need-returns
-returns c =
-    let a = c .before .before .before .before .before .before .args in
-    c .group-from .ensures ∙ sym (ap (groupTaken (a .names)) (L.start-rest (now (a .text)) (a .at) _ (c .before .before .before .before .skip-blanks .ensures) (c .before .before .p .given .1)))
+returns c = let d = c .before in R.named-not Group (withGroup (k d .args .names)) (met d .before .before .line-names .ensures) (met d .run .given .1) (sym (not-true _ (c .if1 .taken)) ∙ row d)
 
 returns-2 : tie.Need-returns-2
-returns-2 c =
-    let a = c .before .before .before .before .before .args in
-    sym (ap (groupTaken (a .names)) (L.end-rest (now (a .text)) (a .at) _ (c .before .before .before .skip-blanks .ensures) (c .before .q .given .1)))
+returns-2 c = let a = c .before .before .before .before .args in R.named-no Group (withGroup (a .names)) (c .before .before .line-names .ensures) (c .enum-told .given .1)
 
 returns-3 : tie.Need-returns-3
-returns-3 c =
-    let a = c .before .before .before .before .args in
-    let bad = L.bad-rest (now (a .text)) (a .at) _ (c .before .before .skip-blanks .ensures) (c .enum-told .given .1) in
-    G.group-empty (a .names) (restAt (now (a .text)) (a .at)) (bad .0) (bad .1)
+returns-3 c = let d = c .before .before in R.named-counted Group (withGroup (k d .args .names)) (met d .before .before .line-names .ensures) (met d .run .given .1) (sym (not-false _ (c .before .if1 .left)) ∙ row d)
 
 pub take-group-spec : {M : Type 1} → statement M
 take-group-spec =
     tie.close
-    (tie.spec skip-blanks-requires enum-known-p group-from-requires enum-known-q enum-told returns returns-2 returns-3)
+    (tie.spec
+    line-names-requires
+    enum-told
+    enum-known-run
+    group-rules-requires
+    counted-requires
+    returns
+    returns-2
+    returns-3)

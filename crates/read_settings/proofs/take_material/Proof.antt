@@ -1,105 +1,60 @@
--- By the only word, as a name.
-use native.Mathlib.Omega.{arith}
-use denote.Ref.{now}
-use lib.ListN.{drop}
-use Rattle.text.specs.Words.{wordOf}
-use Rattle.text.specs.Rest.{endOf}
-use Rattle.digits.specs.Degree.{nameOf}
-use Rattle.read_settings.proofs.Lines as L
+-- By the names, and by their count.
+use mathlib.Core.Path.{_≡_, sym, _∙_}
+use Prim.Native.Nat.{ℕ}
+use borrow.Author.Tests.{not-true, not-false}
+use Rattle.statements.specs.declared.Carried.the-variants.{Material}
+use Rattle.statements.specs.Rules.{rulesOf, countedBy}
+use Rattle.statements.proofs.RowLaws.{row-counted}
+use Rattle.read_settings.specs.Steps.{withMaterial}
+use Rattle.read_settings.proofs.Runs as R
 use borrow.Author.Needs.{needs}
 use Rattle.read_settings.proofs.take_material.Statement.{statement}
 use Rattle.read_settings.proofs.take_material.Tie as tie
 
-only-word-requires : tie.Need-only-word-requires
-only-word-requires c κs = search needs
+-- the names' count, and the row
+module _ (c : tie.After-counted) where
+  abbrev k : tie.Start
+  k = c .before .before .before .before .before .before .before
+
+  abbrev met : tie.After-run
+  met = c .before .before .before
+
+  row : c .counted .result ≡ countedBy (rulesOf Material .count) (met .run .given .0 .1 .0)
+  row = row-counted Material (met .run .given .0 .1 .0) (c .before .material-rules .ensures) (c .counted .ensures)
+
+line-names-requires : tie.Need-line-names-requires
+line-names-requires c κs = search needs
 
 enum-told : tie.Need-enum-told
 enum-told c = search needs
 
-enum-known-place : tie.Need-enum-known-place
-enum-known-place c = search needs
+enum-known-run : tie.Need-enum-known-run
+enum-known-run c = search needs
 
-name-at-requires : tie.Need-name-at-requires
-name-at-requires c κs =
-    let a = c .before .before .before .before .before .args in
-    let only = L.alone-word (now (a .text)) (a .at) _ (c .before .before .before .only-word .ensures) (c .before .place .given .1) in
-    let more = only .more in
-    let to = only .to in
-    omega arith
+material-rules-requires : tie.Need-material-rules-requires
+material-rules-requires c κs = search needs
 
-enum-known-end : tie.Need-enum-known-end
-enum-known-end c = search needs
-
-cast-t11 : tie.Need-cast-t11
-cast-t11 c =
-    let a = c .before .before .before .before .before .before .before .before .before .args in
-    let only = L.alone-word (now (a .text)) (a .at) _ (c .before .before .before .before .before .before .before .only-word .ensures) (c .before .before .before .before .before .place .given .1) in
-    let p = c .before .before .before .before .before .place .given .0 .0 in
-    let w = wordOf (drop p (now (a .text))) in
-    let said = L.name-says w (nameOf w) (endOf (now (a .text)) p) _ (c .before .before .before .name-at .ensures) (c .before .end .given .1) in
-    let end = said .1 in
-    let more = only .more in
-    let to = only .to in
-    omega (arith, c .before .before .before .before .before .before .before .before .before .pre .1)
-
-sub-t12 : tie.Need-sub-t12
-sub-t12 c =
-    let a = c .before .before .before .before .before .before .before .before .before .args in
-    let only = L.alone-word (now (a .text)) (a .at) _ (c .before .before .before .before .before .before .before .only-word .ensures) (c .before .before .before .before .before .place .given .1) in
-    let p = c .before .before .before .before .before .place .given .0 .0 in
-    let w = wordOf (drop p (now (a .text))) in
-    let said = L.name-says w (nameOf w) (endOf (now (a .text)) p) _ (c .before .before .before .name-at .ensures) (c .before .end .given .1) in
-    let end = said .1 in
-    let more = only .more in
-    let to = only .to in
-    omega arith
-
-cast-t13 : tie.Need-cast-t13
-cast-t13 c =
-    let a = c .before .before .before .before .before .before .before .before .before .args in
-    let only = L.alone-word (now (a .text)) (a .at) _ (c .before .before .before .before .before .before .before .only-word .ensures) (c .before .before .before .before .before .place .given .1) in
-    let p = c .before .before .before .before .before .place .given .0 .0 in
-    let w = wordOf (drop p (now (a .text))) in
-    let said = L.name-says w (nameOf w) (endOf (now (a .text)) p) _ (c .before .before .before .name-at .ensures) (c .before .end .given .1) in
-    let end = said .1 in
-    let more = only .more in
-    let to = only .to in
-    omega (arith, c .before .before .before .before .before .before .before .before .before .pre .1)
-
-enum-told-2 : tie.Need-enum-told-2
-enum-told-2 c = search needs
+counted-requires : tie.Need-counted-requires
+counted-requires c κs = search needs
 
 returns : tie.Need-returns
-returns c = let a = c .before .before .before .before .args in L.material-gave-up (now (a .text)) (a .at) (L.alone-no (now (a .text)) (a .at) _ (c .before .before .only-word .ensures) (c .enum-told .given .1)) (a .names)
+returns c = let d = c .before in R.named-not Material (withMaterial (k d .args .names)) (met d .before .before .line-names .ensures) (met d .run .given .1) (sym (not-true _ (c .if1 .taken)) ∙ row d)
 
 returns-2 : tie.Need-returns-2
-returns-2 c =
-    let a = c .before .before .before .before .before .before .before .before .before .args in
-    let only = L.alone-word (now (a .text)) (a .at) _ (c .before .before .before .before .before .before .before .only-word .ensures) (c .before .before .before .before .before .place .given .1) in
-    let p = c .before .before .before .before .before .place .given .0 .0 in
-    let w = wordOf (drop p (now (a .text))) in
-    let said = L.name-says w (nameOf w) (endOf (now (a .text)) p) _ (c .before .before .before .name-at .ensures) (c .before .end .given .1) in
-    let end = said .1 in
-    let more = only .more in
-    let to = only .to in
-    L.material-is (now (a .text)) (a .at) _ _ only (a .names) (said .0) (omega arith)
+returns-2 c = let a = c .before .before .before .before .args in R.named-no Material (withMaterial (a .names)) (c .before .before .line-names .ensures) (c .enum-told .given .1)
 
 returns-3 : tie.Need-returns-3
-returns-3 c = let a = c .before .before .before .before .before .before .before .before .args in let only = L.alone-word (now (a .text)) (a .at) _ (c .before .before .before .before .before .before .only-word .ensures) (c .before .before .before .before .place .given .1) in let w = wordOf (drop (c .before .before .before .before .place .given .0 .0) (now (a .text))) in L.material-not (now (a .text)) (a .at) _ _ only (a .names) (L.name-wrong w (nameOf w) (endOf (now (a .text)) (c .before .before .before .before .place .given .0 .0)) _ (c .before .before .name-at .ensures) (c .enum-told2 .given .1))
+returns-3 c = let d = c .before .before in R.named-counted Material (withMaterial (k d .args .names)) (met d .before .before .line-names .ensures) (met d .run .given .1) (sym (not-false _ (c .before .if1 .left)) ∙ row d)
 
 pub take-material-spec : {M : Type 1} → statement M
 take-material-spec =
     tie.close
     (tie.spec
-    only-word-requires
+    line-names-requires
     enum-told
-    enum-known-place
-    name-at-requires
-    enum-known-end
-    cast-t11
-    sub-t12
-    cast-t13
-    enum-told-2
+    enum-known-run
+    material-rules-requires
+    counted-requires
     returns
     returns-2
     returns-3)

@@ -1,6 +1,8 @@
 -- Each way out by the law of its kind.
 use denote.Ref.{now}
-use Rattle.read_vertex_lines.proofs.Stepped.{geometric-into, texture-into, normal-into, parametric-into}
+use Rattle.tables.specs.VertexTables.{vertexTables}
+use Rattle.model.specs.Model.{geometric, texture, normal, parametric}
+use Rattle.read_vertex_lines.proofs.Stepped.{into}
 use borrow.Author.Needs.{needs}
 use Rattle.read_vertex_lines.proofs.vertex_into.Statement.{statement}
 use Rattle.read_vertex_lines.proofs.vertex_into.Tie as tie
@@ -37,7 +39,7 @@ returns c =
     let f = c .before .take-vertex in
     let told = c .before .before .before in
     let a = told .before .before .before .args in
-    geometric-into (now (a .text)) (a .at) (a .used) (f .result) (a .kind) (now (a .v)) (now (a .vt)) (now (a .vn)) (now (a .vp)) (f .last .1 .1 .1 .1 .0) (told .enum-told .given .1) (f .ensures)
+    into (now (a .text)) (a .at) (a .used) (f .result) (a .kind) (vertexTables (now (a .v)) (now (a .vt)) (now (a .vn)) (now (a .vp))) (f .last .1 .1 .1 .1 .0) geometric (told .enum-told .given .1) (f .ensures)
 
 same-length-2 : tie.Need-same-length-2
 same-length-2 c = search needs
@@ -47,7 +49,7 @@ returns-2 c =
     let f = c .before .take-vertex2 in
     let told = c .before .before .before in
     let a = told .before .before .before .args in
-    texture-into (now (a .text)) (a .at) (a .used) (f .result) (a .kind) (now (a .v)) (now (a .vt)) (now (a .vn)) (now (a .vp)) (f .last .1 .1 .1 .1 .0) (told .enum-told2 .given .1) (f .ensures)
+    into (now (a .text)) (a .at) (a .used) (f .result) (a .kind) (vertexTables (now (a .v)) (now (a .vt)) (now (a .vn)) (now (a .vp))) (f .last .1 .1 .1 .1 .0) texture (told .enum-told2 .given .1) (f .ensures)
 
 same-length-3 : tie.Need-same-length-3
 same-length-3 c = search needs
@@ -57,7 +59,7 @@ returns-3 c =
     let f = c .before .take-vertex3 in
     let told = c .before .before .before in
     let a = told .before .before .before .args in
-    normal-into (now (a .text)) (a .at) (a .used) (f .result) (a .kind) (now (a .v)) (now (a .vt)) (now (a .vn)) (now (a .vp)) (f .last .1 .1 .1 .1 .0) (told .enum-told3 .given .1) (f .ensures)
+    into (now (a .text)) (a .at) (a .used) (f .result) (a .kind) (vertexTables (now (a .v)) (now (a .vt)) (now (a .vn)) (now (a .vp))) (f .last .1 .1 .1 .1 .0) normal (told .enum-told3 .given .1) (f .ensures)
 
 same-length-4 : tie.Need-same-length-4
 same-length-4 c = search needs
@@ -67,7 +69,7 @@ returns-4 c =
     let f = c .before .take-vertex4 in
     let told = c .before .before .before in
     let a = told .before .before .before .args in
-    parametric-into (now (a .text)) (a .at) (a .used) (f .result) (a .kind) (now (a .v)) (now (a .vt)) (now (a .vn)) (now (a .vp)) (f .last .1 .1 .1 .1 .0) (told .enum-told4 .given .1) (f .ensures)
+    into (now (a .text)) (a .at) (a .used) (f .result) (a .kind) (vertexTables (now (a .v)) (now (a .vt)) (now (a .vn)) (now (a .vp))) (f .last .1 .1 .1 .1 .0) parametric (told .enum-told4 .given .1) (f .ensures)
 
 pub vertex-into-spec : {M : Type 1} → statement M
 vertex-into-spec =

@@ -23,7 +23,7 @@ module _ (c : tie.After-element-obeys) where
   t = tables (s .args .v .now) (s .args .vt .now) (s .args .vn .now) (s .args .vp .now) (s .args .corners .now) [] [] [] (s .args .parameters .now) (s .args .loops .now) (s .args .spans .now)
 
   own : c .element-obeys .result ≡ outline (s .args .used) t (s .args .element)
-  own = c .element-obeys .ensures ∙ rw (corners-lent (s .args .used) t (s .args .element .kind) (s .args .element .first) (s .args .element .count))
+  own = c .element-obeys .ensures ∙ rw (corners-lent (s .args .used) t (s .args .element .kind) (s .args .element .corners))
 
 returns : tie.Need-returns
 unfolding recordsObey
@@ -42,7 +42,7 @@ returns-3 c =
     let o = c .before .before .before .before in
     let e = passed (own o) (c .before .before .before .if1 .left) in
     let a = s o .args in
-    rw (e, lt-leb _ _ (c .before .if2 .left)) (c .record-with .ensures ∙ record-lent (a .used) (t o) (a .curves) (a .element .kind) (a .element .count) (a .body))
+    rw (e, lt-leb _ _ (c .before .if2 .left)) (c .record-with .ensures ∙ record-lent (a .used) (t o) (a .curves) (a .element .kind) (a .element .corners .count) (a .body))
 
 pub records-obey-spec : {M : Type 1} → statement M
 records-obey-spec =

@@ -1,10 +1,12 @@
 -- What is left of the word comes to what all of it comes to.
-use Prim.Native.Nat.{_-_}
+use Prim.Native.Nat.{_-_, _<_}
 use mathlib.Core.Path.{_≡_, refl, sym, _∙_}
+use mathlib.Core.Bool.{true}
 use native.Mathlib.Omega.{arith}
 use borrow.Author.Needs.{needs}
 use denote.Ref.{now}
-use lib.ListN.{length}
+use lib.ListN.{length, drop}
+use Rattle.spellings.specs.Lookup.{wordAhead}
 use Rattle.spellings.proofs.Compare.{ahead-within}
 use Rattle.spellings.proofs.Write.{Copied, room, copy, copied}
 use Rattle.spellings.proofs.copy_word.Statement.{statement}
@@ -22,50 +24,46 @@ loop-holds c = record { rest = refl; end = refl; size = refl }
 word-ahead-requires : tie.Need-word-ahead-requires Inv-loop μ-loop
 word-ahead-requires c κs = search needs
 
+-- a byte of the word is left
+module _ (c : tie.Then1 Inv-loop μ-loop) where
+  abbrev l : tie.At-loop Inv-loop μ-loop
+  l = c .before .before
+
+  abbrev a : tie.Start Inv-loop μ-loop
+  a = l .before .before .before
+
+  ahead : wordAhead (drop (l .loop .i) (now (a .args .source))) ≡ true
+  ahead = sym (c .before .word-ahead .ensures) ∙ c .if1 .taken
+
+  within : l .loop .i < length (now (a .args .source))
+  within = ahead-within (now (a .args .source)) (l .loop .i) ahead
+
+  space : l .loop .j < length (l .loop .out)
+  space = room (l .loop .inv) (a .pre) ahead
+
 shared-slice-read-out : tie.Need-shared-slice-read-out Inv-loop μ-loop
-shared-slice-read-out c =
-    let a = c .before .before .before .before .before .before .args in
-    let l = c .before .before .before .loop in
-    ahead-within (now (a .source)) (l .i) (sym (c .before .before .word-ahead .ensures) ∙ c .before .if1 .taken)
+shared-slice-read-out c = within (c .before)
 
 slice-write-out : tie.Need-slice-write-out Inv-loop μ-loop
-slice-write-out c =
-    let a = c .before .before .before .before .before .before .args in
-    let l = c .before .before .before .loop in
-    room (now (a .source)) (a .from) (now (a .out)) (a .at) (l .out) (l .i) (l .j) (l .inv) (c .before .before .before .before .before .before .pre) (sym (c .before .before .word-ahead .ensures) ∙ c .before .if1 .taken)
+slice-write-out c = space (c .before)
 
 add-i : tie.Need-add-i Inv-loop μ-loop
-add-i c =
-    let a = c .before .before .before .before .before .before .args in
-    let l = c .before .before .before .loop in
-    omega (arith, ahead-within (now (a .source)) (l .i) (sym (c .before .before .word-ahead .ensures) ∙ c .before .if1 .taken))
+add-i c = omega (arith, within (c .before))
 
 add-j : tie.Need-add-j Inv-loop μ-loop
-add-j c =
-    let a = c .before .before .before .before .before .before .args in
-    let l = c .before .before .before .loop in
-    omega (arith, room (now (a .source)) (a .from) (now (a .out)) (a .at) (l .out) (l .i) (l .j) (l .inv) (c .before .before .before .before .before .before .pre) (sym (c .before .before .word-ahead .ensures) ∙ c .before .if1 .taken))
+add-j c = omega (arith, space (c .before))
 
 loop-less : tie.Need-loop-less Inv-loop μ-loop
-loop-less c =
-    let a = c .before .before .before .before .before .before .args in
-    let l = c .before .before .before .loop in
-    omega (arith, ahead-within (now (a .source)) (l .i) (sym (c .before .before .word-ahead .ensures) ∙ c .before .if1 .taken))
+loop-less c = omega (arith, within (c .before))
 
 loop-again : tie.Need-loop-again Inv-loop μ-loop
-loop-again c =
-    let a = c .before .before .before .before .before .before .args in
-    let l = c .before .before .before .loop in
-    copy (now (a .source)) (a .from) (now (a .out)) (a .at) (l .out) (l .i) (l .j) (l .inv) (sym (c .before .before .word-ahead .ensures) ∙ c .before .if1 .taken)
+loop-again c = copy (l (c .before) .loop .inv) (ahead (c .before))
 
 same-length : tie.Need-same-length Inv-loop μ-loop
 same-length c = c .before .before .loop .inv .size
 
 returns : tie.Need-returns Inv-loop μ-loop
-returns c =
-    let a = c .before .before .before .before .before .args in
-    let l = c .before .before .loop in
-    copied (now (a .source)) (a .from) (now (a .out)) (a .at) (l .out) (l .i) (l .j) (l .inv) (sym (c .before .word-ahead .ensures) ∙ c .if1 .left)
+returns c = copied (c .before .before .loop .inv) (sym (c .before .word-ahead .ensures) ∙ c .if1 .left)
 
 pub copy-word-spec : {M : Type 1} → statement M
 copy-word-spec =

@@ -35,9 +35,8 @@ sub-t15 c = omega (arith, c .before .before .before .before .before .loop .inv .
 
 returns : tie.Need-returns Inv-loop μ-loop
 returns c =
-    let a = c .before .before .before .before .before .before .before .before .before .args in
-    let l = c .before .before .before .before .before .loop in
-    here (now (a .text)) (a .at) (now (a .table)) (a .rows) (l .from) (l .left) (l .inv) (c .before .before .before .before .loop-test .taken) (c .before .same-word .result) (c .before .same-word .ensures) (c .if2 .taken)
+    let l = c .before .before .before .before in
+    here (l .before .loop .inv) (l .loop-test .taken) (c .before .same-word .result) (c .before .same-word .ensures) (c .if2 .taken)
 
 add-from : tie.Need-add-from Inv-loop μ-loop
 add-from c = omega (arith, c .before .before .before .loop .inv .room, c .before .before .before .loop .inv .place)
@@ -50,18 +49,15 @@ loop-less c = omega arith
 
 loop-again : tie.Need-loop-again Inv-loop μ-loop
 loop-again c =
-    let a = c .before .before .before .before .before .before .before .args in
-    let l = c .before .before .before .loop in
-    turn (now (a .text)) (a .at) (now (a .table)) (a .rows) (l .from) (l .left) (l .inv) (c .before .before .loop-test .taken)
-    (⊎-elim (λ w. not-here (now (a .text)) (a .at) (now (a .table)) (a .rows) (l .from) (l .left) (l .inv) (c .before .before .loop-test .taken) (w .1 .result) (w .1 .ensures) (w .2 .left))
-    (λ w. differs (now (a .text)) (a .at) (now (a .table)) (a .rows) (l .from) (l .left) (l .inv) (c .before .before .loop-test .taken) (c .before .before .before .before .before .before .before .pre .0) (λ e. w .left (sym e)))
+    let l = c .before .before in
+    let v = l .before .loop .inv in
+    turn v (l .loop-test .taken)
+    (⊎-elim (λ w. not-here v (l .loop-test .taken) (w .1 .result) (w .1 .ensures) (w .2 .left))
+    (λ w. differs v (l .loop-test .taken) (l .before .before .before .before .before .pre .0) (λ e. w .left (sym e)))
     (c .if1 .came))
 
 returns-2 : tie.Need-returns-2 Inv-loop μ-loop
-returns-2 c =
-    let a = c .before .before .before .before .before .args in
-    let l = c .before .loop in
-    nowhere (now (a .text)) (a .at) (now (a .table)) (a .rows) (l .from) (l .left) (l .inv) (omega arith)
+returns-2 c = nowhere (c .before .loop .inv) (omega arith)
 
 pub row-at-spec : {M : Type 1} → statement M
 row-at-spec =

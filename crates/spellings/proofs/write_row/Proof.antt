@@ -28,10 +28,9 @@ same-length c = search needs
 
 returns-2 : tie.Need-returns-2
 returns-2 c =
-    let a = c .before .before .before .before .before .before .before .before .args in
-    let w = wordOf (drop (a .from) (now (a .table))) in
-    let e = c .before .before .copy-word .ensures in
-    wrote-all (now (a .out)) w (c .before .before .copy-word .result) _ (omega arith) (e .0) (e .1)
+    let w = c .before .before in
+    let a = w .before .before .before .before .before .before .args in
+    wrote-all (now (a .out)) (wordOf (drop (a .from) (now (a .table)))) (w .copy-word .result) _ (omega arith) (w .copy-word .ensures .0) (w .copy-word .ensures .1)
 
 pub write-row-spec : {M : Type 1} → statement M
 write-row-spec =

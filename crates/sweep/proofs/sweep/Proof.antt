@@ -106,7 +106,7 @@ same-length-23 : tie.Need-same-length-23
 same-length-23 c = search needs
 
 returns-2 : tie.Need-returns-2
-returns-2 c = let e = c .before .before .before .before .before .before .before .before .before .before .before .before .before .before .before .before .before .before .before .before .before .before .before .before .before .before .before .before .before .before .before .before .before .before .before .before .before .before .before .before in let r = e .before in let x = c .before .before .before .before .before .before .before .before .before .before .before .before .clear-rest .ensures in swept-is (start r .args .used) (t r) (start r .args .numbers .now) (c .before .before .before .before .before .before .before .before .before .before .before .before .before .before .before .before .before .before .before .before .before .before .before .before .before .before .before .before .before .before .before .before .sweep-vertices .ensures) (through e) (lent (start r .args .used) (t r) (start r .args .numbers .now) (through e) .corners) (c .before .before .before .before .before .before .before .before .before .before .before .before .before .before .before .before .before .before .before .before .before .before .renumber .ensures) (x .0) (x .1) (x .2) (x .3) (x .4) (x .5) (x .6) (c .dropped-of .ensures)
+returns-2 c = let e = c .before .before .before .before .before .before .before .before .before .before .before .before .before .before .before .before .before .before .before .before .before .before .before .before .before .before .before .before .before .before .before .before .before .before .before .before .before .before .before .before in let r = e .before in let x = c .before .before .before .before .before .before .before .before .before .before .before .before .clear-rest .ensures in swept-is (start r .args .used) (t r) (start r .args .numbers .now) (c .before .before .before .before .before .before .before .before .before .before .before .before .before .before .before .before .before .before .before .before .before .before .before .before .before .before .before .before .before .before .before .before .sweep-vertices .ensures) (through e) (lent (start r .args .used) (t r) (start r .args .numbers .now) (through e) .elements .corners) (c .before .before .before .before .before .before .before .before .before .before .before .before .before .before .before .before .before .before .before .before .before .before .renumber .ensures) (x .0) (x .1) (x .2) (x .3) (x .4) (x .5) (x .6) (c .dropped-of .ensures)
 
 pub sweep-spec : {M : Type 1} → statement M
 sweep-spec =

@@ -12,15 +12,6 @@ place-of-requires c κs = search needs
 returns : tie.Need-returns
 returns c = let a = c .before .before .before .before .args in element-none (kindOf (a .table)) (now (a .corners)) (a .element) (now (a .marks)) (c .before .place-of .ensures .0) (c .if1 .taken)
 
-cast-mark-every : tie.Need-cast-mark-every
-cast-mark-every c = search needs
-
-cast-mark-every-2 : tie.Need-cast-mark-every-2
-cast-mark-every-2 c = search needs
-
-add-mark-every : tie.Need-add-mark-every
-add-mark-every c = search needs
-
 mark-every-requires : tie.Need-mark-every-requires
 mark-every-requires c κs = search needs
 
@@ -28,17 +19,12 @@ same-length : tie.Need-same-length
 same-length c = search needs
 
 returns-2 : tie.Need-returns-2
-returns-2 c = let a = c .before .before .before .before .before .before .before .before .before .args in element-some (kindOf (a .table)) (now (a .corners)) (a .element) (now (a .marks)) (c .before .before .before .before .before .before .place-of .ensures .0) (c .before .before .before .before .before .if1 .left) (c .before .before .mark-every .ensures)
+returns-2 c =
+    let some = c .before .before .before .before in
+    let a = some .before .before .before .before .args in
+    element-some (kindOf (a .table)) (now (a .corners)) (a .element) (now (a .marks)) (some .before .place-of .ensures .0) (some .if1 .left) (c .before .before .mark-every .ensures)
 
 pub mark-element-spec : {M : Type 1} → statement M
 mark-element-spec =
     tie.close
-    (tie.spec
-    place-of-requires
-    returns
-    cast-mark-every
-    cast-mark-every-2
-    add-mark-every
-    mark-every-requires
-    same-length
-    returns-2)
+    (tie.spec place-of-requires returns mark-every-requires same-length returns-2)

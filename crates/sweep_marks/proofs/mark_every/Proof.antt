@@ -1,37 +1,26 @@
-use Rattle.sweep_marks.proofs.Marking.{length-every}
-use mathlib.Core.Path.{ap, _∙_}
+-- The invariant: the marks of the numbers passed.
+use Prim.Native.Nat.{_-_}
+use mathlib.Core.Path.{refl, ap, _∙_}
+use native.Mathlib.Omega.{arith}
 use lib.ListN.{length}
 use denote.Ref.{now}
--- The invariant: the marks of the numbers passed.
-use Rattle.sweep_marks.proofs.Marking.{Reached, reached-more, reached-all, every-more}
 use Rattle.sweep_marks.specs.Marks.{markEvery}
-use Prim.Native.Nat.{_-_}
-use native.Mathlib.Omega.{arith}
-use mathlib.Core.Path.{refl}
+use Rattle.sweep_marks.proofs.Marking.{Reached, reached-more, reached-all, every-more, length-every}
 use borrow.Author.Needs.{needs}
 use Rattle.sweep_marks.proofs.mark_every.Statement.{statement}
 use Rattle.sweep_marks.proofs.mark_every.Tie as tie
 
 abbrev Inv-loop : tie.InvT-loop
-Inv-loop corners at count marks₀ j₀ marks j = Reached (λ n. markEvery corners at n marks₀) count marks j
+Inv-loop corners run place marks₀ j₀ marks j = Reached (λ n. markEvery corners run place n marks₀) (run .count) marks j
 
 abbrev μ-loop : tie.MeasureT-loop
-μ-loop corners at count marks₀ j₀ marks j = count - j
+μ-loop corners run place marks₀ j₀ marks j = run .count - j
 
 loop-holds : tie.Need-loop-holds Inv-loop μ-loop
 loop-holds c = record { within = omega arith; is = refl }
 
-cast-number-in : tie.Need-cast-number-in Inv-loop μ-loop
-cast-number-in c = search needs
-
-mul-number-in : tie.Need-mul-number-in Inv-loop μ-loop
-mul-number-in c = search needs
-
-add-number-in : tie.Need-add-number-in Inv-loop μ-loop
-add-number-in c = search needs
-
-number-in-requires : tie.Need-number-in-requires Inv-loop μ-loop
-number-in-requires c κs = search needs
+corner-number-requires : tie.Need-corner-number-requires Inv-loop μ-loop
+corner-number-requires c κs = search needs
 
 mark-requires : tie.Need-mark-requires Inv-loop μ-loop
 mark-requires c κs = search needs
@@ -42,14 +31,25 @@ add-j c = search needs
 loop-less : tie.Need-loop-less Inv-loop μ-loop
 loop-less c = search needs
 
+-- a turn of the loop
+module _ (l : tie.At-loop Inv-loop μ-loop) where
+  abbrev s : tie.Start Inv-loop μ-loop
+  s = l .before .before .before
+
 loop-again : tie.Need-loop-again Inv-loop μ-loop
-loop-again c = let m = c .before .before .before .before .before .before .loop in let a = c .before .before .before .before .before .before .before .before .before .args in reached-more (m .inv) (omega arith) (every-more (now (a .corners)) (a .at) (m .j) (now (a .marks)) (m .inv .is) (c .before .before .before .before .number-in .ensures) (c .before .before .mark .ensures))
+loop-again c =
+    let l = c .before .before .before .before .before .before .before in
+    let a = s l .args in
+    reached-more (l .loop .inv) (omega arith) (every-more (now (a .corners)) (a .run) (a .place) (l .loop .j) (now (a .marks)) (l .loop .inv .is) (c .before .before .before .before .corner-number .ensures) (c .before .before .mark .ensures))
 
 same-length : tie.Need-same-length Inv-loop μ-loop
-same-length c = let a = c .before .before .before .before .args in ap length (c .before .loop .inv .is) ∙ length-every (now (a .corners)) (a .at) (c .before .loop .j) (now (a .marks))
+same-length c =
+    let l = c .before .before in
+    let a = s l .args in
+    ap length (l .loop .inv .is) ∙ length-every (now (a .corners)) (a .run) (a .place) (l .loop .j) (now (a .marks))
 
 returns : tie.Need-returns Inv-loop μ-loop
-returns c = reached-all (c .before .loop .inv) (omega arith)
+returns c = reached-all (c .before .before .loop .inv) (omega arith)
 
 pub mark-every-spec : {M : Type 1} → statement M
 mark-every-spec =
@@ -58,10 +58,7 @@ mark-every-spec =
     Inv-loop
     μ-loop
     loop-holds
-    cast-number-in
-    mul-number-in
-    add-number-in
-    number-in-requires
+    corner-number-requires
     mark-requires
     add-j
     loop-less

@@ -9,11 +9,11 @@ use Rattle.table_asking.proofs.corner_with.Tie as tie
 
 returns : tie.Need-returns
 returns c =
-    let a = c .before .before .before .args in
+    let a = c .before .before .before .before .args in
     corner-lacked (a .used) (now (a .corners)) (a .element) (a .k) (search needs)
 
-corners-end-requires : tie.Need-corners-end-requires
-corners-end-requires c κs = search needs
+corner-place-requires : tie.Need-corner-place-requires
+corner-place-requires c κs = search needs
 
 cast-if2 : tie.Need-cast-if2
 cast-if2 c = search needs
@@ -23,7 +23,7 @@ add-if2 c = search needs
 
 returns-2 : tie.Need-returns-2
 returns-2 c =
-    let a = c .before .before .before .before .before .before .args in
+    let a = c .before .before .before .before .before .before .before .args in
     corner-unused (a .used) (now (a .corners)) (a .element) (a .k) (search needs) (search needs)
 
 add-if3 : tie.Need-add-if3
@@ -31,7 +31,7 @@ add-if3 c = search needs
 
 returns-3 : tie.Need-returns-3
 returns-3 c =
-    let a = c .before .before .before .before .before .before .before .args in
+    let a = c .before .before .before .before .before .before .before .before .args in
     corner-unlent (a .used) (now (a .corners)) (a .element) (a .k) (search needs) (search needs) (search needs)
 
 corner-at-requires : tie.Need-corner-at-requires
@@ -39,7 +39,7 @@ corner-at-requires c κs = search needs
 
 returns-4 : tie.Need-returns-4
 returns-4 c =
-    let a = c .before .before .before .before .before .before .before .before .args in
+    let a = c .before .before .before .before .before .before .before .before .before .args in
     c .corner-at .ensures ∙ corner-there (a .used) (now (a .corners)) (a .element) (a .k) (search needs) (search needs) (search needs)
 
 pub corner-with-spec : {M : Type 1} → statement M
@@ -47,7 +47,7 @@ corner-with-spec =
     tie.close
     (tie.spec
     returns
-    corners-end-requires
+    corner-place-requires
     cast-if2
     add-if2
     returns-2

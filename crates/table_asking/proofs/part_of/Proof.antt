@@ -5,6 +5,12 @@ use borrow.Author.Needs.{needs}
 use Rattle.table_asking.proofs.part_of.Statement.{statement}
 use Rattle.table_asking.proofs.part_of.Tie as tie
 
+cast-from : tie.Need-cast-from
+cast-from c = search needs
+
+cast-to : tie.Need-cast-to
+cast-to c = search needs
+
 add-to : tie.Need-add-to
 add-to c = search needs
 
@@ -18,7 +24,7 @@ part-result-end : tie.Need-part-result-end
 part-result-end c = search needs
 
 returns : tie.Need-returns
-returns c = let a = c .before .before .args in part-there (now (a .text)) (a .place) (a .count) (search needs)
+returns c = let a = c .before .before .before .before .args in part-there (now (a .text)) (a .run) (search needs)
 
 sub-result-2 : tie.Need-sub-result-2
 sub-result-2 c = search needs
@@ -30,12 +36,14 @@ part-result-end-2 : tie.Need-part-result-end-2
 part-result-end-2 c = search needs
 
 returns-2 : tie.Need-returns-2
-returns-2 c = let a = c .before .before .args in part-past (now (a .text)) (a .place) (a .count) (search needs)
+returns-2 c = let a = c .before .before .before .before .args in part-past (now (a .text)) (a .run) (search needs)
 
 pub part-of-spec : {M : Type 1} → statement M
 part-of-spec =
     tie.close
     (tie.spec
+    cast-from
+    cast-to
     add-to
     sub-result
     part-result-start

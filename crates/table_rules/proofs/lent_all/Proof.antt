@@ -1,5 +1,5 @@
--- Each table by its own test.
-use Rattle.table_rules.specs.Whole.{lentAll}
+-- Each table by its own test, and the tests by group.
+use Rattle.table_rules.proofs.Lent.{in-a-row}
 use borrow.Author.Needs.{needs}
 use Rattle.table_rules.proofs.lent_all.Statement.{statement}
 use Rattle.table_rules.proofs.lent_all.Tie as tie
@@ -38,7 +38,6 @@ is-lent-requires-9 : tie.Need-is-lent-requires-9
 is-lent-requires-9 c κs = search needs
 
 returns : tie.Need-returns
-unfolding lentAll
 returns c =
     rw (
       c .before .before .before .before .before .before .before .before .before .before .is-lent .ensures,
@@ -50,7 +49,7 @@ returns c =
       c .before .before .before .is-lent7 .ensures,
       c .before .is-lent8 .ensures,
       c .is-lent9 .ensures,
-    )
+    ) (in-a-row _ _)
 
 pub lent-all-spec : {M : Type 1} → statement M
 lent-all-spec =

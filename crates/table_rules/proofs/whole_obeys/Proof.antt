@@ -2,7 +2,7 @@
 use Rattle.basis.proofs.Tests.{failed, passed}
 use Rattle.tables.specs.Tables.{Tables, tables}
 use Rattle.table_rules.specs.Whole.{verticesObey, wholeObeys}
-use Rattle.table_rules.proofs.Lent.{lent-elements}
+use Rattle.table_rules.proofs.Lent.{lent-facts}
 use borrow.Author.Needs.{needs}
 use Rattle.table_rules.proofs.whole_obeys.Statement.{statement}
 use Rattle.table_rules.proofs.whole_obeys.Tie as tie
@@ -31,7 +31,7 @@ elements-obey-requires : tie.Need-elements-obey-requires
 elements-obey-requires c κs =
     let l = c .before .before .before in
     let s = l .before .before .before .before .before in
-    lent-elements (s .args .used) (lent-tables s) (passed (l .lent-all .ensures) (c .before .before .if1 .left))
+    lent-facts (s .args .used) (lent-tables s) (passed (l .lent-all .ensures) (c .before .before .if1 .left)) .elements .elements
 
 returns-3 : tie.Need-returns-3
 unfolding wholeObeys verticesObey

@@ -7,13 +7,10 @@ use Rattle.tables.proofs.corner_at.Statement.{statement}
 use Rattle.tables.proofs.corner_at.Tie as tie
 
 returns : tie.Need-returns
-returns c = let a = c .before .before .args in corner-past (now (a .corners)) (a .first) (a .k) (c .if1 .taken)
+returns c = let a = c .before .before .args in corner-past (now (a .corners)) (a .run) (a .k) (c .if1 .taken)
 
-mul-at : tie.Need-mul-at
-mul-at c = search needs
-
-add-at : tie.Need-add-at
-add-at c = search needs
+corner-place-requires : tie.Need-corner-place-requires
+corner-place-requires c κs = search needs
 
 add-if2 : tie.Need-add-if2
 add-if2 c = search needs
@@ -40,15 +37,14 @@ number-in-requires-3 : tie.Need-number-in-requires-3
 number-in-requires-3 c κs = search needs
 
 returns-3 : tie.Need-returns-3
-returns-3 c = rw (c .before .before .number-in .ensures, c .before .number-in2 .ensures, c .number-in3 .ensures) refl
+returns-3 c = rw (c .before .before .number-in .ensures, c .before .number-in2 .ensures, c .number-in3 .ensures, c .before .before .before .before .corner-place .ensures) refl
 
 pub corner-at-spec : {M : Type 1} → statement M
 corner-at-spec =
     tie.close
     (tie.spec
     returns
-    mul-at
-    add-at
+    corner-place-requires
     add-if2
     lent-corner-requires
     returns-2

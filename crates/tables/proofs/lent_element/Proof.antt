@@ -32,59 +32,59 @@ mul-t12 c = search needs
 shared-slice-read-t14 : tie.Need-shared-slice-read-t14
 shared-slice-read-t14 c = search needs
 
-add-t15 : tie.Need-add-t15
-add-t15 c = search needs
+add-t16 : tie.Need-add-t16
+add-t16 c = search needs
 
-mul-t16 : tie.Need-mul-t16
-mul-t16 c = search needs
+mul-t17 : tie.Need-mul-t17
+mul-t17 c = search needs
 
-shared-slice-read-t18 : tie.Need-shared-slice-read-t18
-shared-slice-read-t18 c = search needs
+shared-slice-read-t19 : tie.Need-shared-slice-read-t19
+shared-slice-read-t19 c = search needs
 
-add-t19 : tie.Need-add-t19
-add-t19 c = search needs
+add-t20 : tie.Need-add-t20
+add-t20 c = search needs
 
-mul-t20 : tie.Need-mul-t20
-mul-t20 c = search needs
+mul-t21 : tie.Need-mul-t21
+mul-t21 c = search needs
 
-shared-slice-read-t22 : tie.Need-shared-slice-read-t22
-shared-slice-read-t22 c = search needs
+shared-slice-read-t23 : tie.Need-shared-slice-read-t23
+shared-slice-read-t23 c = search needs
 
-add-t23 : tie.Need-add-t23
-add-t23 c = search needs
+add-t24 : tie.Need-add-t24
+add-t24 c = search needs
 
-mul-t24 : tie.Need-mul-t24
-mul-t24 c = search needs
+mul-t25 : tie.Need-mul-t25
+mul-t25 c = search needs
 
-shared-slice-read-t26 : tie.Need-shared-slice-read-t26
-shared-slice-read-t26 c = search needs
+shared-slice-read-t27 : tie.Need-shared-slice-read-t27
+shared-slice-read-t27 c = search needs
 
-add-t27 : tie.Need-add-t27
-add-t27 c = search needs
+add-t28 : tie.Need-add-t28
+add-t28 c = search needs
 
-mul-t28 : tie.Need-mul-t28
-mul-t28 c = search needs
+mul-t29 : tie.Need-mul-t29
+mul-t29 c = search needs
 
-shared-slice-read-t30 : tie.Need-shared-slice-read-t30
-shared-slice-read-t30 c = search needs
+shared-slice-read-t31 : tie.Need-shared-slice-read-t31
+shared-slice-read-t31 c = search needs
 
-add-t31 : tie.Need-add-t31
-add-t31 c = search needs
+add-t33 : tie.Need-add-t33
+add-t33 c = search needs
 
-mul-t32 : tie.Need-mul-t32
-mul-t32 c = search needs
+mul-t34 : tie.Need-mul-t34
+mul-t34 c = search needs
 
-shared-slice-read-t34 : tie.Need-shared-slice-read-t34
-shared-slice-read-t34 c = search needs
+shared-slice-read-t36 : tie.Need-shared-slice-read-t36
+shared-slice-read-t36 c = search needs
 
-add-t35 : tie.Need-add-t35
-add-t35 c = search needs
+add-t37 : tie.Need-add-t37
+add-t37 c = search needs
 
-mul-t36 : tie.Need-mul-t36
-mul-t36 c = search needs
+mul-t38 : tie.Need-mul-t38
+mul-t38 c = search needs
 
-shared-slice-read-t38 : tie.Need-shared-slice-read-t38
-shared-slice-read-t38 c = search needs
+shared-slice-read-t40 : tie.Need-shared-slice-read-t40
+shared-slice-read-t40 c = search needs
 
 returns : tie.Need-returns
 returns c = rw add-zero refl
@@ -102,22 +102,22 @@ lent-element-spec =
     add-t11
     mul-t12
     shared-slice-read-t14
-    add-t15
-    mul-t16
-    shared-slice-read-t18
-    add-t19
-    mul-t20
-    shared-slice-read-t22
-    add-t23
-    mul-t24
-    shared-slice-read-t26
-    add-t27
-    mul-t28
-    shared-slice-read-t30
-    add-t31
-    mul-t32
-    shared-slice-read-t34
-    add-t35
-    mul-t36
-    shared-slice-read-t38
+    add-t16
+    mul-t17
+    shared-slice-read-t19
+    add-t20
+    mul-t21
+    shared-slice-read-t23
+    add-t24
+    mul-t25
+    shared-slice-read-t27
+    add-t28
+    mul-t29
+    shared-slice-read-t31
+    add-t33
+    mul-t34
+    shared-slice-read-t36
+    add-t37
+    mul-t38
+    shared-slice-read-t40
     returns)

@@ -26,10 +26,7 @@ add-result : tie.Need-add-result Inv-loop μ-loop
 add-result c = search needs
 
 returns : tie.Need-returns Inv-loop μ-loop
-returns c =
-    let turn = c .before .before .before in
-    let start = turn .before in
-    L.comment-stop (now (start .args .text)) (start .args .at) (turn .loop .i) (turn .loop .inv) (c .before .before .loop-test .taken) (c .if1 .taken)
+returns c = L.comment-stop (c .before .before .before .loop .inv) (c .before .before .loop-test .taken) (c .if1 .taken)
 
 add-i-2 : tie.Need-add-i-2 Inv-loop μ-loop
 add-i-2 c = search needs
@@ -38,16 +35,10 @@ loop-less : tie.Need-loop-less Inv-loop μ-loop
 loop-less c = search needs
 
 loop-again : tie.Need-loop-again Inv-loop μ-loop
-loop-again c =
-    let turn = c .before .before .before in
-    let start = turn .before in
-    L.comment-turn (now (start .args .text)) (start .args .at) (turn .loop .i) (turn .loop .inv) (c .before .before .loop-test .taken) (c .if1 .left)
+loop-again c = L.comment-turn (c .before .before .before .loop .inv) (c .before .before .loop-test .taken) (c .if1 .left)
 
 returns-2 : tie.Need-returns-2 Inv-loop μ-loop
-returns-2 c =
-    let turn = c .before in
-    let start = turn .before in
-    L.comment-done (now (start .args .text)) (start .args .at) (turn .loop .i) (turn .loop .inv) (c .loop-test .left)
+returns-2 c = L.comment-done (c .before .loop .inv) (c .loop-test .left)
 
 pub comment-end-spec : {M : Type 1} → statement M
 comment-end-spec =

@@ -32,10 +32,7 @@ loop-less : tie.Need-loop-less Inv-loop μ-loop
 loop-less c = search needs
 
 loop-again : tie.Need-loop-again Inv-loop μ-loop
-loop-again c =
-    let turn = c .before .before .before .before in
-    let start = turn .before .before in
-    L.gap-blank (now (start .args .text)) (start .args .at) (turn .loop .i) (turn .loop .inv) (c .before .before .before .loop-test .taken) _ (c .before .is-blank .ensures) (c .if1 .taken)
+loop-again c = L.gap-blank (c .before .before .before .before .loop .inv) (c .before .before .before .loop-test .taken) _ (c .before .is-blank .ensures) (c .if1 .taken)
 
 starts-word-requires : tie.Need-starts-word-requires Inv-loop μ-loop
 starts-word-requires c κs = search needs
@@ -44,8 +41,7 @@ returns : tie.Need-returns Inv-loop μ-loop
 returns c =
     let within = c .before .before .before .before .before in
     let turn = within .before in
-    let start = turn .before .before in
-    L.gap-word (now (start .args .text)) (start .args .at) (turn .loop .i) (turn .loop .inv) (P.word-met (now (start .args .text)) (turn .loop .i) (within .loop-test .taken) (sym (c .before .starts-word .ensures) ∙ c .if2 .taken))
+    L.gap-word (turn .loop .inv) (P.word-met (now (turn .before .before .args .text)) (turn .loop .i) (within .loop-test .taken) (sym (c .before .starts-word .ensures) ∙ c .if2 .taken))
 
 turn-at-requires : tie.Need-turn-at-requires Inv-loop μ-loop
 turn-at-requires c κs =
@@ -55,47 +51,40 @@ turn-at-requires c κs =
 enum-known-j : tie.Need-enum-known-j Inv-loop μ-loop
 enum-known-j c = search needs
 
+module _ (c : tie.After-turn-at Inv-loop μ-loop) where
+  abbrev within : tie.In-loop Inv-loop μ-loop
+  within = c .before .before .before .before .before .before
+
 loop-less-2 : tie.Need-loop-less-2 Inv-loop μ-loop
 loop-less-2 c =
-    let within = c .before .before .before .before .before .before .before .before .before in
-    let turn = within .before in
-    let start = turn .before .before in
-    let ahead = (L.gap-join (now (start .args .text)) (start .args .at) (turn .loop .i) (turn .loop .inv) (within .loop-test .taken) _ (c .before .before .before .turn-at .ensures) (c .before .j .given .1)) .1 in
-    let more = within .loop-test .taken in
+    let t = c .before .before .before in
+    let ahead = L.gap-join (within t .before .loop .inv) (within t .loop-test .taken) _ (t .turn-at .ensures) (c .before .j .given .1) .1 in
+    let more = within t .loop-test .taken in
     omega arith
 
 loop-again-2 : tie.Need-loop-again-2 Inv-loop μ-loop
 loop-again-2 c =
-    let within = c .before .before .before .before .before .before .before .before .before in
-    let turn = within .before in
-    let start = turn .before .before in
-    (L.gap-join (now (start .args .text)) (start .args .at) (turn .loop .i) (turn .loop .inv) (within .loop-test .taken) _ (c .before .before .before .turn-at .ensures) (c .before .j .given .1)) .0
+    let t = c .before .before .before in
+    L.gap-join (within t .before .loop .inv) (within t .loop-test .taken) _ (t .turn-at .ensures) (c .before .j .given .1) .0
 
 enum-known-q : tie.Need-enum-known-q Inv-loop μ-loop
 enum-known-q c = search needs
 
 returns-2 : tie.Need-returns-2 Inv-loop μ-loop
 returns-2 c =
-    let within = c .before .before .before .before .before .before .before .before .before in
-    let turn = within .before in
-    let start = turn .before .before in
-    L.gap-end (now (start .args .text)) (start .args .at) (turn .loop .i) (turn .loop .inv) (within .loop-test .taken) _ (c .before .before .before .turn-at .ensures) (c .before .q .given .1)
+    let t = c .before .before .before in
+    L.gap-end (within t .before .loop .inv) (within t .loop-test .taken) _ (t .turn-at .ensures) (c .before .q .given .1)
 
 enum-told : tie.Need-enum-told Inv-loop μ-loop
 enum-told c = search needs
 
 returns-3 : tie.Need-returns-3 Inv-loop μ-loop
 returns-3 c =
-    let within = c .before .before .before .before .before .before .before .before in
-    let turn = within .before in
-    let start = turn .before .before in
-    L.gap-bad (now (start .args .text)) (start .args .at) (turn .loop .i) (turn .loop .inv) (within .loop-test .taken) _ (c .before .before .turn-at .ensures) (c .enum-told .given .1)
+    let t = c .before .before in
+    L.gap-bad (within t .before .loop .inv) (within t .loop-test .taken) _ (t .turn-at .ensures) (c .enum-told .given .1)
 
 returns-4 : tie.Need-returns-4 Inv-loop μ-loop
-returns-4 c =
-    let turn = c .before in
-    let start = turn .before .before in
-    L.gap-done (now (start .args .text)) (start .args .at) (turn .loop .i) (turn .loop .inv) (c .loop-test .left)
+returns-4 c = L.gap-done (c .before .loop .inv) (c .loop-test .left)
 
 pub skip-blanks-spec : {M : Type 1} → statement M
 skip-blanks-spec =

@@ -41,27 +41,36 @@ line-end-requires-2 c κs = search needs
 add-t13 : tie.Need-add-t13
 add-t13 c = search needs
 
+module _ (c : tie.After-line-end2) where
+  abbrev other : tie.Else2
+  other = c .before .before .before
+
+  abbrev start : tie.Start
+  start = other .before .before .before .before .before
+
 add-t14 : tie.Need-add-t14
 add-t14 c =
-    let start = c .before .before .before .before .before .before .before .before .before in
-    let met = P.join-met (now (start .args .text)) (start .args .at) (start .pre .0) (c .before .before .if3 .taken) _ (c .before .line-end2 .ensures) (c .if4 .taken) in
+    let a = start (c .before) in
+    let met = P.join-met (now (a .args .text)) (a .args .at) (a .pre .0) (c .before .before .if3 .taken) _ (c .before .line-end2 .ensures) (c .if4 .taken) in
     let last = met .to in
     search needs
 
 returns-3 : tie.Need-returns-3
 returns-3 c =
-    let start = c .before .before .before .before .before .before .before .before .before in
-    P.join-met (now (start .args .text)) (start .args .at) (start .pre .0) (c .before .before .if3 .taken) _ (c .before .line-end2 .ensures) (c .if4 .taken)
+    let a = start (c .before) in
+    P.join-met (now (a .args .text)) (a .args .at) (a .pre .0) (c .before .before .if3 .taken) _ (c .before .line-end2 .ensures) (c .if4 .taken)
 
 returns-4 : tie.Need-returns-4
 returns-4 c =
-    let start = c .before .before .before .before .before .before .before .before .before in
-    P.bad-back (now (start .args .text)) (start .args .at) (start .pre .0) (start .pre .1) (start .pre .2) (c .before .before .before .before .before .before .if1 .left) _ (c .before .before .before .before .before .line-end .ensures) (c .before .before .before .before .if2 .left) (c .before .before .if3 .taken) _ (c .before .line-end2 .ensures) (c .if4 .left)
+    let a = start (c .before) in
+    let e = other (c .before) in
+    P.bad-back (now (a .args .text)) (a .args .at) (a .pre .0) (a .pre .1) (a .pre .2) (e .before .before .if1 .left) _ (e .before .line-end .ensures) (e .if2 .left) (c .before .before .if3 .taken) _ (c .before .line-end2 .ensures) (c .if4 .left)
 
 returns-5 : tie.Need-returns-5
 returns-5 c =
-    let start = c .before .before .before .before .before .before .before in
-    P.bad-other (now (start .args .text)) (start .args .at) (start .pre .0) (start .pre .1) (start .pre .2) (c .before .before .before .before .if1 .left) _ (c .before .before .before .line-end .ensures) (c .before .before .if2 .left) (c .if3 .left)
+    let e = c .before .before in
+    let a = e .before .before .before .before .before in
+    P.bad-other (now (a .args .text)) (a .args .at) (a .pre .0) (a .pre .1) (a .pre .2) (e .before .before .if1 .left) _ (e .before .line-end .ensures) (e .if2 .left) (c .if3 .left)
 
 pub turn-at-spec : {M : Type 1} → statement M
 turn-at-spec =

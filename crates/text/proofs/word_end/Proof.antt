@@ -30,22 +30,13 @@ loop-less : tie.Need-loop-less Inv-loop μ-loop
 loop-less c = search needs
 
 loop-again : tie.Need-loop-again Inv-loop μ-loop
-loop-again c =
-    let turn = c .before .before .before .before in
-    let start = turn .before .before in
-    L.word-turn (now (start .args .text)) (start .args .at) (turn .loop .i) (turn .loop .inv) (c .before .before .before .loop-test .taken) _ (c .before .is-word .ensures) (c .if1 .taken)
+loop-again c = L.word-turn (c .before .before .before .before .loop .inv) (c .before .before .before .loop-test .taken) _ (c .before .is-word .ensures) (c .if1 .taken)
 
 returns : tie.Need-returns Inv-loop μ-loop
-returns c =
-    let turn = c .before .before .before .before in
-    let start = turn .before .before in
-    L.word-stop (now (start .args .text)) (start .args .at) (turn .loop .i) (turn .loop .inv) (c .before .before .before .loop-test .taken) _ (c .before .is-word .ensures) (c .if1 .left)
+returns c = L.word-stop (c .before .before .before .before .loop .inv) (c .before .before .before .loop-test .taken) _ (c .before .is-word .ensures) (c .if1 .left)
 
 returns-2 : tie.Need-returns-2 Inv-loop μ-loop
-returns-2 c =
-    let turn = c .before in
-    let start = turn .before .before in
-    L.word-done (now (start .args .text)) (start .args .at) (turn .loop .i) (turn .loop .inv) (c .loop-test .left)
+returns-2 c = L.word-done (c .before .loop .inv) (c .loop-test .left)
 
 pub word-end-spec : {M : Type 1} → statement M
 word-end-spec =

@@ -22,10 +22,10 @@ same-length c = search needs
 
 returns : tie.Need-returns
 returns c =
-    let s = c .before .before .before .before .before .before .before .before in
-    let e = c .before .before .before .before .before .before .place-after in
-    let w = c .before .before .put-byte in
-    whole-room (s .args .at) (s .args .b ∷ []) (now (s .args .out)) 1 (e .result) refl (e .ensures) (omega arith) (w .last .0) (w .result) (w .ensures)
+    let w = c .before .before in
+    let e = w .before .before .before .before in
+    let s = e .before .before in
+    whole-room (s .args .at) (s .args .b ∷ []) (now (s .args .out)) 1 _ refl (e .place-after .ensures) (omega arith) _ _ (w .put-byte .ensures)
 
 returns-2 : tie.Need-returns-2
 returns-2 c =

@@ -25,23 +25,24 @@ write-number-requires c κs = search needs
 same-length : tie.Need-same-length
 same-length c = search needs
 
+module _ (c : tie.After-place-after) where
+  abbrev s : tie.Start
+  s = c .before .before .before
+
+  measured : c .before .number-length .result ≡ length (writtenNumber (s .args .value))
+  measured = rw (toZ-ofZ (s .fits .value)) at (c .before .number-length .ensures)
+
 returns : tie.Need-returns
 returns c =
-    let s = c .before .before .before .before .before .before .before .before .before in
-    let e = c .before .before .before .before .before .before .place-after in
-    let n = c .before .before .before .before .before .before .before .number-length in
-    let w = c .before .before .write-number in
-    let i : n .result ≡ length (writtenNumber (s .args .value)) = rw (toZ-ofZ (s .fits .value)) at (n .ensures) in
-    let j = rw (toZ-ofZ (s .fits .value)) at (w .ensures) in
-    whole-room (s .args .at) (writtenNumber (s .args .value)) (now (s .args .out)) (n .result) (e .result) i (e .ensures) (omega arith) (w .last .0) (w .result) j
+    let w = c .before .before in
+    let e = w .before .before .before .before in
+    let j = rw (toZ-ofZ (s e .fits .value)) at (w .write-number .ensures) in
+    whole-room (s e .args .at) (writtenNumber (s e .args .value)) (now (s e .args .out)) _ _ (measured e) (e .place-after .ensures) (omega arith) _ _ j
 
 returns-2 : tie.Need-returns-2
 returns-2 c =
-    let s = c .before .before .before .before .before in
-    let e = c .before .before .place-after in
-    let n = c .before .before .before .number-length in
-    let i : n .result ≡ length (writtenNumber (s .args .value)) = rw (toZ-ofZ (s .fits .value)) at (n .ensures) in
-    whole-roomless (s .args .at) (writtenNumber (s .args .value)) (now (s .args .out)) (n .result) (e .result) i (e .ensures) (omega arith)
+    let e = c .before .before in
+    whole-roomless (s e .args .at) (writtenNumber (s e .args .value)) (now (s e .args .out)) _ _ (measured e) (e .place-after .ensures) (omega arith)
 
 pub emit-number-spec : {M : Type 1} → statement M
 emit-number-spec =

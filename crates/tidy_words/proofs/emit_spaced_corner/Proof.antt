@@ -17,8 +17,10 @@ same-length c = search needs
 
 returns : tie.Need-returns
 returns c =
-    let s = c .before .before .before .before .before .before .before .before .before in
-    space-then (s .args .at) (writtenCorner (record { v = s .args .v; vt = s .args .vt; vn = s .args .vn })) (now (s .args .out)) (c .before .before .before .before .before .before .emit-byte .ensures) (c .before .before .emit-corner .ensures)
+    let w = c .before .before in
+    let b = w .before .before .before .before in
+    let s = b .before .before .before in
+    space-then (s .args .at) (writtenCorner (record { v = s .args .v; vt = s .args .vt; vn = s .args .vn })) (now (s .args .out)) (b .emit-byte .ensures) (w .emit-corner .ensures)
 
 pub emit-spaced-corner-spec : {M : Type 1} → statement M
 emit-spaced-corner-spec =

@@ -18,8 +18,10 @@ same-length c = search needs
 
 returns : tie.Need-returns
 returns c =
-    let s = c .before .before .before .before .before .before .before .before .before in
-    space-then (s .args .at) (writtenNumber (s .args .value)) (now (s .args .out)) (c .before .before .before .before .before .before .emit-byte .ensures) (rw (toZ-ofZ (c .before .before .before .before .before .before .before .before .before .fits .value)) at (c .before .before .emit-number .ensures))
+    let w = c .before .before in
+    let b = w .before .before .before .before in
+    let s = b .before .before .before in
+    space-then (s .args .at) (writtenNumber (s .args .value)) (now (s .args .out)) (b .emit-byte .ensures) (rw (toZ-ofZ (s .fits .value)) at (w .emit-number .ensures))
 
 pub emit-spaced-number-spec : {M : Type 1} → statement M
 emit-spaced-number-spec =

@@ -1,4 +1,5 @@
 -- What was measured is within the buffer, whose length stays.
+use Prim.Native.Nat.{ℕ, _≤_}
 use mathlib.Core.Path.{_≡_, sym, ap, _∙_}
 use native.Mathlib.Omega.{arith}
 use lib.ListN.{length}
@@ -22,12 +23,17 @@ write-number-requires c κs = search needs
 array-share-prefix-out : tie.Need-array-share-prefix-out
 array-share-prefix-out c = search needs
 
+module _ (c : tie.After-write-number) where
+  abbrev n : ℕ
+  n = c .before .before .before .number-length .result
+
+  measured : n ≤ length (c .write-number .last .0)
+  measured =
+      let l : length (c .write-number .last .0) ≡ 64 = ap length (c .write-number .ensures .1) ∙ simp length-sets in
+      omega (arith, c .before .before .if1 .left)
+
 slice-aggregate-put : tie.Need-slice-aggregate-put
-slice-aggregate-put c =
-    let w = c .before .before .write-number in
-    let n = c .before .before .before .before .before .number-length .result in
-    let l : length (w .last .0) ≡ 64 = ap length (w .ensures .1) ∙ simp length-sets in
-    sym (length-take-le n (w .last .0) (omega (arith, c .before .before .before .before .if1 .left)))
+slice-aggregate-put c = let w = c .before .before in sym (length-take-le (n w) (w .write-number .last .0) (measured w))
 
 put-requires : tie.Need-put-requires
 put-requires c κs = search needs
@@ -36,11 +42,7 @@ array-share-prefix-out-2 : tie.Need-array-share-prefix-out-2
 array-share-prefix-out-2 c = search needs
 
 slice-aggregate-put-back : tie.Need-slice-aggregate-put-back
-slice-aggregate-put-back c =
-    let w = c .before .before .before .before .write-number in
-    let n = c .before .before .before .before .before .before .before .number-length .result in
-    let l : length (w .last .0) ≡ 64 = ap length (w .ensures .1) ∙ simp length-sets in
-    sym (length-take-le n (w .last .0) (omega (arith, c .before .before .before .before .before .before .if1 .left)))
+slice-aggregate-put-back c = let w = c .before .before .before .before in sym (length-take-le (n w) (w .write-number .last .0) (measured w))
 
 put-back-requires : tie.Need-put-back-requires
 put-back-requires c κs = search needs

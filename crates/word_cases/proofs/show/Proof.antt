@@ -1,12 +1,11 @@
 -- Each word and each line's end takes bytes off what is left.
-use Prim.Native.Nat.{_-_, _≤_}
-use mathlib.Core.Path.{_≡_}
+use Prim.Native.Nat.{ℕ, _-_, _≤_}
+use mathlib.Core.List.{List}
 use native.Mathlib.Omega.{arith}
 use borrow.Author.Needs.{needs}
 use denote.Ref.{now}
 use lib.ListN.{length}
-use Rattle.text.specs.Rest.{afterBlanksIs}
-use Rattle.text.specs.declared.AfterBlanks.the-variants.{Start, End}
+use Rattle.text.proofs.Found as F
 use Rattle.word_cases.proofs.show.Statement.{statement}
 use Rattle.word_cases.proofs.show.Tie as tie
 
@@ -25,19 +24,29 @@ skip-blanks-requires c κs = search needs
 enum-known-p : tie.Need-enum-known-p Inv-loop μ-loop
 enum-known-p c = search needs
 
+module _ (c : tie.After-skip-blanks Inv-loop μ-loop) where
+  abbrev l : tie.At-loop Inv-loop μ-loop
+  l = c .before .before
+
+  abbrev text : List ℕ
+  text = now (l .before .before .args .text)
+
 word-end-requires : tie.Need-word-end-requires Inv-loop μ-loop
 word-end-requires c κs =
-    let met : afterBlanksIs (now (c .before .before .before .before .before .before .before .args .text)) (c .before .before .before .before .before .loop .i) (Start (c .before .p .given .0 .0)) = rw (c .before .p .given .1) at (c .before .before .before .skip-blanks .ensures) in
+    let b = c .before .before .before in
+    let met = F.word-found (text b) (l b .loop .i) _ (b .skip-blanks .ensures) (c .before .p .given .1) in
     omega (arith, met .more, met .to)
 
 put-word-requires : tie.Need-put-word-requires Inv-loop μ-loop
 put-word-requires c κs =
-    let met : afterBlanksIs (now (c .before .before .before .before .before .before .before .before .args .text)) (c .before .before .before .before .before .before .loop .i) (Start (c .before .before .p .given .0 .0)) = rw (c .before .before .p .given .1) at (c .before .before .before .before .skip-blanks .ensures) in
+    let b = c .before .before .before .before in
+    let met = F.word-found (text b) (l b .loop .i) _ (b .skip-blanks .ensures) (c .before .before .p .given .1) in
     (omega (arith, met .more, c .word-end .ensures .0), c .word-end .ensures .1)
 
 loop-less : tie.Need-loop-less Inv-loop μ-loop
 loop-less c =
-    let met : afterBlanksIs (now (c .before .before .before .before .before .before .before .before .before .args .text)) (c .before .before .before .before .before .before .before .loop .i) (Start (c .before .before .before .p .given .0 .0)) = rw (c .before .before .before .p .given .1) at (c .before .before .before .before .before .skip-blanks .ensures) in
+    let b = c .before .before .before .before .before in
+    let met = F.word-found (text b) (l b .loop .i) _ (b .skip-blanks .ensures) (c .before .before .before .p .given .1) in
     omega (arith, met .from, met .more, met .to, c .before .word-end .ensures .0)
 
 loop-again : tie.Need-loop-again Inv-loop μ-loop
@@ -48,13 +57,14 @@ enum-known-q c = search needs
 
 loop-less-2 : tie.Need-loop-less-2 Inv-loop μ-loop
 loop-less-2 c =
-    let met : afterBlanksIs (now (c .before .before .before .before .before .before .before .args .text)) (c .before .before .before .before .before .loop .i) (End (c .before .q .given .0 .0)) = rw (c .before .q .given .1) at (c .before .before .before .skip-blanks .ensures) in
-    omega (arith, met .ahead (c .before .before .before .before .loop-test .taken), met .to)
+    let b = c .before .before .before in
+    let met = F.end-found (text b) (l b .loop .i) _ (b .skip-blanks .ensures) (c .before .q .given .1) in
+    omega (arith, met .ahead (b .before .loop-test .taken), met .to)
 
 loop-again-2 : tie.Need-loop-again-2 Inv-loop μ-loop
 loop-again-2 c =
-    let met : afterBlanksIs (now (c .before .before .before .before .before .before .before .args .text)) (c .before .before .before .before .before .loop .i) (End (c .before .q .given .0 .0)) = rw (c .before .q .given .1) at (c .before .before .before .skip-blanks .ensures) in
-    met .to
+    let b = c .before .before .before in
+    F.end-found (text b) (l b .loop .i) _ (b .skip-blanks .ensures) (c .before .q .given .1) .to
 
 enum-told : tie.Need-enum-told Inv-loop μ-loop
 enum-told c = search needs

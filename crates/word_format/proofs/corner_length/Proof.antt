@@ -4,7 +4,7 @@ use native.Mathlib.Omega.{arith}
 use borrow.Author.Needs.{needs}
 use lib.ListN.{length, length-append}
 use Rattle.references.specs.Written.{writtenWhole}
-use Rattle.word_format.specs.Parts.{parts}
+use Rattle.word_format.specs.Parts.{writtenParts}
 use Rattle.word_format.proofs.Corners.{corner-is, whole-few, parts-few}
 use Rattle.word_format.proofs.corner_length.Statement.{statement}
 use Rattle.word_format.proofs.corner_length.Tie as tie
@@ -24,7 +24,7 @@ returns : tie.Need-returns
 returns c =
     let a = c .before .before .args in
     let k = ap length (corner-is (a .v) (a .vt) (a .vn)) in
-    let e = length-append (writtenWhole (a .v)) (parts (a .vt) (a .vn)) in
+    let e = length-append (writtenWhole (a .v)) (writtenParts (a .vt) (a .vn)) in
     omega (arith, c .parts-length .ensures, c .before .whole-length .ensures)
 
 pub corner-length-spec : {M : Type 1} → statement M

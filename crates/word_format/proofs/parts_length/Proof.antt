@@ -3,7 +3,7 @@ use mathlib.Core.Path.{sym, ap}
 use native.Mathlib.Omega.{arith}
 use borrow.Author.Needs.{needs}
 use lib.ListN.{length, length-append}
-use Rattle.word_format.specs.Parts.{part}
+use Rattle.word_format.specs.Parts.{writtenPart}
 use Rattle.word_format.proofs.Corners.{whole-few, alone, with-texture, with-normal, with-both}
 use Rattle.word_format.proofs.parts_length.Statement.{statement}
 use Rattle.word_format.proofs.parts_length.Tie as tie
@@ -66,7 +66,7 @@ returns-4 : tie.Need-returns-4
 returns-4 c =
     let a = c .before .before .before .before .args in
     let k = ap length (with-both (a .vt) (a .vn) (c .before .before .before .if1 .left) (c .before .before .if3 .left)) in
-    let e = length-append (part (a .vt)) (part (a .vn)) in
+    let e = length-append (writtenPart (a .vt)) (writtenPart (a .vn)) in
     omega (arith, c .before .whole-length3 .ensures, c .whole-length4 .ensures)
 
 pub parts-length-spec : {M : Type 1} → statement M

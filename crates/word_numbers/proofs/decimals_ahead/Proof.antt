@@ -17,7 +17,7 @@ digits-upto-requires c κs = search needs
 byte-in-requires : tie.Need-byte-in-requires
 byte-in-requires c κs =
     let a = c .before .before in
-    let n = few-near 6 (now (a .args .text)) (a .args .at) (a .args .whole) (c .digits-upto .result .end) (c .digits-upto .result .value) (c .digits-upto .ensures) in
+    let n = few-near (c .digits-upto .ensures) in
     let p = a .pre .0 in
     omega arith
 
@@ -25,7 +25,7 @@ mantissa-ahead-requires : tie.Need-mantissa-ahead-requires
 mantissa-ahead-requires c κs =
     let w = c .before .before in
     let a = w .before .before in
-    let n = few-near 6 (now (a .args .text)) (a .args .at) (a .args .whole) (w .digits-upto .result .end) (w .digits-upto .result .value) (w .digits-upto .ensures) in
+    let n = few-near (w .digits-upto .ensures) in
     let p = a .pre .0 in
     (w .digits-upto .ensures, (omega arith, a .pre .1, a .pre .2))
 
@@ -49,7 +49,7 @@ in-millionths-requires c κs =
     let a = c .before .before .before .before .before in
     let w = c .before .before .before in
     let b = c .before .before in
-    decimals-fit (now (a .args .text)) (a .args .at) (a .args .whole) (w .digits-upto .result .end) (w .digits-upto .result .value) (w .digits-upto .ensures) (low-stops (drop (w .digits-upto .result .end) (now (a .args .text))) (b .byte-in .result) (b .byte-in .ensures) (c .before .if1 .left)) (a .pre .2)
+    decimals-fit (w .digits-upto .ensures) (low-stops (drop (w .digits-upto .result .end) (now (a .args .text))) (b .byte-in .result) (b .byte-in .ensures) (c .before .if1 .left)) (a .pre .2)
 
 returns-3 : tie.Need-returns-3
 returns-3 c =
@@ -58,8 +58,8 @@ returns-3 c =
     let b = c .before .before .before in
     let l = c .before .before .if1 .left in
     let e = b .byte-in .ensures in (
-      decimals-of (now (a .args .text)) (a .args .at) (a .args .whole) (w .digits-upto .result .end) (w .digits-upto .result .value) (w .digits-upto .ensures) (low-stops (drop (w .digits-upto .result .end) (now (a .args .text))) (b .byte-in .result) (b .byte-in .ensures) (c .before .before .if1 .left)) (c .in-millionths .result) (c .in-millionths .ensures) (a .args .count) (omega arith) (c .before .if2 .left),
-      few-near 6 (now (a .args .text)) (a .args .at) (a .args .whole) (w .digits-upto .result .end) (w .digits-upto .result .value) (w .digits-upto .ensures),
+      decimals-of (w .digits-upto .ensures) (low-stops (drop (w .digits-upto .result .end) (now (a .args .text))) (b .byte-in .result) (b .byte-in .ensures) (c .before .before .if1 .left)) (c .in-millionths .result) (c .in-millionths .ensures) (a .args .count) (omega arith) (c .before .if2 .left),
+      few-near (w .digits-upto .ensures),
     )
 
 pub decimals-ahead-spec : {M : Type 1} → statement M

@@ -37,7 +37,7 @@ in-millionths-requires c κs =
     let a = b .before .before in
     let stop = first (drop (a .args .f .end) (now (a .args .text))) in
     let h : isE stop ≡ true = sym (ap isE (b .byte-in .ensures)) ∙ sym (e .is-e .ensures) ∙ c .before .if1 .taken in
-    decimals-fit (now (a .args .text)) (a .args .at) (a .args .whole) (a .args .f .end) (a .args .f .value) (a .pre .0) (e-no-digit stop h) (a .pre .1 .2)
+    decimals-fit (a .pre .0) (e-no-digit stop h) (a .pre .1 .2)
 
 returns-2 : tie.Need-returns-2
 returns-2 c =
@@ -46,7 +46,7 @@ returns-2 c =
     let a = b .before .before in
     let stop = first (drop (a .args .f .end) (now (a .args .text))) in
     let h : isE stop ≡ true = sym (ap isE (b .byte-in .ensures)) ∙ sym (e .is-e .ensures) ∙ c .before .before .if1 .taken in
-    decimals-ahead (now (a .args .text)) (a .args .at) (a .args .whole) (a .args .f .end) (a .args .f .value) (a .pre .0) (e-no-digit stop h) (c .in-millionths .result) (c .in-millionths .ensures) (a .args .count) (c .before .if2 .left) h
+    decimals-ahead (a .pre .0) (e-no-digit stop h) (c .in-millionths .result) (c .in-millionths .ensures) (a .args .count) (c .before .if2 .left) h
 
 returns-3 : tie.Need-returns-3
 returns-3 c = search needs

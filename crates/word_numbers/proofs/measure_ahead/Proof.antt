@@ -27,7 +27,7 @@ digits-upto-requires c κs = search needs
 byte-in-requires : tie.Need-byte-in-requires
 byte-in-requires c κs =
     let a = c .before .before in
-    let n = few-near 4 (now (a .args .text)) (a .args .at) 0 (c .digits-upto .result .end) (c .digits-upto .result .value) (c .digits-upto .ensures) in
+    let n = few-near (c .digits-upto .ensures) in
     let p = a .pre in
     omega arith
 
@@ -41,8 +41,8 @@ decimals-ahead-requires : tie.Need-decimals-ahead-requires
 decimals-ahead-requires c κs =
     let a = c .before .before .before .before in
     let w = c .before .before in
-    let n = few-near 4 (now (a .args .text)) (a .args .at) 0 (w .digits-upto .result .end) (w .digits-upto .result .value) (w .digits-upto .ensures) in
-    let f = four (now (a .args .text)) (a .args .at) (w .digits-upto .result .end) (w .digits-upto .result .value) (w .digits-upto .ensures) (ap isDigit (sym (c .before .byte-in .ensures) ∙ c .if1 .taken)) in
+    let n = few-near (w .digits-upto .ensures) in
+    let f = four (w .digits-upto .ensures) (ap isDigit (sym (c .before .byte-in .ensures) ∙ c .if1 .taken)) in
     let v = f .value-is in
     let p = a .pre in
     (omega arith, omega arith, omega arith)
@@ -53,13 +53,13 @@ returns c =
     let w = c .before .before .before in
     let b = c .before .before in
     let s = now (a .args .text) in
-    let n = few-near 4 s (a .args .at) 0 (w .digits-upto .result .end) (w .digits-upto .result .value) (w .digits-upto .ensures) in
-    let f = four s (a .args .at) (w .digits-upto .result .end) (w .digits-upto .result .value) (w .digits-upto .ensures) (ap isDigit (sym (b .byte-in .ensures) ∙ c .before .if1 .taken)) in
+    let n = few-near (w .digits-upto .ensures) in
+    let f = four (w .digits-upto .ensures) (ap isDigit (sym (b .byte-in .ensures) ∙ c .before .if1 .taken)) in
     let x = ended (pointed (w .digits-upto .result .end - a .args .at) (w .digits-upto .result .value) (wordOf (drop (w .digits-upto .result .end + 1) s))) (endOf s (w .digits-upto .result .end + 1)) in
     exact-on (w .digits-upto .result .end + 1 + 6) (a .args .at + 11) x (ended (magnitudeOf (wordOf (drop (a .args .at) s))) (endOf s (a .args .at))) (DecimalsAhead s (w .digits-upto .result .end + 1) (w .digits-upto .result .end - a .args .at) (w .digits-upto .result .value)) (MantissaAhead s (a .args .at)) (c .decimals-ahead .result)
     (measure-point s (a .args .at) (w .digits-upto .result .end) (w .digits-upto .result .value) f (b .byte-in .result) (b .byte-in .ensures) (c .before .if1 .taken) x refl)
     (omega arith)
-    (with-decimals s (a .args .at) (w .digits-upto .result .end) (w .digits-upto .result .value) f (few-all 4 s (a .args .at) 0 (w .digits-upto .result .end) (w .digits-upto .result .value) (w .digits-upto .ensures) (ap isDigit (sym (b .byte-in .ensures) ∙ c .before .if1 .taken))) (b .byte-in .result) (b .byte-in .ensures) (c .before .if1 .taken))
+    (with-decimals s (a .args .at) (w .digits-upto .result .end) (w .digits-upto .result .value) f (few-all (w .digits-upto .ensures) (ap isDigit (sym (b .byte-in .ensures) ∙ c .before .if1 .taken))) (b .byte-in .result) (b .byte-in .ensures) (c .before .if1 .taken))
     (c .decimals-ahead .ensures)
 
 returns-2 : tie.Need-returns-2
@@ -70,18 +70,19 @@ returns-3 c = search needs
 
 mul-t9 : tie.Need-mul-t9
 mul-t9 c =
-    let a = c .before .before .before .before .before .before .before in
-    let w = c .before .before .before .before .before in
-    let f = four (now (a .args .text)) (a .args .at) (w .digits-upto .result .end) (w .digits-upto .result .value) (w .digits-upto .ensures) (low-stops (drop (w .digits-upto .result .end) (now (a .args .text))) (c .before .before .before .before .byte-in .result) (c .before .before .before .before .byte-in .ensures) (c .before .before .if2 .left)) in
+    let b = c .before .before .before .before in
+    let w = b .before in
+    let s = now (w .before .before .args .text) in
+    let f = four (w .digits-upto .ensures) (low-stops (drop (w .digits-upto .result .end) s) (b .byte-in .result) (b .byte-in .ensures) (c .before .before .if2 .left)) in
     let v = f .value-is in
     omega arith
 
 returns-4 : tie.Need-returns-4
 returns-4 c =
-    let a = c .before .before .before .before .before .before .before in
-    let w = c .before .before .before .before .before in
-    let n = few-near 4 (now (a .args .text)) (a .args .at) 0 (w .digits-upto .result .end) (w .digits-upto .result .value) (w .digits-upto .ensures) in
-    (bare-of (now (a .args .text)) (a .args .at) (w .digits-upto .result .end) (w .digits-upto .result .value) (c .before .before .before .before .byte-in .result) (w .digits-upto .ensures) (c .before .before .before .before .byte-in .ensures) (c .before .before .if2 .left) (c .before .if3 .left), omega arith)
+    let b = c .before .before .before .before in
+    let w = b .before in
+    let n = few-near (w .digits-upto .ensures) in
+    (bare-of (w .digits-upto .ensures) (b .byte-in .ensures) (c .before .before .if2 .left) (c .before .if3 .left), omega arith)
 
 pub measure-ahead-spec : {M : Type 1} → statement M
 measure-ahead-spec =

@@ -56,9 +56,9 @@ signed-of-requires c κs = search needs
 
 returns : tie.Need-returns
 returns c =
-    let a = c .before .before .before .before .before .before .before .before .before .before in
-    let b = c .before .before .before .before .before .before .before in
     let n = c .before .before .before .before .before .before in
+    let b = n .before in
+    let a = b .before .before .before in
     let s = now (a .args .text) in
     let at = a .args .at + n .sign-length .result in
     let q =

@@ -18,7 +18,7 @@ returns : tie.Need-returns
 returns c =
     let f = c .before .before .digits-upto in
     let a = c .before .before .before .before .before .args in
-    few-whole (now (a .text)) (a .at) (f .result .end) (f .result .value) (f .ensures) (c .if2 .taken)
+    few-whole (f .ensures) (c .if2 .taken)
 
 whole-run-requires : tie.Need-whole-run-requires
 whole-run-requires c κs = search needs

@@ -1,6 +1,5 @@
 -- By the byte where the digits of the mantissa stop.
 use mathlib.Core.Path.{_∙_, sym, ap}
-use denote.Ref.{now}
 use Rattle.decimals.specs.Number.{isE}
 use Rattle.decimals.proofs.Scaled.{scaled-not}
 use borrow.Author.Needs.{needs}
@@ -29,10 +28,7 @@ returns-2 : tie.Need-returns-2
 returns-2 c =
     let e = c .before in
     let b = e .before in
-    let m = b .before in
-    let a = m .before .before in
-    scaled-not (now (a .args .text)) (a .args .at) (m .mantissa-at .result .point) (m .mantissa-at .result .from) (m .mantissa-at .result .end) (m .mantissa-at .ensures)
-    (sym (ap isE (b .byte-at .ensures)) ∙ sym (e .is-e .ensures) ∙ c .if1 .left)
+    scaled-not (b .before .mantissa-at .ensures) (sym (ap isE (b .byte-at .ensures)) ∙ sym (e .is-e .ensures) ∙ c .if1 .left)
 
 pub scaled-spec : {M : Type 1} → statement M
 scaled-spec =

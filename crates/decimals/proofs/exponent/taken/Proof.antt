@@ -1,5 +1,4 @@
 -- Up to the point, after it, or with zeros.
-use denote.Ref.{now}
 use Rattle.decimals.proofs.Exponents.{taken-before, taken-after, taken-padded}
 use borrow.Author.Needs.{needs}
 use Rattle.decimals.proofs.exponent.taken.Statement.{statement}
@@ -18,8 +17,7 @@ first-digits-requires c κs = search needs
 returns : tie.Need-returns
 returns c =
     let a = c .before .before .before in
-    let m = a .args .m in
-    taken-before (now (a .args .text)) (a .args .at) (m .point) (m .from) (m .end) (a .pre) (a .args .count) (c .first-digits .result) (c .before .if1 .taken) (c .first-digits .ensures)
+    taken-before (a .pre) (a .args .count) (c .first-digits .result) (c .before .if1 .taken) (c .first-digits .ensures)
 
 first-digits-requires-2 : tie.Need-first-digits-requires-2
 first-digits-requires-2 c κs = search needs
@@ -37,8 +35,7 @@ returns-2 : tie.Need-returns-2
 returns-2 c =
     let v = c .before .before .before in
     let a = v .before .before .before in
-    let m = a .args .m in
-    taken-after (now (a .args .text)) (a .args .at) (m .point) (m .from) (m .end) (a .pre) (a .args .count) (c .first-digits3 .result) (v .first-digits2 .result) (v .first-digits2 .ensures) (v .before .if1 .left) (c .before .if2 .taken) (c .first-digits3 .ensures)
+    taken-after (a .pre) (a .args .count) (c .first-digits3 .result) (v .first-digits2 .result) (v .first-digits2 .ensures) (v .before .if1 .left) (c .before .if2 .taken) (c .first-digits3 .ensures)
 
 first-digits-requires-4 : tie.Need-first-digits-requires-4
 first-digits-requires-4 c κs = search needs
@@ -54,8 +51,7 @@ returns-3 c =
     let w = c .before in
     let v = w .before .before .before in
     let a = v .before .before .before in
-    let m = a .args .m in
-    taken-padded (now (a .args .text)) (a .args .at) (m .point) (m .from) (m .end) (a .pre) (a .args .count) (c .padded .result) (v .first-digits2 .result) (v .first-digits2 .ensures) (v .before .if1 .left) (w .before .if2 .left) (w .first-digits4 .result) (w .first-digits4 .ensures) (c .padded .ensures)
+    taken-padded (a .pre) (a .args .count) (c .padded .result) (v .first-digits2 .result) (v .first-digits2 .ensures) (v .before .if1 .left) (w .before .if2 .left) (w .first-digits4 .result) (w .first-digits4 .ensures) (c .padded .ensures)
 
 pub taken-spec : {M : Type 1} → statement M
 taken-spec =

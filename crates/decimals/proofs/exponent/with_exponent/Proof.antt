@@ -26,7 +26,7 @@ add-if1 c = search needs
 returns : tie.Need-returns
 returns c =
     let a = c .before .before .before in
-    scaled-nothing (now (a .args .text)) (a .args .at) (a .args .m .point) (a .args .m .from) (a .args .m .end) (a .pre .0) _ refl (a .pre .1) (c .if1 .taken)
+    scaled-nothing (a .pre .0) _ refl (a .pre .1) (c .if1 .taken)
 
 add-exponent-at : tie.Need-add-exponent-at
 add-exponent-at c = search needs
@@ -34,7 +34,7 @@ add-exponent-at c = search needs
 exponent-at-requires : tie.Need-exponent-at-requires
 exponent-at-requires c κs =
     let a = c .before .before .before in
-    let q = end-in (now (a .args .text)) (a .args .at) (a .args .m .point) (a .args .m .from) (a .args .m .end) (a .pre .0) _ refl (a .pre .1) in
+    let q = end-in (a .pre .0) _ refl (a .pre .1) in
     omega arith
 
 enum-told : tie.Need-enum-told
@@ -51,7 +51,7 @@ places-requires c κs =
     let k = c .before .minus .given in
     let x = c .before .before .before in
     let a = x .before .before .before .before in
-    let o = mantissa-order (now (a .args .text)) (a .args .at) (a .args .m .point) (a .args .m .from) (a .args .m .end) (a .pre .0) in
+    let o = mantissa-order (a .pre .0) in
     let t = a .pre .0 .to in
     let g = x .before .before .before .shared-slice-known .given in
     (omega arith, exponent-small (now (a .args .text)) (a .args .m .end + 1) (k .0 .0) (k .0 .1 .0) (k .0 .1 .1 .0) (sym (ap saidExponent (k .1)) ∙ x .exponent-at .ensures))
@@ -63,7 +63,7 @@ returns-2 : tie.Need-returns-2
 returns-2 c =
     let x = c .before .before in
     let a = x .before .before .before .before in
-    scaled-malformed (now (a .args .text)) (a .args .at) (a .args .m .point) (a .args .m .from) (a .args .m .end) (a .pre .0) _ refl (a .pre .1) (sym (ap saidExponent (c .enum-told .given .1)) ∙ x .exponent-at .ensures)
+    scaled-malformed (a .pre .0) _ refl (a .pre .1) (sym (ap saidExponent (c .enum-told .given .1)) ∙ x .exponent-at .ensures)
 
 returns-3 : tie.Need-returns-3
 returns-3 c =
@@ -72,7 +72,7 @@ returns-3 c =
     let x = p .before .before .before .before in
     let a = x .before .before .before .before in
     let s = now (a .args .text) in
-    scaled-read (now (a .args .text)) (a .args .at) (a .args .m .point) (a .args .m .from) (a .args .m .end) (a .pre .0) _ refl (a .pre .1) (let y = counts (now (a .args .text)) (a .args .at) (a .args .m .point) (a .args .m .from) (a .args .m .end) (a .pre .0) _ refl (a .pre .1) in let z = x .before .if1 .left in omega arith) (k .0 .0) (k .0 .1 .0) (k .0 .1 .1 .0) (sym (ap saidExponent (k .1)) ∙ x .exponent-at .ensures) (c .taken .result)
+    scaled-read (a .pre .0) _ refl (a .pre .1) (let y = counts (a .pre .0) _ refl (a .pre .1) in let z = x .before .if1 .left in omega arith) (k .0 .0) (k .0 .1 .0) (k .0 .1 .1 .0) (sym (ap saidExponent (k .1)) ∙ x .exponent-at .ensures) (c .taken .result)
     (c .taken .ensures ∙ ap (λ (n : ℕ). cap (takenOf n (run (drop (a .args .at) s) ++ run (drop (a .args .m .from) s)))) (p .places .ensures))
 
 pub with-exponent-spec : {M : Type 1} → statement M

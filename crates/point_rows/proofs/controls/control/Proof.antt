@@ -24,11 +24,11 @@ module _ (s : tie.Start) where
   small : InRange (controlAt (s .args .values .now) (s .args .corners .now) (s .args .first) (s .args .axis) (s .args .i))
   small = s .pre .0 .small (s .args .i) (s .args .axis) (omega arith) (omega arith) (s .pre .1)
 
-vertex-is : (c : tie.After-lent-corner) → c .lent-corner .result .v ≡ v (c .before .before)
-vertex-is c = ap (λ (x : Corner). x .v) (c .lent-corner .ensures)
+vertex-is : (c : tie.After-lent-corner-from) → c .lent-corner-from .result .v ≡ v (c .before .before)
+vertex-is c = ap (λ (x : Corner). x .v) (c .lent-corner-from .ensures)
 
-lent-corner-requires : tie.Need-lent-corner-requires
-lent-corner-requires c κs = omega (arith, c .before .pre .0 .within)
+lent-corner-from-requires : tie.Need-lent-corner-from-requires
+lent-corner-from-requires c κs = omega (arith, c .before .pre .0 .within)
 
 cast-vertex : tie.Need-cast-vertex
 cast-vertex c = search needs
@@ -44,13 +44,13 @@ returns c =
     let read = c .before .before in
     let s = read .before .before in
     let a = s .args in
-    control-read (a .values .now) (a .corners .now) (a .first) (a .axis) (a .i) (read .lent-corner .result .v) (c .lent-number .ensures) (vertex-is read) (small s)
+    control-read (a .values .now) (a .corners .now) (a .first) (a .axis) (a .i) (read .lent-corner-from .result .v) (c .lent-number .ensures) (vertex-is read) (small s)
 
 pub control-spec : {M : Type 1} → statement M
 control-spec =
     tie.close
     (tie.spec
-    lent-corner-requires
+    lent-corner-from-requires
     cast-vertex
     sub-lent-number
     lent-number-requires

@@ -1,5 +1,5 @@
 -- The loop keeps the parts done, stored, and what is left of the line (`Looping`); each part takes bytes off it.
-use mathlib.Core.Path.{refl}
+use mathlib.Core.Path.{refl, sym, _∙_}
 use native.Mathlib.Omega.{arith}
 use denote.Ref.{now}
 use borrow.Author.Needs.{needs}
@@ -58,43 +58,48 @@ returns c =
 enum-known-q : tie.Need-enum-known-q Inv-loop μ-loop
 enum-known-q c = search needs
 
+loop-counted-requires : tie.Need-loop-counted-requires Inv-loop μ-loop
+loop-counted-requires c κs = search needs
+
 same-length-3 : tie.Need-same-length-3 Inv-loop μ-loop
 same-length-3 c =
-    let loop = c .before .before .before .before .before in
+    let loop = c .before .before .before .before .before .before in
     loop .loop .inv .same
 
 same-length-4 : tie.Need-same-length-4 Inv-loop μ-loop
 same-length-4 c =
-    let loop = c .before .before .before .before .before in
+    let loop = c .before .before .before .before .before .before in
     loop .loop .inv .same-spans
 
 returns-2 : tie.Need-returns-2 Inv-loop μ-loop
 returns-2 c =
     let if1 = c in
-    let q = if1 .before .before in
+    let held = if1 .before in
+    let q = held .before .before in
     let next-part = q .before .before in
     let loop = next-part .before in
     let start = loop .before .before .before in
-    K.looping-empty (now (start .args .text)) (start .args .at) (start .args .hole) (start .args .curves) (start .args .used) (now (start .args .loops)) (now (start .args .spans)) (loop .loop .loops) (loop .loop .spans) (loop .loop .i) (loop .loop .place) (loop .loop .count) (loop .loop .inv) (L.part-end (start .args .curves) (now (start .args .text)) (loop .loop .i) (next-part .next-part .result) (next-part .next-part .ensures) (q .q .given .1)) (if1 .if1 .taken)
+    K.looping-empty (now (start .args .text)) (start .args .at) (start .args .hole) (start .args .curves) (start .args .used) (now (start .args .loops)) (now (start .args .spans)) (loop .loop .loops) (loop .loop .spans) (loop .loop .i) (loop .loop .place) (loop .loop .count) (loop .loop .inv) (L.part-end (start .args .curves) (now (start .args .text)) (loop .loop .i) (next-part .next-part .result) (next-part .next-part .ensures) (q .q .given .1)) (K.no-parts (loop .loop .count) (sym (not-true _ (if1 .if1 .taken)) ∙ held .loop-counted .ensures))
 
 same-length-5 : tie.Need-same-length-5 Inv-loop μ-loop
 same-length-5 c =
-    let loop = c .before .before .before .before .before in
+    let loop = c .before .before .before .before .before .before in
     loop .loop .inv .same
 
 same-length-6 : tie.Need-same-length-6 Inv-loop μ-loop
 same-length-6 c =
-    let loop = c .before .before .before .before .before in
+    let loop = c .before .before .before .before .before .before in
     loop .loop .inv .same-spans
 
 returns-3 : tie.Need-returns-3 Inv-loop μ-loop
 returns-3 c =
     let if1 = c in
-    let q = if1 .before .before in
+    let held = if1 .before in
+    let q = held .before .before in
     let next-part = q .before .before in
     let loop = next-part .before in
     let start = loop .before .before .before in
-    K.looping-over (now (start .args .text)) (start .args .at) (start .args .hole) (start .args .curves) (start .args .used) (now (start .args .loops)) (now (start .args .spans)) (loop .loop .loops) (loop .loop .spans) (loop .loop .i) (loop .loop .place) (loop .loop .count) (loop .loop .inv) (L.part-end (start .args .curves) (now (start .args .text)) (loop .loop .i) (next-part .next-part .result) (next-part .next-part .ensures) (q .q .given .1)) (if1 .if1 .left)
+    K.looping-over (now (start .args .text)) (start .args .at) (start .args .hole) (start .args .curves) (start .args .used) (now (start .args .loops)) (now (start .args .spans)) (loop .loop .loops) (loop .loop .spans) (loop .loop .i) (loop .loop .place) (loop .loop .count) (loop .loop .inv) (L.part-end (start .args .curves) (now (start .args .text)) (loop .loop .i) (next-part .next-part .result) (next-part .next-part .ensures) (q .q .given .1)) (K.some-parts (loop .loop .count) (sym (not-false _ (if1 .if1 .left)) ∙ held .loop-counted .ensures))
 
 enum-known-from : tie.Need-enum-known-from Inv-loop μ-loop
 enum-known-from c = search needs
@@ -235,6 +240,7 @@ take-loop-spec =
     same-length-2
     returns
     enum-known-q
+    loop-counted-requires
     same-length-3
     same-length-4
     returns-2

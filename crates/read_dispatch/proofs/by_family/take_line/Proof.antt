@@ -3,7 +3,8 @@ use mathlib.Core.Path.{refl}
 use denote.Ref.{now}
 use Rattle.tables.specs.Tables.{tables}
 use Rattle.read_state.specs.Changed.{elementStored, rangeStored, loopsStored, bodyStored}
-use Rattle.read_vertex_lines.specs.Stepping.{withVertices}
+use Rattle.tables.specs.VertexTables.{vertexTables}
+use Rattle.read_state.specs.Changed.{withVertices}
 use Rattle.read_vertex_lines.specs.declared.Step.the-variants.{Rejected}
 use Rattle.read_dispatch.proofs.Sorted.{family-step}
 use borrow.Author.Needs.{needs}
@@ -72,7 +73,7 @@ returns c =
     let f = c .before .before .before .before .vertex-line in
     let a = c .before .before .before .before .before .before .before .before .before .before .before .before .before .before .before .before .before .args in
     let t = tables (now (a .v)) (now (a .vt)) (now (a .vn)) (now (a .vp)) (now (a .corners)) (now (a .elements)) (now (a .bodies)) (now (a .ranges)) (now (a .parameters)) (now (a .loops)) (now (a .spans)) in
-    family-step (now (a .text)) (a .at) (a .state) (f .result) t (withVertices (f .last .1 .1 .1 .1 .0) (f .last .1 .1 .1 .1 .1 .0) (f .last .1 .1 .1 .1 .1 .1 .0) (f .last .1 .1 .1 .1 .1 .1 .1 .0) t) (c .before .before .before .before .before .before .before .before .before .before .family .given .1) (f .ensures t)
+    family-step (now (a .text)) (a .at) (a .state) (f .result) t (withVertices (vertexTables (f .last .1 .1 .1 .1 .0) (f .last .1 .1 .1 .1 .1 .0) (f .last .1 .1 .1 .1 .1 .1 .0) (f .last .1 .1 .1 .1 .1 .1 .1 .0)) t) (c .before .before .before .before .before .before .before .before .before .before .family .given .1) (f .ensures t)
 
 same-length-5 : tie.Need-same-length-5
 same-length-5 c = search needs
@@ -85,7 +86,7 @@ returns-2 c =
     let f = c .before .before .before .before .element-line in
     let a = c .before .before .before .before .before .before .before .before .before .before .before .before .before .before .before .args in
     let t = tables (now (a .v)) (now (a .vt)) (now (a .vn)) (now (a .vp)) (now (a .corners)) (now (a .elements)) (now (a .bodies)) (now (a .ranges)) (now (a .parameters)) (now (a .loops)) (now (a .spans)) in
-    family-step (now (a .text)) (a .at) (a .state) (f .result) t (elementStored (f .last .1 .1 .1 .1 .0) (f .last .1 .1 .1 .1 .1 .0) t) (c .before .before .before .before .before .before .before .before .family2 .given .1) (f .ensures t refl refl)
+    family-step (now (a .text)) (a .at) (a .state) (f .result) t (elementStored (f .last .1 .1 .1 .1 .0) (f .last .1 .1 .1 .1 .1 .0) t) (c .before .before .before .before .before .before .before .before .family2 .given .1) (f .ensures t refl)
 
 same-length-7 : tie.Need-same-length-7
 same-length-7 c = search needs
@@ -104,7 +105,7 @@ returns-3 c =
     let f = c .before .before .before .before .before .body-line in
     let a = c .before .before .before .before .before .before .before .before .before .before .before .before .before .before .before .before .before .before .args in
     let t = tables (now (a .v)) (now (a .vt)) (now (a .vn)) (now (a .vp)) (now (a .corners)) (now (a .elements)) (now (a .bodies)) (now (a .ranges)) (now (a .parameters)) (now (a .loops)) (now (a .spans)) in
-    family-step (now (a .text)) (a .at) (a .state) (f .result) t (rangeStored (f .last .1 .1 .1 .1 .1 .1 .1 .1 .0) (elementStored (f .last .1 .1 .1 .1 .1 .0) (f .last .1 .1 .1 .1 .1 .1 .0) t)) (c .before .before .before .before .before .before .before .before .before .before .before .family3 .given .1) (f .ensures t refl refl refl refl refl)
+    family-step (now (a .text)) (a .at) (a .state) (f .result) t (rangeStored (f .last .1 .1 .1 .1 .1 .1 .1 .1 .0) (elementStored (f .last .1 .1 .1 .1 .1 .0) (f .last .1 .1 .1 .1 .1 .1 .0) t)) (c .before .before .before .before .before .before .before .before .before .before .before .family3 .given .1) (f .ensures t refl refl refl refl)
 
 returns-4 : tie.Need-returns-4
 returns-4 c =

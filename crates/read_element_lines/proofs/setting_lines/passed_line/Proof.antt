@@ -18,14 +18,16 @@ enum-told c = search needs
 returns : tie.Need-returns
 returns c =
     let scanned = c .before .before .before in
-    let a = scanned .before .before .args in
-    λ out. passed-line (now (a .text)) (a .at) (a .state) out _ _ (sym (c .before .next .given .1) ∙ scanned .scan-line .ensures)
+    let start = scanned .before .before in
+    let a = start .args in
+    λ out. passed-line (now (a .text)) (a .at) (a .state) (start .pre) out _ _ (sym (c .before .next .given .1) ∙ scanned .scan-line .ensures)
 
 returns-2 : tie.Need-returns-2
 returns-2 c =
     let scanned = c .before .before in
-    let a = scanned .before .before .args in
-    λ out. passed-bad (now (a .text)) (a .at) (a .state) out _ (sym (c .enum-told .given .1) ∙ scanned .scan-line .ensures)
+    let start = scanned .before .before in
+    let a = start .args in
+    λ out. passed-bad (now (a .text)) (a .at) (a .state) (start .pre) out _ (sym (c .enum-told .given .1) ∙ scanned .scan-line .ensures)
 
 pub passed-line-spec : {M : Type 1} → statement M
 passed-line-spec =

@@ -1,38 +1,30 @@
--- By the three kinds; the fewest controls are the row's.
+-- The rule, by the kind's number and the row's count and form.
 use mathlib.Core.Path.{refl}
 use borrow.Author.Needs.{needs}
 use Rattle.read_elements.proofs.body.rule_for.Statement.{statement}
 use Rattle.read_elements.proofs.body.rule_for.Tie as tie
 
+free-number-requires : tie.Need-free-number-requires
+free-number-requires c κs = search needs
+
 fewest-controls-requires : tie.Need-fewest-controls-requires
 fewest-controls-requires c κs = search needs
 
-enum-told : tie.Need-enum-told
-enum-told c = search needs
+control-form-requires : tie.Need-control-form-requires
+control-form-requires c κs = search needs
 
-enum-told-2 : tie.Need-enum-told-2
-enum-told-2 c = search needs
-
-enum-told-3 : tie.Need-enum-told-3
-enum-told-3 c = search needs
+corner-form-requires : tie.Need-corner-form-requires
+corner-form-requires c κs = search needs
 
 returns : tie.Need-returns
-returns c = rw (c .before .before .fewest-controls .ensures, c .enum-told .given .1) refl
-
-returns-2 : tie.Need-returns-2
-returns-2 c = rw (c .before .before .fewest-controls .ensures, c .enum-told2 .given .1) refl
-
-returns-3 : tie.Need-returns-3
-returns-3 c = rw (c .before .before .fewest-controls .ensures, c .enum-told3 .given .1) refl
+returns c = rw (c .corner-form .ensures, c .before .control-form .ensures, c .before .before .fewest-controls .ensures, c .before .before .before .free-number .ensures) refl
 
 pub rule-for-spec : {M : Type 1} → statement M
 rule-for-spec =
     tie.close
     (tie.spec
+    free-number-requires
     fewest-controls-requires
-    enum-told
-    enum-told-2
-    enum-told-3
-    returns
-    returns-2
-    returns-3)
+    control-form-requires
+    corner-form-requires
+    returns)

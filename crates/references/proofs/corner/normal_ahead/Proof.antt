@@ -2,6 +2,7 @@
 use native.Mathlib.Omega.{arith}
 use borrow.Author.Tests.{not-false}
 use denote.Ref.{now}
+use Rattle.references.specs.Straight.{AheadRead}
 use Rattle.references.proofs.Ahead.{ahead, near, normal-end}
 use borrow.Author.Needs.{needs}
 use Rattle.references.proofs.corner.normal_ahead.Statement.{statement}
@@ -19,13 +20,21 @@ refers-requires c κs = search needs
 returns-2 : tie.Need-returns-2
 returns-2 c = search needs
 
+-- digits that refer
+module _ (c : tie.Else2) where
+  abbrev a : tie.Start
+  a = c .before .before .before .before .before
+
+  abbrev w : tie.After-digits-upto
+  w = c .before .before
+
+  read : AheadRead (a .args .nvn) (now (a .args .text)) (a .args .at) (w .digits-upto .result .value) (w .digits-upto .result .end)
+  read = ahead (w .digits-upto .ensures) (c .before .refers .ensures) (not-false (c .before .refers .result) (c .if2 .left))
+
 byte-in-requires : tie.Need-byte-in-requires
 byte-in-requires c κs =
-    let a = c .before .before .before .before .before in
-    let w = c .before .before in
-    let r = ahead (a .args .nvn) (now (a .args .text)) (a .args .at) (w .digits-upto .result .value) (w .digits-upto .result .end) (c .before .refers .result) (w .digits-upto .ensures) (c .before .refers .ensures) (not-false (c .before .refers .result) (c .if2 .left)) in
-    let n = near (a .args .nvn) (now (a .args .text)) (a .args .at) (w .digits-upto .result .value) (w .digits-upto .result .end) r in
-    let p = a .pre in
+    let n = near (read c) in
+    let p = a c .pre in
     omega arith
 
 returns-3 : tie.Need-returns-3
@@ -33,20 +42,15 @@ returns-3 c = search needs
 
 cast-t12 : tie.Need-cast-t12
 cast-t12 c =
-    let a = c .before .before .before .before .before .before .before .before in
-    let w = c .before .before .before .before .before in
-    let r = ahead (a .args .nvn) (now (a .args .text)) (a .args .at) (w .digits-upto .result .value) (w .digits-upto .result .end) (c .before .before .before .before .refers .result) (w .digits-upto .ensures) (c .before .before .before .before .refers .ensures) (not-false (c .before .before .before .before .refers .result) (c .before .before .before .if2 .left)) in
-    let n = r .within in
-    let f = a .fits .nvn in
+    let e = c .before .before .before in
+    let n = read e .within in
+    let f = a e .fits .nvn in
     omega arith
 
 returns-4 : tie.Need-returns-4
 returns-4 c =
-    let a = c .before .before .before .before .before .before .before .before in
-    let w = c .before .before .before .before .before in
-    let r = ahead (a .args .nvn) (now (a .args .text)) (a .args .at) (w .digits-upto .result .value) (w .digits-upto .result .end) (c .before .before .before .before .refers .result) (w .digits-upto .ensures) (c .before .before .before .before .refers .ensures) (not-false (c .before .before .before .before .refers .result) (c .before .before .before .if2 .left)) in
-    normal-end (a .args .normal) (a .args .nvn) (a .args .v) (a .args .vt) (now (a .args .text)) (a .args .at) (w .digits-upto .result .value) (w .digits-upto .result .end) r
-    (not-false (a .args .normal) (c .before .before .before .before .before .before .if1 .left)) (c .before .before .byte-in .result) (c .before .before .byte-in .ensures) (c .before .if3 .left)
+    let e = c .before .before .before in
+    normal-end (read e) (not-false (a e .args .normal) (w e .before .if1 .left)) (c .before .before .byte-in .ensures) (c .before .if3 .left)
 
 pub normal-ahead-spec : {M : Type 1} → statement M
 normal-ahead-spec =

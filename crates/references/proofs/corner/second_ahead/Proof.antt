@@ -3,6 +3,7 @@ use mathlib.Core.Path.{refl, sym, _∙_}
 use mathlib.Core.Logic.{inl, inr}
 use native.Mathlib.Omega.{arith}
 use denote.Ref.{now}
+use Rattle.references.specs.Straight.{AheadRead}
 use Rattle.references.proofs.Ahead.{ahead}
 use borrow.Author.Needs.{needs}
 use Rattle.references.proofs.corner.second_ahead.Statement.{statement}
@@ -20,20 +21,25 @@ digits-upto-requires c κs = search needs
 refers-requires : tie.Need-refers-requires
 refers-requires c κs = search needs
 
+-- digits that refer
+module _ (c : tie.Then2) where
+  abbrev a : tie.Start
+  a = c .before .before .before .before .before .before
+
+  abbrev w : tie.After-digits-upto
+  w = c .before .before
+
+  read : AheadRead (a .args .nvt) (now (a .args .text)) (a .args .at) (w .digits-upto .result .value) (w .digits-upto .result .end)
+  read = ahead (w .digits-upto .ensures) (c .before .refers .ensures) (c .if2 .taken)
+
 cast-t8 : tie.Need-cast-t8
 cast-t8 c =
-    let a = c .before .before .before .before .before .before .before in
-    let w = c .before .before .before in
-    let r = ahead (a .args .nvt) (now (a .args .text)) (a .args .at) (w .digits-upto .result .value) (w .digits-upto .result .end) (c .before .before .refers .result) (w .digits-upto .ensures) (c .before .before .refers .ensures) (c .before .if2 .taken) in
-    let n = r .within in
-    let f = a .fits .nvt in
+    let n = read (c .before) .within in
+    let f = a (c .before) .fits .nvt in
     omega arith
 
 returns-2 : tie.Need-returns-2
-returns-2 c =
-    let a = c .before .before .before .before .before .before .before in
-    let w = c .before .before .before in
-    inr (ahead (a .args .nvt) (now (a .args .text)) (a .args .at) (w .digits-upto .result .value) (w .digits-upto .result .end) (c .before .before .refers .result) (w .digits-upto .ensures) (c .before .before .refers .ensures) (c .before .if2 .taken))
+returns-2 c = inr (read (c .before))
 
 returns-3 : tie.Need-returns-3
 returns-3 c = search needs

@@ -46,7 +46,7 @@ module _ (c : tie.After-body-direction) where
   abbrev b : Body
   b = bo m
 
-  read : Read (t m) e b (e .kind) (e .first) (b .«first_parameter») (b .«count_u») (c .body-direction .result)
+  read : Read (t m) e b (e .kind) (e .corners .first) (b .«first_parameter») (b .«count_u») (c .body-direction .result)
   read = record { kind-is = refl; first-is = refl; from-is = refl; count-is = refl; along-is = c .body-direction .ensures }
 
   within : inside (b .«start_u») (b .«end_u») (s m .args .t) ≡ true

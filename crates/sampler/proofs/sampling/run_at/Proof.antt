@@ -61,7 +61,7 @@ module _ (c : tie.After-body-direction) where
   room : j .args .at + axesOf (el j) * (j .args .steps + 1) ≤ length (j .args .points .now)
   room = omega (arith, numbers-are ax, c .before .if4 .left, c .before .before .if3 .left)
 
-  read : Read (t j) (el j) (bo j) (el j .kind) (el j .first) (bo j .«first_parameter») (bo j .«count_u») (c .body-direction .result)
+  read : Read (t j) (el j) (bo j) (el j .kind) (el j .corners .first) (bo j .«first_parameter») (bo j .«count_u») (c .body-direction .result)
   read = record { kind-is = refl; first-is = refl; from-is = refl; count-is = refl; along-is = c .body-direction .ensures }
 
 -- the range as it is passed

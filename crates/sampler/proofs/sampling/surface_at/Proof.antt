@@ -60,7 +60,7 @@ module _ (c : tie.After-body-direction2) where
   abbrev b : Body
   b = bo m
 
-  laid : Laid (t m) e b (e .first) (b .«first_parameter») (b .«count_u») (b .«count_v») (c .before .body-direction .result) (c .body-direction2 .result)
+  laid : Laid (t m) e b (e .corners .first) (b .«first_parameter») (b .«count_u») (b .«count_v») (c .before .body-direction .result) (c .body-direction2 .result)
   laid = record { first-is = refl; from-is = refl; count-u-is = refl; count-v-is = refl; along-u-is = c .before .body-direction .ensures; along-v-is = c .body-direction2 .ensures }
 
   in-v : inside (b .«start_v») (b .«end_v») (s m .args .t) ≡ true

@@ -1,6 +1,6 @@
 -- By the arm, and by the kind.
 use mathlib.Core.Path.{refl}
-use Rattle.statements.proofs.Rows.{outside-kind, body-kind, surface-kind, curve-kind}
+use Rattle.statements.proofs.RowLaws.{outside-kind, body-kind, surface-kind, curve-kind}
 use borrow.Author.Needs.{needs}
 use Rattle.statements.proofs.rules.allowed.Statement.{statement}
 use Rattle.statements.proofs.rules.allowed.Tie as tie

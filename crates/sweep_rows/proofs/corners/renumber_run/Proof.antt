@@ -8,31 +8,32 @@ use Rattle.sweep_rows.proofs.corners.renumber_run.Statement.{statement}
 use Rattle.sweep_rows.proofs.corners.renumber_run.Tie as tie
 
 abbrev Inv-loop : tie.InvT-loop
-Inv-loop used numbers corners₀ kind first count j₀ corners j = Renumbered used numbers corners₀ corners kind first count j
+Inv-loop used numbers corners₀ kind run j₀ corners j = Renumbered used numbers corners₀ corners kind run j
 
 abbrev μ-loop : tie.MeasureT-loop
-μ-loop used numbers corners₀ kind first count j₀ corners j = count - j
+μ-loop used numbers corners₀ kind run j₀ corners j = run .count - j
 
 loop-holds : tie.Need-loop-holds Inv-loop μ-loop
-loop-holds c = let a = c .before .before .args in renumbered-none (a .used) (now (a .numbers)) (now (a .corners)) (a .kind) (a .first) (a .count)
+loop-holds c = let a = c .before .before .args in renumbered-none (a .used) (now (a .numbers)) (now (a .corners)) (a .kind) (a .run)
 
-cast-corner-at : tie.Need-cast-corner-at Inv-loop μ-loop
-cast-corner-at c = search needs
+cast-k : tie.Need-cast-k Inv-loop μ-loop
+cast-k c = search needs
 
-corner-at-requires : tie.Need-corner-at-requires Inv-loop μ-loop
-corner-at-requires c κs = search needs
+-- a turn of the loop
+module _ (l : tie.At-loop Inv-loop μ-loop) where
+  abbrev s : tie.Start Inv-loop μ-loop
+  s = l .before .before .before
+
+lent-corner-requires : tie.Need-lent-corner-requires Inv-loop μ-loop
+lent-corner-requires c κs =
+    let l = c .before .before .before in
+    omega (arith, l .loop .inv .long, s l .pre)
 
 corner-by-requires : tie.Need-corner-by-requires Inv-loop μ-loop
 corner-by-requires c κs = search needs
 
-cast-put3-u32 : tie.Need-cast-put3-u32 Inv-loop μ-loop
-cast-put3-u32 c = search needs
-
-mul-put3-u32 : tie.Need-mul-put3-u32 Inv-loop μ-loop
-mul-put3-u32 c = search needs
-
-add-put3-u32 : tie.Need-add-put3-u32 Inv-loop μ-loop
-add-put3-u32 c = search needs
+corner-place-requires : tie.Need-corner-place-requires Inv-loop μ-loop
+corner-place-requires c κs = search needs
 
 put3-u32-requires : tie.Need-put3-u32-requires Inv-loop μ-loop
 put3-u32-requires c κs = search needs
@@ -44,13 +45,18 @@ loop-less : tie.Need-loop-less Inv-loop μ-loop
 loop-less c = search needs
 
 loop-again : tie.Need-loop-again Inv-loop μ-loop
-loop-again c = let n = c .before .before .before .before .before .before .before .before .loop .inv in renumbered-more _ _ n (c .before .before .before .before .before .before .before .before .before .before .before .pre) (omega arith) (c .before .before .before .before .before .corner-at .ensures) (c .before .before .before .before .corner-by .ensures) (c .before .before .put3-u32 .ensures .0) (c .before .before .put3-u32 .ensures .1)
+loop-again c =
+    let put = c .before .before in
+    let new = put .before .before .before in
+    let l = new .before .before .before .before .before in
+    let from = put .before .corner-place .ensures in
+    renumbered-more _ _ (l .loop .inv) (s l .pre) (omega arith) (new .before .lent-corner .ensures) (new .corner-by .ensures) (rw from at (put .put3-u32 .ensures .0)) (rw from at (put .put3-u32 .ensures .1))
 
 same-length : tie.Need-same-length Inv-loop μ-loop
-same-length c = c .before .loop .inv .long
+same-length c = c .before .before .loop .inv .long
 
 returns : tie.Need-returns Inv-loop μ-loop
-returns c = renumbered-all _ _ (c .before .loop .inv) (c .before .before .before .before .pre) (omega arith)
+returns c = renumbered-all _ _ (c .before .before .loop .inv) (s (c .before .before) .pre) (omega arith)
 
 pub renumber-run-spec : {M : Type 1} → statement M
 renumber-run-spec =
@@ -59,12 +65,10 @@ renumber-run-spec =
     Inv-loop
     μ-loop
     loop-holds
-    cast-corner-at
-    corner-at-requires
+    cast-k
+    lent-corner-requires
     corner-by-requires
-    cast-put3-u32
-    mul-put3-u32
-    add-put3-u32
+    corner-place-requires
     put3-u32-requires
     add-j
     loop-less

@@ -5,23 +5,20 @@ use borrow.Author.Needs.{needs}
 use Rattle.table_rules.proofs.ends.ends_after.Statement.{statement}
 use Rattle.table_rules.proofs.ends.ends_after.Tie as tie
 
-cast-corners : tie.Need-cast-corners
-cast-corners c = search needs
-
-mul-corners : tie.Need-mul-corners
-mul-corners c = search needs
+corners-length-requires : tie.Need-corners-length-requires
+corners-length-requires c κs = search needs
 
 add-corners : tie.Need-add-corners
 add-corners c = search needs
 
 returns : tie.Need-returns
-returns c = rw (le-leb _ _ (c .if1 .taken))
+returns c = rw (le-leb _ _ (c .if1 .taken), c .before .before .before .corners-length .ensures)
 
 add-t5 : tie.Need-add-t5
 add-t5 c = search needs
 
-cast-t6 : tie.Need-cast-t6
-cast-t6 c = search needs
+cast-t7 : tie.Need-cast-t7
+cast-t7 c = search needs
 
 cast-t8 : tie.Need-cast-t8
 cast-t8 c = search needs
@@ -39,18 +36,17 @@ add-t12 : tie.Need-add-t12
 add-t12 c = search needs
 
 returns-2 : tie.Need-returns-2
-returns-2 c = rw (lt-leb _ _ (c .before .before .before .before .before .before .if1 .left), add-one)
+returns-2 c = rw (lt-leb _ _ (c .before .before .before .before .before .before .if1 .left), add-one, c .before .before .before .before .before .before .before .before .before .corners-length .ensures)
 
 pub ends-after-spec : {M : Type 1} → statement M
 ends-after-spec =
     tie.close
     (tie.spec
-    cast-corners
-    mul-corners
+    corners-length-requires
     add-corners
     returns
     add-t5
-    cast-t6
+    cast-t7
     cast-t8
     add-t9
     add-t10

@@ -1,12 +1,12 @@
--- The words of the part, by `part` and `emit_words`.
+-- The words of the part, by `part_of` and `emit_words`.
 use denote.Ref.{now}
 use Rattle.tidy_words.proofs.NamesLeft.{names-emitted}
 use borrow.Author.Needs.{needs}
 use Rattle.tidy_words.proofs.names.emit_names.Statement.{statement}
 use Rattle.tidy_words.proofs.names.emit_names.Tie as tie
 
-part-requires : tie.Need-part-requires
-part-requires c κs = search needs
+part-of-requires : tie.Need-part-of-requires
+part-of-requires c κs = search needs
 
 emit-words-requires : tie.Need-emit-words-requires
 emit-words-requires c κs = search needs
@@ -16,8 +16,9 @@ same-length c = search needs
 
 returns : tie.Need-returns
 returns c =
-    let a = c .before .before .before .before .before .before .before .args in
-    names-emitted (now (a .text)) (a .place) (a .length) (a .at) (c .before .before .before .before .part .ensures) (c .before .before .emit-words .ensures)
+    let p = c .before .before .before .before in
+    let a = p .before .before .before .args in
+    names-emitted (now (a .text)) (a .run) (a .at) (p .part-of .ensures) (c .before .before .emit-words .ensures)
 
 pub emit-names-spec : {M : Type 1} → statement M
-emit-names-spec = tie.close (tie.spec part-requires emit-words-requires same-length returns)
+emit-names-spec = tie.close (tie.spec part-of-requires emit-words-requires same-length returns)

@@ -26,10 +26,10 @@ same-length c = search needs
 
 returns : tie.Need-returns
 returns c =
-    let s = c .before .before .before .before .before .before .before .before .before in
-    let e = c .before .before .before .before .before .before .place-after in
-    let w = c .before .before .copy-word in
-    whole-room (s .args .at) (wordOf (drop (s .args .from) (now (s .args .text)))) (now (s .args .out)) (s .args .to - s .args .from) (e .result) (omega arith) (e .ensures) (omega arith) (w .last .1 .1 .0) (w .result) (w .ensures)
+    let w = c .before .before in
+    let e = w .before .before .before .before in
+    let s = e .before .before .before in
+    whole-room (s .args .at) (wordOf (drop (s .args .from) (now (s .args .text)))) (now (s .args .out)) (s .args .to - s .args .from) _ (omega arith) (e .place-after .ensures) (omega arith) _ _ (w .copy-word .ensures)
 
 returns-2 : tie.Need-returns-2
 returns-2 c =

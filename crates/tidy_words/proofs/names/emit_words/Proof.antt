@@ -39,19 +39,29 @@ word-end-requires c κs = c .before .before .before .before .before .next-word .
 emit-word-requires : tie.Need-emit-word-requires Inv-loop μ-loop
 emit-word-requires c κs = c .before .word-end .ensures .0
 
+-- a word after a space
+module _ (c : tie.After-emit-word Inv-loop μ-loop) where
+  abbrev w : tie.After-word-end Inv-loop μ-loop
+  w = c .before .before
+
+  abbrev s : tie.After-emit-byte Inv-loop μ-loop
+  s = w .before .before .before
+
+  abbrev n : tie.Else1 Inv-loop μ-loop
+  n = s .before .before
+
 loop-less : tie.Need-loop-less Inv-loop μ-loop
 loop-less c =
-    let l = c .before .before .before .before .before .before .before .before .before .before .before .loop in
-    let next = names-turn (l .inv) (c .before .before .before .before .before .before .before .before .before .before .next-word .ensures) (c .before .before .before .before .before .before .before .before .before .if1 .left) (emitted-whole (c .before .before .before .before .before .before .before .emit-byte .ensures)) (c .before .before .before .before .word-end .ensures .0) (emitted-whole (c .before .before .emit-word .ensures)) in
+    let e = c .before .before in
+    let next = names-turn (n e .before .before .loop .inv) (n e .before .next-word .ensures) (n e .if1 .left) (emitted-whole (s e .emit-byte .ensures)) (w e .word-end .ensures .0) (emitted-whole (e .emit-word .ensures)) in
     let less = next .1 in
     let within = next .0 .within in
     omega arith
 
 loop-again : tie.Need-loop-again Inv-loop μ-loop
 loop-again c =
-    let l = c .before .before .before .before .before .before .before .before .before .before .before .loop in
-    let next = names-turn (l .inv) (c .before .before .before .before .before .before .before .before .before .before .next-word .ensures) (c .before .before .before .before .before .before .before .before .before .if1 .left) (emitted-whole (c .before .before .before .before .before .before .before .emit-byte .ensures)) (c .before .before .before .before .word-end .ensures .0) (emitted-whole (c .before .before .emit-word .ensures)) in
-    next .0
+    let e = c .before .before in
+    names-turn (n e .before .before .loop .inv) (n e .before .next-word .ensures) (n e .if1 .left) (emitted-whole (s e .emit-byte .ensures)) (w e .word-end .ensures .0) (emitted-whole (e .emit-word .ensures)) .0
 
 pub emit-words-spec : {M : Type 1} → statement M
 emit-words-spec =

@@ -1,29 +1,37 @@
--- The same part holds the same words; else the words of the two parts, by `part` and `same_words`.
-use mathlib.Core.Path.{sym}
+-- The same part holds the same words; else the words of the two parts, by `part_of` and `same_words`.
+use Prim.Native.Nat.{ℕ}
+use mathlib.Core.Path.{_≡_, sym, ap, ap₂, _∙_}
 use denote.Ref.{now}
+use Rattle.tables.specs.declared.NameRun.{NameRun}
 use Rattle.tidy_form.specs.Agree.{wordsAt}
+use Rattle.tidy_words.specs.Naming.{sameBytes}
 use Rattle.tidy_words.proofs.Naming.{bytes-refl, names-same}
 use borrow.Author.Needs.{needs}
 use Rattle.tidy_words.proofs.names.same_names.Statement.{statement}
 use Rattle.tidy_words.proofs.names.same_names.Tie as tie
 
 returns : tie.Need-returns
-returns c = let a = c .before .before .before .args in rw (sym (c .before .if1 .taken), sym (c .if2 .taken)) (sym (bytes-refl (wordsAt (now (a .text)) (a .place) (a .length))))
+returns c =
+    let first = c .before .before .before in
+    let a = first .before .before .before .before .args in
+    let t = now (a .text) in
+    let same : a .run ≡ a .other = ap₂ (λ (p n : ℕ). record { place = p; length = n }) (first .if1 .taken) (c .if2 .taken) in
+    sym (bytes-refl (wordsAt t (a .run))) ∙ ap (λ (r : NameRun). sameBytes (wordsAt t (a .run)) (wordsAt t r)) same
 
-part-requires : tie.Need-part-requires
-part-requires c κs = search needs
+part-of-requires : tie.Need-part-of-requires
+part-of-requires c κs = search needs
 
-part-requires-2 : tie.Need-part-requires-2
-part-requires-2 c κs = search needs
+part-of-requires-2 : tie.Need-part-of-requires-2
+part-of-requires-2 c κs = search needs
 
 same-words-requires : tie.Need-same-words-requires
 same-words-requires c κs = search needs
 
 returns-2 : tie.Need-returns-2
 returns-2 c =
-    let a = c .before .before .before .before .before .args in
-    names-same (now (a .text)) (a .place) (a .length) (a .other-place) (a .other-length) (c .before .before .part .ensures) (c .before .part2 .ensures) (c .same-words .ensures)
+    let a = c .before .before .before .before .before .before .before .args in
+    names-same (now (a .text)) (a .run) (a .other) (c .before .before .part-of .ensures) (c .before .part-of2 .ensures) (c .same-words .ensures)
 
 pub same-names-spec : {M : Type 1} → statement M
 same-names-spec =
-    tie.close (tie.spec returns part-requires part-requires-2 same-words-requires returns-2)
+    tie.close (tie.spec returns part-of-requires part-of-requires-2 same-words-requires returns-2)

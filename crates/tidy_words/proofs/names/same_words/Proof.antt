@@ -23,54 +23,39 @@ next-word-requires c κs = c .loop .inv .to
 next-word-requires-2 : tie.Need-next-word-requires-2 Inv-loop μ-loop
 next-word-requires-2 c κs = c .before .loop .inv .other-to
 
+module _ (c : tie.After-next-word2 Inv-loop μ-loop) where
+  abbrev l : tie.At-loop Inv-loop μ-loop
+  l = c .before .before
+
 returns : tie.Need-returns Inv-loop μ-loop
-returns c =
-    let a = c .before .before .before .before .before .before .args in
-    let l = c .before .before .before .loop in
-    let m = c .before .before .next-word .ensures in
-    let n = c .before .next-word2 .ensures in
-    N.compared-end (now (a .one)) (now (a .other)) (l .i) (l .j) (l .inv) m n (c .if1 .taken)
+returns c = let n = c .before in N.compared-end (l n .loop .inv) (n .before .next-word .ensures) (n .next-word2 .ensures) (c .if1 .taken)
 
 returns-2 : tie.Need-returns-2 Inv-loop μ-loop
-returns-2 c =
-    let a = c .before .before .before .before .before .before .before .args in
-    let l = c .before .before .before .before .loop in
-    let m = c .before .before .before .next-word .ensures in
-    let n = c .before .before .next-word2 .ensures in
-    N.compared-longer (now (a .one)) (now (a .other)) (l .i) (l .j) (l .inv) m n (c .before .if1 .left) (c .if2 .taken)
+returns-2 c = let n = c .before .before in N.compared-longer (l n .loop .inv) (n .before .next-word .ensures) (n .next-word2 .ensures) (c .before .if1 .left) (c .if2 .taken)
 
 same-word-requires : tie.Need-same-word-requires Inv-loop μ-loop
 same-word-requires c κs = search needs
 
 returns-3 : tie.Need-returns-3 Inv-loop μ-loop
 returns-3 c =
-    let a = c .before .before .before .before .before .before .before .before .before .args in
-    let l = c .before .before .before .before .before .before .loop in
-    let m = c .before .before .before .before .before .next-word .ensures in
-    let n = c .before .before .before .before .next-word2 .ensures in
-    N.compared-differ (now (a .one)) (now (a .other)) (l .i) (l .j) (l .inv) m n (c .before .before .before .if1 .left) (c .before .before .if2 .left) (c .before .same-word .result) (c .before .same-word .ensures) (c .if3 .taken)
+    let n = c .before .before .before .before in
+    N.compared-differ (l n .loop .inv) (n .before .next-word .ensures) (n .next-word2 .ensures) (c .before .before .before .if1 .left) (c .before .before .if2 .left) _ (c .before .same-word .ensures) (c .if3 .taken)
 
 word-end-requires : tie.Need-word-end-requires Inv-loop μ-loop
 word-end-requires c κs = c .before .before .before .before .next-word2 .ensures .to
 
 loop-less : tie.Need-loop-less Inv-loop μ-loop
 loop-less c =
-    let a = c .before .before .before .before .before .before .before .before .before .before .args in
-    let l = c .before .before .before .before .before .before .before .loop in
-    let m = c .before .before .before .before .before .before .next-word .ensures in
-    let n = c .before .before .before .before .before .next-word2 .ensures in
-    let next = N.compared-turn (now (a .one)) (now (a .other)) (l .i) (l .j) (l .inv) m n (c .before .before .before .before .if1 .left) (c .before .before .before .if2 .left) (c .before .before .same-word .result) (c .before .before .same-word .ensures) (c .before .if3 .left) (c .word-end .ensures .0) in
+    let n = c .before .before .before .before .before in
+    let next = N.compared-turn (l n .loop .inv) (n .before .next-word .ensures) (n .next-word2 .ensures) (c .before .before .before .before .if1 .left) (c .before .before .before .if2 .left) _ (c .before .before .same-word .ensures) (c .before .if3 .left) (c .word-end .ensures .0) in
     let less = next .1 in
     let to = next .0 .to in
     omega arith
 
 loop-again : tie.Need-loop-again Inv-loop μ-loop
 loop-again c =
-    let a = c .before .before .before .before .before .before .before .before .before .before .args in
-    let l = c .before .before .before .before .before .before .before .loop in
-    let m = c .before .before .before .before .before .before .next-word .ensures in
-    let n = c .before .before .before .before .before .next-word2 .ensures in
-    (N.compared-turn (now (a .one)) (now (a .other)) (l .i) (l .j) (l .inv) m n (c .before .before .before .before .if1 .left) (c .before .before .before .if2 .left) (c .before .before .same-word .result) (c .before .before .same-word .ensures) (c .before .if3 .left) (c .word-end .ensures .0)) .0
+    let n = c .before .before .before .before .before in
+    N.compared-turn (l n .loop .inv) (n .before .next-word .ensures) (n .next-word2 .ensures) (c .before .before .before .before .if1 .left) (c .before .before .before .if2 .left) _ (c .before .before .same-word .ensures) (c .before .if3 .left) (c .word-end .ensures .0) .0
 
 pub same-words-spec : {M : Type 1} → statement M
 same-words-spec =

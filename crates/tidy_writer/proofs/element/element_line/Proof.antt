@@ -43,7 +43,7 @@ returns c =
     let a = c .before .before .before .before .before .before .before .before .before .before .before .before .before .before .before .before .before .before .before .before .before .before .args in
     let e = a .element in
     let ns = map writtenNumber (take (rangeCount (e .kind)) (rangeNumbers (a .body))) in
-    let cs = map writtenCorner (cornersFrom (e .count) (drop (e .first) (now (a .corners)))) in
+    let cs = map writtenCorner (cornersFrom (e .corners .count) (drop (e .corners .first) (now (a .corners)))) in
     let k = ap keywordOf (c .before .before .before .before .before .before .before .before .before .before .before .before .before .before .before .before .before .before .before .kind-keyword .ensures) in
     let n = rw (c .before .before .before .before .before .before .before .before .before .before .before .before .range-count .ensures, fitted {z = a .body .«start_u»} (c .before .before .before .before .before .before .before .before .before .before .before .before .before .before .struct-told .given .1 .1 .1 .1 .1 .1 .1 .1 .1 .0 .1), fitted {z = a .body .«end_u»} (c .before .before .before .before .before .before .before .before .before .before .before .before .before .before .struct-told .given .1 .1 .1 .1 .1 .1 .1 .1 .1 .1 .0 .1), fitted {z = a .body .«start_v»} (c .before .before .before .before .before .before .before .before .before .before .before .before .before .before .struct-told .given .1 .1 .1 .1 .1 .1 .1 .1 .1 .1 .1 .0 .1), fitted {z = a .body .«end_v»} (c .before .before .before .before .before .before .before .before .before .before .before .before .before .before .struct-told .given .1 .1 .1 .1 .1 .1 .1 .1 .1 .1 .1 .1 .0 .1)) at (c .before .before .before .before .before .before .before .before .before .before .emit-numbers .ensures) in
     emitted-line (keywordOf (kindKeyword (e .kind))) (ns ++ cs) (emitted-is k (emitted-whole (c .before .before .before .before .before .before .before .before .before .before .before .before .before .before .before .before .before .emit-keyword .ensures)))

@@ -7,7 +7,7 @@ use native.Mathlib.Omega.{arith}
 use denote.Ref.{now}
 use lib.ListN.{drop}
 use Rattle.references.specs.Written.{writtenCorner}
-use Rattle.tables.specs.Records.{cornersEnd}
+use Rattle.tables.specs.Records.{cornerPlace}
 use Rattle.tidy_words.specs.Emitting.{spaced}
 use Rattle.tidy_writer.specs.Rows.{cornersFrom}
 use Rattle.tidy_words.proofs.Emissions.{Left, left-start, left-turn, left-ends, emitted-spaced}
@@ -16,20 +16,20 @@ use Rattle.tidy_writer.proofs.element.emit_corners.Statement.{statement
 use Rattle.tidy_writer.proofs.element.emit_corners.Tie as tie
 
 abbrev Inv-loop : tie.InvT-loop
-Inv-loop corners first count out₀ at k₀ left₀ end₀ out k left end =
-    Left at (spaced (map writtenCorner (cornersFrom count (drop first corners)))) out₀ end (spaced (map writtenCorner (cornersFrom left (drop (cornersEnd first k) corners)))) out
-    × (k + left ≡ count)
+Inv-loop corners run out₀ at k₀ left₀ end₀ out k left end =
+    Left at (spaced (map writtenCorner (cornersFrom (run .count) (drop (run .first) corners)))) out₀ end (spaced (map writtenCorner (cornersFrom left (drop (cornerPlace run k) corners)))) out
+    × (k + left ≡ run .count)
 
 abbrev μ-loop : tie.MeasureT-loop
-μ-loop corners first count out₀ at k₀ left₀ end₀ out k left end = left
+μ-loop corners run out₀ at k₀ left₀ end₀ out k left end = left
 
 loop-holds : tie.Need-loop-holds Inv-loop μ-loop
 loop-holds c =
     let a = c .before .before .args in
     let l = now (a .corners) in
-    let w = spaced (map writtenCorner (cornersFrom (a .count) (drop (a .first) l))) in
-    let z : a .first ≡ cornersEnd (a .first) 0 = omega arith in (
-      subst (λ (n : ℕ). Left (a .at) w (now (a .out)) (a .at) (spaced (map writtenCorner (cornersFrom (a .count) (drop n l)))) (now (a .out))) z (left-start (a .at) w (now (a .out)) (c .before .before .pre)),
+    let w = spaced (map writtenCorner (cornersFrom (a .run .count) (drop (a .run .first) l))) in
+    let z : a .run .first ≡ cornerPlace (a .run) 0 = omega arith in (
+      subst (λ (n : ℕ). Left (a .at) w (now (a .out)) (a .at) (spaced (map writtenCorner (cornersFrom (a .run .count) (drop n l)))) (now (a .out))) z (left-start (a .at) w (now (a .out)) (c .before .before .pre)),
       omega arith,
     )
 
@@ -54,7 +54,7 @@ loop-again c =
     let l = c .before .before .before .before .before .before .loop in
     let h : 0 < l .left = omega arith in
     let r = c .before .before .before .before .corner-at in
-    (left-turn (l .inv .0) (corner-turn (now (a .corners)) (a .first) (l .k) (l .left) (r .result) h (r .ensures)) (emitted-spaced (c .before .before .emit-spaced-corner .ensures)), omega arith)
+    (left-turn (l .inv .0) (corner-turn (now (a .corners)) (a .run) (l .k) (l .left) (r .result) h (r .ensures)) (emitted-spaced (c .before .before .emit-spaced-corner .ensures)), omega arith)
 
 same-length : tie.Need-same-length Inv-loop μ-loop
 same-length c = c .before .loop .inv .0 .same
@@ -63,7 +63,7 @@ returns : tie.Need-returns Inv-loop μ-loop
 returns c =
     let l = c .before .loop in
     let a = c .before .before .before .before .args in
-    left-ends (l .inv .0) (corners-none (drop (cornersEnd (a .first) (l .k)) (now (a .corners))) (l .left) (omega arith))
+    left-ends (l .inv .0) (corners-none (drop (cornerPlace (a .run) (l .k)) (now (a .corners))) (l .left) (omega arith))
 
 pub emit-corners-spec : {M : Type 1} → statement M
 emit-corners-spec =

@@ -23,10 +23,10 @@ element-of-requires-2 : tie.Need-element-of-requires-2
 element-of-requires-2 c κs = search needs
 
 names-lines-requires : tie.Need-names-lines-requires
-names-lines-requires c κs = search needs
+names-lines-requires c κs = let s = c .before .before .before .before .before .before .before .before .before in (s .pre .0, s .pre .1 .1 .0)
 
 own-lines-requires : tie.Need-own-lines-requires
-own-lines-requires c κs = search needs
+own-lines-requires c κs = let s = c .before .before .before .before .before .before .before .before .before .before .before .before .before in (s .pre .0, s .pre .1 .0)
 
 same-length : tie.Need-same-length
 same-length c = search needs

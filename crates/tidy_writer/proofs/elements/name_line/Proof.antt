@@ -17,7 +17,7 @@ returns c =
     let s = c .before .before .before .before in
     let a = s .args in
     let t = now (a .text) in
-    emitted-is (changed-none (a .statement) (wordsAt t (a .before) (a .before-length)) (wordsAt t (a .place) (a .length)) (sym (c .before .same-names .ensures) ∙ c .if1 .taken)) (emitted-none (a .at) (now (a .out)) (s .pre .1))
+    emitted-is (changed-none (a .statement) (wordsAt t (a .before)) (wordsAt t (a .run)) (sym (c .before .same-names .ensures) ∙ c .if1 .taken)) (emitted-none (a .at) (now (a .out)) (s .pre .1))
 
 emit-keyword-requires : tie.Need-emit-keyword-requires
 emit-keyword-requires c κs = search needs
@@ -35,8 +35,8 @@ returns-2 : tie.Need-returns-2
 returns-2 c =
     let a = c .before .before .before .before .before .before .before .before .before .before .before .before .before .before .before .before .args in
     let t = now (a .text) in
-    emitted-is (changed-line (a .statement) (wordsAt t (a .before) (a .before-length)) (wordsAt t (a .place) (a .length)) (sym (c .before .before .before .before .before .before .before .before .before .before .before .before .before .same-names .ensures) ∙ c .before .before .before .before .before .before .before .before .before .before .before .before .if1 .left))
-    (emitted-line (keywordOf (a .statement)) (wordsAt t (a .place) (a .length)) (emitted-whole (c .before .before .before .before .before .before .before .before .before .before .emit-keyword .ensures)) (c .before .before .before .before .before .before .emit-names .ensures) (emitted-whole (c .before .before .emit-byte .ensures)))
+    emitted-is (changed-line (a .statement) (wordsAt t (a .before)) (wordsAt t (a .run)) (sym (c .before .before .before .before .before .before .before .before .before .before .before .before .before .same-names .ensures) ∙ c .before .before .before .before .before .before .before .before .before .before .before .before .if1 .left))
+    (emitted-line (keywordOf (a .statement)) (wordsAt t (a .run)) (emitted-whole (c .before .before .before .before .before .before .before .before .before .before .emit-keyword .ensures)) (c .before .before .before .before .before .before .emit-names .ensures) (emitted-whole (c .before .before .emit-byte .ensures)))
 
 pub name-line-spec : {M : Type 1} → statement M
 name-line-spec =

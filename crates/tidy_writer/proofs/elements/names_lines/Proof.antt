@@ -28,9 +28,9 @@ returns c =
     let p = a .before in
     let e = a .element in
     emitted-is
-    (three-lines (changed Group (wordsAt t (p .«group_place») (p .«group_length»)) (wordsAt t (e .«group_place») (e .«group_length»)))
+    (three-lines (changed Group (wordsAt t (p .group)) (wordsAt t (e .group)))
     (smoothed (p .smoothing) (e .smoothing))
-    (changed Material (wordsAt t (p .«material_place») (p .«material_length»)) (wordsAt t (e .«material_place») (e .«material_length»))))
+    (changed Material (wordsAt t (p .material)) (wordsAt t (e .material))))
     (emitted-then (c .before .before .before .before .before .before .before .before .before .before .name-line .ensures) (emitted-then (c .before .before .before .before .before .before .smoothing-line .ensures) (c .before .before .name-line2 .ensures)))
 
 pub names-lines-spec : {M : Type 1} → statement M
