@@ -14,14 +14,14 @@ abbrev pub part : ℕ → ℕ → Part
 part place count = record { place = place; length = count }
 
 -- where that part of the caller's own text stands; "a run past the text's end, gives an empty part"
-unfoldable pub partIn : List ℕ → NameRun → Part
-partIn text run = cond (leb (run .place + run .length) (length text)) (part (run .place) (run .length)) (part 0 0)
+unfoldable pub textPartIn : List ℕ → NameRun → Part
+textPartIn text run = cond (leb (run .place + run .length) (length text)) (part (run .place) (run .length)) (part 0 0)
 
 unfoldable pub groupIn : List ℕ → Used → List ℕ → ℕ → Part
-groupIn text used elements number = partIn text (askedElement used elements number .group)
+groupIn text used elements number = textPartIn text (askedElement used elements number .group)
 
 unfoldable pub materialIn : List ℕ → Used → List ℕ → ℕ → Part
-materialIn text used elements number = partIn text (askedElement used elements number .material)
+materialIn text used elements number = textPartIn text (askedElement used elements number .material)
 
 -- the bytes of the text that a part names
 abbrev pub bytesIn : List ℕ → Part → List ℕ

@@ -1,6 +1,6 @@
 // What C and Rust ask of the tables: an element and a body as records of numbers, the element of a curv2's number, and where a name stands.
 ghost use mathlib.Core.Path.{_≡_};
-ghost use Rattle.c_tables.specs.Parts.{partIn};
+ghost use Rattle.c_tables.specs.Parts.{textPartIn};
 use tables::NameRun;
 
 pub mod curve_numbers;
@@ -14,7 +14,7 @@ pub struct Part {
 }
 
 pub fn part_of(text: &[u8], run: NameRun) -> Part
-    ensures { λ r. ⌜ r ≡ partIn (now (text .entry)) run ⌝ }
+    ensures { λ r. ⌜ r ≡ textPartIn (now (text .entry)) run ⌝ }
 {
     let from = run.place as usize;
     let many = run.length as usize;

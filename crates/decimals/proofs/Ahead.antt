@@ -9,7 +9,7 @@ use Rattle.lists.proofs.Laws.{all-append}
 use Rattle.text.specs.Words.{wordOf}
 use Rattle.text.specs.Rest.{endOf}
 use Rattle.digits.specs.Said.{says, wrong}
-use Rattle.digits.specs.Answers.{ended}
+use Rattle.digits.specs.Answers.{endsAt}
 use Rattle.digits.specs.Digits.{isDigit, natOf}
 use Rattle.digits.specs.Straight.{first, run, cap, WholeRead}
 use Rattle.digits.proofs.Rows.{run-digits, natOf-append, natOf-padded}
@@ -59,14 +59,14 @@ module _ (s : List ℕ) (at n end : ℕ) (r : MantissaAhead s at n end) where
   pub ahead-in : end < length s
   ahead-in = end-in (r .read) (first (drop end s)) refl (r .stops)
 
-  pub ahead-no-decimal : wrong 6 ≡ ended (magnitudeOf (wordOf (drop at s))) (endOf s at)
+  pub ahead-no-decimal : wrong 6 ≡ endsAt (magnitudeOf (wordOf (drop at s))) (endOf s at)
   ahead-no-decimal = no-decimal (r .read) (first (drop end s)) refl (r .stops)
 
-  pub shifted-malformed : wrong 6 ≡ ended (exponentOf (wordOf (drop (end + 1) s))) (endOf s (end + 1)) → wrong 6 ≡ ended (scaledOf (wordOf (drop at s))) (endOf s at)
+  pub shifted-malformed : wrong 6 ≡ endsAt (exponentOf (wordOf (drop (end + 1) s))) (endOf s (end + 1)) → wrong 6 ≡ endsAt (scaledOf (wordOf (drop at s))) (endOf s at)
   shifted-malformed h = scaled-malformed (r .read) (first (drop end s)) refl (r .stops) h
 
-  pub shifted-read : (minus : Bool) (k last v : ℕ) → says ((minus, k), last) ≡ ended (exponentOf (wordOf (drop (end + 1) s))) (endOf s (end + 1))
-      → v ≡ cap (movedOf minus (n * 10) k) → says (v, last) ≡ ended (scaledOf (wordOf (drop at s))) (endOf s at)
+  pub shifted-read : (minus : Bool) (k last v : ℕ) → says ((minus, k), last) ≡ endsAt (exponentOf (wordOf (drop (end + 1) s))) (endOf s (end + 1))
+      → v ≡ cap (movedOf minus (n * 10) k) → says (v, last) ≡ endsAt (scaledOf (wordOf (drop at s))) (endOf s at)
   shifted-read minus k last v h e =
       let f = r .few in
       let t : n * 10 ≡ natOf 0 (b ++ a) * 10 ^ (7 - length a) = (let y = r .value-is in omega arith) in

@@ -13,8 +13,8 @@ use Rattle.lists.proofs.Tests.{and-left, and-right}
 use Rattle.text.specs.Words.{wordOf}
 use Rattle.text.specs.Rest.{endOf}
 use Rattle.digits.specs.Said.{says, wrong}
-use Rattle.digits.specs.Answers.{ended}
-use Rattle.digits.specs.Digits.{digits, natOf, whole, negative}
+use Rattle.digits.specs.Answers.{endsAt}
+use Rattle.digits.specs.Digits.{digits, natOf, isWhole, negative}
 use Rattle.digits.specs.Straight.{first, run, cap}
 use Rattle.digits.proofs.Rows.{natOf-append, natOf-below, cap-natOf, ten-pos}
 use Rattle.digits.proofs.Wholes.{RowRead, NoRow, row-digits, no-digits}
@@ -29,35 +29,35 @@ module _ (s : List ℕ) (at b n : ℕ) (h : at ≤ length s) (e : b ≡ first (d
   abbrev x : List ℕ
   x = wordOf (drop at s)
 
-  pub exponent-bad : NoRow 3 s (at + n) → wrong 6 ≡ ended (exponentOf x) (endOf s at)
+  pub exponent-bad : NoRow 3 s (at + n) → wrong 6 ≡ endsAt (exponentOf x) (endOf s at)
   unfolding exponentOf
-  exponent-bad r = rw (ap (whole 3) (sym (unsigned-is s at b n h e k)) ∙ no-digits s (at + n) 3 r) refl
+  exponent-bad r = rw (ap (isWhole 3) (sym (unsigned-is s at b n h e k)) ∙ no-digits s (at + n) 3 r) refl
 
-  pub exponent-read : (v end : ℕ) → RowRead 3 s (at + n) v end → says ((eqb b 45, v), end) ≡ ended (exponentOf x) (endOf s at)
+  pub exponent-read : (v end : ℕ) → RowRead 3 s (at + n) v end → says ((eqb b 45, v), end) ≡ endsAt (exponentOf x) (endOf s at)
   exponent-read v end r =
       let t = row-digits s (at + n) 3 v end r in
       let u = unsigned-is s at b n h e k in
       let m : negative x ≡ eqb b 45 = signs s at b n h e k .negative-is ∙ ap (λ (y : ℕ). eqb y 45) (sym e) in
-      said (exponentOf x) (eqb b 45, v) (endOf s at) end (found (ap (whole 3) (sym u) ∙ t .0) (ap (natOf 0) (sym u) ∙ t .1) m) (t .2 ∙ ends s at b n h e k)
+      said (exponentOf x) (eqb b 45, v) (endOf s at) end (found (ap (isWhole 3) (sym u) ∙ t .0) (ap (natOf 0) (sym u) ∙ t .1) m) (t .2 ∙ ends s at b n h e k)
     where
-      found : whole 3 (unsigned x) ≡ true → natOf 0 (unsigned x) ≡ v → negative x ≡ eqb b 45 → exponentOf x ≡ says (eqb b 45, v)
+      found : isWhole 3 (unsigned x) ≡ true → natOf 0 (unsigned x) ≡ v → negative x ≡ eqb b 45 → exponentOf x ≡ says (eqb b 45, v)
       found f g m = unfold exponentOf in rw (f, g, m) refl
 
 -- what an exponent says of what stands after e or E
-pub exponent-true : (x : List ℕ) (minus : Bool) (v : ℕ) → exponentOf x ≡ says (minus, v) → (whole 3 (unsigned x) ≡ true) × (negative x ≡ minus) × (natOf 0 (unsigned x) ≡ v)
+pub exponent-true : (x : List ℕ) (minus : Bool) (v : ℕ) → exponentOf x ≡ says (minus, v) → (isWhole 3 (unsigned x) ≡ true) × (negative x ≡ minus) × (natOf 0 (unsigned x) ≡ v)
 unfolding exponentOf
 exponent-true x minus v h =
-    let p = must-says (whole 3 (unsigned x)) 6 (says (negative x, natOf 0 (unsigned x))) (minus, v) h in
+    let p = must-says (isWhole 3 (unsigned x)) 6 (says (negative x, natOf 0 (unsigned x))) (minus, v) h in
     let q : _≡_ {A = Bool × ℕ} (negative x, natOf 0 (unsigned x)) (minus, v) = (let y = p .1 in cc) in
     (p .0, ap (λ (y : Bool × ℕ). y .0) q, ap (λ (y : Bool × ℕ). y .1) q)
 
-pub exponent-false : (x : List ℕ) → exponentOf x ≡ wrong 6 → whole 3 (unsigned x) ≡ false
+pub exponent-false : (x : List ℕ) → exponentOf x ≡ wrong 6 → isWhole 3 (unsigned x) ≡ false
 unfolding exponentOf
-exponent-false x h = must-wrong (whole 3 (unsigned x)) 6 (negative x, natOf 0 (unsigned x)) 6 h
+exponent-false x h = must-wrong (isWhole 3 (unsigned x)) 6 (negative x, natOf 0 (unsigned x)) 6 h
 
 -- three digits
-pub exponent-small : (s : List ℕ) (at : ℕ) (minus : Bool) (v end : ℕ) → says ((minus, v), end) ≡ ended (exponentOf (wordOf (drop at s))) (endOf s at) → v < 1000
-unfolding whole
+pub exponent-small : (s : List ℕ) (at : ℕ) (minus : Bool) (v end : ℕ) → says ((minus, v), end) ≡ endsAt (exponentOf (wordOf (drop at s))) (endOf s at) → v < 1000
+unfolding isWhole
 exponent-small s at minus v end r =
     let x : List ℕ = unsigned (wordOf (drop at s)) in
     let t = exponent-true (wordOf (drop at s)) minus v (ended-says (exponentOf (wordOf (drop at s))) (minus, v) (endOf s at) end r .0) in

@@ -13,8 +13,8 @@ use Rattle.lists.proofs.Laws.{all-append}
 use Rattle.text.specs.Words.{wordOf}
 use Rattle.text.specs.Rest.{endOf}
 use Rattle.digits.specs.Said.{says, wrong}
-use Rattle.digits.specs.Answers.{ended}
-use Rattle.digits.specs.Digits.{isDigit, digits, natOf, whole, negative}
+use Rattle.digits.specs.Answers.{endsAt}
+use Rattle.digits.specs.Digits.{isDigit, digits, natOf, isWhole, negative}
 use Rattle.digits.specs.Straight.{first, isEmpty, run, past, cap}
 use Rattle.digits.proofs.Rows.{run-short, run-digits}
 use Rattle.digits.proofs.Fronts.{past-at, next-at, past-digit, past-word, word-run, on-word, byte-word, byte-in, run-nil, nothing-left}
@@ -151,7 +151,7 @@ module _ {s : List ℕ} {at point from end : ℕ} (m : MantissaRead s at point f
       (test (eqb (first (drop point s)) 46))
 
   -- a word without an exponent
-  scaled-wrong : (decimal (mantissa u) && hasExponent (exponent u)) ≡ false → wrong 6 ≡ ended (scaledOf u) (endOf s at)
+  scaled-wrong : (decimal (mantissa u) && hasExponent (exponent u)) ≡ false → wrong 6 ≡ endsAt (scaledOf u) (endOf s at)
   unfolding scaledOf
   scaled-wrong h = rw h refl
 
@@ -191,7 +191,7 @@ module _ {s : List ℕ} {at point from end : ℕ} (m : MantissaRead s at point f
       not-decimal (mantissa u) (and-first (digits (after (mantissa u))) k))
       (mantissa-rest (c ∷ mantissa y) z)
 
-  pub scaled-not : isE (first (drop end s)) ≡ false → wrong 6 ≡ ended (scaledOf u) (endOf s at)
+  pub scaled-not : isE (first (drop end s)) ≡ false → wrong 6 ≡ endsAt (scaledOf u) (endOf s at)
   scaled-not n =
       ⊎-elim
       (λ (o : isEmpty rest ≡ true). scaled-wrong (and-second (decimal (mantissa u)) (ap hasExponent (exponent-rest ∙ ap exponent (nothing-left rest o)))))
@@ -214,10 +214,10 @@ module _ {s : List ℕ} {at point from end : ℕ} (m : MantissaRead s at point f
     is-decimal : decimal (mantissa u) ≡ leb 1 (length b + length a)
     is-decimal = parts-decimal b a (run-digits (drop at s)) (run-digits (drop from s)) (mantissa u) (mantissa-is .0) (mantissa-is .1)
 
-    scaled-none : length b + length a ≡ 0 → wrong 6 ≡ ended (scaledOf u) (endOf s at)
+    scaled-none : length b + length a ≡ 0 → wrong 6 ≡ endsAt (scaledOf u) (endOf s at)
     scaled-none z = scaled-wrong (and-first (hasExponent (exponent u)) (is-decimal ∙ lt-leb 1 (length b + length a) (omega arith)))
 
-    scaled-bad : whole 3 (unsigned x) ≡ false → wrong 6 ≡ ended (scaledOf u) (endOf s at)
+    scaled-bad : isWhole 3 (unsigned x) ≡ false → wrong 6 ≡ endsAt (scaledOf u) (endOf s at)
     scaled-bad h = scaled-wrong (and-second (decimal (mantissa u)) (ap hasExponent exponent-is ∙ h))
 
     pub shifted-is : shifted u ≡ 10000000 * cond (negative x) (natOf 0 (b ++ a)) (natOf 0 (b ++ a) * 10 ^ natOf 0 (unsigned x)) / cond (negative x) (10 ^ length a * 10 ^ natOf 0 (unsigned x)) (10 ^ length a)
@@ -228,7 +228,7 @@ module _ {s : List ℕ} {at point from end : ℕ} (m : MantissaRead s at point f
         (parts-denominator b a (run-digits (drop at s)) (run-digits (drop from s)) (mantissa u) (mantissa-is .0) (mantissa-is .1))
         ∙ ap (λ (y : List ℕ). 10000000 * raised y (natOf 0 (b ++ a)) / lowered y (10 ^ length a)) exponent-is
 
-    pub scaled-of : 1 ≤ length b + length a → whole 3 (unsigned x) ≡ true → scaledOf u ≡ says (cap (shifted u))
+    pub scaled-of : 1 ≤ length b + length a → isWhole 3 (unsigned x) ≡ true → scaledOf u ≡ says (cap (shifted u))
     unfolding scaledOf
     scaled-of n h = rw (and-both (is-decimal ∙ le-leb 1 (length b + length a) n) (ap hasExponent exponent-is ∙ h)) refl
 
@@ -252,7 +252,7 @@ module _ {s : List ℕ} {at point from end : ℕ} (m : MantissaRead s at point f
     counts = let p = m .point-is in let r = m .end-is in omega arith
 
     -- it is no number without it
-    pub no-decimal : wrong 6 ≡ ended (magnitudeOf u) (endOf s at)
+    pub no-decimal : wrong 6 ≡ endsAt (magnitudeOf u) (endOf s at)
     unfolding magnitudeOf
     no-decimal =
         ⊎-elim
@@ -260,18 +260,18 @@ module _ {s : List ℕ} {at point from end : ℕ} (m : MantissaRead s at point f
         (λ (t : decimal u ≡ false). rw t refl)
         (test (decimal u))
 
-    pub scaled-nothing : point - at + (end - from) ≡ 0 → wrong 6 ≡ ended (scaledOf u) (endOf s at)
+    pub scaled-nothing : point - at + (end - from) ≡ 0 → wrong 6 ≡ endsAt (scaledOf u) (endOf s at)
     scaled-nothing z = scaled-none x c ee rest-is (sym counts ∙ z)
 
-    pub scaled-malformed : wrong 6 ≡ ended (exponentOf x) (endOf s (end + 1)) → wrong 6 ≡ ended (scaledOf u) (endOf s at)
+    pub scaled-malformed : wrong 6 ≡ endsAt (exponentOf x) (endOf s (end + 1)) → wrong 6 ≡ endsAt (scaledOf u) (endOf s at)
     scaled-malformed h = scaled-bad x c ee rest-is (exponent-false x (ended-wrong (exponentOf x) 6 (endOf s (end + 1)) h))
 
-    module _ (z : 1 ≤ length b + length a) (minus : Bool) (k last : ℕ) (h : says ((minus, k), last) ≡ ended (exponentOf x) (endOf s (end + 1))) where
-      told : (whole 3 (unsigned x) ≡ true) × (negative x ≡ minus) × (natOf 0 (unsigned x) ≡ k)
+    module _ (z : 1 ≤ length b + length a) (minus : Bool) (k last : ℕ) (h : says ((minus, k), last) ≡ endsAt (exponentOf x) (endOf s (end + 1))) where
+      told : (isWhole 3 (unsigned x) ≡ true) × (negative x ≡ minus) × (natOf 0 (unsigned x) ≡ k)
       told = exponent-true x minus k (ended-says (exponentOf x) (minus, k) (endOf s (end + 1)) last h .0)
 
       -- a value that is right, with where the word ends
-      scaled-value : (v : ℕ) → v ≡ cap (shifted u) → says (v, last) ≡ ended (scaledOf u) (endOf s at)
+      scaled-value : (v : ℕ) → v ≡ cap (shifted u) → says (v, last) ≡ endsAt (scaledOf u) (endOf s at)
       scaled-value v e =
           let o = mantissa-order in
           let l = mantissa-length in
@@ -285,10 +285,10 @@ module _ {s : List ℕ} {at point from end : ℕ} (m : MantissaRead s at point f
           ∙ ap₂ (λ (y : Bool) (i : ℕ). 10000000 * cond y (natOf 0 (b ++ a)) (natOf 0 (b ++ a) * 10 ^ i) / cond y (10 ^ length a * 10 ^ i) (10 ^ length a)) (told .1) (told .2)
 
       pub scaled-moved : (v : ℕ) → v ≡ cap (10000000 * cond minus (natOf 0 (b ++ a)) (natOf 0 (b ++ a) * 10 ^ k) / cond minus (10 ^ length a * 10 ^ k) (10 ^ length a))
-          → says (v, last) ≡ ended (scaledOf u) (endOf s at)
+          → says (v, last) ≡ endsAt (scaledOf u) (endOf s at)
       scaled-moved v e = scaled-value v (e ∙ sym (ap cap shifted-told))
 
-      pub scaled-read : (v : ℕ) → v ≡ cap (takenOf (placesOf minus (point - at) k) (b ++ a)) → says (v, last) ≡ ended (scaledOf u) (endOf s at)
+      pub scaled-read : (v : ℕ) → v ≡ cap (takenOf (placesOf minus (point - at) k) (b ++ a)) → says (v, last) ≡ endsAt (scaledOf u) (endOf s at)
       scaled-read v e =
           let n : point - at ≡ length b = (let p = m .point-is in omega arith) in
           scaled-value v

@@ -11,7 +11,7 @@ use lib.IntN.{ℤ}
 use Rattle.lists.specs.Signs.{withSign}
 use Rattle.rounding.specs.Round as round
 use Rattle.digits.specs.Said.{Said, says, wrong, must}
-use Rattle.digits.specs.Digits.{digits, natOf, whole, negative}
+use Rattle.digits.specs.Digits.{digits, natOf, isWhole, negative}
 
 -- "optional + or -"
 abbrev pub isSign : ℕ → Bool
@@ -37,7 +37,7 @@ exponent (b ∷ bs) = cond (isE b) (b ∷ bs) (exponent bs)
 -- "A number may end in e or E, an optional sign and one to three digits"
 abbrev pub isExponent : List ℕ → Bool
 isExponent [] = true
-isExponent (e ∷ x) = whole 3 (unsigned x)
+isExponent (e ∷ x) = isWhole 3 (unsigned x)
 
 -- what stands before the first point, all where there is none; what stands after it, nothing where there is none
 abbrev pub before : List ℕ → List ℕ

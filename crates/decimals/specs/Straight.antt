@@ -7,7 +7,7 @@ use lib.ListN.{length, take, drop}
 use lib.Dec.{leb, eqb}
 use lib.IntN.{ℤ}
 use Rattle.digits.specs.Said.{Said, says, wrong, must}
-use Rattle.digits.specs.Digits.{digits, natOf, whole, negative}
+use Rattle.digits.specs.Digits.{digits, natOf, isWhole, negative}
 use Rattle.digits.specs.Straight.{first, run, cap}
 use Rattle.decimals.specs.Number.{isE, unsigned, mantissa, exponent, before, after, decimal, numerator, denominator, raised, lowered, limited}
 
@@ -28,11 +28,11 @@ settleOf minus t = limited minus ((t + 5) / 10)
 -- ---- with an exponent
 -- what stands after e or E: whether it is negative, and its number
 unfoldable pub exponentOf : List ℕ → Said (Bool × ℕ)
-exponentOf x = must (whole 3 (unsigned x)) 6 (says (negative x, natOf 0 (unsigned x)))
+exponentOf x = must (isWhole 3 (unsigned x)) 6 (says (negative x, natOf 0 (unsigned x)))
 
 abbrev pub hasExponent : List ℕ → Bool
 hasExponent [] = false
-hasExponent (e ∷ x) = whole 3 (unsigned x)
+hasExponent (e ∷ x) = isWhole 3 (unsigned x)
 
 -- ten-millionths of a number that ends in an exponent, rounded down
 unfoldable pub shifted : List ℕ → ℕ

@@ -11,7 +11,7 @@ ghost use Prim.Native.Nat.{ℕ, _+_, _*_, _/_, _^_, _≤_, _<_};
 ghost use lib.ListN.{length, drop};
 ghost use Rattle.text.specs.Words.{wordOf};
 ghost use Rattle.text.specs.Rest.{endOf};
-ghost use Rattle.digits.specs.Answers.{ended};
+ghost use Rattle.digits.specs.Answers.{endsAt};
 ghost use Rattle.digits.specs.Straight.{first, run, cap};
 ghost use Rattle.decimals.specs.Number.{isSign, isE};
 ghost use Rattle.decimals.specs.Answers.{saidMagnitude, saidExponent};
@@ -42,7 +42,7 @@ pub fn sign_length(b: u8) -> usize
 // What stands after e or E: an optional sign and one to three digits.
 pub fn exponent_at(text: &[u8], at: usize) -> Exponent
     requires { ⌜ at ≤ length (now text) ⌝ }
-    ensures { λ r. ⌜ saidExponent r ≡ ended (exponentOf (wordOf (drop at (now (text .entry))))) (endOf (now (text .entry)) at) ⌝ }
+    ensures { λ r. ⌜ saidExponent r ≡ endsAt (exponentOf (wordOf (drop at (now (text .entry))))) (endOf (now (text .entry)) at) ⌝ }
 {
     let b = byte_at(text, at);
     match row_at(text, at + sign_length(b), 3) {
@@ -155,7 +155,7 @@ fn moved(value: u64, minus: bool, power: u64) -> u64
 // From e or E at `end` on, after a mantissa of so many millionths from `at`.
 pub fn shifted(text: &[u8], at: usize, millionths: u64, end: usize) -> Magnitude
     requires { ⌜ MantissaAhead (now text) at millionths end ⌝ }
-    ensures { λ r. ⌜ saidMagnitude r ≡ ended (scaledOf (wordOf (drop at (now (text .entry))))) (endOf (now (text .entry)) at) ⌝ }
+    ensures { λ r. ⌜ saidMagnitude r ≡ endsAt (scaledOf (wordOf (drop at (now (text .entry))))) (endOf (now (text .entry)) at) ⌝ }
 {
     match exponent_at(text, end + 1) {
         Exponent::Bad => Magnitude::Bad,
@@ -208,7 +208,7 @@ fn taken(text: &[u8], at: usize, m: Mantissa, count: usize) -> u64
 fn with_exponent(text: &[u8], at: usize, m: Mantissa) -> Magnitude
     requires { ⌜ MantissaRead (now text) at (m .point) (m .from) (m .end) ⌝ }
     requires { ⌜ isE (first (drop (m .end) (now text))) ≡ true ⌝ }
-    ensures { λ r. ⌜ saidMagnitude r ≡ ended (scaledOf (wordOf (drop at (now (text .entry))))) (endOf (now (text .entry)) at) ⌝ }
+    ensures { λ r. ⌜ saidMagnitude r ≡ endsAt (scaledOf (wordOf (drop at (now (text .entry))))) (endOf (now (text .entry)) at) ⌝ }
 {
     let point = m.point;
     let stop = m.end;
@@ -227,7 +227,7 @@ fn with_exponent(text: &[u8], at: usize, m: Mantissa) -> Magnitude
 // The number that ends in an exponent, in ten-millionths rounded down.
 pub fn scaled(text: &[u8], at: usize) -> Magnitude
     requires { ⌜ at ≤ length (now text) ⌝ }
-    ensures { λ r. ⌜ saidMagnitude r ≡ ended (scaledOf (wordOf (drop at (now (text .entry))))) (endOf (now (text .entry)) at) ⌝ }
+    ensures { λ r. ⌜ saidMagnitude r ≡ endsAt (scaledOf (wordOf (drop at (now (text .entry))))) (endOf (now (text .entry)) at) ⌝ }
 {
     let m = mantissa_at(text, at);
     if is_e(byte_at(text, m.end)) {

@@ -8,7 +8,7 @@ use lib.ListN.{length}
 use lib.Dec.{leb}
 use native.Mathlib.Omega.{arith}
 use Rattle.lists.proofs.Tests.{test}
-use Rattle.digits.specs.Digits.{isDigit, digits, natOf, whole}
+use Rattle.digits.specs.Digits.{isDigit, digits, natOf, isWhole}
 use Rattle.digits.specs.Straight.{isEmpty, run, past, cap, front}
 use Rattle.digits.proofs.Rows.{run-digits, natOf-below}
 use Rattle.digits.proofs.Fronts.{front-all, front-not}
@@ -18,23 +18,23 @@ pub ten-digits : (l : List ℕ) → length (run l) ≤ 10 → cap (natOf 0 (run 
 ten-digits l k = omega (arith, natOf-below 10 0 (run l) (run-digits l) k)
 
 -- 1 to k digits, when only digits are left out of account
-whole-run : (k : ℕ) (l : List ℕ) → whole k (run l) ≡ (leb 1 (length (run l)) && leb (length (run l)) k)
-unfolding whole
+whole-run : (k : ℕ) (l : List ℕ) → isWhole k (run l) ≡ (leb 1 (length (run l)) && leb (length (run l)) k)
+unfolding isWhole
 whole-run k l = rw (run-digits l) refl
 
-whole-no : (k : ℕ) (l : List ℕ) → digits l ≡ false → whole k l ≡ false
-unfolding whole
+whole-no : (k : ℕ) (l : List ℕ) → digits l ≡ false → isWhole k l ≡ false
+unfolding isWhole
 whole-no k l h = rw h refl
 
 module _ (f : ℕ → Bool) (fd : (b : ℕ) → isDigit b ≡ true → f b ≡ true) where
-  pub whole-yes : (k : ℕ) (l : List ℕ) → isEmpty (front f (past l)) ≡ true → whole k (front f l) ≡ (leb 1 (length (run l)) && leb (length (run l)) k)
-  whole-yes k l o = ap (whole k) (front-all f fd l o) ∙ whole-run k l
+  pub whole-yes : (k : ℕ) (l : List ℕ) → isEmpty (front f (past l)) ≡ true → isWhole k (front f l) ≡ (leb 1 (length (run l)) && leb (length (run l)) k)
+  whole-yes k l o = ap (isWhole k) (front-all f fd l o) ∙ whole-run k l
 
-  pub whole-not : (k : ℕ) (l : List ℕ) → isEmpty (front f (past l)) ≡ false → whole k (front f l) ≡ false
+  pub whole-not : (k : ℕ) (l : List ℕ) → isEmpty (front f (past l)) ≡ false → isWhole k (front f l) ≡ false
   whole-not k l o = whole-no k (front f l) (front-not f fd l o)
 
   -- too few digits or too many, whatever follows
-  pub whole-bad : (k : ℕ) (l : List ℕ) → (leb 1 (length (run l)) && leb (length (run l)) k) ≡ false → whole k (front f l) ≡ false
+  pub whole-bad : (k : ℕ) (l : List ℕ) → (leb 1 (length (run l)) && leb (length (run l)) k) ≡ false → isWhole k (front f l) ≡ false
   whole-bad k l h =
       ⊎-elim
       (λ (o : isEmpty (front f (past l)) ≡ true). whole-yes k l o ∙ h)

@@ -4,20 +4,20 @@ use mathlib.Core.Path.{_≡_, refl, sym, ap}
 use mathlib.Core.Bool.{Bool, true, false}
 use native.Mathlib.Omega.{arith}
 use Rattle.digits.specs.Said.{Said, says, wrong, must}
-use Rattle.digits.specs.Answers.{ended}
+use Rattle.digits.specs.Answers.{endsAt}
 
 module _ {A : Type 0} where
-  pub said : (x : Said A) (a : A) (e b : ℕ) → x ≡ says a → b ≡ e → says (a, b) ≡ ended x e
+  pub said : (x : Said A) (a : A) (e b : ℕ) → x ≡ says a → b ≡ e → says (a, b) ≡ endsAt x e
   said x a e b h k = rw (h, k) refl
 
-  pub unsaid : (x : Said A) (n e : ℕ) → x ≡ wrong n → wrong n ≡ ended x e
+  pub unsaid : (x : Said A) (n e : ℕ) → x ≡ wrong n → wrong n ≡ endsAt x e
   unsaid x n e h = rw h refl
 
-  pub ended-says : (x : Said A) (a : A) (e b : ℕ) → says (a, b) ≡ ended x e → (x ≡ says a) × (b ≡ e)
+  pub ended-says : (x : Said A) (a : A) (e b : ℕ) → says (a, b) ≡ endsAt x e → (x ≡ says a) × (b ≡ e)
   ended-says (says c) a e b h = let p : _≡_ {A = A × ℕ} (a, b) (c, e) = cc in (ap says (sym (ap (λ (q : A × ℕ). q .0) p)), ap (λ (q : A × ℕ). q .1) p)
   ended-says (wrong n) a e b h = absurd (let z : _≡_ {A = ℕ} 0 1 = cc in omega arith)
 
-  pub ended-wrong : (x : Said A) (n e : ℕ) → wrong n ≡ ended x e → x ≡ wrong n
+  pub ended-wrong : (x : Said A) (n e : ℕ) → wrong n ≡ endsAt x e → x ≡ wrong n
   ended-wrong (says c) n e h = absurd (let z : _≡_ {A = ℕ} 0 1 = cc in omega arith)
   ended-wrong (wrong m) n e h = let z : m ≡ n = cc in ap wrong z
 

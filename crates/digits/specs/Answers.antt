@@ -26,6 +26,6 @@ saidName w (name.Of e) = says (w, e)
 saidName w name.Malformed = wrong 6
 
 -- the value, and where its word ends
-abbrev pub ended : {A : Type 0} → Said A → ℕ → Said (A × ℕ)
-ended (says a) e = says (a, e)
-ended (wrong n) e = wrong n
+abbrev pub endsAt : {A : Type 0} → Said A → ℕ → Said (A × ℕ)
+endsAt (says a) e = says (a, e)
+endsAt (wrong n) e = wrong n

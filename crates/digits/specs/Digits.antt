@@ -19,8 +19,8 @@ natOf a [] = a
 natOf a (b ∷ bs) = natOf (a * 10 + (b - 48)) bs
 
 -- 1 to k digits: "1 to 10 digits", "1 to 3 digits", "1 to 5 digits"
-unfoldable pub whole : ℕ → List ℕ → Bool
-whole k w = digits w && leb 1 (length w) && leb (length w) k
+unfoldable pub isWhole : ℕ → List ℕ → Bool
+isWhole k w = digits w && leb 1 (length w) && leb (length w) k
 
 -- a minus at the front
 abbrev pub negative : List ℕ → Bool

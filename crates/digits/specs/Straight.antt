@@ -6,7 +6,7 @@ use mathlib.Core.Bool.{Bool, true, false, cond}
 use lib.ListN.{length, take, drop}
 use lib.Dec.{leb}
 use Rattle.digits.specs.Said.{Said, says, must}
-use Rattle.digits.specs.Digits.{isDigit, natOf, whole}
+use Rattle.digits.specs.Digits.{isDigit, natOf, isWhole}
 
 -- the byte at the front; past the end of the text LF, which ends a word too
 abbrev pub first : List ℕ → ℕ
@@ -48,7 +48,7 @@ pub record UptoRead (most : ℕ) (s : List ℕ) (at a end value : ℕ) : Type 0 
 
 -- 1 to k digits
 unfoldable pub wholeOf : ℕ → List ℕ → Said ℕ
-wholeOf k w = must (whole k w) 6 (says (natOf 0 w))
+wholeOf k w = must (isWhole k w) 6 (says (natOf 0 w))
 
 -- the bytes at the front that pass the test
 abbrev pub front : (ℕ → Bool) → List ℕ → List ℕ

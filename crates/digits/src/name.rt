@@ -4,7 +4,7 @@ ghost use lib.ListN.{length, drop};
 ghost use Rattle.text.specs.Words.{wordOf};
 ghost use Rattle.text.specs.Rest.{endOf};
 ghost use Rattle.digits.specs.Degree.{nameOf};
-ghost use Rattle.digits.specs.Answers.{saidName, ended};
+ghost use Rattle.digits.specs.Answers.{saidName, endsAt};
 
 pub enum Name {
     Of { end: usize },
@@ -14,7 +14,7 @@ pub enum Name {
 // The name that the word at `at` is.
 pub fn name_at(text: &[u8], at: usize) -> Name
     requires { ⌜ at ≤ length (now text) ⌝ }
-    ensures { λ r. ⌜ saidName (wordOf (drop at (now (text .entry)))) r ≡ ended (nameOf (wordOf (drop at (now (text .entry))))) (endOf (now (text .entry)) at) ⌝ }
+    ensures { λ r. ⌜ saidName (wordOf (drop at (now (text .entry)))) r ≡ endsAt (nameOf (wordOf (drop at (now (text .entry))))) (endOf (now (text .entry)) at) ⌝ }
 {
     let end = text::word_end(text, at);
     if end == at {

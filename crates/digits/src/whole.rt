@@ -7,7 +7,7 @@ ghost use Rattle.keywords.specs.Lookup.{argumentTable};
 ghost use Rattle.text.specs.Words.{wordOf};
 ghost use Rattle.text.specs.Rest.{endOf};
 ghost use Rattle.digits.specs.Degree.{degreeOf, smoothingOf};
-ghost use Rattle.digits.specs.Answers.{saidWhole, saidRow, ended};
+ghost use Rattle.digits.specs.Answers.{saidWhole, saidRow, endsAt};
 ghost use Rattle.digits.specs.Straight.{wholeOf};
 
 pub enum Whole {
@@ -24,7 +24,7 @@ pub enum DigitRow {
 // The number of a word of 1 to `most` digits.
 pub fn row_at(text: &[u8], at: usize, most: usize) -> DigitRow
     requires { ⌜ (at ≤ length (now text)) × (most ≤ 10) ⌝ }
-    ensures { λ r. ⌜ saidRow r ≡ ended (wholeOf most (wordOf (drop at (now (text .entry))))) (endOf (now (text .entry)) at) ⌝ }
+    ensures { λ r. ⌜ saidRow r ≡ endsAt (wholeOf most (wordOf (drop at (now (text .entry))))) (endOf (now (text .entry)) at) ⌝ }
 {
     let w = whole_run(text, at);
     let end = w.end;
@@ -46,7 +46,7 @@ pub fn row_at(text: &[u8], at: usize, most: usize) -> DigitRow
 // The degree that the word at `at` is.
 pub fn degree_at(text: &[u8], at: usize) -> Whole
     requires { ⌜ at ≤ length (now text) ⌝ }
-    ensures { λ r. ⌜ saidWhole r ≡ ended (degreeOf (wordOf (drop at (now (text .entry))))) (endOf (now (text .entry)) at) ⌝ }
+    ensures { λ r. ⌜ saidWhole r ≡ endsAt (degreeOf (wordOf (drop at (now (text .entry))))) (endOf (now (text .entry)) at) ⌝ }
 {
     match row_at(text, at, 3) {
         DigitRow::Malformed => Whole::Malformed,
@@ -69,7 +69,7 @@ pub fn degree_at(text: &[u8], at: usize) -> Whole
 pub fn smoothing_at(text: &[u8], at: usize, argument_table: &[u8; 108]) -> Whole
     requires { ⌜ at ≤ length (now text) ⌝ }
     requires { ⌜ now «argument_table» ≡ argumentTable ⌝ }
-    ensures { λ r. ⌜ saidWhole r ≡ ended (smoothingOf (wordOf (drop at (now (text .entry))))) (endOf (now (text .entry)) at) ⌝ }
+    ensures { λ r. ⌜ saidWhole r ≡ endsAt (smoothingOf (wordOf (drop at (now (text .entry))))) (endOf (now (text .entry)) at) ⌝ }
 {
     let off = keywords::off_end(text, at, argument_table);
     if at < off {

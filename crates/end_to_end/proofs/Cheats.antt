@@ -76,11 +76,11 @@ unfolding readOf linesOf
 line-read = refl
 
 zero-read : readOf (roomsOf lent) zero-text ≡ read (at (pos 0))
-unfolding readOf linesOf numberOf decimal numerator denominator nearest digits.whole statementOf keywords fits parse statement
+unfolding readOf linesOf numberOf decimal numerator denominator nearest digits.isWhole statementOf keywords fits parse statement
 zero-read = refl
 
 one-read : readOf (roomsOf lent) one-text ≡ read (at (pos 1000000))
-unfolding readOf linesOf numberOf decimal numerator denominator nearest digits.whole statementOf keywords fits parse statement
+unfolding readOf linesOf numberOf decimal numerator denominator nearest digits.isWhole statementOf keywords fits parse statement
 one-read = refl
 
 -- ---- readers

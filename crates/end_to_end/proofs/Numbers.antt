@@ -15,7 +15,7 @@ use Rattle.text.specs.Lines.{Line as JoinedLine, linesOf}
 use Rattle.digits.specs.Said.{Said, says, wrong}
 use Rattle.digits.specs.Said as said
 use Rattle.digits.specs.Degree.{degreeOf, smoothingOf, nameOf}
-use Rattle.digits.specs.Digits.{natOf, whole, negative}
+use Rattle.digits.specs.Digits.{natOf, isWhole, negative}
 use Rattle.lists.specs.Signs.{withSign}
 use Rattle.decimals.specs.Number.{unsigned, mantissa, exponent, isExponent, decimal, valueOf, numberOf}
 use Rattle.references.specs.Reference.{isReference, refer, referenceOf}
@@ -32,7 +32,7 @@ use Rattle.model.specs.Statements as statements
 use Rattle.model.specs.Parse.{Parsed, fine, fault, then, must, unless, Keyword, a-vertex, an-element, a-body, parm, trim, hole, ends, cstype, deg, g, s, usemtl, over, WordForm, a-number, a-corner, a-control, a-curve, a-direction, a-type, a-rational, a-degree, a-smoothing, a-name, anything, Value, number, corner, whole as whole-value, basis, name, onSaid, directionOf, typeSaid, rationalSaid, directionSaid, Seen, saidOf, placed, valuesOf, formOf, seenIn, unlike, narrowIn, cornersOf, numbersOf, rangeWords, allowed, counted, inForce, openedBody, complete, countsAgree, rangeWithin, checked, parse}
 use Rattle.model.proofs.Pieces.{opened, finished}
 use Rattle.model.specs.Room.{Rooms, fits}
-use Rattle.model.specs.Read.{keywordOf, statement, step, Answer, read, refused, finish, onParsed, readLines, readOf}
+use Rattle.model.specs.Read.{carriedIn, statement, step, Answer, read, refused, finish, onParsed, readLines, readOf}
 use Rattle.end_to_end.specs.Demand1.{Between}
 
 abbrev inTable : ℕ → Bool
@@ -68,11 +68,11 @@ reference-well n w = two-tests (isReference w) (leb 1 (refer n w)) 8 (refer n w)
 
 degree-well : (w : List ℕ) → saidWell (degreeOf w) ≡ true
 unfolding degreeOf
-degree-well w = two-tests (whole 3 w) (leb 1 (natOf 0 w) && leb (natOf 0 w) 20) 7 (natOf 0 w) refl
+degree-well w = two-tests (isWhole 3 w) (leb 1 (natOf 0 w) && leb (natOf 0 w) 20) 7 (natOf 0 w) refl
 
 smoothing-well : (w : List ℕ) → saidWell (smoothingOf w) ≡ true
 unfolding smoothingOf
-smoothing-well w = go (same w (argumentBytes argument.Off)) (said.must (whole 5 w) 6 (said.must (leb (natOf 0 w) 65535) 7 (says (natOf 0 w)))) (two-tests (whole 5 w) (leb (natOf 0 w) 65535) 7 (natOf 0 w) refl)
+smoothing-well w = go (same w (argumentBytes argument.Off)) (said.must (isWhole 5 w) 6 (said.must (leb (natOf 0 w) 65535) 7 (says (natOf 0 w)))) (two-tests (isWhole 5 w) (leb (natOf 0 w) 65535) 7 (natOf 0 w) refl)
   where
     go : (b : Bool) (x : Said ℕ) → saidWell x ≡ true → saidWell (cond b (says 0) x) ≡ true
     go true x h = refl
@@ -210,7 +210,7 @@ parse-well k x key ws =
     (well-must (counted k (length ws)) 5 key words refl
     (well-then values (λ xs. checked k x key ws xs) (values-well (seenIn x) (formOf k (length ws)) 0 ws) (λ xs. checked-well k x key ws xs)))
 
-keyword-well : (k : Statement) (key : ℕ) → well (keywordOf k key) ≡ true
+keyword-well : (k : Statement) (key : ℕ) → well (carriedIn k key) ≡ true
 keyword-well (keyword.Carried k) key = refl
 keyword-well keyword.Refused key = refl
 keyword-well keyword.Unknown key = refl
@@ -220,7 +220,7 @@ unfolding statement
 step-well R x [] = refl
 step-well R x (w ∷ ws) =
     let roomy : statements.Statement → Parsed State = λ t. must (fits R (apply t x)) 14 (w .place) (fine (apply t x)) in
-    well-then (keywordOf (statementOf (w .bytes)) (w .place)) (λ k. then (parse k x (w .place) ws) roomy) (keyword-well (statementOf (w .bytes)) (w .place))
+    well-then (carriedIn (statementOf (w .bytes)) (w .place)) (λ k. then (parse k x (w .place) ws) roomy) (keyword-well (statementOf (w .bytes)) (w .place))
     (λ k. well-then (parse k x (w .place) ws) roomy (parse-well k x (w .place) ws) (λ t. well-must (fits R (apply t x)) 14 (w .place) (fine (apply t x)) refl refl))
 
 -- ---- a text

@@ -16,7 +16,7 @@ use Rattle.read_lines.specs.declared.ReadResult.the-variants as reading
 use Rattle.reader.specs.Reading.{roomsOf}
 use Rattle.tidy_form.specs.declared.Weights.{Weights}
 use Rattle.tidier.specs.declared.TidyResult.the-variants.{Written}
-use Rattle.point_runs.specs.Runs.{listed}
+use Rattle.point_runs.specs.Runs.{tabulated}
 use Rattle.sampler.specs.Points.{axesOf, curveAt, surfaceAt, runNumbers}
 use Rattle.sampler.specs.Answers.{elementOf, bodyOf, filledRun}
 use Rattle.sampler.specs.Demand3.{Curve, Surface, CurveClaim, RunClaim, SurfaceClaim, PointsOnCurves, RunsOnCurves, PointsOnSurfaces}
@@ -60,13 +60,13 @@ pub record PointsOf (samples : Sampler) (u : Used) (t : Tables) (m : Model) : Ty
 -- 01, "How a point is made": by the rounding rule, which the bound leaves room beside
 pub record Rounded (samples : Sampler) : Type 0 where
   pub curves : (u : Used) (t : Tables) (number : ℕ) (p : ℤ) → Curve u t number → bodyOf t number .«start_u» ≤ℤ p → p ≤ℤ bodyOf t number .«end_u»
-      → samples .curve u t number p .outcome .coordinates ≡ listed (axesOf (elementOf t number)) (curveAt t (elementOf t number) (bodyOf t number) p)
+      → samples .curve u t number p .outcome .coordinates ≡ tabulated (axesOf (elementOf t number)) (curveAt t (elementOf t number) (bodyOf t number) p)
   pub runs : (u : Used) (t : Tables) (number steps at : ℕ) (points : List ℤ) → Curve u t number → 1 ≤ steps → steps ≤ 65536
       → at + axesOf (elementOf t number) * (steps + 1) ≤ length points
       → samples .run u t number steps at points ≡ filledRun (axesOf (elementOf t number) * (steps + 1)) at (runNumbers t (elementOf t number) (bodyOf t number) steps) points
   pub surfaces : (u : Used) (t : Tables) (number : ℕ) (p q : ℤ) → Surface u t number
       → bodyOf t number .«start_u» ≤ℤ p → p ≤ℤ bodyOf t number .«end_u» → bodyOf t number .«start_v» ≤ℤ q → q ≤ℤ bodyOf t number .«end_v»
-      → samples .surface u t number p q .outcome .coordinates ≡ listed 3 (surfaceAt t (elementOf t number) (bodyOf t number) p q)
+      → samples .surface u t number p q .outcome .coordinates ≡ tabulated 3 (surfaceAt t (elementOf t number) (bodyOf t number) p q)
 
 -- two sets of tables give the same answer to every request
 pub record SampledAlike (samples : Sampler) (u : Used) (t : Tables) (v : Used) (w : Tables) : Type 0 where

@@ -10,7 +10,7 @@ use Rattle.lists.specs.Lists.{same}
 use Rattle.keywords.specs.declared.Argument.the-variants.{Off}
 use Rattle.keywords.specs.Arguments.{argumentBytes}
 use Rattle.digits.specs.Said.{says, must}
-use Rattle.digits.specs.Digits.{natOf, whole}
+use Rattle.digits.specs.Digits.{natOf, isWhole}
 use Rattle.digits.specs.Degree.{degreeOf, smoothingOf, nameOf}
 use Rattle.lists.specs.Signs.{withSign}
 use Rattle.decimals.specs.Number.{limited}
@@ -21,12 +21,12 @@ pub number-limits : (minus : Bool) (m : ℕ) → limited minus m ≡ must (leb m
 number-limits minus m = refl
 
 pub degree-limits : (w : List ℕ) → degreeOf w
-    ≡ must (whole 3 w) 6 (must (leb (natAbs (limitsOf form.Degree .low)) (natOf 0 w) && leb (natOf 0 w) (natAbs (limitsOf form.Degree .high))) 7 (says (natOf 0 w)))
+    ≡ must (isWhole 3 w) 6 (must (leb (natAbs (limitsOf form.Degree .low)) (natOf 0 w) && leb (natOf 0 w) (natAbs (limitsOf form.Degree .high))) 7 (says (natOf 0 w)))
 unfolding degreeOf
 degree-limits w = refl
 
 pub smoothing-limits : (w : List ℕ) → smoothingOf w
-    ≡ cond (same w (argumentBytes Off)) (says 0) (must (whole 5 w) 6 (must (leb (natOf 0 w) (natAbs (limitsOf form.Smoothing .high))) 7 (says (natOf 0 w))))
+    ≡ cond (same w (argumentBytes Off)) (says 0) (must (isWhole 5 w) 6 (must (leb (natOf 0 w) (natAbs (limitsOf form.Smoothing .high))) 7 (says (natOf 0 w))))
 unfolding smoothingOf
 smoothing-limits w = refl
 

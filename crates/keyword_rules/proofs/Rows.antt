@@ -14,7 +14,7 @@ use Rattle.statements.specs.declared.rules.WordForm.{WordForm}
 use Rattle.statements.specs.declared.rules.Rules.{Rules}
 use Rattle.keyword_rules.specs.declared.RuleRow.{RuleRow}
 use Rattle.keyword_rules.specs.declared.Limits.{Limits}
-use Rattle.keyword_rules.specs.Asked.{standingNumber, multipleOf, formNumber, limitsOf, rowOf}
+use Rattle.keyword_rules.specs.Asked.{standingNumber, multipleOf, formNumber, limitsOf, ruleRowOf}
 
 pub statement-at : (s : List ℕ) (at : ℕ) (k : Keyword) → k ≡ keywordAt s at → k .statement ≡ statementOf (wordOf (drop at s))
 unfolding keywordAt
@@ -23,6 +23,6 @@ statement-at s at k e = ap (λ (k : Keyword). k .statement) e
 pub row-eq : (k : Carried) (n i : ℕ) (r : Rules) (f : WordForm) (l : Limits) (x least most multiple y : ℕ) (low high : ℤ)
     → r ≡ rulesOf k → f ≡ formBy (r .forms) n i → l ≡ limitsOf f
     → x ≡ standingNumber (r .standing) → least ≡ fewestBy (r .count) → most ≡ mostBy (r .count) 16777216 → multiple ≡ multipleOf (r .count) → y ≡ formNumber f → low ≡ l .low → high ≡ l .high
-    → _≡_ {A = RuleRow} (record { standing = x; least = least; most = most; multiple = multiple; form = y; low = low; high = high }) (rowOf k n i)
-unfolding rowOf
+    → _≡_ {A = RuleRow} (record { standing = x; least = least; most = most; multiple = multiple; form = y; low = low; high = high }) (ruleRowOf k n i)
+unfolding ruleRowOf
 row-eq k n i r f l x least most multiple y low high a c e g b d m h o q = rw (o, q, g, h, b, d, m, e, c, a) refl

@@ -74,8 +74,8 @@ carriedOf statement.Refused = PassedOver
 carriedOf statement.Unknown = PassedOver
 
 -- the statement's row, with the form of word i of n; where a count has no end, as many words as a text can have
-unfoldable pub rowOf : Carried → ℕ → ℕ → RuleRow
-rowOf k n i =
+unfoldable pub ruleRowOf : Carried → ℕ → ℕ → RuleRow
+ruleRowOf k n i =
     record {
       standing = standingNumber (rulesOf k .standing);
       least = fewestBy (rulesOf k .count);

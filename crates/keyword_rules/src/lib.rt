@@ -15,7 +15,7 @@ ghost use lib.ListN.{drop};
 ghost use Rattle.text.specs.Words.{wordOf};
 ghost use Rattle.keywords.specs.Keywords.{statementOf};
 ghost use Rattle.keywords.specs.Lookup.{keywordTable};
-ghost use Rattle.keyword_rules.specs.Asked.{standingNumber, multipleOf, cornerNumber, formNumber, limitsOf, carriedOf, rowOf};
+ghost use Rattle.keyword_rules.specs.Asked.{standingNumber, multipleOf, cornerNumber, formNumber, limitsOf, carriedOf, ruleRowOf};
 ghost use Rattle.keyword_rules.specs.Ranges.{rangeIn};
 ghost use Rattle.statements.specs.Rules.{rulesOf};
 
@@ -135,7 +135,7 @@ pub fn carried_of(statement: Statement) -> Carried
 
 // The rules of the keyword that the bytes begin with, and the form of word `index`, from 0, of `words` after it.
 pub fn rules_of_keyword(keyword: &[u8], words: usize, index: usize) -> RuleRow
-    ensures { λ r. ⌜ r ≡ rowOf (carriedOf (statementOf (wordOf (now (keyword .entry))))) words index ⌝ }
+    ensures { λ r. ⌜ r ≡ ruleRowOf (carriedOf (statementOf (wordOf (now (keyword .entry))))) words index ⌝ }
 {
     let table = keywords::keyword_table();
     let found = keywords::keyword_at(keyword, 0, &table);

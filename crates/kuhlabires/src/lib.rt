@@ -16,7 +16,7 @@ ghost use Rattle.tidier.specs.Tidying.{tidyInto};
 ghost use Rattle.sweep.specs.Swept.{sweepInto};
 ghost use Rattle.text.specs.Words.{wordOf};
 ghost use Rattle.read_advice.specs.Advice.{adviceIs};
-ghost use Rattle.keyword_rules.specs.Asked.{carriedOf, rowOf};
+ghost use Rattle.keyword_rules.specs.Asked.{carriedOf, ruleRowOf};
 ghost use Rattle.c_records.specs.Answers.{readIn, tidyIn, weightsIn, pointIn, runIn, polylineIn, sweepIn};
 ghost use Rattle.c_tables.specs.Parts.{groupIn, materialIn, bytesIn};
 ghost use Rattle.c_tables.specs.CurveNumbers.{curveOf};
@@ -452,7 +452,7 @@ pub extern "C" fn kuhlabires_explain(text: &[u8], place: usize) -> Advice
 // The rules of the keyword that the bytes begin with, and the form of word `index`, from 0, of `words` after it.
 #[no_mangle]
 pub extern "C" fn kuhlabires_rules(keyword: &[u8], words: usize, index: usize) -> RuleRow
-    ensures { λ r. ⌜ r ≡ rowOf (carriedOf (statementOf (wordOf (now (keyword .entry))))) words index ⌝ }
+    ensures { λ r. ⌜ r ≡ ruleRowOf (carriedOf (statementOf (wordOf (now (keyword .entry))))) words index ⌝ }
 {
     keyword_rules::rules_of_keyword(keyword, words, index)
 }

@@ -8,7 +8,7 @@ use lib.ListN.{length}
 use Rattle.spellings.specs.Rows.{bytes}
 use Rattle.text.specs.Lines.{linesOf}
 use Rattle.decimals.specs.Number.{numberOf, decimal, numerator, denominator, nearest}
-use Rattle.digits.specs.Digits.{whole}
+use Rattle.digits.specs.Digits.{isWhole}
 use Rattle.references.specs.Reference.{isReference, refer, referenceOf}
 use Rattle.references.specs.Corner.{cornerOf}
 use Rattle.digits.specs.Degree.{degreeOf, smoothingOf, nameOf}
@@ -29,7 +29,7 @@ many : Rooms
 many = record { vertices = record { v = 100; vt = 100; vn = 100; vp = 100 }; elements = record { corners = 100; elements = 100 }; bodies = record { bodies = 100; ranges = 100; parameters = 100; loops = 100; spans = 100 } }
 
 ex1 : readOf many (bytes "v 0 0 0\nf 1 1 2\n") ≡ refused 8 14
-unfolding readOf linesOf numberOf decimal numerator denominator nearest whole isReference refer referenceOf cornerOf degreeOf smoothingOf nameOf statementOf keywords argumentOf arguments argumentBytes inOrder curveCount surfaceCount fits parse statement many
+unfolding readOf linesOf numberOf decimal numerator denominator nearest isWhole isReference refer referenceOf cornerOf degreeOf smoothingOf nameOf statementOf keywords argumentOf arguments argumentBytes inOrder curveCount surfaceCount fits parse statement many
 ex1 = refl
 
 small : Rooms
@@ -40,16 +40,16 @@ tab (read m) = tablesOf small m
 tab (refused n p) = tablesOf small (start .model)
 
 ex2 : tab (readOf small (bytes "cstype bezier\ndeg 1\nv 0 0 0\nv 1.5 0 0\ng top side\ncurv 0 1 -2 -1\nparm u 0 1\nend\n")) .elements .elements ≡ 4 ∷ 0 ∷ 2 ∷ 1 ∷ 0 ∷ 40 ∷ 8 ∷ 0 ∷ 0 ∷ 0 ∷ 0 ∷ 0 ∷ 0 ∷ 0 ∷ 0 ∷ 0 ∷ 0 ∷ 0 ∷ []
-unfolding tab tablesOf readOf linesOf numberOf decimal numerator denominator nearest whole isReference refer referenceOf cornerOf degreeOf smoothingOf nameOf statementOf keywords argumentOf arguments argumentBytes inOrder curveCount surfaceCount fits parse statement small
+unfolding tab tablesOf readOf linesOf numberOf decimal numerator denominator nearest isWhole isReference refer referenceOf cornerOf degreeOf smoothingOf nameOf statementOf keywords argumentOf arguments argumentBytes inOrder curveCount surfaceCount fits parse statement small
 ex2 = refl
 
 ex3 : tab (readOf small (bytes "cstype bezier\ndeg 1\nv 0 0 0\nv 1.5 0 0\ng top side\ncurv 0 1 -2 -1\nparm u 0 1\nend\n")) .bodies .bodies ≡ 1 ∷ 0 ∷ 1 ∷ 0 ∷ 0 ∷ 2 ∷ 0 ∷ 0 ∷ 0 ∷ []
-unfolding tab tablesOf readOf linesOf numberOf decimal numerator denominator nearest whole isReference refer referenceOf cornerOf degreeOf smoothingOf nameOf statementOf keywords argumentOf arguments argumentBytes inOrder curveCount surfaceCount fits parse statement small
+unfolding tab tablesOf readOf linesOf numberOf decimal numerator denominator nearest isWhole isReference refer referenceOf cornerOf degreeOf smoothingOf nameOf statementOf keywords argumentOf arguments argumentBytes inOrder curveCount surfaceCount fits parse statement small
 ex3 = refl
 
 -- "-1 the last so far": a vertex below the line does not count
 ex4 : tab (readOf small (bytes "v 0 0 0\np -1\nv 1 0 0\n")) .elements .corners ≡ 1 ∷ 0 ∷ 0 ∷ 0 ∷ 0 ∷ 0 ∷ 0 ∷ 0 ∷ 0 ∷ 0 ∷ 0 ∷ 0 ∷ []
-unfolding tab tablesOf readOf linesOf numberOf decimal numerator denominator nearest whole isReference refer referenceOf cornerOf degreeOf smoothingOf nameOf statementOf keywords argumentOf arguments argumentBytes inOrder curveCount surfaceCount fits parse statement small
+unfolding tab tablesOf readOf linesOf numberOf decimal numerator denominator nearest isWhole isReference refer referenceOf cornerOf degreeOf smoothingOf nameOf statementOf keywords argumentOf arguments argumentBytes inOrder curveCount surfaceCount fits parse statement small
 ex4 = refl
 
 -- a model read back from its tables: a group of two names, a material, a curve with its parameters; no refusal has the number 0
@@ -61,7 +61,7 @@ said : List ℕ
 said = bytes "cstype rat bspline\ndeg 1\nv 0 0 0\nv 1.5 0 0\ng top side\nusemtl red\ncurv 0 1 -2 -1\nparm u 0 0 1 1\nend\nl 1 2\n"
 
 ex5 : again said (readOf small said) ≡ readOf small said
-unfolding again said modelIn usedOf partOf tablesOf readOf linesOf numberOf decimal numerator denominator nearest whole isReference refer referenceOf cornerOf degreeOf smoothingOf nameOf statementOf keywords argumentOf arguments argumentBytes inOrder curveCount surfaceCount fits parse statement small
+unfolding again said modelIn usedOf partOf tablesOf readOf linesOf numberOf decimal numerator denominator nearest isWhole isReference refer referenceOf cornerOf degreeOf smoothingOf nameOf statementOf keywords argumentOf arguments argumentBytes inOrder curveCount surfaceCount fits parse statement small
 ex5 = refl
 
 -- of parts that no reading stored, those before the first that begins a loop are in none

@@ -19,7 +19,7 @@ use Rattle.tables.proofs.Types.{basis-back}
 use Rattle.model.specs.Model.{Names, Shape, point, line, face, Free, curve, curve2, surface, Body, Kind, plain, free, Element, Model}
 use Rattle.model.specs.Room.{Rooms, summed, partCount}
 use Rattle.model.specs.Layout.{listed, cornerRow, shapeNumber, freeNumber, kindNumber, bodyNumber, bodiesOf, itself, tablesOf, usedOf}
-use Rattle.model.specs.In.{each, rowAt, firstOf, namesFrom, cornerFrom, bodyFrom, shapeOf, freeOf, kindFrom, elementFrom, modelIn}
+use Rattle.model.specs.In.{each, rowAt, firstOf, namesFrom, cornerFrom, bodyFrom, shapeOf, freeIn, kindFrom, elementFrom, modelIn}
 use Rattle.model.proofs.Rows.{flag-back}
 use Rattle.model.proofs.Stands.{Stands, Among, each-all}
 use Rattle.model.proofs.Placed.{each-among, Wide, wide-stands, PartedKind, NamesStand, Placed}
@@ -39,7 +39,7 @@ shape-low point = refl
 shape-low line = refl
 shape-low face = refl
 
-free-back : (k : Free) → freeOf (freeNumber k) ≡ k
+free-back : (k : Free) → freeIn (freeNumber k) ≡ k
 free-back curve = refl
 free-back curve2 = refl
 free-back surface = refl
@@ -69,7 +69,7 @@ names-back s c b e h =
     ap₂ (λ (g m : List Word). record { group = g; smoothing = e .names .smoothing; material = firstOf m }) (h .group) (h .material)
     ∙ ap (λ (o : Option Word). record { group = e .names .group; smoothing = e .names .smoothing; material = o }) (material-back (e .names .material))
 
-body-back : (u : Used) (t : Tables) (j p l : ℕ) (b : Body) → BodyRow u t j p l b → PartedKind (free b) → bodyFrom t (freeOf (freeNumber (b .free))) (bodyAt t j) ≡ b
+body-back : (u : Used) (t : Tables) (j p l : ℕ) (b : Body) → BodyRow u t j p l b → PartedKind (free b) → bodyFrom t (freeIn (freeNumber (b .free))) (bodyAt t j) ≡ b
 body-back u t j p l b r g =
     ap₂ (bodyFrom t) (free-back (b .free)) (r .is)
     ∙ rw (basis-back (b .basis), flag-back (b .rational), us-are u t j p l b r, vs-are u t j p l b r, loops-back t l (b .loops) (r .loops) (r .spans) g (partCount b) refl) refl
@@ -82,14 +82,14 @@ module _ (s : List ℕ) (u : Used) (t : Tables) (m : Model) (L : Laid u t m) whe
       n = length (bodiesOf (a .before))
 
       go : (k : Kind) → a .one .kind ≡ k → PartedKind k
-          → cond (leb curveKind (kindNumber k)) (free (bodyFrom t (freeOf (kindNumber k)) (bodyAt t (bodyNumber k n - 1)))) (plain (shapeOf (kindNumber k))) ≡ k
-      go (plain k) e g = ap₂ (λ (x : Bool) (y : Shape). cond x (free (bodyFrom t (freeOf (shapeNumber k)) (bodyAt t (0 - 1)))) (plain y)) (shape-low k) (shape-back k)
+          → cond (leb curveKind (kindNumber k)) (free (bodyFrom t (freeIn (kindNumber k)) (bodyAt t (bodyNumber k n - 1)))) (plain (shapeOf (kindNumber k))) ≡ k
+      go (plain k) e g = ap₂ (λ (x : Bool) (y : Shape). cond x (free (bodyFrom t (freeIn (shapeNumber k)) (bodyAt t (0 - 1)))) (plain y)) (shape-low k) (shape-back k)
       go (free b) e g =
           let o = body-among (m .elements) i a b e in
           let p = 0 + parametersIn (bodiesOf (a .before)) in
           let l = 0 + summed partCount (bodiesOf (a .before)) in
           let d : suc n - 1 ≡ n = omega arith in
-          ap₂ (λ (x : Bool) (j : ℕ). cond x (free (bodyFrom t (freeOf (freeNumber (b .free))) (bodyAt t j))) (plain (shapeOf (freeNumber (b .free))))) (free-high (b .free)) d
+          ap₂ (λ (x : Bool) (j : ℕ). cond x (free (bodyFrom t (freeIn (freeNumber (b .free))) (bodyAt t j))) (plain (shapeOf (freeNumber (b .free))))) (free-high (b .free)) d
           ∙ ap free (body-back u t n p l b (body-row u t m L n o) g)
 
   pub element-back : Placed s m → (i : ℕ) (a : Among (m .elements) i) → elementFrom s t (elementAt t i) ≡ a .one

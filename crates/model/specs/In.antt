@@ -55,8 +55,8 @@ namesFrom s e =
 abbrev pub cornerFrom : records-corner.Corner → Corner
 cornerFrom c = record { v = c .v; vt = c .vt; vn = c .vn }
 
-abbrev pub cornersFrom : Tables → records-element.Element → List Corner
-cornersFrom t e = each (λ k. cornerFrom (cornerAt t (e .corners) k)) (e .corners .count) 0
+abbrev pub modelCorners : Tables → records-element.Element → List Corner
+modelCorners t e = each (λ k. cornerFrom (cornerAt t (e .corners) k)) (e .corners .count) 0
 
 -- ---- loops: what begins with a part is 1 a trim, 2 a hole, 0 nothing; a part before the first that begins a loop belongs to none
 abbrev pub partFrom : LoopPart → Part
@@ -102,14 +102,14 @@ bodyFrom t k b =
 abbrev pub shapeOf : ℕ → Shape
 shapeOf n = cond (eqb n pointKind) point (cond (eqb n lineKind) line face)
 
-abbrev pub freeOf : ℕ → Free
-freeOf n = cond (eqb n curveKind) curve (cond (eqb n curve2Kind) curve2 surface)
+abbrev pub freeIn : ℕ → Free
+freeIn n = cond (eqb n curveKind) curve (cond (eqb n curve2Kind) curve2 surface)
 
 abbrev pub kindFrom : Tables → records-element.Element → Kind
-kindFrom t e = cond (leb curveKind (e .kind)) (free (bodyFrom t (freeOf (e .kind)) (bodyAt t (e .body - 1)))) (plain (shapeOf (e .kind)))
+kindFrom t e = cond (leb curveKind (e .kind)) (free (bodyFrom t (freeIn (e .kind)) (bodyAt t (e .body - 1)))) (plain (shapeOf (e .kind)))
 
 abbrev pub elementFrom : List ℕ → Tables → records-element.Element → Element
-elementFrom s t e = record { kind = kindFrom t e; corners = cornersFrom t e; names = namesFrom s e }
+elementFrom s t e = record { kind = kindFrom t e; corners = modelCorners t e; names = namesFrom s e }
 
 -- the model that the used entries of the tables hold, its names as the text s shows them
 unfoldable pub modelIn : List ℕ → Used → Tables → Model

@@ -17,15 +17,15 @@ use Rattle.model.specs.Parse.{Parsed, fine, fault, then, must, unless, K
 use Rattle.model.specs.Room.{Rooms, fits}
 
 -- 3 and 4, then what a keyword opens
-abbrev pub keywordOf : Statement → ℕ → Parsed Keyword
-keywordOf (Carried k) key = fine k
-keywordOf Refused key = fault 4 key
-keywordOf Unknown key = fault 3 key
+abbrev pub carriedIn : Statement → ℕ → Parsed Keyword
+carriedIn (Carried k) key = fine k
+carriedIn Refused key = fault 4 key
+carriedIn Unknown key = fault 3 key
 
 -- a line of words, by the state before it: the state after it
 unfoldable pub statement : Rooms → State → Word → List Word → Parsed State
 statement R x w ws =
-    then (keywordOf (statementOf (w .bytes)) (w .place)) (λ k.
+    then (carriedIn (statementOf (w .bytes)) (w .place)) (λ k.
     then (parse k x (w .place) ws) (λ t.
     must (fits R (apply t x)) 14 (w .place) (fine (apply t x))))
 

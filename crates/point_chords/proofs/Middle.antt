@@ -14,7 +14,7 @@ use Rattle.rounding.proofs.IntLaws.{abs-neg, abs-*, sub-eq, cond-ind}
 use Rattle.rounding.proofs.Order.{Up, up, up-le, up-abs, lt-or-le, <ℤ→≤ℤ}
 use Rattle.rounding.proofs.Ring.{ring, K, _⊕_, _⊝_, _⊗_, _≐_}
 use Rattle.rounding.proofs.Rounding.{distance}
-use Rattle.point_chords.specs.Chords.{middle, short}
+use Rattle.point_chords.specs.Chords.{middle, shortInterval}
 use Rattle.point_chords.specs.Promises.{MiddleFloored}
 
 -- z is twice m, and 0 or 1
@@ -120,9 +120,9 @@ module _ {a b : ℤ} (o : a ≤ℤ b) where
   middle-upto = up-le (record { by = way - way / 2; same = sym end-is })
 
 -- strictly inside where the interval is no chord
-module _ {a b : ℤ} (l : a <ℤ b) (h : short a b ≡ false) where
+module _ {a b : ℤ} (l : a <ℤ b) (h : shortInterval a b ≡ false) where
   long : 2 ≤ natAbs (b -ℤ a)
-  unfolding short
+  unfolding shortInterval
   long = leb-false (natAbs (b -ℤ a)) 1 (ap (λ (z : ℤ). leZ z (pos 1)) (sym (up-abs (up (<ℤ→≤ℤ l)))) ∙ h)
 
   some : 1 ≤ natAbs (b -ℤ a) / 2

@@ -24,12 +24,12 @@ unfoldable pub straight : (tolerance : ℤ) (p m q : List ℤ) → Bool
 straight tolerance p m q = nearAt tolerance p m q 0 && (nearAt tolerance p m q 1 && nearAt tolerance p m q 2)
 
 -- "the interval is at most one millionth"
-unfoldable pub short : (a b : ℤ) → Bool
-short a b = leZ (b -ℤ a) (pos 1)
+unfoldable pub shortInterval : (a b : ℤ) → Bool
+shortInterval a b = leZ (b -ℤ a) (pos 1)
 
 -- "hand out the chord": where the depth is not yet used up
 unfoldable pub chord : (point : ℤ → List ℤ) (tolerance a b : ℤ) → Bool
-chord point tolerance a b = short a b || straight tolerance (point a) (point (middle a b)) (point b)
+chord point tolerance a b = shortInterval a b || straight tolerance (point a) (point (middle a b)) (point b)
 
 -- the ends of the chords from a to b; "Otherwise halve the interval again, each half one level less deep"
 unfoldable pub ends : (point : ℤ → List ℤ) (tolerance : ℤ) (depth : ℕ) (a b : ℤ) → List ℤ

@@ -1,6 +1,6 @@
 // The tests of a chord, over the numbers of one axis.
 ghost use mathlib.Core.Path.{_≡_};
-ghost use Rattle.point_chords.specs.Chords.{middle, near, short};
+ghost use Rattle.point_chords.specs.Chords.{middle, near, shortInterval};
 
 // The middle, rounded down: `/` rounds towards zero, so what it halves is raised above zero first.
 pub fn middle_of(a: i32, b: i32) -> i32
@@ -11,7 +11,7 @@ pub fn middle_of(a: i32, b: i32) -> i32
 }
 
 pub fn is_short(a: i32, b: i32) -> bool
-    ensures { λ r. ⌜ r ≡ short a b ⌝ }
+    ensures { λ r. ⌜ r ≡ shortInterval a b ⌝ }
 {
     b as i64 - a as i64 <= 1
 }

@@ -31,7 +31,7 @@ use Rattle.sampler.proofs.Entries.{curve-tables, space-eq, plane-control, space
 use Rattle.point_weights.specs.Weights.{cubicSampled}
 use Rattle.point_cubics.specs.Answers.{cubic, parameter64, reached, cubicPoint, cubicAt}
 use Rattle.point_weights.specs.Inner.{axisBy}
-use Rattle.point_cubics.specs.Inner.{pointBy, stepAnswer}
+use Rattle.point_cubics.specs.Inner.{stepPointBy, stepAnswer}
 
 -- ---- the points
 same-controls : (g j : ℕ) (c d : ℕ → ℤ) → ((i : ℕ) → c i ≡ d i) → cubicSampled g j c ≡ cubicSampled g j d
@@ -45,12 +45,12 @@ module _ (t : Tables) (e : Element) (b : Body) (g j : ℕ) where
   space : eqb (e .kind) 5 ≡ false → (axis : ℕ) → axisBy (t .vertices .v) (t .elements .corners) (e .corners .first) g j axis ≡ cubicSampled g j (controlOf t e axis)
   space h axis = same-controls g j (controlAt (t .vertices .v) (t .elements .corners) (e .corners .first) axis) (controlOf t e axis) (space-control t e b (pos 0) axis h)
 
-  by-kind : (q : Bool) → eqb (e .kind) 5 ≡ q → pointAnswer (pointBy (e .kind) (t .vertices .v) (t .vertices .vp) (t .elements .corners) (e .corners .first) g j) ≡ cubicPoint t e g j
-  unfolding pointBy cubicPoint
+  by-kind : (q : Bool) → eqb (e .kind) 5 ≡ q → pointAnswer (stepPointBy (e .kind) (t .vertices .v) (t .vertices .vp) (t .elements .corners) (e .corners .first) g j) ≡ cubicPoint t e g j
+  unfolding stepPointBy cubicPoint
   by-kind true h = rw h (ap pointAnswer (ap₂ sampled.Plane (plane h 0) (plane h 1)))
   by-kind false h = rw h (ap pointAnswer (space-eq (space h 0) (space h 1) (space h 2)))
 
-  pub point-is : pointAnswer (pointBy (e .kind) (t .vertices .v) (t .vertices .vp) (t .elements .corners) (e .corners .first) g j) ≡ cubicPoint t e g j
+  pub point-is : pointAnswer (stepPointBy (e .kind) (t .vertices .v) (t .vertices .vp) (t .elements .corners) (e .corners .first) g j) ≡ cubicPoint t e g j
   point-is = by-kind (eqb (e .kind) 5) refl
 
 -- ---- the answers

@@ -23,7 +23,7 @@ use Rattle.tables.specs.declared.Element.{Element}
 use Rattle.point_exact.specs.Directions.{Direction, bezier}
 use Rattle.point_exact.specs.Exact.{segmentWeight, curveExact, segmentExact}
 use Rattle.point_rows.specs.Places.{pointBasis}
-use Rattle.point_runs.specs.Runs.{listed}
+use Rattle.point_runs.specs.Runs.{tabulated}
 use Rattle.point_runs.proofs.Written.{listed-length}
 use Rattle.sampler.specs.Points.{directionU, bodyDirection, controlOf, axesOf}
 use Rattle.sampler.specs.Answers.{PointAnswer, elementOf, bodyOf, refusalOf}
@@ -38,7 +38,7 @@ use Rattle.point_cubics.proofs.Segments.{cubic-close, same-exact, from-
 use Rattle.point_cubics.proofs.Answers.{handed-out, rules, controls-there, found}
 
 coordinates-are : (t : Tables) (e : Element) (g j : ℕ) (q : Bool) → eqb (e .kind) 5 ≡ q
-    → (cubicPoint t e g j .outcome .coordinates ≡ listed (axesOf e) (λ axis. cubicSampled g j (controlOf t e axis))) × (cubicPoint t e g j .outcome .number ≡ 0)
+    → (cubicPoint t e g j .outcome .coordinates ≡ tabulated (axesOf e) (λ axis. cubicSampled g j (controlOf t e axis))) × (cubicPoint t e g j .outcome .number ≡ 0)
 unfolding cubicPoint
 coordinates-are t e g j true h = simp h (refl, refl)
 coordinates-are t e g j false h = simp h (refl, refl)
@@ -71,7 +71,7 @@ module _ {used : Used} {t : Tables} {number g j : ℕ} (s : Step used t number g
   answer-is : cubicAt used t number g j ≡ cubicPoint t e g j
   answer-is = sym (handed-out t e b g j is-cubic is-reached ∙ found g j (record { given = given; element-is = refl; body-is = refl }))
 
-  coordinates : cubicAt used t number g j .outcome .coordinates ≡ listed (axesOf e) (λ axis. cubicSampled g j (controlOf t e axis))
+  coordinates : cubicAt used t number g j .outcome .coordinates ≡ tabulated (axesOf e) (λ axis. cubicSampled g j (controlOf t e axis))
   coordinates = ap (λ (r : PointAnswer). r .outcome .coordinates) answer-is ∙ coordinates-are t e g j (eqb (e .kind) 5) refl .0
 
   at-axis : (axis : ℕ) → axis < axesOf e → getD (cubicAt used t number g j .outcome .coordinates) axis (pos 0) ≡ cubicSampled g j (controlOf t e axis)

@@ -15,8 +15,8 @@ use Rattle.sampler.specs.declared.PointResult.the-variants as sampled
 use Rattle.point_weights.specs.Inner.{axisBy}
 use Rattle.point_cubics.specs.Answers.{cubic, reached, cubicPoint}
 
-unfoldable pub pointBy : (kind : ℕ) → List ℤ → List ℤ → List ℕ → (first g j : ℕ) → PointResult
-pointBy kind v vp corners first g j =
+unfoldable pub stepPointBy : (kind : ℕ) → List ℤ → List ℤ → List ℕ → (first g j : ℕ) → PointResult
+stepPointBy kind v vp corners first g j =
     cond (eqb kind curve2Kind)
     (sampled.Plane (axisBy vp corners first g j 1) (axisBy vp corners first g j 2))
     (sampled.Space (axisBy v corners first g j 0) (axisBy v corners first g j 1) (axisBy v corners first g j 2))

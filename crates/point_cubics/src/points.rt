@@ -4,7 +4,7 @@ ghost use Prim.Native.Nat.{_+_, _*_, _≤_};
 ghost use lib.Dec.{eqb};
 ghost use Rattle.tables.specs.Records.{curve2Kind};
 ghost use Rattle.point_rows.specs.Controls.{ControlsLent};
-ghost use Rattle.point_cubics.specs.Inner.{pointBy};
+ghost use Rattle.point_cubics.specs.Inner.{stepPointBy};
 use point_weights::coordinates;
 use sampler::PointResult;
 use tables::kinds;
@@ -22,7 +22,7 @@ pub fn point(
     j: u32,
 ) -> PointResult
     requires { ⌜ ControlsLent (cond (eqb kind curve2Kind) (now vp) (now v)) (now corners) first 0 (segment * 3 + 4) × (j ≤ 64) ⌝ }
-    ensures { λ r. ⌜ r ≡ pointBy kind (now (v .entry)) (now (vp .entry)) (now (corners .entry)) first segment j ⌝ }
+    ensures { λ r. ⌜ r ≡ stepPointBy kind (now (v .entry)) (now (vp .entry)) (now (corners .entry)) first segment j ⌝ }
 {
     if kind == kinds::CURVE2 {
         let p = coordinates(vp, corners, first, VP_START, segment, j);

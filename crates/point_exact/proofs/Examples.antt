@@ -14,7 +14,7 @@ use Rattle.lists.specs.Lists.{all}
 use Rattle.point_exact.specs.Directions.{PointBasis, bezier, bspline, Direction, at, lastWhere, segment, span, chosen}
 use Rattle.point_exact.specs.Rules.{Rules}
 use Rattle.point_exact.specs.Exact.{choose, along, bernstein, segmentWeight, bezierWeight, splineWeight, weightAt, curveExact, surfaceExact}
-use Rattle.point_exact.specs.Sampled.{pyramid, lowAt, highAt, partAt, gapAt, firstControl, curveSampled, surfaceSampled}
+use Rattle.point_exact.specs.Sampled.{pyramid, lowAt, highAt, offsetAt, gapAt, firstControl, curveSampled, surfaceSampled}
 
 abbrev eqZ : ℤ → ℤ → Bool
 eqZ (pos a) (pos b) = eqb a b
@@ -76,7 +76,7 @@ cases =
     ∷ []
 
 curves-hold : all holds cases ≡ true
-unfolding cases curveSampled curveExact pyramid lowAt highAt partAt gapAt firstControl chosen segment span lastWhere weightAt segmentWeight bezierWeight bernstein along choose splineWeight power over sumTo whole _+ᶠ_ _-ᶠ_ _*ᶠ_ between rounded
+unfolding cases curveSampled curveExact pyramid lowAt highAt offsetAt gapAt firstControl chosen segment span lastWhere weightAt segmentWeight bezierWeight bernstein along choose splineWeight power over sumTo whole _+ᶠ_ _-ᶠ_ _*ᶠ_ between rounded
 curves-hold = refl
 
 -- 2 by 2 controls, half way along u and a quarter along v: (0 + 10) / 2 · 3/4 + (4 + 20) / 2 · 1/4
@@ -88,7 +88,7 @@ line e = record { basis = bezier; degree = 1; controls = 2; parameters = pos 0 �
 
 surface-holds : (surfaceSampled (line (pos 2)) (line (pos 4)) (pos 1) (pos 1) grid ≡ pos 7)
     × (surfaceExact (line (pos 2)) (line (pos 4)) (pos 1) (pos 1) grid .top *ℤ pos 4 ≡ pos 27 *ℤ pos (surfaceExact (line (pos 2)) (line (pos 4)) (pos 1) (pos 1) grid .bot))
-unfolding surfaceSampled surfaceExact curveSampled pyramid lowAt highAt partAt gapAt firstControl chosen segment lastWhere weightAt segmentWeight bezierWeight bernstein along choose power over sumTo whole _+ᶠ_ _-ᶠ_ _*ᶠ_ between rounded
+unfolding surfaceSampled surfaceExact curveSampled pyramid lowAt highAt offsetAt gapAt firstControl chosen segment lastWhere weightAt segmentWeight bezierWeight bernstein along choose power over sumTo whole _+ᶠ_ _-ᶠ_ _*ᶠ_ between rounded
 surface-holds = (refl, refl)
 
 -- the rules can be met, and the bound is: at degree 1 the point is half a millionth off
@@ -102,5 +102,5 @@ half-way = record { many = lit≤ tt; count = refl; rising = rises; low = leZ-ye
 
 bound-met : (let f : Frac = curveExact (line (pos 2)) (pos 1) (at (pos 0 ∷ pos 1 ∷ [])) in
     2 * natAbs (curveSampled (line (pos 2)) (pos 1) (at (pos 0 ∷ pos 1 ∷ [])) *ℤ pos (f .bot) -ℤ f .top) ≡ 1 * f .bot)
-unfolding curveSampled curveExact pyramid lowAt highAt partAt gapAt firstControl chosen segment lastWhere weightAt segmentWeight bezierWeight bernstein along choose power over sumTo whole _+ᶠ_ _-ᶠ_ _*ᶠ_ between rounded
+unfolding curveSampled curveExact pyramid lowAt highAt offsetAt gapAt firstControl chosen segment lastWhere weightAt segmentWeight bezierWeight bernstein along choose power over sumTo whole _+ᶠ_ _-ᶠ_ _*ᶠ_ between rounded
 bound-met = refl

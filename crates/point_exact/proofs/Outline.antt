@@ -17,7 +17,7 @@ use Rattle.rounding.proofs.Rounding.{between-start, between-end}
 use Rattle.lists.proofs.Tests.{never}
 use Rattle.point_exact.specs.Directions.{PointBasis, bezier, bspline, by, Direction, at, segment, chosen}
 use Rattle.point_exact.specs.Rules.{BezierRules, Rules}
-use Rattle.point_exact.specs.Sampled.{pyramid, lowAt, highAt, partAt, gapAt, firstControl, curveSampled, surfaceSampled}
+use Rattle.point_exact.specs.Sampled.{pyramid, lowAt, highAt, offsetAt, gapAt, firstControl, curveSampled, surfaceSampled}
 use Rattle.point_exact.specs.Outline.{extreme, least, greatest, startingRow, startingGrid, AtParameter}
 use Rattle.point_exact.specs.Near.{CurveWithin, SurfaceWithin, CurveEnds, SurfaceEnds}
 use Rattle.point_exact.proofs.Chosen.{Holds, segment-below, segment-holds}
@@ -140,7 +140,7 @@ module _ {n k : ℕ} {x : List ℤ} {t : ℤ} (o : BezierRules n k x t) (g : ℕ
 
 curve-end-of : (b : PointBasis) (n k : ℕ) (x : List ℤ) (t : ℤ) → (let d : Direction = record { basis = b; degree = n; controls = k; parameters = x } in
     Rules d t → (g : ℕ) → AtParameter d t g → (c : ℕ → ℤ) → curveSampled d t c ≡ c (g * n))
-unfolding Rules curveSampled partAt gapAt lowAt highAt firstControl chosen
+unfolding Rules curveSampled offsetAt gapAt lowAt highAt firstControl chosen
 curve-end-of bezier n k x t o g a c = segment-end o g (a .some) (a .there) c
 curve-end-of bspline n k x t o g a c = never (ap (λ (q : PointBasis). by q true false) (a .type))
 

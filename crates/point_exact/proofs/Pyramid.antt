@@ -5,7 +5,7 @@ use native.Mathlib.Omega.{arith}
 use lib.IntN.{ℤ}
 use Rattle.rounding.specs.Round.{between}
 use Rattle.point_exact.specs.Directions.{Direction}
-use Rattle.point_exact.specs.Sampled.{pyramid, partAt, gapAt, firstControl, curveSampled, surfaceSampled}
+use Rattle.point_exact.specs.Sampled.{pyramid, offsetAt, gapAt, firstControl, curveSampled, surfaceSampled}
 
 -- it reads the numbers 0 .. r alone, and the parts below r
 pub pyramid-cong : (p g p′ g′ : ℕ → ℕ → ℕ) (r : ℕ) (c d : ℕ → ℤ)
@@ -30,7 +30,7 @@ pub sampled-cong : (d : Direction) (t : ℤ) (b c : ℕ → ℤ) → ((j : ℕ) 
     → curveSampled d t b ≡ curveSampled d t c
 unfolding curveSampled
 sampled-cong d t b c h =
-    pyramid-cong (partAt d t) (gapAt d t) (partAt d t) (gapAt d t) (d .degree) (λ j. b (firstControl d t + j)) (λ j. c (firstControl d t + j))
+    pyramid-cong (offsetAt d t) (gapAt d t) (offsetAt d t) (gapAt d t) (d .degree) (λ j. b (firstControl d t + j)) (λ j. c (firstControl d t + j))
     (λ q j u v. refl) (λ q j u v. refl) h
 
 pub surface-cong : (u v : Direction) (s t : ℤ) (b c : ℕ → ℕ → ℤ) → ((i j : ℕ) → b i j ≡ c i j) → surfaceSampled u v s t b ≡ surfaceSampled u v s t c

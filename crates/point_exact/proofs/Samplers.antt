@@ -16,7 +16,7 @@ use Rattle.lists.proofs.Tests.{and-second}
 use Rattle.point_exact.specs.Directions.{PointBasis, bezier, bspline, Direction, at, segment, span, chosen}
 use Rattle.point_exact.specs.Rules.{BezierRules, SplineRules, Rules}
 use Rattle.point_exact.specs.Exact.{along, segmentWeight, bezierWeight, splineWeight, weightAt}
-use Rattle.point_exact.specs.Sampled.{pyramid, lowAt, highAt, partAt, gapAt, firstControl, curveSampled}
+use Rattle.point_exact.specs.Sampled.{pyramid, lowAt, highAt, offsetAt, gapAt, firstControl, curveSampled}
 use Rattle.point_exact.proofs.Chosen.{Holds, segment-below, segment-holds, span-below, span-from, span-holds}
 use Rattle.point_exact.proofs.Bernstein.{share, casteljau-near, power-above, bernstein-is}
 use Rattle.point_exact.proofs.SplineScheme.{OnSpan, part, gap, part-le, gap-pos, portion, all, all-above, near}
@@ -99,7 +99,7 @@ span-controls r = omega (arith, span-below r, span-from r)
 -- ---- either
 sampler-of : (b : PointBasis) (n k : ℕ) (x : List ℤ) (t : ℤ) → (let d : Direction = record { basis = b; degree = n; controls = k; parameters = x } in
     Rules d t → Sampler k (weightAt d t) n (curveSampled d t))
-unfolding Rules weightAt curveSampled partAt gapAt lowAt highAt firstControl chosen
+unfolding Rules weightAt curveSampled offsetAt gapAt lowAt highAt firstControl chosen
 sampler-of bezier n k x t r = segment-sampler (at x) t (segment (at x) (length x) t) (segment-holds r) n k (segment-controls r)
 sampler-of bspline n k x t r = span-sampler (at x) t (span (at x) n k t) n (span-on r) k (span-controls r)
 
@@ -118,12 +118,12 @@ controls-there d t r = controls-of (d .basis) (d .degree) (d .controls) (d .para
 
 -- every step is at p parts of D, p at most D and D above 0
 parts-of : (b : PointBasis) (n k : ℕ) (x : List ℤ) (t : ℤ) → (let d : Direction = record { basis = b; degree = n; controls = k; parameters = x } in
-    Rules d t → (r j : ℕ) → r < n → j ≤ r → (partAt d t r j ≤ gapAt d t r j) × (0 < gapAt d t r j))
-unfolding Rules partAt gapAt lowAt highAt chosen
+    Rules d t → (r j : ℕ) → r < n → j ≤ r → (offsetAt d t r j ≤ gapAt d t r j) × (0 < gapAt d t r j))
+unfolding Rules offsetAt gapAt lowAt highAt chosen
 parts-of bezier n k x t o r j h l =
     (p-within (at x) t (segment (at x) (length x) t) (segment-holds o), D-above (at x) t (segment (at x) (length x) t) (segment-holds o))
 parts-of bspline n k x t o r j h l =
     (part-le (at x) t (span (at x) n k t) n (span-on o) r j h l, gap-pos (at x) t (span (at x) n k t) n (span-on o) r j h l)
 
-pub step-parts : (d : Direction) (t : ℤ) → Rules d t → (r j : ℕ) → r < d .degree → j ≤ r → (partAt d t r j ≤ gapAt d t r j) × (0 < gapAt d t r j)
+pub step-parts : (d : Direction) (t : ℤ) → Rules d t → (r j : ℕ) → r < d .degree → j ≤ r → (offsetAt d t r j ≤ gapAt d t r j) × (0 < gapAt d t r j)
 step-parts d t o r j h l = parts-of (d .basis) (d .degree) (d .controls) (d .parameters) t o r j h l

@@ -7,7 +7,7 @@ use Rattle.rounding.specs.Round.{between}
 use Rattle.rounding.proofs.Rounding.{between-above, between-below}
 use Rattle.point_exact.specs.Directions.{Direction}
 use Rattle.point_exact.specs.Rules.{Rules}
-use Rattle.point_exact.specs.Sampled.{pyramid, partAt, gapAt, firstControl, curveSampled, surfaceSampled}
+use Rattle.point_exact.specs.Sampled.{pyramid, offsetAt, gapAt, firstControl, curveSampled, surfaceSampled}
 use Rattle.point_exact.proofs.Samplers.{step-parts}
 
 module _ (p g : ℕ → ℕ → ℕ) (n : ℕ) (parts : (r j : ℕ) → r < n → j ≤ r → (p r j ≤ g r j) × (0 < g r j)) where
@@ -28,12 +28,12 @@ module _ (p g : ℕ → ℕ → ℕ) (n : ℕ) (parts : (r j : ℕ) → r < n �
 pub curve-above : (d : Direction) (t : ℤ) → Rules d t → (c : ℕ → ℤ) {low : ℤ}
     → ((j : ℕ) → j ≤ d .degree → low ≤ℤ c (firstControl d t + j)) → low ≤ℤ curveSampled d t c
 unfolding curveSampled
-curve-above d t o c f = above (partAt d t) (gapAt d t) (d .degree) (step-parts d t o) (d .degree) (λ j. c (firstControl d t + j)) (omega arith) f
+curve-above d t o c f = above (offsetAt d t) (gapAt d t) (d .degree) (step-parts d t o) (d .degree) (λ j. c (firstControl d t + j)) (omega arith) f
 
 pub curve-below : (d : Direction) (t : ℤ) → Rules d t → (c : ℕ → ℤ) {high : ℤ}
     → ((j : ℕ) → j ≤ d .degree → c (firstControl d t + j) ≤ℤ high) → curveSampled d t c ≤ℤ high
 unfolding curveSampled
-curve-below d t o c f = below (partAt d t) (gapAt d t) (d .degree) (step-parts d t o) (d .degree) (λ j. c (firstControl d t + j)) (omega arith) f
+curve-below d t o c f = below (offsetAt d t) (gapAt d t) (d .degree) (step-parts d t o) (d .degree) (λ j. c (firstControl d t + j)) (omega arith) f
 
 pub surface-above : (u v : Direction) (s t : ℤ) → Rules u s → Rules v t → (c : ℕ → ℕ → ℤ) {low : ℤ}
     → ((i j : ℕ) → i ≤ u .degree → j ≤ v .degree → low ≤ℤ c (firstControl u s + i) (firstControl v t + j)) → low ≤ℤ surfaceSampled u v s t c

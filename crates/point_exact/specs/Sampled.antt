@@ -18,8 +18,8 @@ lowAt d t r j = by (d .basis) (at (d .parameters) (chosen d t)) (at (d .paramete
 unfoldable pub highAt : Direction → (t : ℤ) → ℕ → ℕ → ℤ
 highAt d t r j = by (d .basis) (at (d .parameters) (suc (chosen d t))) (at (d .parameters) (suc (chosen d t + j)))
 
-unfoldable pub partAt : Direction → (t : ℤ) → ℕ → ℕ → ℕ
-partAt d t r j = natAbs (t -ℤ lowAt d t r j)
+unfoldable pub offsetAt : Direction → (t : ℤ) → ℕ → ℕ → ℕ
+offsetAt d t r j = natAbs (t -ℤ lowAt d t r j)
 
 unfoldable pub gapAt : Direction → (t : ℤ) → ℕ → ℕ → ℕ
 gapAt d t r j = natAbs (highAt d t r j -ℤ lowAt d t r j)
@@ -30,7 +30,7 @@ firstControl d t = by (d .basis) (chosen d t * d .degree) (chosen d t - d .degre
 
 -- "Bezier: de Casteljau in the last segment whose start is ≤ t. B-spline: de Boor in the last non-empty span from x_n to x_k whose start is ≤ t"
 unfoldable pub curveSampled : Direction → (t : ℤ) → (ℕ → ℤ) → ℤ
-curveSampled d t c = pyramid (partAt d t) (gapAt d t) (d .degree) (λ j. c (firstControl d t + j))
+curveSampled d t c = pyramid (offsetAt d t) (gapAt d t) (d .degree) (λ j. c (firstControl d t + j))
 
 -- "Surfaces: u first along each row, then v."
 unfoldable pub surfaceSampled : (u v : Direction) (s t : ℤ) → (ℕ → ℕ → ℤ) → ℤ

@@ -10,10 +10,10 @@ use lib.Seq.{getD-set-same, getD-set-other}
 use lib.IntN.{ℤ}
 use lib.Ieee.{nan}
 use Rattle.point_exact.specs.Directions.{Direction}
-use Rattle.point_exact.specs.Sampled.{pyramid, partAt, gapAt}
+use Rattle.point_exact.specs.Sampled.{pyramid, offsetAt, gapAt}
 use Rattle.point_exact.proofs.Pyramid.{pyramid-row}
 use Rattle.point_guess.specs.Steps.{Axis, Parted, Next, Stepped}
-use Rattle.point_guess.specs.Rows.{placeAt, numberAt, Encoded}
+use Rattle.point_guess.specs.Rows.{placeAt, axisNumber, Encoded}
 use Rattle.point_guess.specs.declared.Interval.{Interval}
 use Rattle.point_guess.specs.declared.Place.{Place}
 use Rattle.point_guess.proofs.Weights.{part-of, gap-from}
@@ -57,7 +57,7 @@ abbrev pub Level : (p g : ℕ → ℕ) (old new : List Place) (i : ℕ) → Type
 Level p g old new i = Made (λ j c. Next (p j) (g j) (placeAt old j) (placeAt old (suc j)) c) new i
 
 -- the place that a step makes is the next row's
-pub next-place : {d : Direction} {t : ℤ} {r j : ℕ} {g : Interval} {a b a′ b′ c : Place} → Parted d t r j g → a ≡ a′ → b ≡ b′ → Stepped a b g t c → Next (partAt d t r j) (gapAt d t r j) a′ b′ c
+pub next-place : {d : Direction} {t : ℤ} {r j : ℕ} {g : Interval} {a b a′ b′ c : Place} → Parted d t r j g → a ≡ a′ → b ≡ b′ → Stepped a b g t c → Next (offsetAt d t r j) (gapAt d t r j) a′ b′ c
 next-place p e f m = rw (← e, ← f, ← part-of p, ← gap-from p) m
 
 -- neighbours by another name
@@ -68,10 +68,10 @@ module _ (p g : ℕ → ℕ → ℕ) (old : List Place) {new : List Place} {last
   pub level-encoded : last ≤ length new → Encoded new last
   level-encoded h = record { most = h; each = λ j i k. l .each j i k .whole }
 
-  pub level-row : 0 < last → (k : Axis) → pyramid p g (last - 1) (numberAt new k) ≡ pyramid p g last (numberAt old k)
+  pub level-row : 0 < last → (k : Axis) → pyramid p g (last - 1) (axisNumber new k) ≡ pyramid p g last (axisNumber old k)
   level-row h k =
       let n : last ≡ suc (last - 1) = omega arith in
-      pyramid-row p g (last - 1) (numberAt old k) (numberAt new k) (λ j i. l .each j (omega arith) k .is) ∙ ap (λ (q : ℕ). pyramid p g q (numberAt old k)) (sym n)
+      pyramid-row p g (last - 1) (axisNumber old k) (axisNumber new k) (λ j i. l .each j (omega arith) k .is) ∙ ap (λ (q : ℕ). pyramid p g q (axisNumber old k)) (sym n)
 
 pub pyramid-one : (p g : ℕ → ℕ → ℕ) (n : ℕ) (c : ℕ → ℤ) → n ≡ 0 → pyramid p g n c ≡ c 0
 unfolding pyramid

@@ -16,7 +16,7 @@ use Rattle.rounding.proofs.Rounding.{between-small}
 use Rattle.doubles.specs.Doubles.{Encoding, encode, decode, weightOf, blend, above, below}
 use Rattle.doubles.proofs.Whole.{decode-encode, encode-decode, decode-small}
 use Rattle.doubles.proofs.Certain.{certain-between}
-use Rattle.point_guess.specs.Steps.{Axis, X, Y, Z, on, Encodes, Within, Fair, EncodesBetween, Blended, Stepped}
+use Rattle.point_guess.specs.Steps.{Axis, X, Y, Z, on, Encodes, InInterval, Fair, EncodesBetween, Blended, Stepped}
 use Rattle.point_guess.specs.declared.Interval.{Interval}
 use Rattle.point_guess.specs.declared.Place.{Place}
 
@@ -40,7 +40,7 @@ unfolding ofBits neg
 lowered-is = refl
 
 -- guessed, where both slacks end at one double
-guessed : {a b w : Float} (p q : Float) {low high t : ℤ} → Within low high t → Encoding a → Encoding b → w ≡ weightOf (natAbs (t -ℤ low)) (natAbs (high -ℤ low))
+guessed : {a b w : Float} (p q : Float) {low high t : ℤ} → InInterval low high t → Encoding a → Encoding b → w ≡ weightOf (natAbs (t -ℤ low)) (natAbs (high -ℤ low))
     → p ≡ blend a b w above → q ≡ blend a b w lowered → eq p q ≡ true → EncodesBetween a b (natAbs (t -ℤ low)) (natAbs (high -ℤ low)) p
 guessed {a} {b} {w} p q {low} {high} {t} i ka kb w-is p-is q-is sure =
     between-encode (between (decode a) (decode b) part gap) refl (between-small (decode a) (decode b) part gap (i .part) (i .wide) (decode-small ka) (decode-small kb))
@@ -62,8 +62,8 @@ guessed {a} {b} {w} p q {low} {high} {t} i ka kb w-is p-is q-is sure =
     down = q-is ∙ λ n. blend (encode-decode ka n) (encode-decode kb n) (w-is n) (lowered-is n)
 
 -- ---- the parameters, read back from their bits
-module _ {low high t : ℤ} (w : Within low high t) where
-  pub within-back : Within (toZ w32 (ofZ w32 low)) (toZ w32 (ofZ w32 high)) (toZ w32 (ofZ w32 t))
+module _ {low high t : ℤ} (w : InInterval low high t) where
+  pub within-back : InInterval (toZ w32 (ofZ w32 low)) (toZ w32 (ofZ w32 high)) (toZ w32 (ofZ w32 t))
   within-back = rw (read-back-small low (w .low-small), read-back-small high (w .high-small), read-back-small t (w .here)) w
 
   pub between-back : {a b c : Float} → EncodesBetween a b (natAbs (toZ w32 (ofZ w32 t) -ℤ toZ w32 (ofZ w32 low))) (natAbs (toZ w32 (ofZ w32 high) -ℤ toZ w32 (ofZ w32 low))) c

@@ -15,7 +15,7 @@ use Rattle.rounding.proofs.Ring.{ring, _⊕_, _⊝_, _≐_}
 use Rattle.doubles.specs.Doubles.{weightOf}
 use Rattle.point_exact.specs.Directions.{PointBasis, bezier, bspline, by, Direction, at, span, chosen}
 use Rattle.point_exact.specs.Rules.{Rules}
-use Rattle.point_exact.specs.Sampled.{lowAt, highAt, partAt, gapAt}
+use Rattle.point_exact.specs.Sampled.{lowAt, highAt, offsetAt, gapAt}
 use Rattle.point_exact.proofs.Chosen.{segment-holds}
 use Rattle.point_exact.proofs.Samplers.{span-on, step-parts}
 use Rattle.point_exact.proofs.SplineScheme as spline
@@ -23,7 +23,7 @@ use Rattle.point_rows.specs.Places.{direction}
 use Rattle.point_rows.specs.Finding.{On}
 use Rattle.point_rows.specs.declared.BodyDirection.{BodyDirection}
 use Rattle.point_rows.proofs.Places.{part-is, gap-is}
-use Rattle.point_guess.specs.Steps.{Within, Parted}
+use Rattle.point_guess.specs.Steps.{InInterval, Parted}
 use Rattle.point_guess.specs.declared.Interval.{Interval}
 
 -- ---- the order, from a difference
@@ -40,23 +40,23 @@ less a b n e h = ⊎-elim (λ l. l) (λ l. absurd (none (up-abs (up l)))) (lt-or
         omega arith
 
 ways-of : (b : PointBasis) (n k : ℕ) (x : List ℤ) (t : ℤ) → (let d : Direction = record { basis = b; degree = n; controls = k; parameters = x } in
-    Rules d t → (r j : ℕ) → r < n → j ≤ r → (t -ℤ lowAt d t r j ≡ pos (partAt d t r j)) × (highAt d t r j -ℤ lowAt d t r j ≡ pos (gapAt d t r j)))
-unfolding Rules partAt gapAt lowAt highAt chosen
+    Rules d t → (r j : ℕ) → r < n → j ≤ r → (t -ℤ lowAt d t r j ≡ pos (offsetAt d t r j)) × (highAt d t r j -ℤ lowAt d t r j ≡ pos (gapAt d t r j)))
+unfolding Rules offsetAt gapAt lowAt highAt chosen
 ways-of bezier n k x t o r j h l = let s = segment-holds o in (up-abs (up (s .low)), up-abs (up-trans (up (s .low)) (up (s .high))))
 ways-of bspline n k x t o r j h l = (spline.part-is (at x) t (span (at x) n k t) n (span-on o) r j h l, spline.gap-is (at x) t (span (at x) n k t) n (span-on o) r j h l)
 
 module _ (d : Direction) (t : ℤ) (o : Rules d t) (r j : ℕ) (h : r < d .degree) (l : j ≤ r) where
-  ways : (t -ℤ lowAt d t r j ≡ pos (partAt d t r j)) × (highAt d t r j -ℤ lowAt d t r j ≡ pos (gapAt d t r j))
+  ways : (t -ℤ lowAt d t r j ≡ pos (offsetAt d t r j)) × (highAt d t r j -ℤ lowAt d t r j ≡ pos (gapAt d t r j))
   ways = ways-of (d .basis) (d .degree) (d .controls) (d .parameters) t o r j h l
 
   pub low-upto : lowAt d t r j ≤ℤ t
-  low-upto = less-eq (lowAt d t r j) t (partAt d t r j) (ways .0)
+  low-upto = less-eq (lowAt d t r j) t (offsetAt d t r j) (ways .0)
 
   pub low-below : lowAt d t r j <ℤ highAt d t r j
   low-below = less (lowAt d t r j) (highAt d t r j) (gapAt d t r j) (ways .1) (step-parts d t o r j h l .1)
 
-  pub within : InRange (lowAt d t r j) → InRange (highAt d t r j) → InRange t → Within (lowAt d t r j) (highAt d t r j) t
-  unfolding partAt gapAt
+  pub within : InRange (lowAt d t r j) → InRange (highAt d t r j) → InRange t → InInterval (lowAt d t r j) (highAt d t r j) t
+  unfolding offsetAt gapAt
   within u v w = let p = step-parts d t o r j h l in record { part = p .0; wide = p .1; low-small = u; high-small = v; here = w }
 
 -- ---- the interval that is made
@@ -69,7 +69,7 @@ module _ {a : BodyDirection} {x : List ℤ} {t : ℤ} {g : ℕ} (o : On a x t g)
     low = lows;
     high = highs;
     fair = record {
-      within = subst₂ (λ (a b : ℤ). Within a b t) (sym lows) (sym highs) (within (direction a x) t (o .sound .rules) r j h l (rw lows at small) (rw highs at large) (o .sound .here));
+      within = subst₂ (λ (a b : ℤ). InInterval a b t) (sym lows) (sym highs) (within (direction a x) t (o .sound .rules) r j h l (rw lows at small) (rw highs at large) (o .sound .here));
       weight = is;
     };
   }
@@ -88,7 +88,7 @@ one-gap a x t e r j p = record { low = p .low ∙ one-low a x t e r j; high = p 
 
 -- ---- the parts and the interval of a number, from its interval
 module _ {d : Direction} {t : ℤ} {r j : ℕ} {g : Interval} (p : Parted d t r j g) where
-  pub part-of : natAbs (t -ℤ g .low) ≡ partAt d t r j
+  pub part-of : natAbs (t -ℤ g .low) ≡ offsetAt d t r j
   part-of = ap (λ (z : ℤ). natAbs (t -ℤ z)) (p .low) ∙ part-is d t r j
 
   pub gap-from : natAbs (g .high -ℤ g .low) ≡ gapAt d t r j

@@ -7,7 +7,7 @@ use lib.IntN.{ℤ}
 use lib.Ieee.{nan}
 use Rattle.doubles.specs.Doubles.{decode}
 use Rattle.point_exact.specs.Directions.{Direction}
-use Rattle.point_exact.specs.Sampled.{pyramid, partAt, gapAt}
+use Rattle.point_exact.specs.Sampled.{pyramid, offsetAt, gapAt}
 use Rattle.point_guess.specs.Steps.{Axis, on, Encodes}
 use Rattle.point_guess.specs.declared.Place.{Place}
 
@@ -15,8 +15,8 @@ abbrev pub placeAt : List Place → ℕ → Place
 placeAt row j = getD row j (record { x = nan; y = nan; z = nan })
 
 -- number j of a row, on an axis
-abbrev pub numberAt : List Place → Axis → ℕ → ℤ
-numberAt row k j = decode (on k (placeAt row j))
+abbrev pub axisNumber : List Place → Axis → ℕ → ℤ
+axisNumber row k j = decode (on k (placeAt row j))
 
 -- a row of `count` places stands at the front, each of them whole numbers in range
 pub record Encoded (row : List Place) (count : ℕ) : Type 0 where
@@ -30,4 +30,4 @@ pub record PlaceHolds (p : Place) (f : Axis → ℤ) : Type 0 where
 
 -- what a row comes to, by the rounded rule on each axis
 abbrev pub Descended : Direction → (t : ℤ) → List Place → Place → Type 0
-Descended d t row p = PlaceHolds p (λ k. pyramid (partAt d t) (gapAt d t) (d .degree) (numberAt row k))
+Descended d t row p = PlaceHolds p (λ k. pyramid (offsetAt d t) (gapAt d t) (d .degree) (axisNumber row k))

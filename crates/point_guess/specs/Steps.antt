@@ -30,7 +30,7 @@ abbrev pub Encodes : Place → Type 0
 Encodes p = (k : Axis) → Encoding (on k p)
 
 -- t lies from `low` to `high`, which differ
-pub record Within (low high t : ℤ) : Type 0 where
+pub record InInterval (low high t : ℤ) : Type 0 where
   pub part : natAbs (t -ℤ low) ≤ natAbs (high -ℤ low)
   pub wide : 0 < natAbs (high -ℤ low)
   pub low-small : InRange low
@@ -39,7 +39,7 @@ pub record Within (low high t : ℤ) : Type 0 where
 
 -- t lies in a interval, at its weight
 pub record Fair (g : Interval) (t : ℤ) : Type 0 where
-  pub within : Within (g .low) (g .high) t
+  pub within : InInterval (g .low) (g .high) t
   pub weight : g .part ≡ weightOf (natAbs (t -ℤ g .low)) (natAbs (g .high -ℤ g .low))
 
 -- g is the interval of number j of the row of r + 1 numbers

@@ -5,10 +5,10 @@ ghost use lib.IntN.{natAbs, _-ℤ_};
 ghost use lib.Ieee.{eq};
 ghost use mathlib.Core.Bool.{true, _&&_};
 ghost use Rattle.doubles.specs.Doubles.{Encoding, above};
-ghost use Rattle.point_exact.specs.Sampled.{partAt, gapAt};
+ghost use Rattle.point_exact.specs.Sampled.{offsetAt, gapAt};
 ghost use Rattle.point_rows.specs.Places.{direction};
 ghost use Rattle.point_rows.specs.Finding.{On};
-ghost use Rattle.point_guess.specs.Steps.{Encodes, Within, Fair, Parted, First, EncodesBetween, Blended, Next, Stepped, Makes};
+ghost use Rattle.point_guess.specs.Steps.{Encodes, InInterval, Fair, Parted, First, EncodesBetween, Blended, Next, Stepped, Makes};
 ghost use Rattle.point_guess.specs.Rows.{Encoded, Descended};
 use doubles::blend;
 use doubles::decode;
@@ -105,7 +105,7 @@ pub fn interval_of(
 
 // Between two numbers by the rounding rule: all numbers are whole and below 2^53, so that no rounding of doubles counts.
 fn exact(a: f64, b: f64, low: i32, high: i32, t: i32) -> f64
-    requires { ⌜ Encoding a × Encoding b × Within low high t ⌝ }
+    requires { ⌜ Encoding a × Encoding b × InInterval low high t ⌝ }
     ensures { λ r. ⌜ EncodesBetween a b (natAbs (t -ℤ low)) (natAbs (high -ℤ low)) r ⌝ }
 {
     encode(between(decode(a), decode(b), distance(low, t), distance(low, high)))
@@ -134,7 +134,7 @@ pub fn exact_at(
     j: usize,
 ) -> Place
     requires { ⌜ Encodes a × Encodes b × On along (now x) t chosen × (r < along .degree) × (j ≤ r) ⌝ }
-    ensures { λ p. ⌜ Next (partAt (direction along (now (x .entry))) t r j) (gapAt (direction along (now (x .entry))) t r j) a b p ⌝ }
+    ensures { λ p. ⌜ Next (offsetAt (direction along (now (x .entry))) t r j) (gapAt (direction along (now (x .entry))) t r j) a b p ⌝ }
 {
     exact_place(a, b, interval_at(x, along, chosen, t, r, j), t)
 }

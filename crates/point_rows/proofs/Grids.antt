@@ -14,7 +14,7 @@ use Rattle.rounding.specs.Range.{InRange}
 use Rattle.rounding.proofs.Bits.{read-back-small}
 use Rattle.point_exact.specs.Directions.{Direction, at, chosen}
 use Rattle.point_exact.specs.Rules.{Rules}
-use Rattle.point_exact.specs.Sampled.{pyramid, partAt, gapAt, firstControl, curveSampled, surfaceSampled}
+use Rattle.point_exact.specs.Sampled.{pyramid, offsetAt, gapAt, firstControl, curveSampled, surfaceSampled}
 use Rattle.point_exact.proofs.Samplers.{controls-there}
 use Rattle.point_exact.proofs.Pyramid.{sampled-cong}
 use Rattle.tables.specs.Records.{valueAt, vWidth}
@@ -41,7 +41,7 @@ module _ {a : BodyDirection} {x : List ℤ} {t : ℤ} {g : ℕ} (o : On a x t g)
   pub last-there : firstControl (direction a x) t + a .degree < a .controls
   last-there = controls-there (direction a x) t (o .sound .rules)
 
-pub sampled-is : (d : Direction) (t : ℤ) (c : ℕ → ℤ) → curveSampled d t c ≡ pyramid (partAt d t) (gapAt d t) (d .degree) (λ j. c (firstControl d t + j))
+pub sampled-is : (d : Direction) (t : ℤ) (c : ℕ → ℤ) → curveSampled d t c ≡ pyramid (offsetAt d t) (gapAt d t) (d .degree) (λ j. c (firstControl d t + j))
 unfolding curveSampled
 sampled-is d t c = refl
 
@@ -80,11 +80,11 @@ from-first d t values corners first axis =
 
 -- the rows that count, one by one, are what v is taken over
 pub grid-rows : (u v : Direction) (s t : ℤ) (values : List ℤ) (corners : List ℕ) (first axis h top : ℕ) → top ≡ firstControl v t
-    → pyramid (partAt v t) (gapAt v t) (v .degree) (λ j. curveSampled u s (λ i. controlAt values corners first axis ((top + j) * h + i)))
+    → pyramid (offsetAt v t) (gapAt v t) (v .degree) (λ j. curveSampled u s (λ i. controlAt values corners first axis ((top + j) * h + i)))
     ≡ surfaceSampled u v s t (λ i j. controlAt values corners first axis (j * h + i))
 unfolding surfaceSampled
 grid-rows u v s t values corners first axis h top e =
-    ap (λ (q : ℕ). pyramid (partAt v t) (gapAt v t) (v .degree) (λ j. f (q + j))) e ∙ sym (sampled-is v t f)
+    ap (λ (q : ℕ). pyramid (offsetAt v t) (gapAt v t) (v .degree) (λ j. f (q + j))) e ∙ sym (sampled-is v t f)
   where
     f : ℕ → ℤ
     f j = curveSampled u s (λ i. controlAt values corners first axis (j * h + i))

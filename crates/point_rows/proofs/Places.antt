@@ -11,7 +11,7 @@ use lib.IntN.{ℤ, natAbs, _-ℤ_}
 use Rattle.rounding.specs.Range.{InRange}
 use Rattle.point_exact.specs.Directions.{PointBasis, bezier, bspline, by, Direction, at, segment, span, chosen}
 use Rattle.point_exact.specs.Rules.{BezierRules, SplineRules, Rules}
-use Rattle.point_exact.specs.Sampled.{lowAt, highAt, partAt, gapAt, firstControl}
+use Rattle.point_exact.specs.Sampled.{lowAt, highAt, offsetAt, gapAt, firstControl}
 use Rattle.point_exact.proofs.Chosen.{span-below, span-from, segment-below}
 use Rattle.point_rows.specs.Places.{direction}
 use Rattle.point_rows.specs.Finding.{Sound, On}
@@ -77,8 +77,8 @@ module _ (a : BodyDirection) (x : List ℤ) (t : ℤ) where
     segment-inside {g} o = omega (arith, o .is ∙ chosen-segment, segment-below (bezierOnly (o .sound .rules)))
 
 -- the parts and the interval of a step, from its two parameters
-pub part-is : (d : Direction) (t : ℤ) (r j : ℕ) → natAbs (t -ℤ lowAt d t r j) ≡ partAt d t r j
-unfolding partAt
+pub part-is : (d : Direction) (t : ℤ) (r j : ℕ) → natAbs (t -ℤ lowAt d t r j) ≡ offsetAt d t r j
+unfolding offsetAt
 part-is d t r j = refl
 
 pub gap-is : (d : Direction) (t : ℤ) (r j : ℕ) → natAbs (highAt d t r j -ℤ lowAt d t r j) ≡ gapAt d t r j

@@ -26,8 +26,8 @@ pub record ControlsLent (values : List ℤ) (corners : List ℕ) (first from end
   pub small : (i k : ℕ) → from ≤ i → i < end → k < vWidth → InRange (controlAt values corners first k i)
 
 -- the first of the controls that a point in segment or span g is made from
-abbrev pub firstOf : BodyDirection → (g : ℕ) → ℕ
-firstOf a g = cond (eqb (a .basis) 2) (g - a .degree) (g * a .degree)
+abbrev pub firstControlOf : BodyDirection → (g : ℕ) → ℕ
+firstControlOf a g = cond (eqb (a .basis) 2) (g - a .degree) (g * a .degree)
 
 -- the first control of the chosen segment or span is there
 pub record Reached (a : BodyDirection) (g : ℕ) : Type 0 where

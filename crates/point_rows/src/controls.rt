@@ -2,7 +2,7 @@ ghost use mathlib.Core.Path.{_≡_};
 ghost use Prim.Native.Nat.{_+_, _<_};
 ghost use Rattle.rounding.specs.Range.{InRange};
 ghost use Rattle.tables.specs.Records.{vWidth};
-ghost use Rattle.point_rows.specs.Controls.{controlAt, ControlsLent, firstOf, Reached};
+ghost use Rattle.point_rows.specs.Controls.{controlAt, ControlsLent, firstControlOf, Reached};
 use crate::BodyDirection;
 use tables::bases;
 use tables::vertices::lent_number;
@@ -19,7 +19,7 @@ pub fn control(values: &[i32], corners: &[u32], first: u32, axis: usize, i: usiz
 // The first of the n + 1 controls that a point is made from.
 pub fn first_control(along: BodyDirection, chosen: usize) -> usize
     requires { ⌜ Reached along chosen ⌝ }
-    ensures { λ r. ⌜ r ≡ firstOf along chosen ⌝ }
+    ensures { λ r. ⌜ r ≡ firstControlOf along chosen ⌝ }
 {
     if along.basis == bases::BSPLINE {
         return chosen - along.degree;

@@ -15,8 +15,8 @@ use Rattle.rounding.proofs.Bits.{read-back-small}
 use Rattle.point_exact.specs.Sampled.{curveSampled}
 use Rattle.point_rows.specs.Places.{direction}
 use Rattle.point_rows.specs.Controls.{controlAt}
-use Rattle.point_runs.specs.Runs.{joined, listed}
-use Rattle.point_runs.specs.Inner.{coordinateOf, pointAt}
+use Rattle.point_runs.specs.Runs.{joined, tabulated}
+use Rattle.point_runs.specs.Inner.{coordinateOf, curvePointAt}
 use Rattle.point_rows.specs.declared.BodyDirection.{BodyDirection}
 use Rattle.point_single.specs.Points.{curveNumber, CurvePoint}
 use Rattle.point_single.specs.declared.Point.{Point}
@@ -25,21 +25,21 @@ pub joined-length : (w n : ℕ) (f : ℕ → List ℤ) → ((i : ℕ) → length
 joined-length w zero f h = omega arith
 joined-length w (suc n) f h = length-append (joined n f) (f n) ∙ (let a = joined-length w n f h in let b = h n in omega arith)
 
-pub listed-length : (n : ℕ) (f : ℕ → ℤ) → length (listed n f) ≡ n
+pub listed-length : (n : ℕ) (f : ℕ → ℤ) → length (tabulated n f) ≡ n
 listed-length n f = joined-length 1 n (λ i. f i ∷ []) (λ i. refl) ∙ omega arith
 
 -- one coordinate more
-pub stored : (f : ℕ → ℤ) (l : List ℤ) (k : ℕ) (z : ℤ) → k < length l → z ≡ f k → set (listed k f ++ drop k l) k z ≡ listed (k + 1) f ++ drop (k + 1) l
+pub stored : (f : ℕ → ℤ) (l : List ℤ) (k : ℕ) (z : ℤ) → k < length l → z ≡ f k → set (tabulated k f ++ drop k l) k z ≡ tabulated (k + 1) f ++ drop (k + 1) l
 stored f l k z h e =
     rw (add-one, drop-cons l k (pos 0) h, e)
-    (set-at (listed k f) (getD l k (pos 0)) (drop (suc k) l) (f k) k (listed-length k f) ∙ sym (append-snoc (listed k f) (f k) (drop (suc k) l)))
+    (set-at (tabulated k f) (getD l k (pos 0)) (drop (suc k) l) (f k) k (listed-length k f) ∙ sym (append-snoc (tabulated k f) (f k) (drop (suc k) l)))
 
 -- two, and three
 module _ (l : List ℤ) (x y z : ℤ) where
-  pub two-stored : 2 ≤ length l → set (set l 0 x) 1 y ≡ listed 2 (coordinateOf x y z) ++ drop 2 l
+  pub two-stored : 2 ≤ length l → set (set l 0 x) 1 y ≡ tabulated 2 (coordinateOf x y z) ++ drop 2 l
   two-stored h = ap (λ (q : List ℤ). set q 1 y) (stored (coordinateOf x y z) l 0 x (omega arith) refl) ∙ stored (coordinateOf x y z) l 1 y (omega arith) refl
 
-  pub three-stored : 3 ≤ length l → set (set (set l 0 x) 1 y) 2 z ≡ listed 3 (coordinateOf x y z) ++ drop 3 l
+  pub three-stored : 3 ≤ length l → set (set (set l 0 x) 1 y) 2 z ≡ tabulated 3 (coordinateOf x y z) ++ drop 3 l
   three-stored h = ap (λ (q : List ℤ). set q 2 z) (two-stored (omega arith)) ∙ stored (coordinateOf x y z) l 2 z (omega arith) refl
 
 -- one point more: what was written before, then the point, then the rest
@@ -76,8 +76,8 @@ run-length f l w j h k =
     length-append (joined j f) (drop (w * j) l) ∙ (let a = joined-length w j f h in let b = length-drop (w * j) l in omega arith)
 
 pub point-length : (values : List ℤ) (corners : List ℕ) (first axis axes : ℕ) (along : BodyDirection) (x : List ℤ) (t : ℤ)
-    → length (pointAt values corners first axis axes along x t) ≡ axes
-unfolding pointAt
+    → length (curvePointAt values corners first axis axes along x t) ≡ axes
+unfolding curvePointAt
 point-length values corners first axis axes along x t = listed-length axes (λ k. curveSampled (direction along x) t (controlAt values corners first (axis + k)))
 
 -- a point's coordinates, each as it is read back, are the definition's
@@ -90,8 +90,8 @@ module _ (values : List ℤ) (corners : List ℕ) (first axis : ℕ) (along : Bo
       read-back-small z s ∙ e ∙ ap (λ (i : ℕ). curveSampled (direction along x) t (controlAt values corners first i)) q
 
   pub point-written : (axes : ℕ) → 2 ≤ axes → axes ≤ 3
-      → listed axes (coordinateOf (toZ w32 (ofZ w32 (p .x))) (toZ w32 (ofZ w32 (p .y))) (toZ w32 (ofZ w32 (p .z)))) ≡ pointAt values corners first axis axes along x t
-  unfolding pointAt
+      → tabulated axes (coordinateOf (toZ w32 (ofZ w32 (p .x))) (toZ w32 (ofZ w32 (p .y))) (toZ w32 (ofZ w32 (p .z)))) ≡ curvePointAt values corners first axis axes along x t
+  unfolding curvePointAt
   point-written axes l m = each axes l m
     where
       ex : toZ w32 (ofZ w32 (p .x)) ≡ number 0
@@ -103,7 +103,7 @@ module _ (values : List ℤ) (corners : List ℕ) (first axis : ℕ) (along : Bo
       ez : toZ w32 (ofZ w32 (p .z)) ≡ number 2
       ez = from-axis (p .z) 2 (axis + 2) (h .z-small) (h .z-is) refl
 
-      each : (n : ℕ) → 2 ≤ n → n ≤ 3 → listed n (coordinateOf (toZ w32 (ofZ w32 (p .x))) (toZ w32 (ofZ w32 (p .y))) (toZ w32 (ofZ w32 (p .z)))) ≡ listed n number
+      each : (n : ℕ) → 2 ≤ n → n ≤ 3 → tabulated n (coordinateOf (toZ w32 (ofZ w32 (p .x))) (toZ w32 (ofZ w32 (p .y))) (toZ w32 (ofZ w32 (p .z)))) ≡ tabulated n number
       each zero l m = absurd (let b : ⊥ = omega arith in b)
       each (suc zero) l m = absurd (let b : ⊥ = omega arith in b)
       each (suc (suc zero)) l m = λ i. ex i ∷ ey i ∷ []

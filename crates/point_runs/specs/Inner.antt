@@ -12,7 +12,7 @@ use Rattle.point_rows.specs.Places.{direction}
 use Rattle.point_rows.specs.Finding.{Sound}
 use Rattle.point_rows.specs.Controls.{controlAt}
 use Rattle.point_rows.specs.declared.BodyDirection.{BodyDirection}
-use Rattle.point_runs.specs.Runs.{parameterAt, joined, listed}
+use Rattle.point_runs.specs.Runs.{parameterAt, joined, tabulated}
 
 -- number k of a point
 abbrev pub coordinateOf : (x y z : ℤ) → ℕ → ℤ
@@ -21,11 +21,11 @@ coordinateOf x y z (suc zero) = y
 coordinateOf x y z (suc (suc k)) = z
 
 -- the coordinates of one point, from number `axis` of each vertex on
-unfoldable pub pointAt : List ℤ → List ℕ → (first axis axes : ℕ) → BodyDirection → List ℤ → (t : ℤ) → List ℤ
-pointAt values corners first axis axes along x t = listed axes (λ k. curveSampled (direction along x) t (controlAt values corners first (axis + k)))
+unfoldable pub curvePointAt : List ℤ → List ℕ → (first axis axes : ℕ) → BodyDirection → List ℤ → (t : ℤ) → List ℤ
+curvePointAt values corners first axis axes along x t = tabulated axes (λ k. curveSampled (direction along x) t (controlAt values corners first (axis + k)))
 
 unfoldable pub pointsUpto : List ℤ → List ℕ → (first axis axes : ℕ) → BodyDirection → List ℤ → (start end : ℤ) (steps j : ℕ) → List ℤ
-pointsUpto values corners first axis axes along x start end steps j = joined j (λ i. pointAt values corners first axis axes along x (parameterAt start end steps i))
+pointsUpto values corners first axis axes along x start end steps j = joined j (λ i. curvePointAt values corners first axis axes along x (parameterAt start end steps i))
 
 -- every parameter from start to end is in the direction
 pub record Ranged (a : BodyDirection) (x : List ℤ) (start end : ℤ) : Type 0 where

@@ -13,5 +13,5 @@ abbrev pub joined : ℕ → (ℕ → List ℤ) → List ℤ
 joined zero f = []
 joined (suc n) f = joined n f ++ f n
 
-abbrev pub listed : ℕ → (ℕ → ℤ) → List ℤ
-listed n f = joined n (λ i. f i ∷ [])
+abbrev pub tabulated : ℕ → (ℕ → ℤ) → List ℤ
+tabulated n f = joined n (λ i. f i ∷ [])

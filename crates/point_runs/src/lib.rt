@@ -9,7 +9,7 @@ ghost use lib.Signed.{_≤ℤ_};
 ghost use Rattle.rounding.specs.Range.{InRange};
 ghost use Rattle.tables.specs.Records.{curve2Kind};
 ghost use Rattle.point_rows.specs.Controls.{ControlsLent};
-ghost use Rattle.point_runs.specs.Runs.{parameterAt, listed};
+ghost use Rattle.point_runs.specs.Runs.{parameterAt, tabulated};
 ghost use Rattle.point_runs.specs.Inner.{coordinateOf, pointsUpto, Ranged, runBy, axesBy};
 use point_guess::certain;
 use point_guess::exact_at;
@@ -40,7 +40,7 @@ fn parameter_at(start: i32, end: i32, steps: u32, j: u32) -> i32
 // A point's two or three coordinates, at the front of what is lent.
 fn write_point(points: &mut [i32], axes: usize, x: i32, y: i32, z: i32)
     requires { ⌜ (2 ≤ axes) × (axes ≤ 3) × (axes ≤ length (now points)) ⌝ }
-    ensures { λ r. ⌜ now (points .exit) ≡ listed axes (coordinateOf x y z) ++ drop axes (now (points .entry)) ⌝ }
+    ensures { λ r. ⌜ now (points .exit) ≡ tabulated axes (coordinateOf x y z) ++ drop axes (now (points .entry)) ⌝ }
 {
     points[0] = x;
     points[1] = y;

@@ -14,19 +14,19 @@ use Rattle.rounding.proofs.Bits.{read-back-small}
 use Rattle.doubles.specs.Doubles.{encode, decode}
 use Rattle.doubles.proofs.Whole.{decode-encode}
 use Rattle.point_exact.specs.Directions.{Direction}
-use Rattle.point_exact.specs.Sampled.{pyramid, partAt, gapAt, firstControl, curveSampled}
+use Rattle.point_exact.specs.Sampled.{pyramid, offsetAt, gapAt, firstControl, curveSampled}
 use Rattle.point_exact.proofs.Pyramid.{pyramid-cong}
 use Rattle.point_rows.specs.Places.{direction}
 use Rattle.point_rows.specs.Finding.{On}
-use Rattle.point_rows.specs.Controls.{controlAt, firstOf}
+use Rattle.point_rows.specs.Controls.{controlAt, firstControlOf}
 use Rattle.point_rows.specs.declared.BodyDirection.{BodyDirection}
 use Rattle.point_rows.proofs.Grids.{first-is, reached, last-there, sampled-is, from-first}
 use Rattle.point_guess.specs.Steps.{Axis, X, Y, Z, on}
-use Rattle.point_guess.specs.Rows.{numberAt, Encoded, PlaceHolds, Descended}
+use Rattle.point_guess.specs.Rows.{axisNumber, Encoded, PlaceHolds, Descended}
 use Rattle.point_guess.specs.declared.Place.{Place}
 use Rattle.point_guess.specs.declared.Row.{Row}
 use Rattle.point_guess.proofs.Levels.{made-more}
-use Rattle.point_single.specs.Points.{entryOf, Gathered, There, Spanned, Has, CurvePlace, CurvePoint}
+use Rattle.point_single.specs.Points.{entryOf, Gathered, There, Spanned, HasCoordinates, CurvePlace, CurvePoint}
 use Rattle.point_single.specs.declared.Point.{Point}
 
 -- ---- a row of controls
@@ -47,10 +47,10 @@ module _ {row : Row} {n : ℕ} {f : Axis → ℕ → ℤ} (g : Gathered row n (n
 
   -- what a row comes to, from what it was gathered of
   pub gathered-down : (d : Direction) (t : ℤ) {p : Place} → d .degree ≡ n → Descended d t (row .places) p
-      → PlaceHolds p (λ k. pyramid (partAt d t) (gapAt d t) (d .degree) (f k))
+      → PlaceHolds p (λ k. pyramid (offsetAt d t) (gapAt d t) (d .degree) (f k))
   gathered-down d t e h = record {
     whole = h .whole;
-    is = λ k. h .is k ∙ pyramid-cong (partAt d t) (gapAt d t) (partAt d t) (gapAt d t) (d .degree) (numberAt (row .places) k) (f k) (λ q j u v. refl) (λ q j u v. refl)
+    is = λ k. h .is k ∙ pyramid-cong (offsetAt d t) (gapAt d t) (offsetAt d t) (gapAt d t) (d .degree) (axisNumber (row .places) k) (f k) (λ q j u v. refl) (λ q j u v. refl)
         (λ j l. g .each j (omega (arith, e)) .is k);
   }
 
@@ -58,7 +58,7 @@ pub holds-as : {p : Place} {f h : Axis → ℤ} → PlaceHolds p f → ((k : Axi
 holds-as g e = record { whole = g .whole; is = λ k. g .is k ∙ e k }
 
 -- ---- a point
-pub has-as : {q : Point} {p : Place} {f : Axis → ℤ} → Has q (decode (p .x)) (decode (p .y)) (decode (p .z)) → PlaceHolds p f → Has q (f X) (f Y) (f Z)
+pub has-as : {q : Point} {p : Place} {f : Axis → ℤ} → HasCoordinates q (decode (p .x)) (decode (p .y)) (decode (p .z)) → PlaceHolds p f → HasCoordinates q (f X) (f Y) (f Z)
 has-as h g = record {
   x-is = h .x-is ∙ g .is X;
   y-is = h .y-is ∙ g .is Y;
@@ -86,9 +86,9 @@ holds-of {p} {f} x y z = record {
 
 -- ---- what is gathered, from control `base` on
 pub sampled-from : (d : Direction) (t : ℤ) (c : ℕ → ℤ) (base from : ℕ) → from ≡ firstControl d t
-    → pyramid (partAt d t) (gapAt d t) (d .degree) (λ j. c (base + from + j)) ≡ curveSampled d t (λ i. c (base + i))
+    → pyramid (offsetAt d t) (gapAt d t) (d .degree) (λ j. c (base + from + j)) ≡ curveSampled d t (λ i. c (base + i))
 sampled-from d t c base from e =
-    pyramid-cong (partAt d t) (gapAt d t) (partAt d t) (gapAt d t) (d .degree) (λ j. c (base + from + j)) (λ j. c (base + (firstControl d t + j))) (λ q j u v. refl) (λ q j u v. refl)
+    pyramid-cong (offsetAt d t) (gapAt d t) (offsetAt d t) (gapAt d t) (d .degree) (λ j. c (base + from + j)) (λ j. c (base + (firstControl d t + j))) (λ q j u v. refl) (λ q j u v. refl)
     (λ j l. let same : base + from + j ≡ base + (firstControl d t + j) = omega (arith, e) in ap c same)
     ∙ sym (sampled-is d t (λ i. c (base + i)))
 
@@ -101,8 +101,8 @@ module _ {a : BodyDirection} {x : List ℤ} {t : ℤ} {g : ℕ} (o : On a x t g)
     pub span-place : (base : ℕ) {row : Row} {p : Place} → Spanned row values corners first base axis a g → Descended (direction a x) t (row .places) p
         → CurvePlace values corners first base axis (direction a x) t p
     span-place base r h =
-        holds-as (gathered-down r (direction a x) t refl h) (λ k. sampled-from (direction a x) t (controlAt values corners first (entryOf axis k)) base (firstOf a g) (first-is o refl))
+        holds-as (gathered-down r (direction a x) t refl h) (λ k. sampled-from (direction a x) t (controlAt values corners first (entryOf axis k)) base (firstControlOf a g) (first-is o refl))
 
-    pub curve-has : {p : Place} {q : Point} → CurvePlace values corners first 0 axis (direction a x) t p → Has q (decode (p .x)) (decode (p .y)) (decode (p .z))
+    pub curve-has : {p : Place} {q : Point} → CurvePlace values corners first 0 axis (direction a x) t p → HasCoordinates q (decode (p .x)) (decode (p .y)) (decode (p .z))
         → CurvePoint values corners first axis (direction a x) t q
     curve-has h e = has-as e (holds-as h (λ k. from-first (direction a x) t values corners first (entryOf axis k)))

@@ -7,7 +7,7 @@ use lib.IntN.{ℤ}
 use Rattle.rounding.specs.Range.{InRange}
 use Rattle.point_exact.specs.Directions.{Direction}
 use Rattle.point_exact.specs.Sampled.{curveSampled, surfaceSampled}
-use Rattle.point_rows.specs.Controls.{controlAt, firstOf, Reached}
+use Rattle.point_rows.specs.Controls.{controlAt, firstControlOf, Reached}
 use Rattle.point_rows.specs.declared.BodyDirection.{BodyDirection}
 use Rattle.point_guess.specs.Steps.{Axis, X, Y, Z}
 use Rattle.point_guess.specs.Rows.{placeAt, PlaceHolds}
@@ -30,15 +30,15 @@ pub record Gathered (row : Row) (n i : ℕ) (f : Axis → ℕ → ℤ) : Type 0 
 -- the controls that a point in segment or span g is made from are there, and no more of them than the row has places
 pub record There (a : BodyDirection) (g : ℕ) : Type 0 where
   pub reached : Reached a g
-  pub last : firstOf a g + a .degree < a .controls
+  pub last : firstControlOf a g + a .degree < a .controls
   pub few : a .degree ≤ 20
 
 -- a row has the controls of segment or span g, of those from control `base` on
 abbrev pub Spanned : Row → List ℤ → List ℕ → (first base axis : ℕ) → BodyDirection → (g : ℕ) → Type 0
-Spanned row values corners first base axis a g = Gathered row (a .degree) (a .degree + 1) (λ k j. controlAt values corners first (entryOf axis k) (base + firstOf a g + j))
+Spanned row values corners first base axis a g = Gathered row (a .degree) (a .degree + 1) (λ k j. controlAt values corners first (entryOf axis k) (base + firstControlOf a g + j))
 
 -- a point has x, y and z, each of them in range
-pub record Has (p : Point) (x y z : ℤ) : Type 0 where
+pub record HasCoordinates (p : Point) (x y z : ℤ) : Type 0 where
   pub x-is : p .x ≡ x
   pub y-is : p .y ≡ y
   pub z-is : p .z ≡ z
@@ -51,14 +51,14 @@ curveNumber values corners first d t axis = curveSampled d t (controlAt values c
 
 abbrev pub CurvePoint : List ℤ → List ℕ → (first axis : ℕ) → Direction → (t : ℤ) → Point → Type 0
 CurvePoint values corners first axis d t p =
-    Has p (curveNumber values corners first d t axis) (curveNumber values corners first d t (axis + 1)) (curveNumber values corners first d t (axis + 2))
+    HasCoordinates p (curveNumber values corners first d t axis) (curveNumber values corners first d t (axis + 1)) (curveNumber values corners first d t (axis + 2))
 
 abbrev pub surfaceNumber : List ℤ → List ℕ → (first : ℕ) (u v : Direction) (s t : ℤ) (axis : ℕ) → ℤ
 surfaceNumber values corners first u v s t axis = surfaceSampled u v s t (λ i j. controlAt values corners first axis (j * u .controls + i))
 
 abbrev pub SurfacePoint : List ℤ → List ℕ → (first : ℕ) (u v : Direction) (s t : ℤ) → Point → Type 0
 SurfacePoint values corners first u v s t p =
-    Has p (surfaceNumber values corners first u v s t 0) (surfaceNumber values corners first u v s t 1) (surfaceNumber values corners first u v s t 2)
+    HasCoordinates p (surfaceNumber values corners first u v s t 0) (surfaceNumber values corners first u v s t 1) (surfaceNumber values corners first u v s t 2)
 
 -- the place at t of the curve whose controls are those from control `base` on
 abbrev pub CurvePlace : List ℤ → List ℕ → (first base axis : ℕ) → Direction → (t : ℤ) → Place → Type 0

@@ -8,7 +8,7 @@ ghost use Rattle.point_rows.specs.Finding.{On};
 ghost use Rattle.point_rows.specs.Controls.{controlAt, ControlsLent};
 ghost use Rattle.point_guess.specs.Steps.{Encodes};
 ghost use Rattle.point_guess.specs.Rows.{PlaceHolds};
-ghost use Rattle.point_single.specs.Points.{entryOf, Gathered, There, Spanned, Has, CurvePlace, CurvePoint, SurfacePoint};
+ghost use Rattle.point_single.specs.Points.{entryOf, Gathered, There, Spanned, HasCoordinates, CurvePlace, CurvePoint, SurfacePoint};
 use doubles::decode;
 use doubles::encode;
 use point_guess::Place;
@@ -29,7 +29,7 @@ pub struct Point {
 // The point that a place keeps.
 pub fn point_at(p: Place) -> Point
     requires { ⌜ Encodes p ⌝ }
-    ensures { λ r. ⌜ Has r (decode (p .x)) (decode (p .y)) (decode (p .z)) ⌝ }
+    ensures { λ r. ⌜ HasCoordinates r (decode (p .x)) (decode (p .y)) (decode (p .z)) ⌝ }
 {
     Point {
         x: decode(p.x),

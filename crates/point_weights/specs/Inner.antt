@@ -25,13 +25,13 @@ abbrev pub axisBy : List ℤ → List ℕ → (first g j entry : ℕ) → ℤ
 axisBy values corners first g j entry = cubicSampled g j (controlAt values corners first entry)
 
 -- row j of the table of weights
-abbrev pub row : (j : ℕ) → List ℕ
-row j = weight j 0 ∷ weight j 1 ∷ weight j 2 ∷ weight j 3 ∷ []
+abbrev pub weightRow : (j : ℕ) → List ℕ
+weightRow j = weight j 0 ∷ weight j 1 ∷ weight j 2 ∷ weight j 3 ∷ []
 
 -- the table's rule as one test of all its numbers; its first row is row j
 abbrev pub ruled : (j : ℕ) → List (List ℕ) → Bool
 ruled j [] = true
-ruled j (r ∷ rows) = same r (row j) && ruled (suc j) rows
+ruled j (r ∷ rows) = same r (weightRow j) && ruled (suc j) rows
 
 pub record Ruled (table : List (List ℕ)) : Type 0 where
   pub long : length table ≡ 65

@@ -4,7 +4,7 @@ ghost use Prim.Native.Nat.{_+_, _*_, _≤_};
 ghost use Rattle.rounding.specs.Range.{InRange};
 ghost use Rattle.point_rows.specs.Controls.{controlAt, ControlsLent};
 ghost use Rattle.point_weights.specs.Weights.{weighed};
-ghost use Rattle.point_weights.specs.Inner.{row};
+ghost use Rattle.point_weights.specs.Inner.{weightRow};
 ghost use Rattle.point_weights.specs.Inner.{Has, axisBy};
 use crate::weights::row;
 use point_rows::controls;
@@ -34,7 +34,7 @@ fn control(values: &[i32], corners: &[u32], first: u32, entry: usize, i: usize) 
 
 // Four numbers by the weights of a row: the sum, divided once.
 fn divided(j: u32, w: [u32; 4], a: i32, b: i32, c: i32, d: i32) -> i32
-    requires { ⌜ (w ≡ row j) × (j ≤ 64) × InRange a × InRange b × InRange c × InRange d ⌝ }
+    requires { ⌜ (w ≡ weightRow j) × (j ≤ 64) × InRange a × InRange b × InRange c × InRange d ⌝ }
     ensures { λ z. ⌜ (z ≡ weighed j a b c d) × InRange z ⌝ }
 {
     let n = weighted(a, w[0] as u64)

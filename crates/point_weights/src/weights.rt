@@ -1,6 +1,6 @@
 ghost use mathlib.Core.Path.{_≡_};
 ghost use Prim.Native.Nat.{_≤_};
-ghost use Rattle.point_weights.specs.Inner.{row, Ruled};
+ghost use Rattle.point_weights.specs.Inner.{weightRow, Ruled};
 
 // Row j, entry i: C(3,i) j^i (64-j)^(3-i).
 const WEIGHTS: [[u32; 4]; 65] = [
@@ -79,7 +79,7 @@ fn weights() -> [[u32; 4]; 65]
 
 pub fn row(j: u32) -> [u32; 4]
     requires { ⌜ j ≤ 64 ⌝ }
-    ensures { λ r. ⌜ r ≡ row j ⌝ }
+    ensures { λ r. ⌜ r ≡ weightRow j ⌝ }
 {
     let table = weights();
     let at = j as usize;

@@ -24,7 +24,7 @@ use Rattle.sampler.specs.Demand3.{Curve, OnCurve}
 use Rattle.sampler.proofs.Obeyed.{granted, curve-kinds}
 use Rattle.sampler.proofs.Demanded.{all-passed, points-on-curves}
 use Rattle.point_chords.specs.Chords.{middle, chord, ends, numbers}
-use Rattle.polyline.specs.Answers.{PolylineAnswer, polylineAnswer, pointAt, parametersOf, numbersOf, polylineInto}
+use Rattle.polyline.specs.Answers.{PolylineAnswer, polylineAnswer, pointAt, parametersOf, polylineNumbers, polylineInto}
 use Rattle.polyline.specs.Promises.{Chords, PolylinesOnCurves}
 use Rattle.polyline.specs.declared.PolylineResult.the-variants as result
 use Rattle.point_chords.proofs.Middle.{middle-from, middle-upto}
@@ -123,8 +123,8 @@ module _ {used : Used} {t : Tables} {number : ℕ} (c : Curve used t number) whe
         (each-of (λ p. (bodyOf t number .«start_u» ≤ℤ p) × (p ≤ℤ bodyOf t number .«end_u»)) (λ p a b. (a, b))) h
 
     number-is : (j axis : ℕ) → j < length (parametersOf used t number tolerance) → axis < axes
-        → getD (numbersOf used t number tolerance) (axes * j + axis) (pos 0) ≡ getD (point (getD (parametersOf used t number tolerance) j (pos 0))) axis (pos 0)
-    unfolding numbersOf
+        → getD (polylineNumbers used t number tolerance) (axes * j + axis) (pos 0) ≡ getD (point (getD (parametersOf used t number tolerance) j (pos 0))) axis (pos 0)
+    unfolding polylineNumbers
     number-is j axis h k = numbers-at point axes (parametersOf used t number tolerance) j axis (each-of (λ p. length (point p) ≡ axes) (grants.point-axes used t number passed)) h k
 
     close : (j axis : ℕ) → j < length (parametersOf used t number tolerance) → axis < axes
@@ -135,7 +135,7 @@ module _ {used : Used} {t : Tables} {number : ℕ} (c : Curve used t number) whe
 
     module _ (at : ℕ) (points : List ℤ) (n : pos 0 ≤ℤ tolerance) (room : at + axes * length (parametersOf used t number tolerance) ≤ length points) where
       abbrev x : List ℤ
-      x = numbersOf used t number tolerance
+      x = polylineNumbers used t number tolerance
 
       filled : polylineAnswer (result.Filled (length (parametersOf used t number tolerance))) (sets points at x) ≡ polylineInto used t number tolerance at points
       filled = grants.into-filled used t number tolerance at points passed (not-below tolerance n) refl room refl

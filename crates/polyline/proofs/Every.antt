@@ -8,7 +8,7 @@ use native.Mathlib.Omega.{arith}
 use lib.IntN.{ℤ}
 use lib.Signed.{_<ℤ_}
 use Rattle.lists.proofs.Tests.{never}
-use Rattle.point_chords.specs.Chords.{middle, straight, short, chord, ends}
+use Rattle.point_chords.specs.Chords.{middle, straight, shortInterval, chord, ends}
 use Rattle.polyline.specs.Promises.{Linked, lastFrom, Piece, all, first, second, Chord, EveryChord}
 use Rattle.point_chords.proofs.Middle.{middle-after, middle-before}
 
@@ -32,17 +32,17 @@ module _ (point : ℤ → List ℤ) (tolerance : ℤ) where
       last-either (chord point tolerance a b) a b (middle a b) (ends point tolerance depth a (middle a b)) (ends point tolerance depth (middle a b) b)
       (last-end depth a (middle a b)) (last-end depth (middle a b) b)
 
-  reason : (a b : ℤ) → chord point tolerance a b ≡ true → (short a b ≡ true) ⊎ (straight tolerance (point a) (point (middle a b)) (point b) ≡ true)
+  reason : (a b : ℤ) → chord point tolerance a b ≡ true → (shortInterval a b ≡ true) ⊎ (straight tolerance (point a) (point (middle a b)) (point b) ≡ true)
   unfolding chord
-  reason a b h = go (short a b) refl h
+  reason a b h = go (shortInterval a b) refl h
     where
-      go : (c : Bool) → short a b ≡ c → (c || straight tolerance (point a) (point (middle a b)) (point b)) ≡ true → (short a b ≡ true) ⊎ (straight tolerance (point a) (point (middle a b)) (point b) ≡ true)
+      go : (c : Bool) → shortInterval a b ≡ c → (c || straight tolerance (point a) (point (middle a b)) (point b)) ≡ true → (shortInterval a b ≡ true) ⊎ (straight tolerance (point a) (point (middle a b)) (point b) ≡ true)
       go true e k = inl e
       go false e k = inr k
 
-  not-short : (a b : ℤ) → chord point tolerance a b ≡ false → short a b ≡ false
+  not-short : (a b : ℤ) → chord point tolerance a b ≡ false → shortInterval a b ≡ false
   unfolding chord
-  not-short a b h = go (short a b) h
+  not-short a b h = go (shortInterval a b) h
     where
       go : (c : Bool) → (c || straight tolerance (point a) (point (middle a b)) (point b)) ≡ false → c ≡ false
       go true k = never (sym k)

@@ -24,7 +24,7 @@ use Rattle.sampler.proofs.Obeyed.{granted, curved}
 use Rattle.sampler.proofs.Refusals.{Missed, Looked}
 use Rattle.sampler.proofs.Entries.{curve-tables, curve-answered}
 use Rattle.point_chords.specs.Chords.{middle, chord, ends, numbers, parameters}
-use Rattle.polyline.specs.Answers.{PolylineAnswer, polylineOutcome, pointAt, parametersOf, numbersOf, polylineAnswer, refusedPolyline, filledPolyline, polylineInto}
+use Rattle.polyline.specs.Answers.{PolylineAnswer, polylineOutcome, pointAt, parametersOf, polylineNumbers, polylineAnswer, refusedPolyline, filledPolyline, polylineInto}
 use Rattle.polyline.specs.Inner.{coordinatesOf, polylineOver, polylineBy}
 use Rattle.polyline.specs.Promises.{SamplersFifteen}
 use Rattle.polyline.specs.declared.PolylineResult.the-variants as result
@@ -145,18 +145,18 @@ module _ (used : Used) (t : Tables) (number : ℕ) (tolerance : ℤ) (at : ℕ) 
 
   module _ (h : refusalOf false used t number ≡ 0) where
     into-is : polylineOver (pointAt used t number) (axesOf (elementOf t number)) (bodyOf t number .«start_u») (bodyOf t number .«end_u») tolerance at points ≡ into
-    unfolding polylineInto polylineOver parametersOf numbersOf
+    unfolding polylineInto polylineOver parametersOf polylineNumbers
     into-is = rw h
 
-    pub into-many : length (numbersOf used t number tolerance) ≡ many
-    unfolding numbersOf parametersOf
+    pub into-many : length (polylineNumbers used t number tolerance) ≡ many
+    unfolding polylineNumbers parametersOf
     into-many =
         numbers-many (pointAt used t number) (axesOf (elementOf t number)) (bodyOf t number .«start_u») (bodyOf t number .«end_u») tolerance at points (ordered used t number h)
         (point-axes used t number h)
 
     pub into-filled : ltZ tolerance (pos 0) ≡ false → {n : ℕ} {last : List ℤ} → n ≡ length (parametersOf used t number tolerance) → at + many ≤ length points
-        → last ≡ sets points at (numbersOf used t number tolerance) → polylineAnswer (result.Filled n) last ≡ into
-    unfolding parametersOf numbersOf
+        → last ≡ sets points at (polylineNumbers used t number tolerance) → polylineAnswer (result.Filled n) last ≡ into
+    unfolding parametersOf polylineNumbers
     into-filled k e l w =
         is-filled (pointAt used t number) (axesOf (elementOf t number)) (bodyOf t number .«start_u») (bodyOf t number .«end_u») tolerance at points (ordered used t number h)
         (point-axes used t number h) k e l w
@@ -195,7 +195,7 @@ unfolding polylineInto
 agreed-polyline used t number tolerance at points =
     let n = refusalOf false used t number in
     let x = parametersOf used t number tolerance in
-    let full = filledPolyline (length x) at (numbersOf used t number tolerance) points in
+    let full = filledPolyline (length x) at (polylineNumbers used t number tolerance) points in
     let c = leb (at + axesOf (elementOf t number) * length x) (length points) in
     either-told (eqb n 0) (cond (leZ (pos 0) tolerance) (cond c full (refusedPolyline 16 points)) (refusedPolyline 19 points)) (refusedPolyline n points)
     (either-told (leZ (pos 0) tolerance) (cond c full (refusedPolyline 16 points)) (refusedPolyline 19 points) (either-told c full (refusedPolyline 16 points) refl refl) refl) refl

@@ -13,7 +13,7 @@ use Rattle.lists.proofs.Tests.{never}
 use Rattle.sampler.specs.Answers.{PointAnswer, pointOutcome}
 use Rattle.sampler.specs.declared.PointResult.{PointResult}
 use Rattle.sampler.specs.declared.PointResult.the-variants as sampled
-use Rattle.point_chords.specs.Chords.{middle, straight, short, chord, ends, numbers}
+use Rattle.point_chords.specs.Chords.{middle, straight, shortInterval, chord, ends, numbers}
 use Rattle.polyline.specs.Inner.{PieceEnds, splitOf}
 use Rattle.polyline.specs.declared.Split.{Split}
 use Rattle.polyline.specs.declared.Split.the-variants as split
@@ -37,11 +37,11 @@ module _ (sample : ℤ → PointAnswer) (tolerance a b : ℤ) where
   split-parted zero f h = absurd (f refl)
   split-parted (suc depth) f h = rw h refl
 
-  pub split-short : (depth : ℕ) → short a b ≡ true → split.Chord ≡ splitOf sample tolerance depth a b
+  pub split-short : (depth : ℕ) → shortInterval a b ≡ true → split.Chord ≡ splitOf sample tolerance depth a b
   unfolding chord
   split-short depth h = split-chord depth (rw h refl)
 
-  module _ (depth : ℕ) (h : short a b ≡ false) where
+  module _ (depth : ℕ) (h : shortInterval a b ≡ false) where
     pub split-straight : straight tolerance (point a) (point (middle a b)) (point b) ≡ true → split.Chord ≡ splitOf sample tolerance depth a b
     unfolding chord
     split-straight k = split-chord depth (rw (h, k) refl)

@@ -41,12 +41,12 @@ pointAt used t number p = pointOnCurve used t number p .outcome .coordinates
 unfoldable pub parametersOf : Used → Tables → (number : ℕ) (tolerance : ℤ) → List ℤ
 parametersOf used t number tolerance = parameters (pointAt used t number) tolerance (bodyOf t number .«start_u») (bodyOf t number .«end_u»)
 
-unfoldable pub numbersOf : Used → Tables → (number : ℕ) (tolerance : ℤ) → List ℤ
-numbersOf used t number tolerance = numbers (pointAt used t number) (parametersOf used t number tolerance)
+unfoldable pub polylineNumbers : Used → Tables → (number : ℕ) (tolerance : ℤ) → List ℤ
+polylineNumbers used t number tolerance = numbers (pointAt used t number) (parametersOf used t number tolerance)
 
 -- how many numbers the points have
-abbrev pub room : Used → Tables → (number : ℕ) (tolerance : ℤ) → ℕ
-room used t number tolerance = axesOf (elementOf t number) * length (parametersOf used t number tolerance)
+abbrev pub polylineRoom : Used → Tables → (number : ℕ) (tolerance : ℤ) → ℕ
+polylineRoom used t number tolerance = axesOf (elementOf t number) * length (parametersOf used t number tolerance)
 
 -- "None changes the point table."
 abbrev pub refusedPolyline : ℕ → List ℤ → PolylineAnswer
@@ -66,8 +66,8 @@ unfoldable pub polylineInto : Used → Tables → (number : ℕ) (tolerance : �
 polylineInto used t number tolerance at points =
     cond (eqb (refusalOf false used t number) 0)
     (cond (leZ (pos 0) tolerance)
-    (cond (leb (at + room used t number tolerance) (length points))
-    (filledPolyline (length (parametersOf used t number tolerance)) at (numbersOf used t number tolerance) points)
+    (cond (leb (at + polylineRoom used t number tolerance) (length points))
+    (filledPolyline (length (parametersOf used t number tolerance)) at (polylineNumbers used t number tolerance) points)
     (refusedPolyline 16 points))
     (refusedPolyline 19 points))
     (refusedPolyline (refusalOf false used t number) points)

@@ -13,7 +13,7 @@ use Rattle.tables.specs.declared.Used.{Used}
 use Rattle.sampler.specs.Points.{axesOf}
 use Rattle.sampler.specs.Answers.{elementOf, bodyOf, refusalOf}
 use Rattle.sampler.specs.Demand3.{Curve, OnCurve}
-use Rattle.point_chords.specs.Chords.{middle, straight, short, ends}
+use Rattle.point_chords.specs.Chords.{middle, straight, shortInterval, ends}
 use Rattle.polyline.specs.Answers.{pointAt, parametersOf, polylineInto}
 use Rattle.polyline.specs.declared.PolylineResult.the-variants as result
 
@@ -38,7 +38,7 @@ pub record Chord (point : ℤ → List ℤ) (tolerance start end a b : ℤ) : Ty
   pub rises : a <ℤ b
   pub depth : ℕ
   pub piece : Piece start end depth a b
-  pub why : (depth ≡ 12) ⊎ ((short a b ≡ true) ⊎ (straight tolerance (point a) (point (middle a b)) (point b) ≡ true))
+  pub why : (depth ≡ 12) ⊎ ((shortInterval a b ≡ true) ⊎ (straight tolerance (point a) (point (middle a b)) (point b) ≡ true))
 
 -- "Points come in order of parameter, each once", from start to end
 pub record Chords (point : ℤ → List ℤ) (tolerance start end : ℤ) (x : List ℤ) : Type 0 where

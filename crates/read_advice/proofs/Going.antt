@@ -27,7 +27,7 @@ use Rattle.statements.specs.declared.Carried.{Carried}
 use Rattle.statements.specs.declared.Carried.the-variants.{Vertex, Element, Body, Parameters, Trim, Hole, End, BodyType, Degree, Group, Smoothing, Material, PassedOver}
 use Rattle.read_advice.specs.declared.lines_before.Tally.{Tally}
 use Rattle.keyword_rules.specs.Asked.{carriedOf}
-use Rattle.read_advice.specs.Tally.{startTally, ending, afterVertex, afterLine, afterWords, tallyUpTo, startOf, tallyFrom, tallyOf}
+use Rattle.read_advice.specs.Tally.{startTally, afterEnd, afterVertex, afterLine, afterWords, tallyUpTo, startOf, tallyFrom, tallyOf}
 use Rattle.read_advice.specs.Inner.{vertexTotal}
 
 -- ---- a line adds one at most
@@ -35,7 +35,7 @@ one-more : (b : Bool) (n : ℕ) → cond b (n + 1) n ≤ n + 1
 one-more true n = omega arith
 one-more false n = omega arith
 
-ending-few : (t : Tally) → vertexTotal (ending t) ≤ vertexTotal t + 1
+ending-few : (t : Tally) → vertexTotal (afterEnd t) ≤ vertexTotal t + 1
 ending-few t = let x = one-more (lib.Dec.eqb (t .kind) curve2Kind) (t .curves) in omega arith
 
 vertex-few : (k : VertexKind) (t : Tally) → vertexTotal (afterVertex k t) ≤ vertexTotal t + 1

@@ -38,8 +38,8 @@ opening t kind key =
     record { v = t .v; vt = t .vt; vn = t .vn; vp = t .vp; curves = t .curves; kind = kind; «opened» = key }
 
 -- a curv2 may be named from its end on
-abbrev pub ending : Tally → Tally
-ending t =
+abbrev pub afterEnd : Tally → Tally
+afterEnd t =
     record { v = t .v; vt = t .vt; vn = t .vn; vp = t .vp; curves = cond (eqb (t .kind) curve2Kind) (t .curves + 1) (t .curves); kind = 0; «opened» = 0 }
 
 -- after a line of that statement, its keyword at key
@@ -50,7 +50,7 @@ afterLine (Body k) key t = opening t (freeNumber k) key
 afterLine Parameters key t = t
 afterLine Trim key t = t
 afterLine Hole key t = t
-afterLine End key t = ending t
+afterLine End key t = afterEnd t
 afterLine BodyType key t = t
 afterLine Degree key t = t
 afterLine Group key t = t

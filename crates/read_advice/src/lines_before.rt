@@ -19,7 +19,7 @@ ghost use lib.ListN.{length};
 ghost use Rattle.text.specs.Rest.{restAt};
 ghost use Rattle.keywords.specs.Lookup.{keywordTable, argumentTable};
 ghost use Rattle.model.specs.Layout.{freeNumber};
-ghost use Rattle.read_advice.specs.Tally.{startTally, withCounts, opening, ending, afterVertex, afterLine, afterWords, tallyOf};
+ghost use Rattle.read_advice.specs.Tally.{startTally, withCounts, opening, afterEnd, afterVertex, afterLine, afterWords, tallyOf};
 ghost use Rattle.read_advice.specs.Inner.{vertexTotal};
 
 // How many there are so far of what a word may refer to, a curv2 from its end on; the kind of the open body's element, 0 where none is open, and the place of
@@ -89,7 +89,7 @@ fn opening(tally: Tally, kind: u32, key: usize) -> Tally
 
 fn ending(tally: Tally) -> Tally
     requires { ⌜ vertexTotal tally ≤ 16777216 ⌝ }
-    ensures { λ r. ⌜ r ≡ ending tally ⌝ }
+    ensures { λ r. ⌜ r ≡ afterEnd tally ⌝ }
 {
     let mut after = tally;
     after.kind = 0;

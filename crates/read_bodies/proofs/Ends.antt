@@ -25,7 +25,7 @@ use Rattle.read_state.specs.declared.Form.{Form}
 use Rattle.read_state.specs.declared.Open.{Open}
 use Rattle.read_state.specs.State.{ParmAt}
 use Rattle.statements.specs.Numbered.{freeOf}
-use Rattle.read_bodies.specs.Closing.{parmOf, bodyIn, refusalOf, bodyRecordOf, Stored, NotStored}
+use Rattle.read_bodies.specs.Closing.{parmOf, openBodyIn, closingRefusal, bodyRecordOf, Stored, NotStored}
 use Rattle.read_bodies.proofs.Closings.{parm-none, parm-some}
 use Rattle.read_bodies.proofs.Parms.{kept-is}
 use Rattle.tables.proofs.Types.{basis-back}
@@ -84,7 +84,7 @@ unlooped b =
 abbrev verdict : Free → Body → ℕ → ℕ
 verdict x b k = cond (complete x b) (cond (countsAgree x b k) (cond (rangeWithin x b) 0 13) 12) 11
 
-same-refusal : (b : Body) (k : ℕ) → refusalOf (unlooped b) k ≡ refusalOf b k
+same-refusal : (b : Body) (k : ℕ) → closingRefusal (unlooped b) k ≡ closingRefusal b k
 same-refusal b k = go (b .free)
   where
     go : (x : Free) → verdict x (unlooped b) k ≡ verdict x b k
@@ -101,7 +101,7 @@ same-range b = go (b .free)
     go surface = refl
 
 -- the verdict, as 01's order gives it
-pub finished-is : (o : model.Open) (key : ℕ) → finished (some o) key ≡ cond (eqb (refusalOf (o .body) (length (o .controls))) 0) (fine end) (fault (refusalOf (o .body) (length (o .controls))) key)
+pub finished-is : (o : model.Open) (key : ℕ) → finished (some o) key ≡ cond (eqb (closingRefusal (o .body) (length (o .controls))) 0) (fine end) (fault (closingRefusal (o .body) (length (o .controls))) key)
 finished-is o key = go (complete (o .body .free) (o .body)) (countsAgree (o .body .free) (o .body) (length (o .controls))) (rangeWithin (o .body .free) (o .body))
   where
     go : (a b c : Bool) → must a 11 key (must b 12 key (must c 13 key (fine end))) ≡ cond (eqb (cond a (cond b (cond c 0 13) 12) 11) 0) (fine end) (fault (cond a (cond b (cond c 0 13) 12) 11) key)
@@ -111,7 +111,7 @@ finished-is o key = go (complete (o .body .free) (o .body)) (countsAgree (o .bod
     go true true true = refl
 
 module _ (s t : List ℕ) (f : Form) (c : Open) (used : Used) (r : List ℤ) (o : model.Open) (w : Stands s t f c used r o) where
-  pub body-is : bodyIn f c used s t r ≡ unlooped (o .body)
+  pub body-is : openBodyIn f c used s t r ≡ unlooped (o .body)
   body-is =
       let e₁ : freeOf (c .kind) ≡ o .body .free = ap freeOf (w .kind) ∙ kind-back (o .body .free) in
       let e₂ : basisOf (f .basis) ≡ o .body .basis = ap basisOf (w .basis) ∙ basis-back (o .body .basis) in
@@ -120,12 +120,12 @@ module _ (s t : List ℕ) (f : Form) (c : Open) (used : Used) (r : List ℤ) (o 
       let e₅ : parmOf t (c .«v_at») ≡ o .body .vs = parm-is t (c .«v_at») (o .body .vs) (w .v) in
       rw (e₁, e₂, e₃, w .degree-u, w .degree-v, e₄, e₅, w .start-u, w .end-u, w .start-v, w .end-v) refl
 
-  pub refusal-is : refusalOf (bodyIn f c used s t r) (c .controls) ≡ refusalOf (o .body) (length (o .controls))
-  refusal-is = ap₂ refusalOf body-is (w .controls) ∙ same-refusal (o .body) (length (o .controls))
+  pub refusal-is : closingRefusal (openBodyIn f c used s t r) (c .controls) ≡ closingRefusal (o .body) (length (o .controls))
+  refusal-is = ap₂ closingRefusal body-is (w .controls) ∙ same-refusal (o .body) (length (o .controls))
 
   module _ (l m : List ℕ) (q p x : List ℤ) (key : ℕ) where
     -- a body that was kept has passed, and its rows are in the tables
-    module _ {u v : ℕ} (k : Stored f c used (bodyIn f c used s t r) l m r q p x u v) where
+    module _ {u v : ℕ} (k : Stored f c used (openBodyIn f c used s t r) l m r q p x u v) where
       pub kept-says : finished (some o) key ≡ fine end
       kept-says = finished-is o key ∙ ap (λ (n : ℕ). cond (eqb n 0) (fine end) (fault n key)) (sym refusal-is ∙ k .none-wrong)
 
@@ -148,27 +148,27 @@ module _ (s t : List ℕ) (f : Form) (c : Open) (used : Used) (r : List ℤ) (o 
       kept-range = k .range ∙ ap (λ (b : Body). sets r (4 * (used .bodies - 1)) (rangeRow (settled (b .free) b))) body-is ∙ ap (sets r (4 * (used .bodies - 1))) (same-range (o .body))
 
     -- one that was not is refused by that number, or lacks room where nothing else is wrong
-    module _ {n : ℕ} (k : NotStored c used (bodyIn f c used s t r) l m r q p x n) where
-      number-is : n ≡ cond (eqb (refusalOf (o .body) (length (o .controls))) 0) 14 (refusalOf (o .body) (length (o .controls)))
+    module _ {n : ℕ} (k : NotStored c used (openBodyIn f c used s t r) l m r q p x n) where
+      number-is : n ≡ cond (eqb (closingRefusal (o .body) (length (o .controls))) 0) 14 (closingRefusal (o .body) (length (o .controls)))
       number-is = k .number ∙ ap (λ (i : ℕ). cond (eqb i 0) 14 i) refusal-is
 
       pub left-wrong : (n ≡ 14 → ⊥) → finished (some o) key ≡ fault n key
-      left-wrong h = finished-is o key ∙ go (eqb (refusalOf (o .body) (length (o .controls))) 0) refl
+      left-wrong h = finished-is o key ∙ go (eqb (closingRefusal (o .body) (length (o .controls))) 0) refl
         where
-          go : (b : Bool) → eqb (refusalOf (o .body) (length (o .controls))) 0 ≡ b → cond b (fine end) (fault (refusalOf (o .body) (length (o .controls))) key) ≡ fault n key
-          go true e = absurd (h (number-is ∙ ap (λ (b : Bool). cond b 14 (refusalOf (o .body) (length (o .controls)))) e))
-          go false e = ap (λ (i : ℕ). fault i key) (sym (number-is ∙ ap (λ (b : Bool). cond b 14 (refusalOf (o .body) (length (o .controls)))) e))
+          go : (b : Bool) → eqb (closingRefusal (o .body) (length (o .controls))) 0 ≡ b → cond b (fine end) (fault (closingRefusal (o .body) (length (o .controls))) key) ≡ fault n key
+          go true e = absurd (h (number-is ∙ ap (λ (b : Bool). cond b 14 (closingRefusal (o .body) (length (o .controls)))) e))
+          go false e = ap (λ (i : ℕ). fault i key) (sym (number-is ∙ ap (λ (b : Bool). cond b 14 (closingRefusal (o .body) (length (o .controls)))) e))
 
       few : (b : Body) → b ≡ unlooped (o .body) → length p < used .parameters + (length (b .us) + length (b .vs)) → length p < used .parameters + (length (o .body .us) + length (o .body .vs))
       few b e h = let x = ap (λ (b : Body). length (b .us)) e in let y = ap (λ (b : Body). length (b .vs)) e in omega arith
 
       pub left-room : finished (some o) key ≡ fine end → (n ≡ 14) × (length p < used .parameters + (length (o .body .us) + length (o .body .vs)))
-      left-room h = go (eqb (refusalOf (o .body) (length (o .controls))) 0) refl (sym (finished-is o key) ∙ h)
+      left-room h = go (eqb (closingRefusal (o .body) (length (o .controls))) 0) refl (sym (finished-is o key) ∙ h)
         where
           go :
-              (b : Bool) → eqb (refusalOf (o .body) (length (o .controls))) 0 ≡ b → cond b (fine end) (fault (refusalOf (o .body) (length (o .controls))) key) ≡ fine end →
+              (b : Bool) → eqb (closingRefusal (o .body) (length (o .controls))) 0 ≡ b → cond b (fine end) (fault (closingRefusal (o .body) (length (o .controls))) key) ≡ fine end →
               (n ≡ 14) × (length p < used .parameters + (length (o .body .us) + length (o .body .vs)))
           go true e i =
-              let z = eqb-true (refusalOf (o .body) (length (o .controls))) 0 e in
-              (number-is ∙ ap (λ (b : Bool). cond b 14 (refusalOf (o .body) (length (o .controls)))) e, few (bodyIn f c used s t r) body-is (k .short (refusal-is ∙ z)))
+              let z = eqb-true (closingRefusal (o .body) (length (o .controls))) 0 e in
+              (number-is ∙ ap (λ (b : Bool). cond b 14 (closingRefusal (o .body) (length (o .controls)))) e, few (openBodyIn f c used s t r) body-is (k .short (refusal-is ∙ z)))
           go false e i = absurd (let y : _≡_ {A = ℕ} 0 1 = cc in omega arith)

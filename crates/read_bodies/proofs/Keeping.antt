@@ -16,7 +16,7 @@ use Rattle.model.specs.Model.{Body}
 use Rattle.read_state.specs.declared.Form.{Form}
 use Rattle.read_state.specs.declared.Open.{Open}
 use Rattle.read_bodies.specs.Numbers.{numbersAt}
-use Rattle.read_bodies.specs.Closing.{parmOf, bodyFor, refusalOf, Passed, bodyCheckIs, storedIs, bodyRecordOf, Stored, NotStored}
+use Rattle.read_bodies.specs.Closing.{parmOf, bodyFor, closingRefusal, Passed, bodyCheckIs, storedIs, bodyRecordOf, Stored, NotStored}
 use Rattle.read_bodies.specs.declared.closing.BodyCheck.{BodyCheck}
 use Rattle.read_bodies.specs.declared.closing.BodyCheck.the-variants as judged
 use Rattle.read_bodies.proofs.Closings.{parm-none, parm-some, settled-rest}
@@ -56,7 +56,7 @@ module _ (b : Body) (k : ℕ) (r : BodyCheck) (j : bodyCheckIs b k r) where
   pub has-passed : {u v : ℕ} {s e : ℤ} → r ≡ judged.Valid u v s e → Passed b k u v s e
   has-passed h = rw h at j
 
-  pub is-refused : {n : ℕ} → r ≡ judged.Refused n → (refusalOf b k ≡ n) × (0 < n)
+  pub is-refused : {n : ℕ} → r ≡ judged.Refused n → (closingRefusal b k ≡ n) × (0 < n)
   is-refused h = rw h at j
 
 module _ (p x : List ℤ) (first : ℕ) (zs : List ℤ) (r : BodyCheck) (j : storedIs p x first zs r) where
@@ -67,7 +67,7 @@ module _ (p x : List ℤ) (first : ℕ) (zs : List ℤ) (r : BodyCheck) (j : sto
   not-stored h = rw h at j
 
 module _ (f : Form) (o : Open) (used : Used) (b : Body) (l : List ℕ) (r p : List ℤ) {x : List ℤ} where
-  pub not-kept : {n : ℕ} → (refusalOf b (o .controls) ≡ n) × (0 < n) → length x ≡ length p → NotStored o used b l l r r p x n
+  pub not-kept : {n : ℕ} → (closingRefusal b (o .controls) ≡ n) × (0 < n) → length x ≡ length p → NotStored o used b l l r r p x n
   not-kept {n} h same =
       let e = h .0 in
       let g = h .1 in

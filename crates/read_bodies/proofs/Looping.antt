@@ -20,7 +20,7 @@ use Rattle.text.specs.Rest.{Rest, restAt, EndMet}
 use Rattle.tables.proofs.Flat.{flat-append}
 use Rattle.model.specs.Model.{Part}
 use Rattle.model.specs.Layout.{beginning, partRow, partRows, spanRow}
-use Rattle.read_bodies.specs.Loops.{parts, partsAt, PartFound, NoPart, begins, LoopLine, LoopTaken, LoopLeft}
+use Rattle.read_bodies.specs.Loops.{loopParts, partsAt, PartFound, NoPart, beginningOf, LoopLine, LoopTaken, LoopLeft}
 use Rattle.lists.proofs.Laws.{sets-append}
 use Rattle.model.proofs.Rows.{partRows-length, spans-length}
 
@@ -40,7 +40,7 @@ some-parts n h e =
     omega arith
 
 -- ---- rows laid one after the other
-rows-more : (hole : Bool) (ps : List Part) (p : Part) → partRows (beginning hole) (ps ++ p ∷ []) ≡ partRows (beginning hole) ps ++ begins hole (length ps) ∷ p .curve ∷ []
+rows-more : (hole : Bool) (ps : List Part) (p : Part) → partRows (beginning hole) (ps ++ p ∷ []) ≡ partRows (beginning hole) ps ++ beginningOf hole (length ps) ∷ p .curve ∷ []
 rows-more hole [] p = refl
 rows-more hole (q ∷ ps) p =
     ap (λ (l : List ℕ). partRow (beginning hole) q ++ l) (flat-append (partRow 0) ps (p ∷ []))
@@ -107,7 +107,7 @@ module _ (s : List ℕ) (at : ℕ) (hole : Bool) (curves used : ℕ) (l : List �
 
     over : {q : ℕ} → EndMet s i q → partsAt curves s at ≡ w .done
     unfolding partsAt
-    over n = w .parts ∙ ap (λ (r : Rest). w .done ++ parts curves (r .words)) (n .rest) ∙ append-nil (w .done)
+    over n = w .parts ∙ ap (λ (r : Rest). w .done ++ loopParts curves (r .words)) (n .rest) ∙ append-nil (w .done)
 
     pub looping-empty : {q : ℕ} → EndMet s i q → count ≡ 0 → LoopLeft s at curves used l m z y
     unfolding partsAt
@@ -197,7 +197,7 @@ module _ (s : List ℕ) (at : ℕ) (hole : Bool) (curves used : ℕ) (l : List �
 
         pub looping-more :
             {y₂ : List ℤ} {q : Bool} (u v : ℤ) → q ≡ leb (place + 2) (length y) → y₂ ≡ cond q (sets y place (u ∷ v ∷ [])) y → q ≡ true →
-            b ≡ begins hole count → c ≡ p .curve → u ≡ p .from → v ≡ p .to →
+            b ≡ beginningOf hole count → c ≡ p .curve → u ≡ p .from → v ≡ p .to →
             Looping s at hole curves used l z m₂ y₂ e (place + 2) (count + 1)
         looping-more {y₂} {q} u v g₂ k₂ h₂ e₁ e₂ e₃ e₄ =
             let both = fits-spans g₂ h₂ in
@@ -214,7 +214,7 @@ module _ (s : List ℕ) (at : ℕ) (hole : Bool) (curves used : ℕ) (l : List �
             let ls = spans-length (w .done) in
             let here : 2 * used + length (partRows (beginning hole) (w .done)) ≡ place = omega arith in
             let there : 2 * used + length (flat spanRow (w .done)) ≡ place = omega arith in
-            let row : _≡_ {A = List ℕ} (b ∷ c ∷ []) (begins hole (length (w .done)) ∷ p .curve ∷ []) = rw (e₁, e₂, ct) refl in
+            let row : _≡_ {A = List ℕ} (b ∷ c ∷ []) (beginningOf hole (length (w .done)) ∷ p .curve ∷ []) = rw (e₁, e₂, ct) refl in
             let span : _≡_ {A = List ℤ} (u ∷ v ∷ []) (p .from ∷ p .to ∷ []) = rw (e₃, e₄) refl in
             record {
               to = f .to;
@@ -230,8 +230,8 @@ module _ (s : List ℕ) (at : ℕ) (hole : Bool) (curves used : ℕ) (l : List �
               next = w .next ∙ f .next;
               stored =
                   put ∙ ap₂ (λ (x : List ℕ) (r : List ℕ). sets x place r) (w .stored) row
-                  ∙ ap (λ (j : ℕ). sets (sets l (2 * used) (partRows (beginning hole) (w .done))) j (begins hole (length (w .done)) ∷ p .curve ∷ [])) (sym here)
-                  ∙ sym (sets-append l (2 * used) (partRows (beginning hole) (w .done)) (begins hole (length (w .done)) ∷ p .curve ∷ []))
+                  ∙ ap (λ (j : ℕ). sets (sets l (2 * used) (partRows (beginning hole) (w .done))) j (beginningOf hole (length (w .done)) ∷ p .curve ∷ [])) (sym here)
+                  ∙ sym (sets-append l (2 * used) (partRows (beginning hole) (w .done)) (beginningOf hole (length (w .done)) ∷ p .curve ∷ []))
                   ∙ ap (sets l (2 * used)) (sym (rows-more hole (w .done) p));
               stored-spans =
                   k₂ ∙ ap (λ (t : Bool). cond t (sets y place (u ∷ v ∷ [])) y) h₂

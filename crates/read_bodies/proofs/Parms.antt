@@ -21,10 +21,10 @@ use Rattle.statements.specs.declared.Carried.the-variants.{Parameters}
 use Rattle.statements.specs.Rules.{rulesOf, countedBy}
 use Rattle.model.specs.Model.{ParmDirection, along-u, along-v}
 use Rattle.model.specs.Parse.{directionOf, isV}
-use Rattle.read_state.specs.Numbers.{Walk, ended, full, stuck, onto, onNumber, numbersFrom}
+use Rattle.read_state.specs.Numbers.{Walk, ended, full, stuck, ontoWalk, onNumber, numbersFrom}
 use Rattle.read_state.specs.State.{ParmAt}
-use Rattle.read_bodies.specs.Numbers.{before, leading, numbersAt, AllNumbers, NotAll}
-use Rattle.read_bodies.specs.Parm.{wayOf, RowTaken, rowIs, ParmLine, along, ParmTaken, parmIs}
+use Rattle.read_bodies.specs.Numbers.{numberBefore, leading, numbersAt, AllNumbers, NotAll}
+use Rattle.read_bodies.specs.Parm.{wayOf, RowTaken, parmRowIs, ParmLine, parmDirection, ParmTaken, parmIs}
 use Rattle.read_bodies.specs.declared.parm.Parm.{Parm}
 use Rattle.read_bodies.specs.declared.parm.Parm.the-variants.{Accepted, Rejected}
 
@@ -39,9 +39,9 @@ walk-all (suc n) [] q h e = refl
 walk-all (suc n) (w ∷ ws) q h e = go (numberOf (w .bytes)) e (walk-all n ws q (omega arith))
   where
     go :
-        (x : Said ℤ) → length (before x (leading ws)) ≡ suc (length ws) → (length (leading ws) ≡ length ws → numbersFrom n ws none q ≡ ended (leading ws) q) →
-        onNumber x (numbersFrom n ws none q) ≡ ended (before x (leading ws)) q
-    go (says z) k i = ap (onto z) (i (omega arith))
+        (x : Said ℤ) → length (numberBefore x (leading ws)) ≡ suc (length ws) → (length (leading ws) ≡ length ws → numbersFrom n ws none q ≡ ended (leading ws) q) →
+        onNumber x (numbersFrom n ws none q) ≡ ended (numberBefore x (leading ws)) q
+    go (says z) k i = ap (ontoWalk z) (i (omega arith))
     go (wrong m) k i = clash (sym k)
 
 -- what it gives are all the words
@@ -54,7 +54,7 @@ pub record Walked (ws : List Word) (b : Option ℕ) (q : ℕ) (zs : List ℤ) (p
 no-walk : {A : Type 0} {zs : List ℤ} {p : ℕ} → stuck ≡ ended zs p → A
 no-walk h = absurd (let z : _≡_ {A = ℕ} 0 1 = cc in omega arith)
 
-onto-ended : (z : ℤ) (x : Walk) {zs : List ℤ} {p : ℕ} → onto z x ≡ ended zs p → (ys : List ℤ) × ((x ≡ ended ys p) × (zs ≡ z ∷ ys))
+onto-ended : (z : ℤ) (x : Walk) {zs : List ℤ} {p : ℕ} → ontoWalk z x ≡ ended zs p → (ys : List ℤ) × ((x ≡ ended ys p) × (zs ≡ z ∷ ys))
 onto-ended z (ended ys k) {zs} {p} h = let a : z ∷ ys ≡ zs = cc in let b : k ≡ p = cc in (ys, (ap (ended ys) b, sym a))
 onto-ended z (full ys r) {zs} {p} h = absurd (let z : _≡_ {A = ℕ} 0 1 = cc in omega arith)
 onto-ended z stuck h = no-walk h
@@ -74,7 +74,7 @@ walk-ended (suc n) (w ∷ ws) b q {zs} {p} h = go (numberOf (w .bytes)) refl h (
         let j = i (o .0) (o .1 .0) in
         let f = o .1 .1 in
         record {
-          numbers = ap (λ (x : Said ℤ). before x (leading ws)) e ∙ ap (λ (l : List ℤ). z ∷ l) (j .numbers) ∙ sym f;
+          numbers = ap (λ (x : Said ℤ). numberBefore x (leading ws)) e ∙ ap (λ (l : List ℤ). z ∷ l) (j .numbers) ∙ sym f;
           all = ap length f ∙ ap suc (j .all);
           good = j .good;
           next = j .next;
@@ -100,16 +100,16 @@ kept-is s at zs k h = walk-ended (suc (length s)) ((restAt s at) .words) ((restA
 
 -- ---- `take_row`
 module _ (s : List ℕ) (at : ℕ) (v : Bool) where
-  pub row-taken : {n q : ℕ} → AllNumbers s at n q → true ≡ countedBy (rulesOf Parameters .count) (n + 1) → rowIs s at v (Accepted v at q)
+  pub row-taken : {n q : ℕ} → AllNumbers s at n q → true ≡ countedBy (rulesOf Parameters .count) (n + 1) → parmRowIs s at v (Accepted v at q)
   row-taken {n} {q} a h =
       let c = a .count in
       let d = leb-true 3 (n + 1) (sym h) in
       record { along = refl; here = refl; two = omega arith; all = subst (λ (k : ℕ). AllNumbers s at k q) c a }
 
-  pub row-few : {n q : ℕ} → AllNumbers s at n q → false ≡ countedBy (rulesOf Parameters .count) (n + 1) → rowIs s at v Rejected
+  pub row-few : {n q : ℕ} → AllNumbers s at n q → false ≡ countedBy (rulesOf Parameters .count) (n + 1) → parmRowIs s at v Rejected
   row-few {n} a h = λ b e. let c = a .count in let d = leb-false 3 (n + 1) (sym h) in omega arith
 
-  pub row-stopped : {n : ℕ} → NotAll s at n → rowIs s at v Rejected
+  pub row-stopped : {n : ℕ} → NotAll s at n → parmRowIs s at v Rejected
   row-stopped a = λ b e. let c = a .count in let f = a .fewer b in absurd (omega arith)
 
 -- ---- the direction
@@ -176,7 +176,7 @@ module _ (surface : Bool) (s : List ℕ) (at p : ℕ) (m : WordMet s at p) where
   here : (restAt s at) .words ≡ wordAt s p ∷ (restAt s (endOf s p)) .words
   here = ap (λ (r : Rest). r .words) (m .rest)
 
-  module _ (v : Bool) (says : directionOf (argumentOf (wordOf (drop p s))) ≡ some (along v)) (b : (surface || not (isV (some (along v)))) ≡ true) where
+  module _ (v : Bool) (says : directionOf (argumentOf (wordOf (drop p s))) ≡ some (parmDirection v)) (b : (surface || not (isV (some (parmDirection v)))) ≡ true) where
     at-once : {q : ℕ} → RowTaken s (endOf s p) v v (endOf s p) q → ParmTaken surface s at v (endOf s p) q
     unfolding numbersAt
     at-once {q} r =
@@ -227,10 +227,10 @@ module _ (surface : Bool) (s : List ℕ) (at p : ℕ) (m : WordMet s at p) where
       let e : along-v ≡ d = (let x : some along-v ≡ some d = sym h ∙ first-is l in cc) in
       never (sym (ap (λ (b : Bool). b || false) f) ∙ subst (λ (d : ParmDirection). (surface || not (isV (some d))) ≡ true) (sym e) (l .belongs))
 
-  pub no-row : {e : ℕ} (v : Bool) → e ≡ endOf s p → rowIs s e v Rejected → parmIs surface s at Rejected
+  pub no-row : {e : ℕ} (v : Bool) → e ≡ endOf s p → parmRowIs s e v Rejected → parmIs surface s at Rejected
   unfolding numbersAt
   no-row {e} v d r = λ k zs l.
-      let r₁ = subst (λ (e : ℕ). rowIs s e v Rejected) d r in
+      let r₁ = subst (λ (e : ℕ). parmRowIs s e v Rejected) d r in
       let o = others-are l in
       let n : leading ((restAt s (endOf s p)) .words) ≡ zs = ap leading o ∙ l .numbers in
       let a = l .all in
@@ -241,7 +241,7 @@ module _ (surface : Bool) (s : List ℕ) (at p : ℕ) (m : WordMet s at p) where
       omega arith
 
 -- a row's answer, by its case
-module _ (surface : Bool) (s : List ℕ) (at p : ℕ) (m : WordMet s at p) (v : Bool) (says : directionOf (argumentOf (wordOf (drop p s))) ≡ some (along v)) (b : (surface || not (isV (some (along v)))) ≡ true) where
-  pub parm-row : (e : ℕ) → e ≡ endOf s p → (r : Parm) → rowIs s e v r → parmIs surface s at r
+module _ (surface : Bool) (s : List ℕ) (at p : ℕ) (m : WordMet s at p) (v : Bool) (says : directionOf (argumentOf (wordOf (drop p s))) ≡ some (parmDirection v)) (b : (surface || not (isV (some (parmDirection v)))) ≡ true) where
+  pub parm-row : (e : ℕ) → e ≡ endOf s p → (r : Parm) → parmRowIs s e v r → parmIs surface s at r
   parm-row e d (Accepted w n q) r = parm-taken surface s at p m v says b d r
   parm-row e d Rejected r = no-row surface s at p m v d r

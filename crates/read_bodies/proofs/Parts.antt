@@ -9,15 +9,15 @@ use lib.IntN.{ℤ}
 use Rattle.text.specs.Words.{Word, wordOf}
 use Rattle.text.specs.Rest.{Rest, restAt, push, wordAt, endOf, WordMet, EndMet}
 use Rattle.digits.specs.Said.{Said, says, wrong}
-use Rattle.digits.specs.Answers.{ended}
+use Rattle.digits.specs.Answers.{endsAt}
 use Rattle.decimals.specs.Number.{numberOf}
 use Rattle.references.specs.Reference.{referenceOf}
 use Rattle.references.specs.Answers.{saidReference}
 use Rattle.references.specs.declared.reference.Reference.{Reference}
 use Rattle.references.specs.declared.reference.Reference.the-variants as reference
 use Rattle.model.specs.Model.{Part}
-use Rattle.read_bodies.specs.Numbers.{before, leading, numbersAt, NumberMet, NoNumber}
-use Rattle.read_bodies.specs.Loops.{onPart, parts, partsAt, CurveMet, notCurve, curveIs, PartFound, NoPart, partIs}
+use Rattle.read_bodies.specs.Numbers.{numberBefore, leading, numbersAt, NumberMet, NoNumber}
+use Rattle.read_bodies.specs.Loops.{onPart, loopParts, partsAt, CurveMet, notCurve, curveIs, PartFound, NoPart, partIs}
 use Rattle.read_bodies.specs.declared.loops.Curve.{Curve}
 use Rattle.read_bodies.specs.declared.loops.Curve.the-variants as curve
 use Rattle.read_bodies.specs.declared.loops.PartMet.{PartMet}
@@ -29,7 +29,7 @@ module _ (curves : ℕ) (s : List ℕ) (at : ℕ) where
   pub no-curve : (restAt s at) .words ≡ [] → curveIs curves s at curve.Nothing
   no-curve h = subst (notCurve curves) (sym h) tt
 
-  module _ (p : ℕ) (w : WordMet s at p) (r : Reference) (h : saidReference r ≡ ended (referenceOf curves (wordOf (drop p s))) (endOf s p)) where
+  module _ (p : ℕ) (w : WordMet s at p) (r : Reference) (h : saidReference r ≡ endsAt (referenceOf curves (wordOf (drop p s))) (endOf s p)) where
     pub curve-met : {k e : ℕ} → r ≡ reference.Item k e → CurveMet curves s at k e
     curve-met {k} {e} i =
         let o = said-one (referenceOf curves (wordOf (drop p s))) (endOf s p) e k (sym (ap saidReference i) ∙ h) in
@@ -47,7 +47,7 @@ module _ (curves : ℕ) (s : List ℕ) (at : ℕ) where
 
     pub curve-not : {n : ℕ} → saidReference r ≡ wrong n → curveIs curves s at curve.Nothing
     curve-not {n} i =
-        subst (notCurve curves) (sym (ap (λ (r : Rest). r .words) (w .rest))) (λ k e. go k (sym i ∙ h ∙ ap (λ (x : Said ℕ). ended x (endOf s p)) e))
+        subst (notCurve curves) (sym (ap (λ (r : Rest). r .words) (w .rest))) (λ k e. go k (sym i ∙ h ∙ ap (λ (x : Said ℕ). endsAt x (endOf s p)) e))
       where
         go : (k : ℕ) → _≡_ {A = Said (ℕ × ℕ)} (wrong n) (says (k, endOf s p)) → ⊥
         go k z = let y : _≡_ {A = ℕ} 0 1 = cc in omega arith
@@ -63,31 +63,31 @@ module _ (curves : ℕ) (s : List ℕ) (at : ℕ) where
 no-number : {A : Type 0} {z : ℤ} {zs : List ℤ} → z ∷ zs ≡ [] → A
 no-number {z = z} {zs} h = absurd (let e : suc (length zs) ≡ 0 = ap length h in omega arith)
 
-first-none : (curves : ℕ) (ws : List Word) → leading ws ≡ [] → parts curves ws ≡ []
+first-none : (curves : ℕ) (ws : List Word) → leading ws ≡ [] → loopParts curves ws ≡ []
 first-none curves [] h = refl
 first-none curves (a ∷ []) h = refl
 first-none curves (a ∷ b ∷ []) h = refl
 first-none curves (a ∷ b ∷ k ∷ ws) h = go (numberOf (a .bytes)) h
   where
-    go : (x : Said ℤ) → before x (leading (b ∷ k ∷ ws)) ≡ [] → onPart x (numberOf (b .bytes)) (referenceOf curves (k .bytes)) (parts curves ws) ≡ []
+    go : (x : Said ℤ) → numberBefore x (leading (b ∷ k ∷ ws)) ≡ [] → onPart x (numberOf (b .bytes)) (referenceOf curves (k .bytes)) (loopParts curves ws) ≡ []
     go (says z) e = no-number e
     go (wrong n) e = refl
 
-second-none : (curves : ℕ) (a : Word) (ws : List Word) → leading ws ≡ [] → parts curves (a ∷ ws) ≡ []
+second-none : (curves : ℕ) (a : Word) (ws : List Word) → leading ws ≡ [] → loopParts curves (a ∷ ws) ≡ []
 second-none curves a [] h = refl
 second-none curves a (b ∷ []) h = refl
 second-none curves a (b ∷ k ∷ ws) h = go (numberOf (a .bytes)) (numberOf (b .bytes)) h
   where
-    go : (x y : Said ℤ) → before y (leading (k ∷ ws)) ≡ [] → onPart x y (referenceOf curves (k .bytes)) (parts curves ws) ≡ []
+    go : (x y : Said ℤ) → numberBefore y (leading (k ∷ ws)) ≡ [] → onPart x y (referenceOf curves (k .bytes)) (loopParts curves ws) ≡ []
     go x (says z) e = no-number e
     go (says z) (wrong n) e = refl
     go (wrong m) (wrong n) e = refl
 
-third-none : (curves : ℕ) (a b : Word) (ws : List Word) → notCurve curves ws → parts curves (a ∷ b ∷ ws) ≡ []
+third-none : (curves : ℕ) (a b : Word) (ws : List Word) → notCurve curves ws → loopParts curves (a ∷ b ∷ ws) ≡ []
 third-none curves a b [] h = refl
 third-none curves a b (k ∷ ws) h = go (numberOf (a .bytes)) (numberOf (b .bytes)) (referenceOf curves (k .bytes)) h
   where
-    go : (x y : Said ℤ) (z : Said ℕ) → ((n : ℕ) → z ≡ says n → ⊥) → onPart x y z (parts curves ws) ≡ []
+    go : (x y : Said ℤ) (z : Said ℕ) → ((n : ℕ) → z ≡ says n → ⊥) → onPart x y z (loopParts curves ws) ≡ []
     go x y (says n) e = absurd (e n refl)
     go (says u) (says v) (wrong n) e = refl
     go (says u) (wrong m) (wrong n) e = refl
@@ -107,12 +107,12 @@ module _ (curves : ℕ) (s : List ℕ) (at : ℕ) where
 
     pub none-second : NoNumber s e → NoPart curves s at
     unfolding numbersAt partsAt
-    none-second n = record { none-here = ap (parts curves) one ∙ second-none curves (m .word) ((restAt s e) .words) (n .none-here); word-left = some-left }
+    none-second n = record { none-here = ap (loopParts curves) one ∙ second-none curves (m .word) ((restAt s e) .words) (n .none-here); word-left = some-left }
 
     pub over-second : {q : ℕ} → EndMet s e q → NoPart curves s at
     unfolding numbersAt partsAt
     over-second n =
-        record { none-here = ap (parts curves) one ∙ second-none curves (m .word) ((restAt s e) .words) (ap (λ (r : Rest). leading (r .words)) (n .rest)); word-left = some-left }
+        record { none-here = ap (loopParts curves) one ∙ second-none curves (m .word) ((restAt s e) .words) (ap (λ (r : Rest). leading (r .words)) (n .rest)); word-left = some-left }
 
     module _ {y : ℤ} {f : ℕ} (k : NumberMet s e y f) where
       two : (restAt s at) .words ≡ m .word ∷ k .word ∷ (restAt s f) .words
@@ -120,7 +120,7 @@ module _ (curves : ℕ) (s : List ℕ) (at : ℕ) where
 
       pub none-third : notCurve curves ((restAt s f) .words) → NoPart curves s at
       unfolding partsAt
-      none-third n = record { none-here = ap (parts curves) two ∙ third-none curves (m .word) (k .word) ((restAt s f) .words) n; word-left = some-left }
+      none-third n = record { none-here = ap (loopParts curves) two ∙ third-none curves (m .word) (k .word) ((restAt s f) .words) n; word-left = some-left }
 
       -- x and x₂ are z and y as they are handed on
       pub found : {x x₂ : ℤ} {c g : ℕ} → CurveMet curves s f c g → x ≡ z → x₂ ≡ y → PartFound curves s at (record { from = x; to = x₂; curve = c }) g
@@ -134,7 +134,7 @@ module _ (curves : ℕ) (s : List ℕ) (at : ℕ) where
           record {
             ahead = omega arith;
             to = j .to;
-            parts = ap (parts curves) w ∙ go (numberOf (m .word .bytes)) (numberOf (k .word .bytes)) (referenceOf curves (j .word .bytes)) (m .number) (k .number) (j .reference) (parts curves ((restAt s g) .words));
+            parts = ap (loopParts curves) w ∙ go (numberOf (m .word .bytes)) (numberOf (k .word .bytes)) (referenceOf curves (j .word .bytes)) (m .number) (k .number) (j .reference) (loopParts curves ((restAt s g) .words));
             words = ap length w ∙ omega arith;
             bad = ap (λ (r : Rest). r .bad) (m .rest) ∙ ap (λ (r : Rest). r .bad) (k .rest) ∙ ap (λ (r : Rest). r .bad) (j .rest);
             next = ap (λ (r : Rest). r .next) (m .rest) ∙ ap (λ (r : Rest). r .next) (k .rest) ∙ ap (λ (r : Rest). r .next) (j .rest);

@@ -20,9 +20,9 @@ use Rattle.model.specs.Model.{ParmDirection, Part, Open, State, curves}
 use Rattle.model.specs.Statements.{Statement, parameters, loop}
 use Rattle.model.specs.Parse.{Parsed, fine, fault, then, must, Keyword, parm, trim, hole, isSurface, isV, directionOf, saysV, allowed, counted, WordForm, a-number, a-curve, formOf, Value, number, whole, direction, onSaid, directionSaid, Seen, placed, valuesOf, numbersOf, wholesOf, partsOf, checked, seenIn, parse}
 use Rattle.model.specs.Standing.{insideBody}
-use Rattle.read_bodies.specs.Numbers.{before, leading}
+use Rattle.read_bodies.specs.Numbers.{numberBefore, leading}
 use Rattle.read_bodies.specs.Parm.{ParmLine}
-use Rattle.read_bodies.specs.Loops.{loopWord, onPart, parts, LoopLine}
+use Rattle.read_bodies.specs.Loops.{loopWord, onPart, loopParts, LoopLine}
 use Rattle.model.proofs.Parsed.{fine-fault}
 
 -- ---- a line that passes, and one that passed
@@ -61,8 +61,8 @@ module _ (n : Seen) (f : ℕ → WordForm) (all : (j : ℕ) → f (suc j) ≡ a-
   values-numbers i (w ∷ ws) h = rw (all i) (go (numberOf (w .bytes)) h (values-numbers (suc i) ws))
     where
       go :
-          (x : Said ℤ) → length (before x (leading ws)) ≡ suc (length ws) → (length (leading ws) ≡ length ws → valuesOf n f (suc (suc i)) ws ≡ fine (numbers (leading ws))) →
-          then (placed (onSaid number x) (w .place)) (λ v. then (valuesOf n f (suc (suc i)) ws) (λ vs. fine (v ∷ vs))) ≡ fine (numbers (before x (leading ws)))
+          (x : Said ℤ) → length (numberBefore x (leading ws)) ≡ suc (length ws) → (length (leading ws) ≡ length ws → valuesOf n f (suc (suc i)) ws ≡ fine (numbers (leading ws))) →
+          then (placed (onSaid number x) (w .place)) (λ v. then (valuesOf n f (suc (suc i)) ws) (λ vs. fine (v ∷ vs))) ≡ fine (numbers (numberBefore x (leading ws)))
       go (says z) k r = rw (r (omega arith)) refl
       go (wrong m) k r = absurd (omega arith)
 
@@ -73,7 +73,7 @@ module _ (n : Seen) (f : ℕ → WordForm) (all : (j : ℕ) → f (suc j) ≡ a-
       go :
           (x : Said ℤ) (c : Parsed (List Value)) → then (placed (onSaid number x) (w .place)) (λ v. then c (λ vs. fine (v ∷ vs))) ≡ fine xs →
           ((ys : List Value) → c ≡ fine ys → (length (leading ws) ≡ length ws) × (ys ≡ numbers (leading ws))) →
-          (length (before x (leading ws)) ≡ suc (length ws)) × (xs ≡ numbers (before x (leading ws)))
+          (length (numberBefore x (leading ws)) ≡ suc (length ws)) × (xs ≡ numbers (numberBefore x (leading ws)))
       go (wrong m) c k r = fine-fault k
       go (says z) (fault m p) k r = fine-fault k
       go (says z) (fine ys) k r =
@@ -189,7 +189,7 @@ module _ (n : Seen) where
       ≡ one i (numberOf (a .bytes)) (numberOf (b .bytes)) (referenceOf (n .curves) (k .bytes)) (a .place) (b .place) (k .place) (valuesOf n third (suc (suc (suc i))) ws)
   three i h a b k ws = rw (form-0 i h, form-1 i h, form-2 i h) refl
 
-  pub values-parts : (i : ℕ) → i % 3 ≡ 0 → (ws : List Word) → 3 * length (parts (n .curves) ws) ≡ length ws → valuesOf n third i ws ≡ fine (triples (parts (n .curves) ws))
+  pub values-parts : (i : ℕ) → i % 3 ≡ 0 → (ws : List Word) → 3 * length (loopParts (n .curves) ws) ≡ length ws → valuesOf n third i ws ≡ fine (triples (loopParts (n .curves) ws))
   values-parts i h [] e = refl
   values-parts i h (a ∷ []) e = absurd (omega arith)
   values-parts i h (a ∷ b ∷ []) e = absurd (omega arith)
@@ -197,15 +197,15 @@ module _ (n : Seen) where
       three i h a b k ws ∙ go (numberOf (a .bytes)) (numberOf (b .bytes)) (referenceOf (n .curves) (k .bytes)) e (values-parts (suc (suc (suc i))) (form-3 i h) ws)
     where
       go :
-          (x y : Said ℤ) (z : Said ℕ) → 3 * length (onPart x y z (parts (n .curves) ws)) ≡ suc (suc (suc (length ws))) →
-          (3 * length (parts (n .curves) ws) ≡ length ws → valuesOf n third (suc (suc (suc i))) ws ≡ fine (triples (parts (n .curves) ws))) →
-          one i x y z (a .place) (b .place) (k .place) (valuesOf n third (suc (suc (suc i))) ws) ≡ fine (triples (onPart x y z (parts (n .curves) ws)))
+          (x y : Said ℤ) (z : Said ℕ) → 3 * length (onPart x y z (loopParts (n .curves) ws)) ≡ suc (suc (suc (length ws))) →
+          (3 * length (loopParts (n .curves) ws) ≡ length ws → valuesOf n third (suc (suc (suc i))) ws ≡ fine (triples (loopParts (n .curves) ws))) →
+          one i x y z (a .place) (b .place) (k .place) (valuesOf n third (suc (suc (suc i))) ws) ≡ fine (triples (onPart x y z (loopParts (n .curves) ws)))
       go (says u) (says v) (says m) d r = rw (r (omega arith)) refl
       go (says u) (says v) (wrong m) d r = absurd (omega arith)
       go (says u) (wrong m) z d r = absurd (omega arith)
       go (wrong m) y z d r = absurd (omega arith)
 
-  pub only-parts : (i : ℕ) → i % 3 ≡ 0 → (ws : List Word) (xs : List Value) → length ws % 3 ≡ 0 → valuesOf n third i ws ≡ fine xs → 3 * length (parts (n .curves) ws) ≡ length ws
+  pub only-parts : (i : ℕ) → i % 3 ≡ 0 → (ws : List Word) (xs : List Value) → length ws % 3 ≡ 0 → valuesOf n third i ws ≡ fine xs → 3 * length (loopParts (n .curves) ws) ≡ length ws
   only-parts i h [] xs m e = refl
   only-parts i h (a ∷ []) xs m e = absurd (let z : _≡_ {A = ℕ} 1 0 = m in omega arith)
   only-parts i h (a ∷ b ∷ []) xs m e = absurd (let z : _≡_ {A = ℕ} 2 0 = m in omega arith)
@@ -214,8 +214,8 @@ module _ (n : Seen) where
     where
       go :
           (x y : Said ℤ) (z : Said ℕ) (c : Parsed (List Value)) → one i x y z (a .place) (b .place) (k .place) c ≡ fine xs →
-          ((ys : List Value) → c ≡ fine ys → 3 * length (parts (n .curves) ws) ≡ length ws) →
-          3 * length (onPart x y z (parts (n .curves) ws)) ≡ suc (suc (suc (length ws)))
+          ((ys : List Value) → c ≡ fine ys → 3 * length (loopParts (n .curves) ws) ≡ length ws) →
+          3 * length (onPart x y z (loopParts (n .curves) ws)) ≡ suc (suc (suc (length ws)))
       go (says u) (says v) (says l) (fine ys) d r = let j = r ys refl in omega arith
       go (says u) (says v) (says l) (fault q p) d r = fine-fault d
       go (says u) (says v) (wrong l) c d r = fine-fault d
@@ -234,7 +234,7 @@ module _ (x : State) (o : Open) (is : x .open-body ≡ some o) (surface : isSurf
       let c : ltb 0 (length (r .words)) ≡ true = lt-ltb 0 (length (r .words)) (omega arith) in
       let d : length (r .words) % 3 ≡ 0 = omega arith in
       let v = values-parts (seenIn x) 0 refl (r .words) (ap (λ (ps : List Part). 3 * length ps) (l .parts) ∙ l .all) in
-      let e : partsOf (numbersOf (triples (parts (curves (x .model .elements)) (r .words)))) (wholesOf (triples (parts (curves (x .model .elements)) (r .words)))) ≡ ps = parts-of (parts (curves (x .model .elements)) (r .words)) ∙ l .parts in
+      let e : partsOf (numbersOf (triples (loopParts (curves (x .model .elements)) (r .words)))) (wholesOf (triples (loopParts (curves (x .model .elements)) (r .words)))) ≡ ps = parts-of (loopParts (curves (x .model .elements)) (r .words)) ∙ l .parts in
       go h (and-both c (eq-eqb (length (r .words) % 3) 0 d)) v e
     where
       go :
@@ -244,18 +244,18 @@ module _ (x : State) (o : Open) (is : x .open-body ≡ some o) (surface : isSurf
       go true c v e = passes key (checked hole x key (r .words)) may-loop c v ∙ ap (λ (ps : List Part). fine (loop (record { hole = true; parts = ps }))) e
 
   -- what a trim or hole line that passes says
-  pub loop-only : (h : Bool) (t : Statement) → r .bad ≡ none → parse (loopWord h) x key (r .words) ≡ fine t → LoopLine (curves (x .model .elements)) r (parts (curves (x .model .elements)) (r .words))
+  pub loop-only : (h : Bool) (t : Statement) → r .bad ≡ none → parse (loopWord h) x key (r .words) ≡ fine t → LoopLine (curves (x .model .elements)) r (loopParts (curves (x .model .elements)) (r .words))
   unfolding parse
   loop-only h t g e = go h e
     where
-      line : {xs : List Value} → (ltb 0 (length (r .words)) && eqb (length (r .words) % 3) 0) ≡ true → valuesOf (seenIn x) third 0 (r .words) ≡ fine xs → LoopLine (curves (x .model .elements)) r (parts (curves (x .model .elements)) (r .words))
+      line : {xs : List Value} → (ltb 0 (length (r .words)) && eqb (length (r .words) % 3) 0) ≡ true → valuesOf (seenIn x) third 0 (r .words) ≡ fine xs → LoopLine (curves (x .model .elements)) r (loopParts (curves (x .model .elements)) (r .words))
       line {xs} c v =
           let a = ltb-true 0 (length (r .words)) (and-left (ltb 0 (length (r .words))) (eqb (length (r .words) % 3) 0) c) in
           let b = eqb-true (length (r .words) % 3) 0 (and-right (ltb 0 (length (r .words))) (eqb (length (r .words) % 3) 0) c) in
           let d = only-parts (seenIn x) 0 refl (r .words) xs b v in
           record { parts = refl; all = d; some = omega arith; good = g }
 
-      go : (h : Bool) → parse (loopWord h) x key (r .words) ≡ fine t → LoopLine (curves (x .model .elements)) r (parts (curves (x .model .elements)) (r .words))
+      go : (h : Bool) → parse (loopWord h) x key (r .words) ≡ fine t → LoopLine (curves (x .model .elements)) r (loopParts (curves (x .model .elements)) (r .words))
       go false e =
           let p = past (allowed trim (x .open-body) (r .words)) (counted trim (length (r .words))) (valuesOf (seenIn x) (formOf trim (length (r .words))) 0 (r .words)) (checked trim x key (r .words)) key e in
           line (p .second) (p .third)

@@ -12,12 +12,12 @@ use Rattle.text.specs.declared.AfterBlanks.the-variants as met
 use Rattle.text.proofs.LineByLine.{next-to}
 pub use Rattle.text.proofs.LineByLine.{words-within}
 use Rattle.digits.specs.Said.{Said, says, wrong}
-use Rattle.digits.specs.Answers.{ended}
+use Rattle.digits.specs.Answers.{endsAt}
 use Rattle.decimals.specs.Number.{numberOf}
 use Rattle.word_numbers.specs.Answers.{saidNumber}
 use Rattle.word_numbers.specs.declared.Number.{Number}
 use Rattle.word_numbers.specs.declared.Number.the-variants as number
-use Rattle.read_bodies.specs.Numbers.{before, leading, numbersAt, NumberMet, NoNumber, stepIs, AllNumbers, NotAll, countedIs}
+use Rattle.read_bodies.specs.Numbers.{numberBefore, leading, numbersAt, NumberMet, NoNumber, numberStepIs, AllNumbers, NotAll, countedIs}
 use Rattle.read_bodies.specs.declared.numbers.Step.{Step}
 use Rattle.read_bodies.specs.declared.numbers.Step.the-variants as step
 use Rattle.read_bodies.specs.declared.numbers.Counted.{Counted}
@@ -35,11 +35,11 @@ module _ (s : List ℕ) (at : ℕ) (m : AfterBlanks) (g : afterBlanksIs s at m) 
   met-bad e = rw e at g
 
 -- ---- `next_number`
-pub said-one : {A : Type 0} (x : Said A) (e k : ℕ) (z : A) → says (z, k) ≡ ended x e → (x ≡ says z) × (k ≡ e)
+pub said-one : {A : Type 0} (x : Said A) (e k : ℕ) (z : A) → says (z, k) ≡ endsAt x e → (x ≡ says z) × (k ≡ e)
 said-one {A} (says y) e k z h = let a : _≡_ {A = A × ℕ} (z, k) (y, e) = cc in (ap says (sym (ap (λ (x : A × ℕ). x .0) a)), ap (λ (x : A × ℕ). x .1) a)
 said-one (wrong n) e k z h = let y : _≡_ {A = ℕ} 0 1 = cc in absurd (omega arith)
 
-said-none : (x : Said ℤ) (e n : ℕ) (zs : List ℤ) → wrong n ≡ ended x e → before x zs ≡ []
+said-none : (x : Said ℤ) (e n : ℕ) (zs : List ℤ) → wrong n ≡ endsAt x e → numberBefore x zs ≡ []
 said-none (says y) e n zs h = let y : _≡_ {A = ℕ} 0 1 = cc in absurd (omega arith)
 said-none (wrong k) e n zs h = refl
 
@@ -52,10 +52,10 @@ module _ (s : List ℕ) (at : ℕ) where
         word-left = λ e. let z : _≡_ {A = ℕ} 0 1 = let y = sym e ∙ b .bad-at in cc in absurd (omega arith);
       }
 
-  module _ (p : ℕ) (w : WordMet s at p) (r : Number) (h : saidNumber r ≡ ended (numberOf (wordOf (drop p s))) (endOf s p)) where
+  module _ (p : ℕ) (w : WordMet s at p) (r : Number) (h : saidNumber r ≡ endsAt (numberOf (wordOf (drop p s))) (endOf s p)) where
     pub number-steps : {z : ℤ} {e : ℕ} → r ≡ number.Value z e → NumberMet s at z e
     number-steps {z} {e} k =
-        let j : says (z, e) ≡ ended (numberOf (wordOf (drop p s))) (endOf s p) = sym (ap saidNumber k) ∙ h in
+        let j : says (z, e) ≡ endsAt (numberOf (wordOf (drop p s))) (endOf s p) = sym (ap saidNumber k) ∙ h in
         let o = said-one (numberOf (wordOf (drop p s))) (endOf s p) e z j in
         let t = w .to in
         let f = w .from in
@@ -78,7 +78,7 @@ module _ (s : List ℕ) (at : ℕ) where
         }
 
 -- ---- a step's answer
-module _ (s : List ℕ) (at : ℕ) (r : Step) (g : stepIs s at r) where
+module _ (s : List ℕ) (at : ℕ) (r : Step) (g : numberStepIs s at r) where
   pub step-number : {z : ℤ} {e : ℕ} → r ≡ step.Number z e → NumberMet s at z e
   step-number e = rw e at g
 
@@ -101,7 +101,7 @@ module _ (s : List ℕ) (at : ℕ) where
   pub numbers-more : {z : ℤ} {e : ℕ} → NumberMet s at z e → numbersAt s at ≡ z ∷ numbersAt s e
   unfolding numbersAt
   numbers-more {z} {e} m =
-      ap (λ (r : Rest). leading (r .words)) (m .rest) ∙ ap (λ (x : Said ℤ). before x (leading ((restAt s e) .words))) (m .number)
+      ap (λ (r : Rest). leading (r .words)) (m .rest) ∙ ap (λ (x : Said ℤ). numberBefore x (leading ((restAt s e) .words))) (m .number)
 
   pub numbers-over : {q : ℕ} → EndMet s at q → numbersAt s at ≡ []
   unfolding numbersAt

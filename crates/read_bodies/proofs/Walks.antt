@@ -11,11 +11,11 @@ use Rattle.text.specs.Rest.{Rest, restAt}
 use Rattle.text.proofs.LineByLine.{next-to}
 use Rattle.digits.specs.Said.{Said, says, wrong}
 use Rattle.decimals.specs.Number.{numberOf}
-use Rattle.read_state.specs.Numbers.{Walk, ended, full, stuck, onto, onNumber, numbersFrom}
+use Rattle.read_state.specs.Numbers.{Walk, ended, full, stuck, ontoWalk, onNumber, numbersFrom}
 use Rattle.read_vertices.specs.Into.{EndedAfter, FullAfter, numbersIs}
 use Rattle.read_vertices.specs.declared.Numbers.{Numbers}
 use Rattle.read_vertices.specs.declared.Numbers.the-variants.{Ended, Full, Stopped}
-use Rattle.read_bodies.specs.Numbers.{before, leading, numbersAt, AllNumbers}
+use Rattle.read_bodies.specs.Numbers.{numberBefore, leading, numbersAt, AllNumbers}
 use Rattle.read_bodies.proofs.Steps.{Counting, counting-small}
 use Rattle.read_bodies.proofs.Parms.{walk-ended}
 
@@ -26,7 +26,7 @@ record Left (ws : List Word) (b : Option ℕ) (q : ℕ) (zs : List ℤ) (r : Res
   bad : r .bad ≡ b
   next : r .next ≡ q
 
-onto-full : (z : ℤ) (x : Walk) {zs : List ℤ} {r : Rest} → onto z x ≡ full zs r → (ys : List ℤ) × ((x ≡ full ys r) × (zs ≡ z ∷ ys))
+onto-full : (z : ℤ) (x : Walk) {zs : List ℤ} {r : Rest} → ontoWalk z x ≡ full zs r → (ys : List ℤ) × ((x ≡ full ys r) × (zs ≡ z ∷ ys))
 onto-full z (ended ys k) h = absurd (let z : _≡_ {A = ℕ} 0 1 = cc in omega arith)
 onto-full z (full ys p) {zs} {r} h = let a : z ∷ ys ≡ zs = cc in let b : p ≡ r = cc in (ys, (ap (full ys) b, sym a))
 onto-full z stuck h = absurd (let z : _≡_ {A = ℕ} 0 1 = cc in omega arith)
@@ -51,7 +51,7 @@ walk-full (suc n) (w ∷ ws) b q {zs} {r} h = go (numberOf (w .bytes)) refl h (�
         let o = onto-full z (numbersFrom n ws b q) k in
         let j = i (o .0) (o .1 .0) in
         let f : length zs ≡ suc (length (o .0)) = ap length (o .1 .1) in
-        let y : length (before (numberOf (w .bytes)) (leading ws)) ≡ suc (length (leading ws)) = ap (λ (x : Said ℤ). length (before x (leading ws))) e in
+        let y : length (numberBefore (numberOf (w .bytes)) (leading ws)) ≡ suc (length (leading ws)) = ap (λ (x : Said ℤ). length (numberBefore x (leading ws))) e in
         let a = j .numbers in
         let d = j .words in
         record { numbers = omega arith; words = omega arith; bad = j .bad; next = j .next }

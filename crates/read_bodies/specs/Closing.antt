@@ -62,11 +62,11 @@ bodyFor f kind us vs a b c d =
     }
 
 -- 11, 12, 13 in their order; 0 for none
-abbrev pub refusalOf : Body → ℕ → ℕ
-refusalOf b k = cond (complete (b .free) b) (cond (countsAgree (b .free) b k) (cond (rangeWithin (b .free) b) 0 13) 12) 11
+abbrev pub closingRefusal : Body → ℕ → ℕ
+closingRefusal b k = cond (complete (b .free) b) (cond (countsAgree (b .free) b k) (cond (rangeWithin (b .free) b) 0 13) 12) 11
 
 pub record Passed (b : Body) (k u v : ℕ) (start end : ℤ) : Type 0 where
-  pub none-wrong : refusalOf b k ≡ 0
+  pub none-wrong : closingRefusal b k ≡ 0
   pub count-u : u ≡ length (b .us)
   pub count-v : v ≡ length (b .vs)
   pub small-u : u ≤ 16777216
@@ -91,7 +91,7 @@ storedIs p x first zs (judged.Refused n) = length x ≡ length p
 storedIs p x first zs (judged.Valid u v start end) = x ≡ sets p first zs
 
 abbrev pub bodyCheckIs : Body → ℕ → BodyCheck → Type 0
-bodyCheckIs b k (judged.Refused n) = (refusalOf b k ≡ n) × (0 < n)
+bodyCheckIs b k (judged.Refused n) = (closingRefusal b k ≡ n) × (0 < n)
 bodyCheckIs b k (judged.Valid u v s e) = Passed b k u v s e
 
 -- ---- the tables of bodies l, of ranges r and of parameters p at the body's end; m, q, o after it
@@ -101,13 +101,13 @@ bodyRecordOf f o used u v =
     ∷ firstPart (used .loops - o .parts) (o .parts) ∷ o .parts ∷ []
 
 -- what the range's record holds for it so far
-abbrev pub bodyIn : Form → Open → Used → List ℕ → List ℕ → List ℤ → Body
-bodyIn f o used s t r =
+abbrev pub openBodyIn : Form → Open → Used → List ℕ → List ℕ → List ℤ → Body
+openBodyIn f o used s t r =
     let at = 4 * (used .bodies - 1) in
     bodyFor f (o .kind) (parmOf s (o .«u_at»)) (parmOf t (o .«v_at»)) (getD r at (pos 0)) (getD r (at + 1) (pos 0)) (getD r (at + 2) (pos 0)) (getD r (at + 3) (pos 0))
 
 pub record Stored (f : Form) (o : Open) (used : Used) (b : Body) (l m : List ℕ) (r q p x : List ℤ) (u v : ℕ) : Type 0 where
-  pub none-wrong : refusalOf b (o .controls) ≡ 0
+  pub none-wrong : closingRefusal b (o .controls) ≡ 0
   pub count-u : u ≡ length (b .us)
   pub count-v : v ≡ length (b .vs)
   pub room : used .parameters + (length (b .us) + length (b .vs)) ≤ length p
@@ -117,8 +117,8 @@ pub record Stored (f : Form) (o : Open) (used : Used) (b : Body) (l m : List ℕ
 
 -- 14 where nothing else is wrong and the parameters pass the lent entries
 pub record NotStored (o : Open) (used : Used) (b : Body) (l m : List ℕ) (r q p x : List ℤ) (n : ℕ) : Type 0 where
-  pub number : n ≡ cond (eqb (refusalOf b (o .controls)) 0) 14 (refusalOf b (o .controls))
-  pub short : refusalOf b (o .controls) ≡ 0 → length p < used .parameters + (length (b .us) + length (b .vs))
+  pub number : n ≡ cond (eqb (closingRefusal b (o .controls)) 0) 14 (closingRefusal b (o .controls))
+  pub short : closingRefusal b (o .controls) ≡ 0 → length p < used .parameters + (length (b .us) + length (b .vs))
   pub same : length m ≡ length l
   pub same-ranges : length q ≡ length r
   pub same-parameters : length x ≡ length p

@@ -36,14 +36,14 @@ onPart (says a) (says b) (wrong n) ps = []
 onPart (says a) (wrong n) k ps = []
 onPart (wrong n) b k ps = []
 
-abbrev pub parts : ℕ → List Word → List Part
-parts curves [] = []
-parts curves (a ∷ []) = []
-parts curves (a ∷ b ∷ []) = []
-parts curves (a ∷ b ∷ k ∷ ws) = onPart (numberOf (a .bytes)) (numberOf (b .bytes)) (referenceOf curves (k .bytes)) (parts curves ws)
+abbrev pub loopParts : ℕ → List Word → List Part
+loopParts curves [] = []
+loopParts curves (a ∷ []) = []
+loopParts curves (a ∷ b ∷ []) = []
+loopParts curves (a ∷ b ∷ k ∷ ws) = onPart (numberOf (a .bytes)) (numberOf (b .bytes)) (referenceOf curves (k .bytes)) (loopParts curves ws)
 
 unfoldable pub partsAt : ℕ → List ℕ → ℕ → List Part
-partsAt curves s at = parts curves ((restAt s at) .words)
+partsAt curves s at = loopParts curves ((restAt s at) .words)
 
 -- ---- one step
 pub record CurveMet (curves : ℕ) (s : List ℕ) (at k e : ℕ) : Type 0 where
@@ -80,12 +80,12 @@ partIs curves s at (part.End q) = EndMet s at q
 partIs curves s at part.Stopped = NoPart curves s at
 
 -- ---- the whole line
-abbrev pub begins : Bool → ℕ → ℕ
-begins hole n = cond (eqb n 0) (beginning hole) 0
+abbrev pub beginningOf : Bool → ℕ → ℕ
+beginningOf hole n = cond (eqb n 0) (beginning hole) 0
 
 -- a line that says the parts ps: one or more, each of three words, to its end
 pub record LoopLine (curves : ℕ) (r : Rest) (ps : List Part) : Type 0 where
-  pub parts : parts curves (r .words) ≡ ps
+  pub parts : loopParts curves (r .words) ≡ ps
   pub all : 3 * length ps ≡ length (r .words)
   pub some : 0 < length ps
   pub good : r .bad ≡ none

@@ -15,13 +15,13 @@ use Rattle.read_bodies.specs.declared.numbers.Counted.{Counted}
 use Rattle.read_bodies.specs.declared.numbers.Counted.the-variants as counted
 
 -- the numbers at the front of a row of words: all up to the first word that is no number
-abbrev pub before : Said ℤ → List ℤ → List ℤ
-before (says z) zs = z ∷ zs
-before (wrong n) zs = []
+abbrev pub numberBefore : Said ℤ → List ℤ → List ℤ
+numberBefore (says z) zs = z ∷ zs
+numberBefore (wrong n) zs = []
 
 abbrev pub leading : List Word → List ℤ
 leading [] = []
-leading (w ∷ ws) = before (numberOf (w .bytes)) (leading ws)
+leading (w ∷ ws) = numberBefore (numberOf (w .bytes)) (leading ws)
 
 unfoldable pub numbersAt : List ℕ → ℕ → List ℤ
 numbersAt s at = leading ((restAt s at) .words)
@@ -39,10 +39,10 @@ pub record NoNumber (s : List ℕ) (at : ℕ) : Type 0 where
   pub none-here : numbersAt s at ≡ []
   pub word-left : (restAt s at) .bad ≡ none → 0 < length ((restAt s at) .words)
 
-abbrev pub stepIs : List ℕ → ℕ → Step → Type 0
-stepIs s at (step.Number z e) = NumberMet s at z e
-stepIs s at (step.End q) = EndMet s at q
-stepIs s at step.Stopped = NoNumber s at
+abbrev pub numberStepIs : List ℕ → ℕ → Step → Type 0
+numberStepIs s at (step.Number z e) = NumberMet s at z e
+numberStepIs s at (step.End q) = EndMet s at q
+numberStepIs s at step.Stopped = NoNumber s at
 
 -- ---- what `count_numbers` finds: all words are numbers and the line ends, or not
 pub record AllNumbers (s : List ℕ) (at n q : ℕ) : Type 0 where

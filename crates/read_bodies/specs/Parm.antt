@@ -37,9 +37,9 @@ pub record RowTaken (s : List ℕ) (at : ℕ) (v along-v : Bool) (n q : ℕ) : T
   pub two : 2 ≤ length (numbersAt s at)
   pub all : AllNumbers s at (length (numbersAt s at)) q
 
-abbrev pub rowIs : List ℕ → ℕ → Bool → Parm → Type 0
-rowIs s at v (Accepted w n q) = RowTaken s at w v n q
-rowIs s at v Rejected = (restAt s at) .bad ≡ none → length (numbersAt s at) ≡ length ((restAt s at) .words) → length (numbersAt s at) < 2
+abbrev pub parmRowIs : List ℕ → ℕ → Bool → Parm → Type 0
+parmRowIs s at v (Accepted w n q) = RowTaken s at w v n q
+parmRowIs s at v Rejected = (restAt s at) .bad ≡ none → length (numbersAt s at) ≡ length ((restAt s at) .words) → length (numbersAt s at) < 2
 
 -- a line that says the parameters zs along d, of a body that is a surface's or not
 pub record ParmLine (surface : Bool) (r : Rest) (d : ParmDirection) (zs : List ℤ) : Type 0 where
@@ -53,12 +53,12 @@ pub record ParmLine (surface : Bool) (r : Rest) (d : ParmDirection) (zs : List �
   pub two : 2 ≤ length zs
   pub good : r .bad ≡ none
 
-abbrev pub along : Bool → ParmDirection
-along true = along-v
-along false = along-u
+abbrev pub parmDirection : Bool → ParmDirection
+parmDirection true = along-v
+parmDirection false = along-u
 
 pub record ParmTaken (surface : Bool) (s : List ℕ) (at : ℕ) (v : Bool) (n q : ℕ) : Type 0 where
-  pub line : ParmLine surface (restAt s at) (along v) (numbersAt s n)
+  pub line : ParmLine surface (restAt s at) (parmDirection v) (numbersAt s n)
   pub from : 0 < n
   pub kept : ParmAt s n (numbersAt s n)
   pub next : q ≡ (restAt s at) .next

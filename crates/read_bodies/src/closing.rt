@@ -30,7 +30,7 @@ ghost use Rattle.parameter_order.specs.Stepping.{walked};
 ghost use Rattle.tables.specs.Records.{curve2Kind};
 ghost use Rattle.model.specs.Layout.{firstPart};
 ghost use Rattle.read_bodies.specs.Numbers.{numbersAt};
-ghost use Rattle.read_bodies.specs.Closing.{parmOf, completeOf, agreeOf, bodyFor, bodyIn, settledIs, bodyCheckIs, storedIs, bodyRecordOf, closedIs};
+ghost use Rattle.read_bodies.specs.Closing.{parmOf, completeOf, agreeOf, bodyFor, openBodyIn, settledIs, bodyCheckIs, storedIs, bodyRecordOf, closedIs};
 
 pub enum BodyCheck {
     Refused(u32),
@@ -264,7 +264,7 @@ pub fn close_body(
     requires { ⌜ (body .«u_at» ≤ length (now «u_text»)) × (length (now «u_text») ≤ 16777216) ⌝ }
     requires { ⌜ (body .«v_at» ≤ length (now «v_text»)) × (length (now «v_text») ≤ 16777216) ⌝ }
     requires { ⌜ (1 ≤ used .bodies) × (9 * used .bodies ≤ length (now bodies)) × (4 * used .bodies ≤ length (now ranges)) × (body .parts ≤ used .loops) ⌝ }
-    ensures { λ r. ⌜ closedIs form body used (bodyIn form body used (now («u_text» .entry)) (now («v_text» .entry)) (now (ranges .entry))) (now (bodies .entry)) (now (bodies .exit)) (now (ranges .entry)) (now (ranges .exit)) (now (parameters .entry)) (now (parameters .exit)) r ⌝ }
+    ensures { λ r. ⌜ closedIs form body used (openBodyIn form body used (now («u_text» .entry)) (now («v_text» .entry)) (now (ranges .entry))) (now (bodies .entry)) (now (bodies .exit)) (now (ranges .entry)) (now (ranges .exit)) (now (parameters .entry)) (now (parameters .exit)) r ⌝ }
 {
     let at = 4 * (used.bodies as usize - 1);
     match judge(

@@ -15,7 +15,7 @@ ghost use Prim.Native.Nat.{_+_, _*_, _≤_, _<_};
 ghost use lib.ListN.{length};
 ghost use Rattle.statements.specs.declared.Carried.the-variants.{Trim};
 ghost use Rattle.statements.specs.Rules.{rulesOf, countedBy};
-ghost use Rattle.read_bodies.specs.Loops.{curveIs, partIs, loopIs, begins};
+ghost use Rattle.read_bodies.specs.Loops.{curveIs, partIs, loopIs, beginningOf};
 
 pub enum Curve {
     Of { number: u32, end: usize },
@@ -86,7 +86,7 @@ fn next_part(text: &[u8], at: usize, curves: u32) -> PartMet
 
 // What begins with the part: a trim, a hole, or nothing at the second part and later.
 fn begins_with(hole: bool, part: u32) -> u32
-    ensures { λ r. ⌜ r ≡ begins hole part ⌝ }
+    ensures { λ r. ⌜ r ≡ beginningOf hole part ⌝ }
 {
     if part != 0 {
         return 0;

@@ -8,7 +8,7 @@ use word_numbers::number_at;
 ghost use mathlib.Core.Path.{_≡_};
 ghost use Prim.Native.Nat.{_≤_};
 ghost use lib.ListN.{length};
-ghost use Rattle.read_bodies.specs.Numbers.{stepIs, countedIs};
+ghost use Rattle.read_bodies.specs.Numbers.{numberStepIs, countedIs};
 
 pub enum Step {
     Number { value: i32, end: usize },
@@ -24,7 +24,7 @@ pub enum Counted {
 // What the line goes on with at `at`, which is between words: a number, its end, or neither.
 pub fn next_number(text: &[u8], at: usize) -> Step
     requires { ⌜ at ≤ length (now text) ⌝ }
-    ensures { λ r. ⌜ stepIs (now (text .entry)) at r ⌝ }
+    ensures { λ r. ⌜ numberStepIs (now (text .entry)) at r ⌝ }
 {
     match skip_blanks(text, at) {
         AfterBlanks::Bad(_) => Step::Stopped,

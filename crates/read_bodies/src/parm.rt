@@ -12,7 +12,7 @@ ghost use mathlib.Core.Path.{_≡_};
 ghost use Prim.Native.Nat.{_≤_};
 ghost use lib.ListN.{length};
 ghost use Rattle.keywords.specs.Lookup.{argumentTable};
-ghost use Rattle.read_bodies.specs.Parm.{wayOf, rowIs, parmIs};
+ghost use Rattle.read_bodies.specs.Parm.{wayOf, parmRowIs, parmIs};
 
 pub enum Parm {
     Accepted {
@@ -44,7 +44,7 @@ fn way(a: Argument) -> u32
 // The numbers after the direction, which is a word of the line as they are.
 fn take_row(text: &[u8], at: usize, along_v: bool) -> Parm
     requires { ⌜ at ≤ length (now text) ⌝ }
-    ensures { λ r. ⌜ rowIs (now (text .entry)) at «along_v» r ⌝ }
+    ensures { λ r. ⌜ parmRowIs (now (text .entry)) at «along_v» r ⌝ }
 {
     match count_numbers(text, at) {
         Counted::Stopped(_) => Parm::Rejected,

@@ -28,7 +28,7 @@ use Rattle.read_state.specs.declared.Open.{Open}
 use Rattle.read_state.specs.declared.Form.{Form}
 use Rattle.read_state.specs.Changed.{state, bodyStored}
 use Rattle.tables.proofs.Within.{last}
-use Rattle.read_bodies.specs.Closing.{bodyIn, Stored, NotStored, closedIs}
+use Rattle.read_bodies.specs.Closing.{openBodyIn, Stored, NotStored, closedIs}
 use Rattle.read_bodies.specs.declared.closing.Closed.{Closed}
 use Rattle.read_bodies.specs.declared.closing.Closed.the-variants as closed
 use Rattle.read_diagnosis.specs.Diagnosis.{parseBefore}
@@ -121,28 +121,28 @@ module _ (s : List ℕ) (at : ℕ) (c : State) (b d : List ℕ) (y z v q : List 
       }
 
   module _ (met : AfterBlanks) (next : ℕ) (found : afterBlanksIs s at met) (here : met ≡ End next) (inside : c .«open» .kind ≡ 0 → ⊥)
-      (f : Form) (own : f ≡ formFor (c .«open» .kind) (c .form)) (r : Closed) (is : closedIs f (c .«open») (c .used) (bodyIn f (c .«open») (c .used) s s y) b d y z v q r) where
+      (f : Form) (own : f ≡ formFor (c .«open» .kind) (c .form)) (r : Closed) (is : closedIs f (c .«open») (c .used) (openBodyIn f (c .«open») (c .used) s s y) b d y z v q r) where
     over : EndMet s at next
     over = subst (afterBlanksIs s at) here found
 
     pub end-left : (i : ℕ) → r ≡ closed.Refused i → endStep s at c b d y z v q (Refuses i)
     end-left i e t eb ey ev R p read x w g = go (x .model) (x .names) (x .form) (x .open-body) g
       where
-        left : NotStored (c .«open») (c .used) (bodyIn (formFor (c .«open» .kind) (c .form)) (c .«open») (c .used) s s (t .bodies .ranges)) (t .bodies .bodies) d (t .bodies .ranges) z (t .bodies .parameters) q i
+        left : NotStored (c .«open») (c .used) (openBodyIn (formFor (c .«open» .kind) (c .form)) (c .«open») (c .used) s s (t .bodies .ranges)) (t .bodies .bodies) d (t .bodies .ranges) z (t .bodies .parameters) q i
         left =
-            subst (λ (a : Form). NotStored (c .«open») (c .used) (bodyIn a (c .«open») (c .used) s s (t .bodies .ranges)) (t .bodies .bodies) d (t .bodies .ranges) z (t .bodies .parameters) q i) own
-            (subst (λ (l : List ℕ). NotStored (c .«open») (c .used) (bodyIn f (c .«open») (c .used) s s (t .bodies .ranges)) l d (t .bodies .ranges) z (t .bodies .parameters) q i) (sym eb)
-            (subst (λ (l : List ℤ). NotStored (c .«open») (c .used) (bodyIn f (c .«open») (c .used) s s l) b d l z (t .bodies .parameters) q i) (sym ey)
-            (subst (λ (l : List ℤ). NotStored (c .«open») (c .used) (bodyIn f (c .«open») (c .used) s s y) b d y z l q i) (sym ev)
-            (subst (closedIs f (c .«open») (c .used) (bodyIn f (c .«open») (c .used) s s y) b d y z v q) e is))))
+            subst (λ (a : Form). NotStored (c .«open») (c .used) (openBodyIn a (c .«open») (c .used) s s (t .bodies .ranges)) (t .bodies .bodies) d (t .bodies .ranges) z (t .bodies .parameters) q i) own
+            (subst (λ (l : List ℕ). NotStored (c .«open») (c .used) (openBodyIn f (c .«open») (c .used) s s (t .bodies .ranges)) l d (t .bodies .ranges) z (t .bodies .parameters) q i) (sym eb)
+            (subst (λ (l : List ℤ). NotStored (c .«open») (c .used) (openBodyIn f (c .«open») (c .used) s s l) b d l z (t .bodies .parameters) q i) (sym ey)
+            (subst (λ (l : List ℤ). NotStored (c .«open») (c .used) (openBodyIn f (c .«open») (c .used) s s y) b d y z l q i) (sym ev)
+            (subst (closedIs f (c .«open») (c .used) (openBodyIn f (c .«open») (c .used) s s y) b d y z v q) e is))))
 
         go : (a : Model) (n : model.Names) (f : model.Form) (o : Option model.Open) → Began R s p at read (state a n f o) c t w ends → lineSays R s p (state a n f o) ≡ fault i (w .place)
         go a n f none g = absurd (inside (ap (λ (o : Open). o .kind) (g .holds .state .open-body)))
         go a n f (some o) g = end-refused R s p at a n f o c t (g .holds) w (g .begins) (g .keyword) next over d z q i left
 
     module _ (i j : ℕ) (k : r ≡ closed.Closed i j) where
-      kept : Stored f (c .«open») (c .used) (bodyIn f (c .«open») (c .used) s s y) b d y z v q i j
-      kept = subst (closedIs f (c .«open») (c .used) (bodyIn f (c .«open») (c .used) s s y) b d y z v q) k is
+      kept : Stored f (c .«open») (c .used) (openBodyIn f (c .«open») (c .used) s s y) b d y z v q i j
+      kept = subst (closedIs f (c .«open») (c .used) (openBodyIn f (c .«open») (c .used) s s y) b d y z v q) k is
 
       -- the sums that the new state holds fit their 32 bits
       pub end-sums : InBounds s at c → (c .used .parameters + (i + j) < 4294967296) × (c .curves + 1 < 4294967296)
@@ -186,12 +186,12 @@ module _ (s : List ℕ) (at : ℕ) (c : State) (b d : List ℕ) (y z v q : List 
             subst (λ (e : State). NextLine R s p read x e (bodyStored d z q t) next × (next ≡ (restAt s p) .next)) (sym a) (go R p read w (x .model) (x .names) (x .form) (x .open-body) g),
       )
         where
-          kept-there : Stored (formFor (c .«open» .kind) (c .form)) (c .«open») (c .used) (bodyIn (formFor (c .«open» .kind) (c .form)) (c .«open») (c .used) s s (t .bodies .ranges)) (t .bodies .bodies) d (t .bodies .ranges) z (t .bodies .parameters) q i j
+          kept-there : Stored (formFor (c .«open» .kind) (c .form)) (c .«open») (c .used) (openBodyIn (formFor (c .«open» .kind) (c .form)) (c .«open») (c .used) s s (t .bodies .ranges)) (t .bodies .bodies) d (t .bodies .ranges) z (t .bodies .parameters) q i j
           kept-there =
-              subst (λ (a : Form). Stored a (c .«open») (c .used) (bodyIn a (c .«open») (c .used) s s (t .bodies .ranges)) (t .bodies .bodies) d (t .bodies .ranges) z (t .bodies .parameters) q i j) own
-              (subst (λ (l : List ℕ). Stored f (c .«open») (c .used) (bodyIn f (c .«open») (c .used) s s (t .bodies .ranges)) l d (t .bodies .ranges) z (t .bodies .parameters) q i j) (sym eb)
-              (subst (λ (l : List ℤ). Stored f (c .«open») (c .used) (bodyIn f (c .«open») (c .used) s s l) b d l z (t .bodies .parameters) q i j) (sym ey)
-              (subst (λ (l : List ℤ). Stored f (c .«open») (c .used) (bodyIn f (c .«open») (c .used) s s y) b d y z l q i j) (sym ev)
+              subst (λ (a : Form). Stored a (c .«open») (c .used) (openBodyIn a (c .«open») (c .used) s s (t .bodies .ranges)) (t .bodies .bodies) d (t .bodies .ranges) z (t .bodies .parameters) q i j) own
+              (subst (λ (l : List ℕ). Stored f (c .«open») (c .used) (openBodyIn f (c .«open») (c .used) s s (t .bodies .ranges)) l d (t .bodies .ranges) z (t .bodies .parameters) q i j) (sym eb)
+              (subst (λ (l : List ℤ). Stored f (c .«open») (c .used) (openBodyIn f (c .«open») (c .used) s s l) b d l z (t .bodies .parameters) q i j) (sym ey)
+              (subst (λ (l : List ℤ). Stored f (c .«open») (c .used) (openBodyIn f (c .«open») (c .used) s s y) b d y z l q i j) (sym ev)
               kept)))
 
           go : (R : Rooms) (p read : ℕ) (w : Word) (a : Model) (n : model.Names) (f : model.Form) (o : Option model.Open) → Began R s p at read (state a n f o) c t w ends

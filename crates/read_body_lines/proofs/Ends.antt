@@ -27,7 +27,7 @@ use Rattle.model.specs.Parse.{Parsed, fine, fault, ends, parse}
 use Rattle.model.proofs.Pieces.{finished}
 use Rattle.model.specs.Room.{Rooms, summed, ofKind, partCount, fits}
 use Rattle.model.specs.Layout.{flag, freeNumber, bodyRow, bodyRows, bodiesOf, rangeRow, parameterRow}
-use Rattle.model.specs.Read.{keywordOf}
+use Rattle.model.specs.Read.{carriedIn}
 use Rattle.read_state.specs.declared.State.{State}
 use Rattle.read_state.specs.declared.Form.{Form}
 use Rattle.read_state.specs.State.{StateIs, formIn, usedIn}
@@ -37,7 +37,7 @@ use Rattle.read_state.specs.Bounds.{Bounded}
 use Rattle.read_state.specs.Changed.{state, bodyStored}
 use Rattle.read_state.proofs.Ends.{end-image, settled-us, settled-vs, settled-loops}
 use Rattle.model.proofs.Rooms.{fits-parts, parts-fit}
-use Rattle.read_bodies.specs.Closing.{bodyIn, refusalOf, Stored, NotStored}
+use Rattle.read_bodies.specs.Closing.{openBodyIn, closingRefusal, Stored, NotStored}
 use Rattle.read_bodies.proofs.Ends.{Stands, finished-is, refusal-is, kept-says, kept-counts, kept-room, kept-parameters, kept-body, kept-range, left-room}
 use Rattle.read_body_lines.specs.OpenBody.{formFor, curvesWith, closedWith}
 use Rattle.read_body_lines.proofs.Settled.{range-anew, FormIs, form-is, row-settled, parameters-settled, curves-after}
@@ -206,7 +206,7 @@ module _ (R : Rooms) (s : List ℕ) (p at : ℕ) {read : ℕ} (m : Model) (n : m
       ap (λ (u : Tables). sets (u .bodies .ranges) (4 * length bodies) (rangeRow last)) (h .image) ∙ range-anew (R .bodies .ranges) bodies ranges-room (o .body) last
 
   -- ---- a line that ends after the keyword
-  module _ (w : Word) (begins : restAt s p ≡ push w (restAt s at)) (keyword : keywordOf (statementOf (w .bytes)) (w .place) ≡ fine ends) (q : ℕ) (met : EndMet s at q) where
+  module _ (w : Word) (begins : restAt s p ≡ push w (restAt s at)) (keyword : carriedIn (statementOf (w .bytes)) (w .place) ≡ fine ends) (q : ℕ) (met : EndMet s at q) where
     good : (restAt s at) .bad ≡ none
     good = ap (λ (r : Rest). r .bad) (met .rest)
 
@@ -215,7 +215,7 @@ module _ (R : Rooms) (s : List ℕ) (p at : ℕ) {read : ℕ} (m : Model) (n : m
     parsed = ap (λ (r : Rest). parse ends x (w .place) (r .words)) (met .rest)
 
     module _ (b : List ℕ) (r y : List ℤ) where
-      pub end-next : (u v : ℕ) → Stored form (c .«open») (c .used) (bodyIn form (c .«open») (c .used) s s (t .bodies .ranges)) (t .bodies .bodies) b (t .bodies .ranges) r (t .bodies .parameters) y u v
+      pub end-next : (u v : ℕ) → Stored form (c .«open») (c .used) (openBodyIn form (c .«open») (c .used) s s (t .bodies .ranges)) (t .bodies .bodies) b (t .bodies .ranges) r (t .bodies .parameters) y u v
           → NextLine R s p read x (closedWith u v c) (bodyStored b r y t) q × (q ≡ (restAt s p) .next)
       end-next u v k =
           let fin = kept-says s s form (c .«open») (c .used) (t .bodies .ranges) o stands (t .bodies .bodies) b r (t .bodies .parameters) y (w .place) k in
@@ -260,12 +260,12 @@ module _ (R : Rooms) (s : List ℕ) (p at : ℕ) {read : ℕ} (m : Model) (n : m
             next ∙ sym (next-is R s p at x w ends begins keyword),
           )
 
-      pub end-refused : (i : ℕ) → NotStored (c .«open») (c .used) (bodyIn form (c .«open») (c .used) s s (t .bodies .ranges)) (t .bodies .bodies) b (t .bodies .ranges) r (t .bodies .parameters) y i
+      pub end-refused : (i : ℕ) → NotStored (c .«open») (c .used) (openBodyIn form (c .«open») (c .used) s s (t .bodies .ranges)) (t .bodies .bodies) b (t .bodies .ranges) r (t .bodies .parameters) y i
           → lineSays R s p x ≡ fault i (w .place)
       end-refused i k = go (eqb wrong 0) refl
         where
           wrong : ℕ
-          wrong = refusalOf (o .body) (length (o .controls))
+          wrong = closingRefusal (o .body) (length (o .controls))
 
           number : i ≡ cond (eqb wrong 0) 14 wrong
           number = k .number ∙ ap (λ (j : ℕ). cond (eqb j 0) 14 j) (refusal-is s s form (c .«open») (c .used) (t .bodies .ranges) o stands)

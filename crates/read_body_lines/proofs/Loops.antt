@@ -23,7 +23,7 @@ use Rattle.model.specs.Statements.{Statement, loop, withLoop, apply}
 use Rattle.model.specs.Parse.{fine, fault, isSurface, parse}
 use Rattle.model.specs.Room.{Rooms, summed, ofKind, partCount, loopPartCount, needed, fits}
 use Rattle.model.specs.Layout.{loopRow, loopRows, spanRow, spanRows, bodiesOf}
-use Rattle.model.specs.Read.{keywordOf}
+use Rattle.model.specs.Read.{carriedIn}
 use Rattle.read_state.specs.declared.State.{State}
 use Rattle.read_state.specs.State.{StateIs, usedIn}
 use Rattle.read_state.specs.Image.{imageOf}
@@ -33,7 +33,7 @@ use Rattle.read_state.specs.Changed.{state, loopsStored}
 use Rattle.read_state.proofs.Images.{loop-image}
 use Rattle.model.proofs.Rooms.{Within, fits-parts, parts-fit}
 use Rattle.model.proofs.Parsed.{fine-is}
-use Rattle.read_bodies.specs.Loops.{parts, partsAt, LoopLine, LoopTaken, LoopLeft}
+use Rattle.read_bodies.specs.Loops.{loopParts, partsAt, LoopLine, LoopTaken, LoopLeft}
 use Rattle.read_bodies.specs.Loops.{loopWord}
 use Rattle.read_bodies.proofs.Says.{loop-says, loop-only}
 use Rattle.read_body_lines.specs.OpenBody.{looped}
@@ -111,7 +111,7 @@ module _ (R : Rooms) (s : List ℕ) (p at : ℕ) {read : ℕ} (m : Model) (n : m
         counts u q = ap (λ (y : Used). record { v = y .v; vt = y .vt; vn = y .vn; vp = y .vp; corners = y .corners; elements = y .elements; bodies = y .bodies; parameters = y .parameters; loops = c .used .loops + k }) u ∙ ap (λ (i : ℕ). record { v = usedIn x .v; vt = usedIn x .vt; vn = usedIn x .vn; vp = usedIn x .vp; corners = usedIn x .corners; elements = usedIn x .elements; bodies = usedIn x .bodies; parameters = usedIn x .parameters; loops = i }) q
 
   module _ (surface : isSurface (o .body .free) ≡ true) (w : Word) (hole : Bool) (begins : restAt s p ≡ push w (restAt s at))
-      (keyword : keywordOf (statementOf (w .bytes)) (w .place) ≡ fine (loopWord hole)) where
+      (keyword : carriedIn (statementOf (w .bytes)) (w .place) ≡ fine (loopWord hole)) where
     pub loop-next : (a : List ℕ) (b : List ℤ) (k q : ℕ) → LoopTaken s at hole (c .curves) (c .used .loops) (t .bodies .loops) a (t .bodies .spans) b k q
         → NextLine R s p read x (looped k c) (loopsStored a b t) q × (q ≡ (restAt s p) .next)
     loop-next a b k q v =
@@ -144,7 +144,7 @@ module _ (R : Rooms) (s : List ℕ) (p at : ℕ) {read : ℕ} (m : Model) (n : m
     pub loop-roomless : (a : List ℕ) (b : List ℤ) → LoopLeft s at (c .curves) (c .used .loops) (t .bodies .loops) a (t .bodies .spans) b → (restAt s at) .bad ≡ none
         → (u : Statement) → parse (loopWord hole) x (w .place) ((restAt s at) .words) ≡ fine u → lineSays R s p x ≡ fault 14 (w .place)
     loop-roomless a b v good u e =
-        let ps : List Part = parts (model.curves (m .elements)) ((restAt s at) .words) in
+        let ps : List Part = loopParts (model.curves (m .elements)) ((restAt s at) .words) in
         let l : Loop = record { hole = hole; parts = ps } in
         let line : LoopLine (model.curves (m .elements)) (restAt s at) ps = loop-only x o refl surface (w .place) (restAt s at) hole u good e in
         let is : u ≡ loop l = fine-is (sym e ∙ loop-says x o refl surface (w .place) (restAt s at) hole line) in

@@ -24,7 +24,7 @@ use Rattle.model.specs.Model.{point, line, face, Free, curve, curve2, surface}
 use Rattle.model.specs.Statements as statements
 use Rattle.model.specs.Parse as parse
 use Rattle.model.specs.Parse.{fine, then, must, unless, Keyword, a-vertex, an-element, a-body, parm, trim, hole, ends, cstype, deg, g, s, usemtl, over, valuesOf, Value, cornersOf, unlike}
-use Rattle.model.specs.Read.{keywordOf}
+use Rattle.model.specs.Read.{carriedIn}
 use Rattle.read_state.specs.State.{formIn, openIs, StateIs}
 use Rattle.read_state.specs.declared.Open.{Open}
 use Rattle.read_state.specs.declared.State.{State}
@@ -108,7 +108,7 @@ module _ (text : List ℕ) (t : List ℤ) (key : ℕ) (x : model.State) (c : Ope
   carried-diagnosis usemtl = line-diagnosis usemtl (λ xs e. refl)
   carried-diagnosis over = line-diagnosis over (λ xs e. refl)
 
-  pub statement-diagnosis : (k : Statement) → faultFor (parse.seenIn x) t (formIn (x .form)) (c .kind) key k (length ws) ws ≡ diagnosisOf (then (keywordOf k key) (λ kw. parseBefore kw x key ws))
+  pub statement-diagnosis : (k : Statement) → faultFor (parse.seenIn x) t (formIn (x .form)) (c .kind) key k (length ws) ws ≡ diagnosisOf (then (carriedIn k key) (λ kw. parseBefore kw x key ws))
   statement-diagnosis (Carried k) = carried-diagnosis k
   statement-diagnosis Unrecorded = refl
   statement-diagnosis Unknown = refl

@@ -10,7 +10,7 @@ use Rattle.keywords.specs.Keywords.{statementOf}
 use Rattle.model.specs.Model as model
 use Rattle.model.specs.Statements.{Statement, end, passed}
 use Rattle.model.specs.Parse.{Parsed, fine, fault, then, must, unless, Keyword, a-vertex, an-element, a-body, parm, trim, hole, ends, cstype, deg, g, s, usemtl, over, allowed, counted, formOf, valuesOf, Value, seenIn, checked}
-use Rattle.model.specs.Read.{keywordOf}
+use Rattle.model.specs.Read.{carriedIn}
 use Rattle.read_state.specs.State.{StateIs}
 use Rattle.read_state.specs.declared.State.{State}
 use Rattle.read_word_checks.specs.declared.Refusal.{Refusal}
@@ -48,7 +48,7 @@ parseBefore k x key ws =
 -- a line of words: 3 and 4 come first
 unfoldable pub faultBefore : model.State → List Word → Parsed Statement
 faultBefore x [] = fine passed
-faultBefore x (w ∷ ws) = then (keywordOf (statementOf (w .bytes)) (w .place)) (λ k. parseBefore k x (w .place) ws)
+faultBefore x (w ∷ ws) = then (carriedIn (statementOf (w .bytes)) (w .place)) (λ k. parseBefore k x (w .place) ws)
 
 -- the table t holds how many coordinates of each vp were given, where its record begins
 abbrev pub GivenIn : List (List ℤ) → List ℤ → Type 0

@@ -12,7 +12,7 @@ use Rattle.model.specs.Model as model
 use Rattle.model.specs.Statements.{Statement, apply}
 use Rattle.model.specs.Parse.{Parsed, fine, fault, then, must, unless, Keyword, parse}
 use Rattle.model.specs.Room.{Rooms, fits}
-use Rattle.model.specs.Read.{keywordOf, statement, step}
+use Rattle.model.specs.Read.{carriedIn, statement, step}
 use Rattle.model.proofs.Parsed.{fine-fault}
 use Rattle.read_state.specs.declared.State.{State}
 use Rattle.read_word_checks.specs.declared.Refusal.{Refusal}
@@ -52,7 +52,7 @@ same-fault (some i) m j n q e = across e
 -- what is found in a line that begins with a word is found in what follows the keyword
 words-before : (s : List ℕ) (p at : ℕ) (x : model.State) (w : Word) → restAt s p ≡ push w (restAt s at)
     → unless ((restAt s p) .bad) 2 (faultBefore x ((restAt s p) .words))
-    ≡ unless ((restAt s at) .bad) 2 (then (keywordOf (statementOf (w .bytes)) (w .place)) (λ k. parseBefore k x (w .place) ((restAt s at) .words)))
+    ≡ unless ((restAt s at) .bad) 2 (then (carriedIn (statementOf (w .bytes)) (w .place)) (λ k. parseBefore k x (w .place) ((restAt s at) .words)))
 unfolding faultBefore
 words-before s p at x w e = ap (λ (q : Rest). unless (q .bad) 2 (faultBefore x (q .words))) e
 
@@ -82,7 +82,7 @@ module _ (R : Rooms) (s : List ℕ) (p at : ℕ) {n : ℕ} (x : model.State) (c 
 
 -- ---- one that is refused, or not known
 module _ (R : Rooms) (s : List ℕ) (p at : ℕ) {n : ℕ} (x : model.State) (c : State) (t : Tables) (w : Word) (m j : ℕ) (h : Holds R s x c t n) (begins : restAt s p ≡ push w (restAt s at))
-    (keyword : keywordOf (statementOf (w .bytes)) (w .place) ≡ fault m j) (given : GivenIn (x .model .vertices .vp) (t .vertices .vp)) where
+    (keyword : carriedIn (statementOf (w .bytes)) (w .place) ≡ fault m j) (given : GivenIn (x .model .vertices .vp) (t .vertices .vp)) where
   line-is : lineSays R s p x ≡ unless ((restAt s at) .bad) 2 (fault m j)
   unfolding statement
   line-is =

@@ -24,7 +24,7 @@ use Rattle.statements.specs.declared.Statement.the-variants.{Carried, Refused, 
 use Rattle.model.specs.Model as model
 use Rattle.model.specs.Parse.{fine, fault, unless, Keyword}
 use Rattle.model.specs.Room.{Rooms}
-use Rattle.model.specs.Read.{keywordOf, step}
+use Rattle.model.specs.Read.{carriedIn, step}
 use Rattle.read_state.specs.declared.State.{State}
 use Rattle.read_state.proofs.Bounds.{later}
 use Rattle.read_word_checks.specs.declared.Refusal.{Refusal}
@@ -48,13 +48,13 @@ use Rattle.read_dispatch.proofs.Diagnosed.{stops, diagnosed, unknown-di
 -- ---- a statement: the step of its keyword, or rejected
 record Known (s : List ℕ) (at : ℕ) (c : State) (t u : Tables) (r : Step) (k : Statement) (key : ℕ) : Type 0 where
   pub keyword : Keyword
-  pub is : keywordOf k key ≡ fine keyword
+  pub is : carriedIn k key ≡ fine keyword
   pub ended : eqb (letterOf k) 32 ≡ false
   pub step : stepIs s at keyword c t u r
 
 record Strange (t u : Tables) (r : Step) (k : Statement) (key : ℕ) : Type 0 where
   pub number : ℕ
-  pub is : keywordOf k key ≡ fault number key
+  pub is : carriedIn k key ≡ fault number key
   pub gave-up : r ≡ Rejected
   pub kept : u ≡ t
 
@@ -171,7 +171,7 @@ module _ (s : List ℕ) (p key : ℕ) (c : State) (t u : Tables) (kw : spelled.K
       (λ n. inr n)
       (sorted s (kw .end) c t u r key k g)
 
-  began : (R : Rooms) (read : ℕ) (x : model.State) → WithinLimit s p read → Holds R s x c t read → (n : Keyword) → keywordOf k key ≡ fine n → Began R s p (endOf s key) read x c t w n
+  began : (R : Rooms) (read : ℕ) (x : model.State) → WithinLimit s p read → Holds R s x c t read → (n : Keyword) → carriedIn k key ≡ fine n → Began R s p (endOf s key) read x c t w n
   began R read x few h n e = record { small = few; holds = h; begins = met .rest; keyword = e }
 
   pub line-taken : InBounds s p c → (d : State) (q : ℕ) → r ≡ Accepted d q → lineIs s p c t u (Next d q)

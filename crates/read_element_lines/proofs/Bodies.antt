@@ -24,7 +24,7 @@ use Rattle.model.specs.Statements.{Statement, body, apply}
 use Rattle.model.specs.Parse.{fine, fault, a-body, rangeWords, openedBody, parse}
 use Rattle.model.specs.Room.{Rooms, summed, partCount, fits}
 use Rattle.model.specs.Layout.{freeNumber, cornerRow, elementRow, bodyRows, rangeRow, bodiesOf}
-use Rattle.model.specs.Read.{keywordOf}
+use Rattle.model.specs.Read.{carriedIn}
 use Rattle.read_state.specs.declared.State.{State}
 use Rattle.read_state.specs.declared.Names.{Names}
 use Rattle.read_state.specs.State.{ParmAt, usedIn}
@@ -134,7 +134,7 @@ module _ (R : Rooms) (s : List ℕ) (p at : ℕ) {read : ℕ} (m : Model) (n : m
         rows a b c d = cc
 
   module _ (w : Word) (k : Free)
-      (begins : restAt s p ≡ push w (restAt s at)) (keyword : keywordOf (statementOf (w .bytes)) (w .place) ≡ fine (a-body k)) where
+      (begins : restAt s p ≡ push w (restAt s at)) (keyword : carriedIn (statementOf (w .bytes)) (w .place) ≡ fine (a-body k)) where
     pub body-next : (l g : List ℕ) (z : List ℤ) (count q : ℕ) → TakenBody k (c .used) (c .names) (c .form) (t .vertices .vp) s at (t .elements .corners) l (t .elements .elements) g (length (t .bodies .bodies)) (t .bodies .ranges) z count q
         → NextLine R s p read x (oneBody k count c) (rangeStored z (elementStored l g t)) q × (q ≡ (restAt s p) .next)
     body-next l g z count q v =

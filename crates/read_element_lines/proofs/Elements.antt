@@ -23,7 +23,7 @@ use Rattle.model.specs.Statements.{Statement, element, apply}
 use Rattle.model.specs.Parse.{fine, fault, an-element, fewest, parse}
 use Rattle.model.specs.Room.{Rooms, summed, ofKind, partCount, fits}
 use Rattle.model.specs.Layout.{shapeNumber, cornerRow, cornerRows, elementRow, elementRows}
-use Rattle.model.specs.Read.{keywordOf}
+use Rattle.model.specs.Read.{carriedIn}
 use Rattle.read_state.specs.declared.State.{State}
 use Rattle.read_state.specs.declared.Names.{Names}
 use Rattle.read_state.specs.State.{usedIn}
@@ -83,7 +83,7 @@ module _ (R : Rooms) (s : List ℕ) (p at : ℕ) (m : Model) (n : model.Names) (
   x = state m n f none
 
   module _ {read : ℕ} (h : Holds R s x c t read) (w : Word) (k : Shape)
-      (begins : restAt s p ≡ push w (restAt s at)) (keyword : keywordOf (statementOf (w .bytes)) (w .place) ≡ fine (an-element k)) where
+      (begins : restAt s p ≡ push w (restAt s at)) (keyword : carriedIn (statementOf (w .bytes)) (w .place) ≡ fine (an-element k)) where
     -- room for one more element is room in two tables
     module _ (cs : List Corner) where
       abbrev e : Element

@@ -20,8 +20,8 @@ use Rattle.model.specs.Layout.{runOf}
 use Rattle.model.specs.Parse.{typeSaid}
 use Rattle.read_state.specs.declared.Form.{Form}
 use Rattle.read_state.specs.declared.Names.{Names}
-use Rattle.read_settings.specs.Words.{onFine, onSaid, isName, namesRead}
-use Rattle.read_settings.specs.Steps.{byRow, basisOr, isRational, typed, typeWords, typeTaken, degreeWords, degreeTaken, smoothingWords, smoothingTaken, namedBy, withMaterial, materialTaken, withGroup, groupTaken}
+use Rattle.read_settings.specs.Words.{onFine, saidOr, isName, namesRead}
+use Rattle.read_settings.specs.Steps.{byRow, basisOr, isRational, typed, typeFrom, typeTaken, degreesFrom, degreeTaken, smoothingWords, smoothingTaken, namedBy, withMaterial, materialTaken, withGroup, groupTaken}
 use Rattle.read_settings.specs.declared.TakenForm.{TakenForm}
 use Rattle.read_settings.specs.declared.TakenForm.the-variants as form
 use Rattle.read_settings.specs.declared.TakenNames.{TakenNames}
@@ -46,7 +46,7 @@ module _ {A : Type 0} (P : A → Type 0) where
   on-fine none x y = x
   on-fine (some p) x y = y
 
-  on-said : {C : Type 0} (v : Said C) {f : C → A} {a : A} → ((c : C) → P (f c)) → P a → P (onSaid v f a)
+  on-said : {C : Type 0} (v : Said C) {f : C → A} {a : A} → ((c : C) → P (f c)) → P a → P (saidOr v f a)
   on-said (says c) h x = h c
   on-said (wrong n) h x = x
 
@@ -57,22 +57,22 @@ module _ {A : Type 0} (P : A → Type 0) where
 typed-ends : (r : ℕ) (f : Form) (b q : ℕ) → formEnds q (typed r f b q)
 typed-ends r f b q = on-test (formEnds q) (eqb b 0) tt refl
 
-type-words : (f : Form) (ws : List Word) (q : ℕ) → formEnds q (typeWords f ws q)
+type-words : (f : Form) (ws : List Word) (q : ℕ) → formEnds q (typeFrom f ws q)
 type-words f [] q = tt
 type-words f (w ∷ []) q = typed-ends 0 f (basisOr (typeSaid (argumentOf (w .bytes)))) q
 type-words f (w ∷ v ∷ ws) q = on-test (formEnds q) (isRational (argumentOf (w .bytes))) (typed-ends 1 f (basisOr (typeSaid (argumentOf (v .bytes)))) q) tt
 
 pub type-ends : (f : Form) (x : Rest) → formEnds (x .next) (typeTaken f x)
-type-ends f x = by-row (formEnds (x .next)) BodyType x (λ ws. typeWords f ws (x .next)) form.Rejected (λ ws. type-words f ws (x .next)) tt
+type-ends f x = by-row (formEnds (x .next)) BodyType x (λ ws. typeFrom f ws (x .next)) form.Rejected (λ ws. type-words f ws (x .next)) tt
 
 -- ---- deg
-degree-words : (f : Form) (ws : List Word) (q : ℕ) → formEnds q (degreeWords f ws q)
+degree-words : (f : Form) (ws : List Word) (q : ℕ) → formEnds q (degreesFrom f ws q)
 degree-words f [] q = tt
 degree-words f (w ∷ []) q = on-said (formEnds q) (degreeOf (w .bytes)) (λ m. refl) tt
 degree-words f (w ∷ v ∷ ws) q = on-said (formEnds q) (degreeOf (w .bytes)) (λ m. on-said (formEnds q) (degreeOf (v .bytes)) (λ n. refl) tt) tt
 
 pub degree-ends : (f : Form) (x : Rest) → formEnds (x .next) (degreeTaken f x)
-degree-ends f x = by-row (formEnds (x .next)) Degree x (λ ws. degreeWords f ws (x .next)) form.Rejected (λ ws. degree-words f ws (x .next)) tt
+degree-ends f x = by-row (formEnds (x .next)) Degree x (λ ws. degreesFrom f ws (x .next)) form.Rejected (λ ws. degree-words f ws (x .next)) tt
 
 -- ---- s, usemtl, g
 smoothing-words : (n : Names) (ws : List Word) (q : ℕ) → namesEnd q (smoothingWords n ws q)

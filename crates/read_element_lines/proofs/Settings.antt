@@ -13,7 +13,7 @@ use Rattle.model.specs.Model.{Model, Open}
 use Rattle.model.specs.Statements.{Statement, vertex, element, group, smoothing, material, type, degree, body, parameters, loop, end, passed, apply}
 use Rattle.model.specs.Parse.{fine, Keyword, cstype, deg, g, s, usemtl, over, namesOf, materialOf, parse}
 use Rattle.model.specs.Room.{Rooms, fits}
-use Rattle.model.specs.Read.{keywordOf}
+use Rattle.model.specs.Read.{carriedIn}
 use Rattle.model.proofs.Parsed.{fine-is}
 use Rattle.read_state.specs.declared.State.{State}
 use Rattle.read_state.specs.declared.Form.{Form}
@@ -70,7 +70,7 @@ module _ (R : Rooms) (t : List ℕ) (p at : ℕ) (m : Model) (n : model.Names) (
   closed o form e = subst (λ (o : Option Open). opened form o) (sym e) tt
 
   module _ {read : ℕ} (h : Holds R t x c u read) (w : Word) (k : Keyword)
-      (begins : restAt t p ≡ push w (restAt t at)) (keyword : keywordOf (statementOf (w .bytes)) (w .place) ≡ fine k) where
+      (begins : restAt t p ≡ push w (restAt t at)) (keyword : carriedIn (statementOf (w .bytes)) (w .place) ≡ fine k) where
     pub quiet-next : (y : Statement) (d : State) (q : ℕ) → quiet y → (restAt t at) .bad ≡ none → parse k x (w .place) ((restAt t at) .words) ≡ fine y → q ≡ (restAt t at) .next
         → StateIs t (apply y x) d → NextLine R t p read x d u q × (q ≡ (restAt t p) .next)
     quiet-next y d q still good parsed next after =
@@ -122,7 +122,7 @@ module _ (R : Rooms) (t : List ℕ) (p at : ℕ) (m : Model) (n : model.Names) (
     abbrev After : State → ℕ → Type 0
     After d q = NextLine R t p read x d u q × (q ≡ (restAt t p) .next)
 
-    pub type-next : keywordOf (statementOf (w .bytes)) (w .place) ≡ fine cstype → (d : Form) (q : ℕ) → form-answer.Accepted d q ≡ typeTaken (c .form) r → After (withForm d c) q
+    pub type-next : carriedIn (statementOf (w .bytes)) (w .place) ≡ fine cstype → (d : Form) (q : ℕ) → form-answer.Accepted d q ≡ typeTaken (c .form) r → After (withForm d c) q
     type-next k d q e =
         let v = form-taken x (r .bad) (r .next) (parse cstype x (w .place) (r .words)) d q (e ∙ ap (λ (a : Form). typeTaken a r) (h .state .form) ∙ type-parse x refl (w .place) r) in
         let i = fine-is (line-of cstype x (w .place) (r .words) (v .statement) (v .parsed) .check) in
@@ -130,7 +130,7 @@ module _ (R : Rooms) (t : List ℕ) (p at : ℕ) (m : Model) (n : model.Names) (
         let same : apply (v .statement) x .names ≡ n = subst (λ (y : Statement). apply y x .names ≡ n) i refl in
         quiet-next h w cstype begins k (v .statement) (withForm d c) q still (v .allowed) (v .parsed) (v .next) (form-after h w cstype begins k (v .statement) still d same (v .form))
 
-    pub degree-next : keywordOf (statementOf (w .bytes)) (w .place) ≡ fine deg → (d : Form) (q : ℕ) → form-answer.Accepted d q ≡ degreeTaken (c .form) r → After (withForm d c) q
+    pub degree-next : carriedIn (statementOf (w .bytes)) (w .place) ≡ fine deg → (d : Form) (q : ℕ) → form-answer.Accepted d q ≡ degreeTaken (c .form) r → After (withForm d c) q
     degree-next k d q e =
         let v = form-taken x (r .bad) (r .next) (parse deg x (w .place) (r .words)) d q (e ∙ ap (λ (a : Form). degreeTaken a r) (h .state .form) ∙ degree-parse x refl (w .place) r) in
         let i = fine-is (line-of deg x (w .place) (r .words) (v .statement) (v .parsed) .check) in
@@ -138,7 +138,7 @@ module _ (R : Rooms) (t : List ℕ) (p at : ℕ) (m : Model) (n : model.Names) (
         let same : apply (v .statement) x .names ≡ n = subst (λ (y : Statement). apply y x .names ≡ n) i refl in
         quiet-next h w deg begins k (v .statement) (withForm d c) q still (v .allowed) (v .parsed) (v .next) (form-after h w deg begins k (v .statement) still d same (v .form))
 
-    pub group-next : keywordOf (statementOf (w .bytes)) (w .place) ≡ fine g → (d : Names) (q : ℕ) → names-answer.Accepted d q ≡ groupTaken (c .names) r → After (withNames d c) q
+    pub group-next : carriedIn (statementOf (w .bytes)) (w .place) ≡ fine g → (d : Names) (q : ℕ) → names-answer.Accepted d q ≡ groupTaken (c .names) r → After (withNames d c) q
     group-next k d q e =
         let v = names-taken x (r .bad) (r .next) (parse g x (w .place) (r .words)) d q (e ∙ ap (λ (a : Names). groupTaken a r) (h .state .names) ∙ group-parse x refl (w .place) r) in
         let i = fine-is (line-of g x (w .place) (r .words) (v .statement) (v .parsed) .check) in
@@ -146,7 +146,7 @@ module _ (R : Rooms) (t : List ℕ) (p at : ℕ) (m : Model) (n : model.Names) (
         let same : apply (v .statement) x .form ≡ f = subst (λ (y : Statement). apply y x .form ≡ f) i refl in
         quiet-next h w g begins k (v .statement) (withNames d c) q still (v .allowed) (v .parsed) (v .next) (names-after h w g begins k (v .statement) still d same (v .names))
 
-    pub smoothing-next : keywordOf (statementOf (w .bytes)) (w .place) ≡ fine s → (d : Names) (q : ℕ) → names-answer.Accepted d q ≡ smoothingTaken (c .names) r → After (withNames d c) q
+    pub smoothing-next : carriedIn (statementOf (w .bytes)) (w .place) ≡ fine s → (d : Names) (q : ℕ) → names-answer.Accepted d q ≡ smoothingTaken (c .names) r → After (withNames d c) q
     smoothing-next k d q e =
         let v = names-taken x (r .bad) (r .next) (parse s x (w .place) (r .words)) d q (e ∙ ap (λ (a : Names). smoothingTaken a r) (h .state .names) ∙ smoothing-parse x refl (w .place) r) in
         let i = fine-is (line-of s x (w .place) (r .words) (v .statement) (v .parsed) .check) in
@@ -154,7 +154,7 @@ module _ (R : Rooms) (t : List ℕ) (p at : ℕ) (m : Model) (n : model.Names) (
         let same : apply (v .statement) x .form ≡ f = subst (λ (y : Statement). apply y x .form ≡ f) i refl in
         quiet-next h w s begins k (v .statement) (withNames d c) q still (v .allowed) (v .parsed) (v .next) (names-after h w s begins k (v .statement) still d same (v .names))
 
-    pub material-next : keywordOf (statementOf (w .bytes)) (w .place) ≡ fine usemtl → (d : Names) (q : ℕ) → names-answer.Accepted d q ≡ materialTaken (c .names) r → After (withNames d c) q
+    pub material-next : carriedIn (statementOf (w .bytes)) (w .place) ≡ fine usemtl → (d : Names) (q : ℕ) → names-answer.Accepted d q ≡ materialTaken (c .names) r → After (withNames d c) q
     material-next k d q e =
         let v = names-taken x (r .bad) (r .next) (parse usemtl x (w .place) (r .words)) d q (e ∙ ap (λ (a : Names). materialTaken a r) (h .state .names) ∙ material-parse x refl (w .place) r) in
         let l = line-of usemtl x (w .place) (r .words) (v .statement) (v .parsed) in
@@ -169,5 +169,5 @@ module _ (R : Rooms) (t : List ℕ) (p at : ℕ) (m : Model) (n : model.Names) (
         named (v ∷ ws) = (tt, refl)
 
     -- a statement that is passed over
-    pub passed-next : keywordOf (statementOf (w .bytes)) (w .place) ≡ fine over → (q : ℕ) → r .bad ≡ none → parse over x (w .place) (r .words) ≡ fine passed → q ≡ r .next → After c q
+    pub passed-next : carriedIn (statementOf (w .bytes)) (w .place) ≡ fine over → (q : ℕ) → r .bad ≡ none → parse over x (w .place) (r .words) ≡ fine passed → q ≡ r .next → After c q
     passed-next k q good parsed next = quiet-next h w over begins k passed c q tt good parsed next (h .state)

@@ -28,7 +28,7 @@ use Rattle.read_vertices.specs.declared.Numbers.{Numbers}
 use Rattle.read_vertices.specs.declared.Numbers.the-variants.{Ended, Full, Stopped}
 use Rattle.read_vertices.proofs.Closed.{nothing}
 use Rattle.read_elements.specs.Corners.{CornersFound}
-use Rattle.read_elements.specs.Bodies.{formInForce, controlsSaid, BodyLine, onRange, ranged, bodySaid, TakenControls, NoControls, controlsAre, TakenBody, NoBody, bodyIs}
+use Rattle.read_elements.specs.Bodies.{formInForce, controlsSaid, BodyLine, onRange, afterRange, bodySaid, TakenControls, NoControls, controlsAre, TakenBody, NoBody, bodyIs}
 use Rattle.read_elements.specs.declared.Element.{Element}
 use Rattle.read_elements.specs.declared.Element.the-variants.{Accepted, Rejected}
 
@@ -64,7 +64,7 @@ of-body true (ended ys p) h zs cs q e = nothing e
 of-body true stuck h zs cs q e = nothing e
 of-body true (full ys r) h zs cs q e = go (h r) refl e
   where
-    go : (o : CornersFound) → h r ≡ o → ranged ys o ≡ some (zs, (cs, q)) → OfBody true (full ys r) h zs cs q
+    go : (o : CornersFound) → h r ≡ o → afterRange ys o ≡ some (zs, (cs, q)) → OfBody true (full ys r) h zs cs q
     go none f g = nothing g
     go (some p) f g =
         let a : _≡_ {A = List ℤ × (List Corner × ℕ)} (ys, p) (zs, (cs, q)) = cc in
@@ -78,7 +78,7 @@ of-body true (full ys r) h zs cs q e = go (h r) refl e
 pub to-body : (t : Bool) (w : Walk) (h : Rest → CornersFound) (zs : List ℤ) (r : Rest) (cs : List Corner) (q : ℕ) → t ≡ true → w ≡ full zs r → h r ≡ some (cs, q)
     → cond t (onRange w h) none ≡ some (zs, (cs, q))
 to-body t w h zs r cs q a b c =
-    ap (λ (x : Bool). cond x (onRange w h) none) a ∙ ap (λ (x : Walk). onRange x h) b ∙ ap (ranged zs) c
+    ap (λ (x : Bool). cond x (onRange w h) none) a ∙ ap (λ (x : Walk). onRange x h) b ∙ ap (afterRange zs) c
 
 one-rest : (w : Walk) (ys zs : List ℤ) (r t : Rest) → w ≡ full ys r → w ≡ full zs t → r ≡ t
 one-rest w ys zs r t e f = let g : full ys r ≡ full zs t = sym e ∙ f in cc

@@ -12,7 +12,7 @@ use Rattle.text.specs.Rest.{Rest}
 use Rattle.digits.specs.Said.{Said, says, wrong}
 use Rattle.decimals.specs.Number.{numberOf}
 use Rattle.references.specs.Corner.{Corner}
-use Rattle.read_state.specs.Numbers.{Walk, ended, full, stuck, onto, onNumber, numbersFrom}
+use Rattle.read_state.specs.Numbers.{Walk, ended, full, stuck, ontoWalk, onNumber, numbersFrom}
 use Rattle.model.specs.Parse.{Parsed, fine, fault, then, WordForm, a-number, Value, number, corner, onSaid, Seen, saidOf, placed, valuesOf, numbersOf, cornersOf}
 use Rattle.read_elements.proofs.Values.{headed}
 
@@ -103,6 +103,6 @@ module _ (x : Seen) (form : ℕ → WordForm) where
         others = t .others;
         is = a .whole ∙ ap (λ (l : List Value). number (a .head) ∷ l) (t .is);
         walked =
-            ap (λ (v : Said ℤ). onNumber v (numbersFrom m ws b q)) (a .said) ∙ ap (onto (a .head)) (t .walked);
+            ap (λ (v : Said ℤ). onNumber v (numbersFrom m ws b q)) (a .said) ∙ ap (ontoWalk (a .head)) (t .walked);
         values = ap (λ (j : ℕ). valuesOf x form j (drop m ws)) at ∙ t .values;
       }

@@ -13,7 +13,7 @@ use Rattle.lists.specs.Lists.{flat}
 use Rattle.text.specs.Words.{Word, wordOf}
 use Rattle.text.specs.Rest.{Rest, restAt, push, wordAt, endOf, WordMet, EndMet, BadMet}
 use Rattle.digits.specs.Said.{Said, says, wrong}
-use Rattle.digits.specs.Answers.{ended}
+use Rattle.digits.specs.Answers.{endsAt}
 use Rattle.references.specs.Corner.{Corner}
 use Rattle.references.specs.Answers.{saidCorner, saidReference}
 use Rattle.references.specs.declared.corner.CornerWord.{CornerWord}
@@ -50,7 +50,7 @@ after-long ds cs q (some p) e =
     omega arith
 
 -- what the answer at a word says of it
-module _ (x : Said Corner) (at : ℕ) {r : CornerWord} (g : saidCorner r ≡ ended x at) where
+module _ (x : Said Corner) (at : ℕ) {r : CornerWord} (g : saidCorner r ≡ endsAt x at) where
   pub is-corner : {v vt vn e : ℕ} → r ≡ Of v vt vn e → (x ≡ says (record { v = v; vt = vt; vn = vn })) × (e ≡ at)
   is-corner {v} {vt} {vn} {e} h = ended-says x (record { v = v; vt = vt; vn = vn }) at e (sym (ap saidCorner h) ∙ g)
 
@@ -66,10 +66,10 @@ asControl (reference.Item k e) = Of k 0 0 e
 asControl reference.Malformed = Malformed
 asControl reference.Missing = Missing
 
-pub control-ended : (x : Said ℕ) (at : ℕ) (r k : Reference) → saidReference r ≡ ended x at → r ≡ k → saidCorner (asControl k) ≡ ended (onSaid control x) at
+pub control-ended : (x : Said ℕ) (at : ℕ) (r k : Reference) → saidReference r ≡ endsAt x at → r ≡ k → saidCorner (asControl k) ≡ endsAt (onSaid control x) at
 control-ended x at r k g q = go x k (sym (ap saidReference q) ∙ g)
   where
-    go : (x : Said ℕ) (k : Reference) → saidReference k ≡ ended x at → saidCorner (asControl k) ≡ ended (onSaid control x) at
+    go : (x : Said ℕ) (k : Reference) → saidReference k ≡ endsAt x at → saidCorner (asControl k) ≡ endsAt (onSaid control x) at
     go (says n) (reference.Item j e) h = let z : _≡_ {A = ℕ × ℕ} (j, e) (n, at) = cc in ap (λ (p : ℕ × ℕ). says (control (p .0), p .1)) z
     go (wrong n) (reference.Item j e) h = absurd (let z : _≡_ {A = ℕ} 0 1 = cc in omega arith)
     go (says n) reference.Malformed h = absurd (let z : _≡_ {A = ℕ} 0 1 = cc in omega arith)

@@ -91,13 +91,13 @@ controlsSaid k n vp r = wideOnly k vp (elementSaid (ruleFor k) n r)
 abbrev pub BodyLine : Type 0
 BodyLine = Option (List ℤ × (List Corner × ℕ))
 
-abbrev pub ranged : List ℤ → CornersFound → BodyLine
-ranged zs none = none
-ranged zs (some p) = some (zs, p)
+abbrev pub afterRange : List ℤ → CornersFound → BodyLine
+afterRange zs none = none
+afterRange zs (some p) = some (zs, p)
 
 abbrev pub onRange : Walk → (Rest → CornersFound) → BodyLine
 onRange (ended zs q) k = none
-onRange (full zs r) k = ranged zs (k r)
+onRange (full zs r) k = afterRange zs (k r)
 onRange stuck k = none
 
 abbrev pub bodySaid : model.Free → Used → Form → List ℤ → Rest → BodyLine

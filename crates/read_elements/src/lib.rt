@@ -18,7 +18,7 @@ ghost use lib.ListN.{length, drop};
 ghost use lib.Seq.{sets};
 ghost use Rattle.text.specs.Words.{wordOf};
 ghost use Rattle.text.specs.Rest.{endOf};
-ghost use Rattle.digits.specs.Answers.{ended};
+ghost use Rattle.digits.specs.Answers.{endsAt};
 ghost use Rattle.references.specs.Reference.{referenceOf};
 ghost use Rattle.references.specs.Answers.{saidCorner};
 ghost use Rattle.model.specs.Parse.{onSaid};
@@ -34,7 +34,7 @@ pub enum CornerForm {
 
 fn control_at(text: &[u8], at: usize, count: u32) -> CornerWord
     requires { ⌜ at ≤ length (now text) ⌝ }
-    ensures { λ r. ⌜ saidCorner r ≡ ended (onSaid control (referenceOf count (wordOf (drop at (now (text .entry)))))) (endOf (now (text .entry)) at) ⌝ }
+    ensures { λ r. ⌜ saidCorner r ≡ endsAt (onSaid control (referenceOf count (wordOf (drop at (now (text .entry)))))) (endOf (now (text .entry)) at) ⌝ }
 {
     match references::reference::reference_at(text, at, count) {
         Reference::Item { number, end } => CornerWord::Of {
@@ -51,7 +51,7 @@ fn control_at(text: &[u8], at: usize, count: u32) -> CornerWord
 // The corner that the word at `at` is, by how many there are so far of what it may refer to.
 fn corner_from(text: &[u8], at: usize, form: CornerForm, used: Used) -> CornerWord
     requires { ⌜ at ≤ length (now text) ⌝ }
-    ensures { λ r. ⌜ saidCorner r ≡ ended (cornerSaid used form (wordOf (drop at (now (text .entry))))) (endOf (now (text .entry)) at) ⌝ }
+    ensures { λ r. ⌜ saidCorner r ≡ endsAt (cornerSaid used form (wordOf (drop at (now (text .entry))))) (endOf (now (text .entry)) at) ⌝ }
 {
     match form {
         CornerForm::Vertex { texture, normal } => {

@@ -19,7 +19,7 @@ use Rattle.model.specs.Statements.{apply}
 use Rattle.model.specs.Parse.{Parsed, fine, fault, then, unless, parse}
 use Rattle.model.specs.Room as lent
 use Rattle.model.specs.Room.{needed, fits}
-use Rattle.model.specs.Read.{keywordOf, statement, step, Answer, read, refused, finish, onParsed, readLines, readOf}
+use Rattle.model.specs.Read.{carriedIn, statement, step, Answer, read, refused, finish, onParsed, readLines, readOf}
 use Rattle.model.proofs.Rooms.{Within, within-parts, parts-fit}
 use Rattle.read_lines.specs.declared.ReadResult.the-variants.{Refused}
 use Rattle.reader.specs.Reading.{roomsOf, answered, readInto}
@@ -57,7 +57,7 @@ module _ (R : lent.Rooms) where
     by-line ls x r h on (some p) ws w = refl
     by-line ls x r h on none [] w = on x r h (subst (λ (q : Rooms). Within (lengthsOf (both r q)) R) (none-both (roomsOfLines ls)) w)
     by-line ls x r h on none (v ∷ ws) w =
-        then-short (keywordOf (statementOf (v .bytes)) (v .place)) _ _ (keyword-said (statementOf (v .bytes)) (v .place)) (λ k e.
+        then-short (carriedIn (statementOf (v .bytes)) (v .place)) _ _ (keyword-said (statementOf (v .bytes)) (v .place)) (λ k e.
         then-short (parse k x (v .place) ws) _ _ (parse-said k x (v .place) ws) (λ t f.
         let room : Rooms = roomFor (statementOf (v .bytes)) (length ws) in
         let held : Held (both r room) (apply t x .model) (apply t x .open-body) = held-after r room (x .model) (x .names) (x .form) t (x .open-body) (line-takes x (v .place) ws (statementOf (v .bytes)) k t e f) h in

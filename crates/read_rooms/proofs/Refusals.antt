@@ -10,7 +10,7 @@ use Rattle.text.specs.Words.{Word}
 use Rattle.digits.specs.Said.{Said, says, wrong}
 use Rattle.digits.specs.Said as said
 use Rattle.lists.specs.Lists.{same}
-use Rattle.digits.specs.Digits.{natOf, whole, negative}
+use Rattle.digits.specs.Digits.{natOf, isWhole, negative}
 use Rattle.digits.specs.Degree.{degreeOf, smoothingOf, nameOf}
 use Rattle.lists.specs.Signs.{withSign}
 use Rattle.decimals.specs.Number.{unsigned, mantissa, exponent, isExponent, decimal, valueOf, numberOf}
@@ -24,7 +24,7 @@ use Rattle.statements.specs.declared.Statement.the-variants.{Carried, Refused, 
 use Rattle.model.specs.Model.{ParmDirection, Open, State}
 use Rattle.model.specs.Parse.{Parsed, fine, fault, then, must, unless, Keyword, a-vertex, an-element, a-body, parm, trim, hole, ends, cstype, deg, g, s, usemtl, over, allowed, counted, WordForm, a-number, a-corner, a-control, a-curve, a-direction, a-type, a-rational, a-degree, a-smoothing, a-name, anything, formOf, onSaid, typeSaid, rationalSaid, directionSaid, directionOf, Seen, saidOf, placed, valuesOf, Value, cornersOf, rangeWords, unlike, inForce, narrowIn, complete, countsAgree, rangeWithin, checked, seenIn, parse}
 use Rattle.model.proofs.Pieces.{finished}
-use Rattle.model.specs.Read.{keywordOf}
+use Rattle.model.specs.Read.{carriedIn}
 
 -- refused with 14
 abbrev pub lacking : {A : Type 0} → Parsed A → Bool
@@ -94,15 +94,15 @@ module _ (c : Counts) (k : Parts) where
 
 degree-said : (w : List ℕ) → mistaken (degreeOf w) ≡ false
 unfolding degreeOf
-degree-said w = twice (whole 3 w) (leb 1 (natOf 0 w) && leb (natOf 0 w) 20) 7 (natOf 0 w) refl
+degree-said w = twice (isWhole 3 w) (leb 1 (natOf 0 w) && leb (natOf 0 w) 20) 7 (natOf 0 w) refl
 
 smoothing-said : (w : List ℕ) → mistaken (smoothingOf w) ≡ false
 unfolding smoothingOf
 smoothing-said w = go (same w (argumentBytes Off))
   where
-    go : (t : Bool) → mistaken (cond t (says 0) (said.must (whole 5 w) 6 (said.must (leb (natOf 0 w) 65535) 7 (says (natOf 0 w))))) ≡ false
+    go : (t : Bool) → mistaken (cond t (says 0) (said.must (isWhole 5 w) 6 (said.must (leb (natOf 0 w) 65535) 7 (says (natOf 0 w))))) ≡ false
     go true = refl
-    go false = twice (whole 5 w) (leb (natOf 0 w) 65535) 7 (natOf 0 w) refl
+    go false = twice (isWhole 5 w) (leb (natOf 0 w) 65535) 7 (natOf 0 w) refl
 
 name-said : (w : List ℕ) → mistaken (nameOf w) ≡ false
 unfolding nameOf
@@ -190,7 +190,7 @@ parse-said k x key ws =
     (then-lacking (valuesOf (seenIn x) (formOf k (length ws)) 0 ws) _ (values-said (seenIn x) (formOf k (length ws)) 0 ws)
     (λ xs. checked-said k x key ws xs)))
 
-pub keyword-said : (k : Statement) (key : ℕ) → lacking (keywordOf k key) ≡ false
+pub keyword-said : (k : Statement) (key : ℕ) → lacking (carriedIn k key) ≡ false
 keyword-said (Carried k) key = refl
 keyword-said Refused key = refl
 keyword-said Unknown key = refl

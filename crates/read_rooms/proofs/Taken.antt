@@ -15,7 +15,7 @@ use Rattle.model.specs.Model.{geometric, texture, normal, parametric, Shape, Fr
 use Rattle.model.specs.Statements.{Statement, element}
 use Rattle.model.specs.Parse.{fine, Keyword, a-vertex, an-element, a-body, parm, trim, hole, ends, cstype, deg, g, s, usemtl, over, allowed, counted, rangeWords, formOf, valuesOf, Value, numbersOf, cornersOf, wholesOf, partsOf, unlike, inForce, narrowIn, complete, countsAgree, rangeWithin, openedBody, materialOf, namesOf, checked, seenIn, parse}
 use Rattle.model.proofs.Pieces.{finished}
-use Rattle.model.specs.Read.{keywordOf}
+use Rattle.model.specs.Read.{carriedIn}
 use Rattle.model.proofs.Parsed.{fine-fault, fine-is, must-fine, unless-fine, then-fine}
 use Rattle.model.proofs.Values.{values-length, corners-few, parts-length}
 use Rattle.read_rooms.specs.declared.Rooms.{Rooms}
@@ -122,7 +122,7 @@ module _ (x : State) (key : ℕ) (ws : List Word) where
   carried-takes usemtl t h = let d = said usemtl t h in material-takes (namesOf (d .values)) t (d .is)
   carried-takes over t h = to noRoom (said over t h .is) tt
 
-  pub line-takes : (k : keywords.Statement) (l : Keyword) (t : Statement) → keywordOf k key ≡ fine l → parse l x key ws ≡ fine t → takes t (roomFor k (length ws))
+  pub line-takes : (k : keywords.Statement) (l : Keyword) (t : Statement) → carriedIn k key ≡ fine l → parse l x key ws ≡ fine t → takes t (roomFor k (length ws))
   line-takes (Carried k) l t e h = carried-takes k t (rw (← fine-is e) at h)
   line-takes Refused l t e h = fine-fault e
   line-takes Unknown l t e h = fine-fault e

@@ -8,7 +8,7 @@ use native.Mathlib.Omega.{arith}
 use lib.ListN.{length, take, drop, length-take, length-drop}
 use lib.Dec.{eqb}
 use Rattle.text.specs.Lines.{Mode, gap, word, comment, join, Look, goes, ends, refused, look, onward, extent, ending, lineOf, strideOf, linesFrom, linesOf}
-use Rattle.text.specs.Words.{Word, wordOf, opens, words, wordsOf}
+use Rattle.text.specs.Words.{Word, wordOf, opensWord, words, wordsOf}
 use Rattle.text.specs.Rest.{restAt}
 use Rattle.model.specs.Room.{summed}
 use Rattle.read_rooms.specs.Claims.{wordCount, FewWords}
@@ -21,7 +21,7 @@ ready comment = 0
 ready join = 0
 
 module _ (w : Word) (bs : List ℕ) (after : Mode → List Word) (few : (n : Mode) → 2 * length (after n) ≤ length bs + ready n) where
-  step : (m : Mode) (k : Look) → 2 * length (onward k (λ n. cond (opens m n) (w ∷ after n) (after n)) [] []) ≤ suc (length bs) + ready m
+  step : (m : Mode) (k : Look) → 2 * length (onward k (λ n. cond (opensWord m n) (w ∷ after n) (after n)) [] []) ≤ suc (length bs) + ready m
   step m ends = omega arith
   step m refused = omega arith
   step gap (goes gap) = let i = few gap in omega arith

@@ -19,7 +19,7 @@ use Rattle.text.proofs.Scans.{scan-good, scan-fault}
 use Rattle.text.proofs.LineByLine.{next-to, words-within}
 use Rattle.digits.specs.Said.{Said, says, wrong}
 use Rattle.digits.specs.Degree.{degreeOf, smoothingOf}
-use Rattle.digits.specs.Answers.{saidWhole, saidName, ended}
+use Rattle.digits.specs.Answers.{saidWhole, saidName, endsAt}
 use Rattle.digits.specs.declared.whole.Whole.{Whole}
 use Rattle.digits.specs.declared.whole.Whole.the-variants as whole
 use Rattle.digits.specs.declared.name.Name.{Name}
@@ -40,8 +40,8 @@ use Rattle.read_settings.specs.declared.words.Line.the-variants as line
 use Rattle.read_settings.specs.declared.TakenForm.{TakenForm}
 use Rattle.read_settings.specs.declared.TakenForm.the-variants as form
 use Rattle.read_settings.specs.declared.TakenNames.the-variants as names
-use Rattle.read_settings.specs.Words.{onFine, onSaid, beginsAt, LineAt, lineIs}
-use Rattle.read_settings.specs.Steps.{byRow, basisOr, isRational, typed, typeTaken, degreed, secondSaid, degreeTaken, smoothed, smoothingTaken}
+use Rattle.read_settings.specs.Words.{onFine, saidOr, beginsAt, LineAt, settingLineIs}
+use Rattle.read_settings.specs.Steps.{byRow, basisOr, isRational, typed, typeTaken, degreed, secondSaid, degreeTaken, withSmoothing, smoothingTaken}
 
 -- ---- what the line goes on with
 module _ (s : List ℕ) (at : ℕ) (r : AfterBlanks) (m : afterBlanksIs s at r) where
@@ -103,7 +103,7 @@ module _ (s : List ℕ) (p at : ℕ) (l : p < at) (m : at ≤ length s) where
       bad-line ((restAt s at) .bad)
       (ap (λ (r : Rest). r .bad) (w .rest ∙ ap (λ (i : ℕ). push (wordAt s v) (restAt s i)) (sym d)) ∙ scan-fault (restAt s e) b g)
 
-module _ (s : List ℕ) (x : Rest) (r : Line) (m : lineIs s x r) where
+module _ (s : List ℕ) (x : Rest) (r : Line) (m : settingLineIs s x r) where
   pub line-words : {p v n q : ℕ} → r ≡ line.Words p v n q → LineAt s x p v n q
   line-words e = rw e at m
 
@@ -154,7 +154,7 @@ module _ (s : List ℕ) (x : Rest) (p v n q : ℕ) (a : LineAt s x p v n q) wher
     one : n ≡ 1
     one = eqb-true n 1 (sym h)
 
-    pub smoothing-is : (k : ℕ) → smoothingOf (wordOf (drop p s)) ≡ says k → names.Accepted (smoothed c k) q ≡ smoothingTaken c x
+    pub smoothing-is : (k : ℕ) → smoothingOf (wordOf (drop p s)) ≡ says k → names.Accepted (withSmoothing c k) q ≡ smoothingTaken c x
     smoothing-is k e = rw (alone one, e) refl
 
     pub smoothing-not : {k : ℕ} → smoothingOf (wordOf (drop p s)) ≡ wrong k → names.Rejected ≡ smoothingTaken c x
@@ -163,12 +163,12 @@ module _ (s : List ℕ) (x : Rest) (p v n q : ℕ) (a : LineAt s x p v n q) wher
   -- ---- deg
   module _ (f : Form) (h : true ≡ countedBy (rulesOf Degree .count) n) where
     second : (m : ℕ) (b : Bool) → eqb n 1 ≡ b → degreeOf (wordOf (drop p s)) ≡ says m
-        → onSaid (cond b (says 0) (degreeOf (wordOf (drop v s)))) (λ k. degreed f m k q) form.Rejected ≡ degreeTaken f x
+        → saidOr (cond b (says 0) (degreeOf (wordOf (drop v s)))) (λ k. degreed f m k q) form.Rejected ≡ degreeTaken f x
     second m true t e = rw (alone (eqb-true n 1 t), e) refl
     second m false t e = rw (both (within n (sym h) (eqb-false n 1 t)), e) refl
 
-    pub degree-second : (m : ℕ) {y : Said ℕ} → degreeOf (wordOf (drop p s)) ≡ says m → secondSaid s v n ≡ y → onSaid y (λ k. degreed f m k q) form.Rejected ≡ degreeTaken f x
-    degree-second m e d = sym (ap (λ (z : Said ℕ). onSaid z (λ k. degreed f m k q) form.Rejected) d) ∙ second m (eqb n 1) refl e
+    pub degree-second : (m : ℕ) {y : Said ℕ} → degreeOf (wordOf (drop p s)) ≡ says m → secondSaid s v n ≡ y → saidOr y (λ k. degreed f m k q) form.Rejected ≡ degreeTaken f x
+    degree-second m e d = sym (ap (λ (z : Said ℕ). saidOr z (λ k. degreed f m k q) form.Rejected) d) ∙ second m (eqb n 1) refl e
 
     first-wrong : {k : ℕ} (b : Bool) → eqb n 1 ≡ b → degreeOf (wordOf (drop p s)) ≡ wrong k → form.Rejected ≡ degreeTaken f x
     first-wrong true t e = rw (alone (eqb-true n 1 t), e) refl
@@ -196,14 +196,14 @@ module _ (s : List ℕ) (x : Rest) (p v n q : ℕ) (a : LineAt s x p v n q) wher
       type-plain e = let g : isRational (argumentOf (wordOf (drop p s))) ≡ false = sym (ap isRational k) ∙ sym i ∙ e in rw (two, g) refl
 
 -- ---- what a word says
-module _ (x : Said ℕ) (e : ℕ) (r : Whole) (h : saidWhole r ≡ ended x e) where
+module _ (x : Said ℕ) (e : ℕ) (r : Whole) (h : saidWhole r ≡ endsAt x e) where
   pub whole-says : {v z : ℕ} → r ≡ whole.Value v z → (x ≡ says v) × (z ≡ e)
   whole-says {v} {z} k = ended-says x v e z (ap saidWhole (sym k) ∙ h)
 
   pub whole-wrong : (n : ℕ) {a : Whole} → r ≡ a → saidWhole a ≡ wrong n → x ≡ wrong n
   whole-wrong n k w = ended-wrong x n e (sym w ∙ ap saidWhole (sym k) ∙ h)
 
-module _ (w : List ℕ) (x : Said (List ℕ)) (e : ℕ) (r : Name) (h : saidName w r ≡ ended x e) where
+module _ (w : List ℕ) (x : Said (List ℕ)) (e : ℕ) (r : Name) (h : saidName w r ≡ endsAt x e) where
   pub name-says : {z : ℕ} → r ≡ name.Of z → (x ≡ says w) × (z ≡ e)
   name-says {z} k = ended-says x w e z (ap (saidName w) (sym k) ∙ h)
 

@@ -33,7 +33,7 @@ use Rattle.read_state.specs.declared.Names.{Names}
 use Rattle.read_settings.specs.declared.TakenForm.the-variants as form
 use Rattle.read_settings.specs.declared.TakenNames.the-variants as names
 use Rattle.read_settings.specs.declared.words.NamesRead.the-variants as read
-use Rattle.read_settings.specs.Words.{onFine, onSaid, isName}
+use Rattle.read_settings.specs.Words.{onFine, saidOr, isName}
 use Rattle.read_settings.specs.Steps.{formTaken, namesTaken, typeTaken, degreeTaken, smoothingTaken, namedBy, withMaterial, materialTaken, groupTaken}
 
 and-false : (b : Bool) → (b && false) ≡ false
@@ -65,7 +65,7 @@ record Fault (v : Parsed (List Value)) : Type 0 where
   pub is : v ≡ fault number place
 
 module _ (n : Seen) where
-  cons-fine : (y : Said (List ℕ)) (w : Word) (v : Parsed (List Value)) (xs : List Value) → onSaid y (λ b. true) false ≡ true → v ≡ fine xs
+  cons-fine : (y : Said (List ℕ)) (w : Word) (v : Parsed (List Value)) (xs : List Value) → saidOr y (λ b. true) false ≡ true → v ≡ fine xs
       → then (placed (parse.onSaid (λ b. parse.name w) y) (w .place)) (λ x. then v (λ xs. fine (x ∷ xs))) ≡ fine (parse.name w ∷ xs)
   cons-fine (says c) w v xs h e = rw e refl
   cons-fine (wrong m) w v xs h e = never h
@@ -75,7 +75,7 @@ module _ (n : Seen) where
   names-fine i (w ∷ ws) h =
       cons-fine (nameOf (w .bytes)) w (valuesOf n (λ i. a-name) (suc i) ws) (nameValues ws) (and-left (isName w) (all isName ws) h) (names-fine (suc i) ws (and-right (isName w) (all isName ws) h))
 
-  cons-fault : (y : Said (List ℕ)) (w : Word) (v : Parsed (List Value)) (r : Bool) → (onSaid y (λ b. true) false && r) ≡ false → (r ≡ false → Fault v)
+  cons-fault : (y : Said (List ℕ)) (w : Word) (v : Parsed (List Value)) (r : Bool) → (saidOr y (λ b. true) false && r) ≡ false → (r ≡ false → Fault v)
       → Fault (then (placed (parse.onSaid (λ b. parse.name w) y) (w .place)) (λ x. then v (λ xs. fine (x ∷ xs))))
   cons-fault (says c) w v r h k = let f = k h in record { number = f .number; place = f .place; is = rw (f .is) refl }
   cons-fault (wrong m) w v r h k = record { number = m; place = w .place; is = refl }

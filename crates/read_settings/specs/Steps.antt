@@ -23,7 +23,7 @@ use Rattle.model.specs.Parse.{Parsed, fine, fault, typeSaid}
 use Rattle.read_state.specs.State.{formIn, namesIn}
 use Rattle.read_state.specs.declared.Form.{Form}
 use Rattle.read_state.specs.declared.Names.{Names}
-use Rattle.read_settings.specs.Words.{onFine, onSaid, namesRead}
+use Rattle.read_settings.specs.Words.{onFine, saidOr, namesRead}
 use Rattle.read_settings.specs.declared.TakenForm.{TakenForm}
 use Rattle.read_settings.specs.declared.TakenForm.the-variants as form
 use Rattle.read_settings.specs.declared.TakenNames.{TakenNames}
@@ -67,13 +67,13 @@ abbrev pub typed : ℕ → Form → ℕ → ℕ → TakenForm
 typed r f b q = cond (eqb b 0) form.Rejected (form.Accepted (record { basis = b; rational = r; «degree_u» = f .«degree_u»; «degree_v» = f .«degree_v» }) q)
 
 -- "of two the first is rat; the last is a type"
-abbrev pub typeWords : Form → List Word → ℕ → TakenForm
-typeWords f [] q = form.Rejected
-typeWords f (w ∷ []) q = typed 0 f (basisOr (typeSaid (argumentOf (w .bytes)))) q
-typeWords f (w ∷ v ∷ ws) q = cond (isRational (argumentOf (w .bytes))) (typed 1 f (basisOr (typeSaid (argumentOf (v .bytes)))) q) form.Rejected
+abbrev pub typeFrom : Form → List Word → ℕ → TakenForm
+typeFrom f [] q = form.Rejected
+typeFrom f (w ∷ []) q = typed 0 f (basisOr (typeSaid (argumentOf (w .bytes)))) q
+typeFrom f (w ∷ v ∷ ws) q = cond (isRational (argumentOf (w .bytes))) (typed 1 f (basisOr (typeSaid (argumentOf (v .bytes)))) q) form.Rejected
 
 abbrev pub typeTaken : Form → Rest → TakenForm
-typeTaken f x = byRow BodyType x (λ ws. typeWords f ws (x .next)) form.Rejected
+typeTaken f x = byRow BodyType x (λ ws. typeFrom f ws (x .next)) form.Rejected
 
 -- ---- deg
 abbrev pub degreed : Form → ℕ → ℕ → ℕ → TakenForm
@@ -86,21 +86,21 @@ secondSaid s place n = cond (eqb n 1) (says 0) (degreeOf (wordOf (drop place s))
 abbrev pub secondEnd : List ℕ → ℕ → ℕ → ℕ
 secondEnd s place n = cond (eqb n 1) place (endOf s place)
 
-abbrev pub degreeWords : Form → List Word → ℕ → TakenForm
-degreeWords f [] q = form.Rejected
-degreeWords f (w ∷ []) q = onSaid (degreeOf (w .bytes)) (λ m. degreed f m 0 q) form.Rejected
-degreeWords f (w ∷ v ∷ ws) q = onSaid (degreeOf (w .bytes)) (λ m. onSaid (degreeOf (v .bytes)) (λ n. degreed f m n q) form.Rejected) form.Rejected
+abbrev pub degreesFrom : Form → List Word → ℕ → TakenForm
+degreesFrom f [] q = form.Rejected
+degreesFrom f (w ∷ []) q = saidOr (degreeOf (w .bytes)) (λ m. degreed f m 0 q) form.Rejected
+degreesFrom f (w ∷ v ∷ ws) q = saidOr (degreeOf (w .bytes)) (λ m. saidOr (degreeOf (v .bytes)) (λ n. degreed f m n q) form.Rejected) form.Rejected
 
 abbrev pub degreeTaken : Form → Rest → TakenForm
-degreeTaken f x = byRow Degree x (λ ws. degreeWords f ws (x .next)) form.Rejected
+degreeTaken f x = byRow Degree x (λ ws. degreesFrom f ws (x .next)) form.Rejected
 
 -- ---- s
-abbrev pub smoothed : Names → ℕ → Names
-smoothed n k = record { group = n .group; material = n .material; smoothing = k }
+abbrev pub withSmoothing : Names → ℕ → Names
+withSmoothing n k = record { group = n .group; material = n .material; smoothing = k }
 
 abbrev pub smoothingWords : Names → List Word → ℕ → TakenNames
 smoothingWords n [] q = names.Rejected
-smoothingWords n (w ∷ ws) q = onSaid (smoothingOf (w .bytes)) (λ k. names.Accepted (smoothed n k) q) names.Rejected
+smoothingWords n (w ∷ ws) q = saidOr (smoothingOf (w .bytes)) (λ k. names.Accepted (withSmoothing n k) q) names.Rejected
 
 abbrev pub smoothingTaken : Names → Rest → TakenNames
 smoothingTaken n x = byRow Smoothing x (λ ws. smoothingWords n ws (x .next)) names.Rejected

@@ -21,9 +21,9 @@ abbrev pub onFine : {A : Type 0} → Option ℕ → A → A → A
 onFine none a r = a
 onFine (some p) a r = r
 
-abbrev pub onSaid : {A C : Type 0} → Said A → (A → C) → C → C
-onSaid (says a) f c = f a
-onSaid (wrong n) f c = c
+abbrev pub saidOr : {A C : Type 0} → Said A → (A → C) → C → C
+saidOr (says a) f c = f a
+saidOr (wrong n) f c = c
 
 -- ---- words by their places in the text s
 abbrev pub beginsAt : List ℕ → ℕ → ℕ → List Word → Type 0
@@ -39,13 +39,13 @@ pub record LineAt (s : List ℕ) (x : Rest) (first second count behind : ℕ) : 
   pub first-in : first ≤ length s
   pub second-in : second ≤ length s
 
-abbrev pub lineIs : List ℕ → Rest → Line → Type 0
-lineIs s x (line.Words first second count next) = LineAt s x first second count next
-lineIs s x line.Refused = x .bad ≡ none → ⊥
+abbrev pub settingLineIs : List ℕ → Rest → Line → Type 0
+settingLineIs s x (line.Words first second count next) = LineAt s x first second count next
+settingLineIs s x line.Refused = x .bad ≡ none → ⊥
 
 -- ---- names: "from the first name to the last"
 abbrev pub isName : Word → Bool
-isName w = onSaid (nameOf (w .bytes)) (λ b. true) false
+isName w = saidOr (nameOf (w .bytes)) (λ b. true) false
 
 abbrev pub namesRead : Rest → NamesRead
 namesRead x = cond (all isName (x .words)) (onFine (x .bad) (read.Run (runOf (x .words)) (length (x .words)) (x .next)) read.Refused) read.Refused

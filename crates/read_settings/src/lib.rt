@@ -23,7 +23,7 @@ ghost use mathlib.Core.Path.{_≡_};
 ghost use Prim.Native.Nat.{_≤_};
 ghost use lib.ListN.{length};
 ghost use Rattle.text.specs.Rest.{restAt};
-ghost use Rattle.digits.specs.Answers.{saidWhole, ended};
+ghost use Rattle.digits.specs.Answers.{saidWhole, endsAt};
 ghost use Rattle.keywords.specs.Lookup.{argumentTable};
 ghost use Rattle.read_settings.specs.Steps.{basisOr, isRational, typed, typeTaken, secondSaid, secondEnd, degreeTaken, smoothingTaken, materialTaken, groupTaken};
 ghost use Rattle.model.specs.Parse.{typeSaid};
@@ -126,7 +126,7 @@ pub fn take_type(text: &[u8], at: usize, form: Form, argument_table: &[u8; 108])
 // The v degree of a line of `count` words, the second at `place`; 01: "A deg with one number clears the v degree".
 fn second_degree(text: &[u8], place: usize, count: usize) -> Whole
     requires { ⌜ place ≤ length (now text) ⌝ }
-    ensures { λ r. ⌜ saidWhole r ≡ ended (secondSaid (now (text .entry)) place count) (secondEnd (now (text .entry)) place count) ⌝ }
+    ensures { λ r. ⌜ saidWhole r ≡ endsAt (secondSaid (now (text .entry)) place count) (secondEnd (now (text .entry)) place count) ⌝ }
 {
     if count == 1 {
         return Whole::Value {

@@ -11,7 +11,7 @@ ghost use mathlib.Core.Path.{_≡_};
 ghost use Prim.Native.Nat.{_≤_, _<_};
 ghost use lib.ListN.{length};
 ghost use Rattle.text.specs.Rest.{restAt, wordAt, endOf, push};
-ghost use Rattle.read_settings.specs.Words.{lineIs, namesRead};
+ghost use Rattle.read_settings.specs.Words.{settingLineIs, namesRead};
 
 // Where the first two words stand, how many there are, and where the next line starts; a word that is not there has a place that says nothing.
 pub enum Line {
@@ -37,7 +37,7 @@ pub enum NamesRead {
 // The line whose first word stands at `first` and ends at `at`.
 fn words_after(text: &[u8], first: usize, at: usize) -> Line
     requires { ⌜ (first < at) × (at ≤ length (now text)) ⌝ }
-    ensures { λ r. ⌜ lineIs (now (text .entry)) (push (wordAt (now (text .entry)) first) (restAt (now (text .entry)) at)) r ⌝ }
+    ensures { λ r. ⌜ settingLineIs (now (text .entry)) (push (wordAt (now (text .entry)) first) (restAt (now (text .entry)) at)) r ⌝ }
 {
     match skip_blanks(text, at) {
         AfterBlanks::End(q) => Line::Words {
@@ -62,7 +62,7 @@ fn words_after(text: &[u8], first: usize, at: usize) -> Line
 // The words of the line from `at` on, which is between words.
 pub fn line_words(text: &[u8], at: usize) -> Line
     requires { ⌜ at ≤ length (now text) ⌝ }
-    ensures { λ r. ⌜ lineIs (now (text .entry)) (restAt (now (text .entry)) at) r ⌝ }
+    ensures { λ r. ⌜ settingLineIs (now (text .entry)) (restAt (now (text .entry)) at) r ⌝ }
 {
     match skip_blanks(text, at) {
         AfterBlanks::Start(p) => words_after(text, p, word_end(text, p)),

@@ -15,13 +15,13 @@ pub data Walk : Type 0 where
   full : List ℤ → Rest → Walk
   stuck : Walk
 
-abbrev pub onto : ℤ → Walk → Walk
-onto z (ended zs q) = ended (z ∷ zs) q
-onto z (full zs r) = full (z ∷ zs) r
-onto z stuck = stuck
+abbrev pub ontoWalk : ℤ → Walk → Walk
+ontoWalk z (ended zs q) = ended (z ∷ zs) q
+ontoWalk z (full zs r) = full (z ∷ zs) r
+ontoWalk z stuck = stuck
 
 abbrev pub onNumber : Said ℤ → Walk → Walk
-onNumber (says z) k = onto z k
+onNumber (says z) k = ontoWalk z k
 onNumber (wrong n) k = stuck
 
 -- at most n numbers, and then the line's end

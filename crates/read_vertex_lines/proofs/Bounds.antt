@@ -13,7 +13,7 @@ use Rattle.read_state.specs.declared.State.{State}
 use Rattle.read_bodies.specs.Closing.{parmOf}
 use Rattle.read_bodies.proofs.Steps.{words-within}
 use Rattle.read_vertex_lines.specs.Bounds.{Bounds, Keeps}
-use Rattle.read_vertex_lines.specs.Stepping.{countIn, counted}
+use Rattle.read_vertex_lines.specs.Stepping.{countIn, withCount}
 
 -- where no parm stands no parameter waits for the body's end
 pub none-waiting : (s : List ℕ) → length (parmOf s 0) ≡ 0
@@ -57,10 +57,10 @@ module _ {s : List ℕ} {p : ℕ} {u : Used} {n : ℕ} {o : Open} (b : Bounds s 
           body = b .body;
         }
 
-    pub one-vertex : (k : VertexKind) → p < q → Bounds s q (counted k (countIn k u + 1) u) n o
+    pub one-vertex : (k : VertexKind) → p < q → Bounds s q (withCount k (countIn k u + 1) u) n o
     one-vertex k on = go k (later (let h : p ≤ q = omega arith in h))
       where
-        go : (k : VertexKind) → Bounds s q u n o → Bounds s q (counted k (countIn k u + 1) u) n o
+        go : (k : VertexKind) → Bounds s q u n o → Bounds s q (withCount k (countIn k u + 1) u) n o
         go geometric a = record { limit = a .limit; to = a .to; v = omega arith; vt = a .vt; vn = a .vn; vp = a .vp; corners = a .corners; elements = a .elements; bodies = a .bodies; parameters = a .parameters; loops = a .loops; curves-few = a .curves-few; parts = a .parts; u-parm = a .u-parm; v-parm = a .v-parm; body = a .body }
         go texture a = record { limit = a .limit; to = a .to; v = a .v; vt = omega arith; vn = a .vn; vp = a .vp; corners = a .corners; elements = a .elements; bodies = a .bodies; parameters = a .parameters; loops = a .loops; curves-few = a .curves-few; parts = a .parts; u-parm = a .u-parm; v-parm = a .v-parm; body = a .body }
         go normal a = record { limit = a .limit; to = a .to; v = a .v; vt = a .vt; vn = omega arith; vp = a .vp; corners = a .corners; elements = a .elements; bodies = a .bodies; parameters = a .parameters; loops = a .loops; curves-few = a .curves-few; parts = a .parts; u-parm = a .u-parm; v-parm = a .v-parm; body = a .body }

@@ -26,7 +26,7 @@ use Rattle.read_vertices.proofs.Parse.{taken-parse}
 use Rattle.read_diagnosis.specs.Diagnosis.{GivenIn}
 use Rattle.read_vertex_lines.specs.Bounds.{InBounds, Keeps}
 use Rattle.read_vertex_lines.specs.Holding.{Holds, NextLine}
-use Rattle.read_vertex_lines.specs.Stepping.{countIn, counted, withUsed, stepIs, vertexInto, vertexStep}
+use Rattle.read_vertex_lines.specs.Stepping.{countIn, withCount, withUsed, stepIs, vertexInto, vertexStep}
 use Rattle.read_vertex_lines.specs.declared.Step.{Step}
 use Rattle.read_vertex_lines.specs.declared.Step.the-variants.{Accepted, Rejected}
 use Rattle.read_vertex_lines.proofs.Opened.{no-body, before-parse, before-allowed, given-kept, left-barred}
@@ -68,9 +68,9 @@ module _ (k : VertexKind) (s : List ℕ) (at : ℕ) (c : State) (l : List ℤ) w
                 (sym (before-parse x (w .place) ws (a-vertex k) refl) ∙ f);
           }
 
-      module _ (q : ℕ) (u : Used) (d : State) (g : r ≡ vertex.Accepted q) (i : u ≡ counted k (n + 1) (c .used)) (j : d ≡ withUsed u c) where
-        after : d ≡ withUsed (counted k (countIn k (c .used) + 1) (c .used)) c
-        after = j ∙ ap (λ (a : Used). withUsed a c) (i ∙ ap (λ (z : ℕ). counted k (z + 1) (c .used)) e)
+      module _ (q : ℕ) (u : Used) (d : State) (g : r ≡ vertex.Accepted q) (i : u ≡ withCount k (n + 1) (c .used)) (j : d ≡ withUsed u c) where
+        after : d ≡ withUsed (withCount k (countIn k (c .used) + 1) (c .used)) c
+        after = j ∙ ap (λ (a : Used). withUsed a c) (i ∙ ap (λ (z : ℕ). withCount k (z + 1) (c .used)) e)
 
         taken : TakenVertex k s at (countIn k (c .used)) l m q
         taken = subst (λ (i : ℕ). TakenVertex k s at i l m q) e (subst (vertexIs k s at n l m) g v)

@@ -13,7 +13,7 @@ use Rattle.model.specs.Model as model
 use Rattle.model.specs.Statements.{Statement, apply}
 use Rattle.model.specs.Parse.{Parsed, fine, fault, then, must, unless, Keyword, parse}
 use Rattle.model.specs.Room.{Rooms, fits}
-use Rattle.model.specs.Read.{keywordOf, statement, step}
+use Rattle.model.specs.Read.{carriedIn, statement, step}
 use Rattle.read_state.specs.Bounds.{Bounded}
 use Rattle.read_state.proofs.Bounds.{bounded-after}
 use Rattle.read_state.proofs.Lines.{line-of, line-small}
@@ -22,7 +22,7 @@ use Rattle.read_bodies.proofs.Steps.{words-within}
 
 -- ---- the line at p begins with the word w, which is the keyword k, and goes on at `at`
 module _ (R : Rooms) (s : List ℕ) (p at : ℕ) (x : model.State) (w : Word) (k : Keyword) (opened : restAt s p ≡ push w (restAt s at))
-    (keyword : keywordOf (statementOf (w .bytes)) (w .place) ≡ fine k) where
+    (keyword : carriedIn (statementOf (w .bytes)) (w .place) ≡ fine k) where
   abbrev r : Rest
   r = restAt s at
 

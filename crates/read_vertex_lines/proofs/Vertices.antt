@@ -26,7 +26,7 @@ use Rattle.model.specs.Parse.{fine, fault, a-vertex, vertexRecord, parse}
 use Rattle.model.specs.Standing.{outsideBody}
 use Rattle.model.specs.Room.{Rooms, fits}
 use Rattle.model.specs.Layout.{itself}
-use Rattle.model.specs.Read.{keywordOf}
+use Rattle.model.specs.Read.{carriedIn}
 use Rattle.read_state.specs.declared.State.{State}
 use Rattle.read_state.specs.State.{StateIs, usedIn}
 use Rattle.read_state.specs.Image.{imageOf}
@@ -36,7 +36,7 @@ use Rattle.model.proofs.Rooms.{Within, fits-parts, parts-fit}
 use Rattle.read_vertices.specs.Vertex.{width, TakenVertex, NoVertex}
 use Rattle.read_vertices.proofs.Taking.{vertex-row}
 use Rattle.read_vertices.proofs.Parse.{vertex-wide, taken-parse, parse-said}
-use Rattle.read_vertex_lines.specs.Stepping.{countIn, counted, withUsed}
+use Rattle.read_vertex_lines.specs.Stepping.{countIn, withCount, withUsed}
 use Rattle.read_vertex_lines.specs.Holding.{Holds, NextLine, lineSays}
 use Rattle.read_vertex_lines.proofs.Steps.{line-fine, line-roomless, line-bounded, next-is}
 
@@ -119,21 +119,21 @@ count-is texture x = refl
 count-is normal x = refl
 count-is parametric x = refl
 
-state-after : (s : List ℕ) (k : VertexKind) (x : model.State) (c : State) (z : List ℤ) → StateIs s x c → StateIs s (apply (vertex k z) x) (withUsed (counted k (countIn k (c .used) + 1) (c .used)) c)
-state-after s geometric x c z h = record { used = ap (λ (u : Used). counted geometric (countIn geometric u + 1) u) (h .used) ∙ ap (λ (n : ℕ). counted geometric n (usedIn x)) (sym (length-append (x .model .vertices .v) (z ∷ []))); curves = h .curves; names = h .names; form = h .form; open-body = h .open-body }
-state-after s texture x c z h = record { used = ap (λ (u : Used). counted texture (countIn texture u + 1) u) (h .used) ∙ ap (λ (n : ℕ). counted texture n (usedIn x)) (sym (length-append (x .model .vertices .vt) (z ∷ []))); curves = h .curves; names = h .names; form = h .form; open-body = h .open-body }
-state-after s normal x c z h = record { used = ap (λ (u : Used). counted normal (countIn normal u + 1) u) (h .used) ∙ ap (λ (n : ℕ). counted normal n (usedIn x)) (sym (length-append (x .model .vertices .vn) (z ∷ []))); curves = h .curves; names = h .names; form = h .form; open-body = h .open-body }
-state-after s parametric x c z h = record { used = ap (λ (u : Used). counted parametric (countIn parametric u + 1) u) (h .used) ∙ ap (λ (n : ℕ). counted parametric n (usedIn x)) (sym (length-append (x .model .vertices .vp) (z ∷ []))); curves = h .curves; names = h .names; form = h .form; open-body = h .open-body }
+state-after : (s : List ℕ) (k : VertexKind) (x : model.State) (c : State) (z : List ℤ) → StateIs s x c → StateIs s (apply (vertex k z) x) (withUsed (withCount k (countIn k (c .used) + 1) (c .used)) c)
+state-after s geometric x c z h = record { used = ap (λ (u : Used). withCount geometric (countIn geometric u + 1) u) (h .used) ∙ ap (λ (n : ℕ). withCount geometric n (usedIn x)) (sym (length-append (x .model .vertices .v) (z ∷ []))); curves = h .curves; names = h .names; form = h .form; open-body = h .open-body }
+state-after s texture x c z h = record { used = ap (λ (u : Used). withCount texture (countIn texture u + 1) u) (h .used) ∙ ap (λ (n : ℕ). withCount texture n (usedIn x)) (sym (length-append (x .model .vertices .vt) (z ∷ []))); curves = h .curves; names = h .names; form = h .form; open-body = h .open-body }
+state-after s normal x c z h = record { used = ap (λ (u : Used). withCount normal (countIn normal u + 1) u) (h .used) ∙ ap (λ (n : ℕ). withCount normal n (usedIn x)) (sym (length-append (x .model .vertices .vn) (z ∷ []))); curves = h .curves; names = h .names; form = h .form; open-body = h .open-body }
+state-after s parametric x c z h = record { used = ap (λ (u : Used). withCount parametric (countIn parametric u + 1) u) (h .used) ∙ ap (λ (n : ℕ). withCount parametric n (usedIn x)) (sym (length-append (x .model .vertices .vp) (z ∷ []))); curves = h .curves; names = h .names; form = h .form; open-body = h .open-body }
 
 -- ---- the line
 module _ (R : Rooms) (s : List ℕ) (p at read : ℕ) (x : model.State) (c : State) (t : Tables) (h : Holds R s x c t read) (w : Word) (k : VertexKind)
-    (begins : restAt s p ≡ push w (restAt s at)) (keyword : keywordOf (statementOf (w .bytes)) (w .place) ≡ fine (a-vertex k))
+    (begins : restAt s p ≡ push w (restAt s at)) (keyword : carriedIn (statementOf (w .bytes)) (w .place) ≡ fine (a-vertex k))
     (out : outsideBody (x .open-body) ≡ true) where
   counts : countIn k (c .used) ≡ length (rowsOf k (x .model .vertices))
   counts = ap (countIn k) (h .state .used) ∙ count-is k x
 
   pub vertex-next : (m : List ℤ) (q : ℕ) → TakenVertex k s at (countIn k (c .used)) (tableOf k t) m q
-      → NextLine R s p read x (withUsed (counted k (countIn k (c .used) + 1) (c .used)) c) (rowStored k m t) q × (q ≡ (restAt s p) .next)
+      → NextLine R s p read x (withUsed (withCount k (countIn k (c .used) + 1) (c .used)) c) (rowStored k m t) q × (q ≡ (restAt s p) .next)
   vertex-next m q v =
       let z : List ℤ = v .row in
       let pv = taken-parse k x (restAt s at) z q out (v .said) in

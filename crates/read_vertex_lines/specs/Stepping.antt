@@ -18,7 +18,7 @@ use Rattle.model.specs.Model.{VertexKind, geometric, texture, normal, parametri
 use Rattle.model.specs.Statements.{Statement}
 use Rattle.model.specs.Parse.{fine, fault, Keyword, a-vertex, an-element, a-body, ends}
 use Rattle.model.specs.Room.{Rooms}
-use Rattle.model.specs.Read.{keywordOf}
+use Rattle.model.specs.Read.{carriedIn}
 use Rattle.read_state.specs.declared.State.{State}
 use Rattle.read_state.specs.Changed.{withVertices, withElements, kindStored, kindIn, rangeStored, loopsStored, bodyStored}
 use Rattle.read_vertices.specs.Vertex.{vertexIs}
@@ -37,11 +37,11 @@ countIn texture u = u .vt
 countIn normal u = u .vn
 countIn parametric u = u .vp
 
-abbrev pub counted : VertexKind → ℕ → Used → Used
-counted geometric n u = record { v = n; vt = u .vt; vn = u .vn; vp = u .vp; corners = u .corners; elements = u .elements; bodies = u .bodies; parameters = u .parameters; loops = u .loops }
-counted texture n u = record { v = u .v; vt = n; vn = u .vn; vp = u .vp; corners = u .corners; elements = u .elements; bodies = u .bodies; parameters = u .parameters; loops = u .loops }
-counted normal n u = record { v = u .v; vt = u .vt; vn = n; vp = u .vp; corners = u .corners; elements = u .elements; bodies = u .bodies; parameters = u .parameters; loops = u .loops }
-counted parametric n u = record { v = u .v; vt = u .vt; vn = u .vn; vp = n; corners = u .corners; elements = u .elements; bodies = u .bodies; parameters = u .parameters; loops = u .loops }
+abbrev pub withCount : VertexKind → ℕ → Used → Used
+withCount geometric n u = record { v = n; vt = u .vt; vn = u .vn; vp = u .vp; corners = u .corners; elements = u .elements; bodies = u .bodies; parameters = u .parameters; loops = u .loops }
+withCount texture n u = record { v = u .v; vt = n; vn = u .vn; vp = u .vp; corners = u .corners; elements = u .elements; bodies = u .bodies; parameters = u .parameters; loops = u .loops }
+withCount normal n u = record { v = u .v; vt = u .vt; vn = n; vp = u .vp; corners = u .corners; elements = u .elements; bodies = u .bodies; parameters = u .parameters; loops = u .loops }
+withCount parametric n u = record { v = u .v; vt = u .vt; vn = u .vn; vp = n; corners = u .corners; elements = u .elements; bodies = u .bodies; parameters = u .parameters; loops = u .loops }
 
 abbrev pub withUsed : Used → State → State
 withUsed u c = record { used = u; curves = c .curves; names = c .names; form = c .form; «open» = c .«open» }
@@ -53,7 +53,7 @@ pub record Began (R : Rooms) (s : List ℕ) (p at n : ℕ) (x : model.State) (c 
   pub small : WithinLimit s p n
   pub holds : Holds R s x c t n
   pub begins : restAt s p ≡ push w (restAt s at)
-  pub keyword : keywordOf (statementOf (w .bytes)) (w .place) ≡ fine k
+  pub keyword : carriedIn (statementOf (w .bytes)) (w .place) ≡ fine k
 
 -- a line that was rejected: the vp that were there are there, and if nothing is wrong with it then there is no room for it
 pub record Left (R : Rooms) (s : List ℕ) (p at : ℕ) (x : model.State) (u : Tables) (w : Word) (k : Keyword) : Type 0 where

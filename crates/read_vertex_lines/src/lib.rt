@@ -11,7 +11,7 @@ ghost use Prim.Native.Nat.{_+_, _≤_};
 ghost use lib.ListN.{length};
 ghost use Rattle.read_vertex_lines.specs.Bounds.{InBounds};
 ghost use Rattle.tables.specs.VertexTables.{vertexTables};
-ghost use Rattle.read_vertex_lines.specs.Stepping.{countIn, counted, withUsed, vertexInto, vertexStep};
+ghost use Rattle.read_vertex_lines.specs.Stepping.{countIn, withCount, withUsed, vertexInto, vertexStep};
 
 // What a line whose keyword is known comes to: the state after it, a refusal at its keyword, or a fault still to be found.
 pub enum Step {
@@ -32,7 +32,7 @@ fn count_of(kind: VertexKind, used: Used) -> u32
 }
 
 fn counted(kind: VertexKind, count: u32, used: Used) -> Used
-    ensures { λ r. ⌜ r ≡ counted kind count used ⌝ }
+    ensures { λ r. ⌜ r ≡ withCount kind count used ⌝ }
 {
     let mut after = used;
     match kind {

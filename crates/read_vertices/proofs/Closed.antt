@@ -14,8 +14,8 @@ use Rattle.text.specs.Rest.{Rest}
 use Rattle.digits.specs.Said.{Said, says, wrong}
 use Rattle.decimals.specs.Number.{numberOf}
 use Rattle.model.specs.Parse.{Parsed, fine, fault, then, a-number, Value, number, onSaid, Seen, placed, valuesOf, numbersOf}
-use Rattle.read_state.specs.Numbers.{Walk, ended, full, stuck, onto, onNumber, numbersFrom, numbersWalk}
-use Rattle.read_vertices.specs.Into.{closing, closed, atLeast, rowSaid}
+use Rattle.read_state.specs.Numbers.{Walk, ended, full, stuck, ontoWalk, onNumber, numbersFrom, numbersWalk}
+use Rattle.read_vertices.specs.Into.{closing, lineEnded, atLeast, rowSaid}
 use Rattle.model.proofs.Parsed.{fine-fault}
 
 pub nothing : {A C : Type 0} {a : A} → none ≡ some a → C
@@ -37,9 +37,9 @@ closing-some ys (w ∷ ws) b p zs q e = nothing e
 pub record Onto (z : ℤ) (k : Walk) (zs : List ℤ) (q : ℕ) : Type 0 where
   pub rest : List ℤ
   pub whole : zs ≡ z ∷ rest
-  pub from : closed k ≡ some (rest, q)
+  pub from : lineEnded k ≡ some (rest, q)
 
-closed-onto : (z : ℤ) (k : Walk) (zs : List ℤ) (q : ℕ) → closed (onto z k) ≡ some (zs, q) → Onto z k zs q
+closed-onto : (z : ℤ) (k : Walk) (zs : List ℤ) (q : ℕ) → lineEnded (ontoWalk z k) ≡ some (zs, q) → Onto z k zs q
 closed-onto z (ended ys p) zs q e =
     let f : _≡_ {A = List ℤ × ℕ} (z ∷ ys, p) (zs, q) = cc in
     record { rest = ys; whole = sym (ap (λ (x : List ℤ × ℕ). x .0) f); from = ap (λ (n : ℕ). some (ys, n)) (ap (λ (x : List ℤ × ℕ). x .1) f) }
@@ -59,8 +59,8 @@ pub record Numbered (n : ℕ) (ws : List Word) (b : Option ℕ) (p : ℕ) (zs : 
   pub values : (x : Seen) (i : ℕ) → valuesOf x (λ j. a-number) i ws ≡ fine (map number zs)
 
 numbered : (n : ℕ) (w : Word) (ws : List Word) (b : Option ℕ) (p : ℕ) (zs : List ℤ) (q : ℕ) (v : Said ℤ) → numberOf (w .bytes) ≡ v
-    → ((ys : List ℤ) → closed (numbersFrom n ws b p) ≡ some (ys, q) → Numbered n ws b p ys q)
-    → closed (onNumber v (numbersFrom n ws b p)) ≡ some (zs, q) → Numbered (suc n) (w ∷ ws) b p zs q
+    → ((ys : List ℤ) → lineEnded (numbersFrom n ws b p) ≡ some (ys, q) → Numbered n ws b p ys q)
+    → lineEnded (onNumber v (numbersFrom n ws b p)) ≡ some (zs, q) → Numbered (suc n) (w ∷ ws) b p zs q
 numbered n w ws b p zs q (wrong m) v rest e = nothing e
 numbered n w ws b p zs q (says z) v rest e =
     let o = closed-onto z (numbersFrom n ws b p) zs q e in
@@ -79,7 +79,7 @@ numbered n w ws b p zs q (says z) v rest e =
           g ∙ ap (λ (ys : List ℤ). fine (map number ys)) (sym f);
     }
 
-pub closed-some : (n : ℕ) (ws : List Word) (b : Option ℕ) (p : ℕ) (zs : List ℤ) (q : ℕ) → closed (numbersFrom n ws b p) ≡ some (zs, q) → Numbered n ws b p zs q
+pub closed-some : (n : ℕ) (ws : List Word) (b : Option ℕ) (p : ℕ) (zs : List ℤ) (q : ℕ) → lineEnded (numbersFrom n ws b p) ≡ some (zs, q) → Numbered n ws b p zs q
 closed-some zero ws b p zs q e =
     let f = closing-some [] ws b p zs q e in
     let z = f .found in
@@ -101,9 +101,9 @@ closed-some (suc n) (w ∷ ws) b p zs q e = numbered n w ws b p zs q (numberOf (
 -- and back: the words' values, as the walk finds them
 pub record Back (n : ℕ) (ws : List Word) (q : ℕ) (zs : List ℤ) : Type 0 where
   pub counted : length zs ≡ length ws
-  pub from : closed (numbersFrom n ws none q) ≡ some (zs, q)
+  pub from : lineEnded (numbersFrom n ws none q) ≡ some (zs, q)
 
-back-onto : (z : ℤ) (k : Walk) (zs : List ℤ) (q : ℕ) → closed k ≡ some (zs, q) → closed (onto z k) ≡ some (z ∷ zs, q)
+back-onto : (z : ℤ) (k : Walk) (zs : List ℤ) (q : ℕ) → lineEnded k ≡ some (zs, q) → lineEnded (ontoWalk z k) ≡ some (z ∷ zs, q)
 back-onto z (ended ys p) zs q e =
     let f : _≡_ {A = List ℤ × ℕ} (ys, p) (zs, q) = cc in
     ap (λ (x : List ℤ × ℕ). some (z ∷ x .0, x .1)) f
@@ -142,13 +142,13 @@ module _ (x : Seen) where
       rw f (record {
         counted = ap suc (b .counted);
         from =
-            ap (λ (v : Said ℤ). closed (onNumber v (numbersFrom n ws none q))) (a .said)
+            ap (λ (v : Said ℤ). lineEnded (onNumber v (numbersFrom n ws none q))) (a .said)
             ∙ back-onto (a .head) (numbersFrom n ws none q) (numbersOf (a .tail)) q (b .from);
       })
 
 -- ---- from `least` to `most`
 pub record RowSome (least most : ℕ) (r : Rest) (zs : List ℤ) (q : ℕ) : Type 0 where
-  pub closes : closed (numbersWalk most r) ≡ some (zs, q)
+  pub closes : lineEnded (numbersWalk most r) ≡ some (zs, q)
   pub many : least ≤ length zs
 
 at-least : (n : ℕ) (o : Option (List ℤ × ℕ)) (zs : List ℤ) (q : ℕ) → atLeast n o ≡ some (zs, q) → (o ≡ some (zs, q)) × (n ≤ length zs)
@@ -160,7 +160,7 @@ at-least n (some p) zs q e = enough (leb n (length (p .0))) refl e
     enough true h f = let g : p ≡ (zs, q) = cc in (f, subst (λ (y : List ℤ × ℕ). n ≤ length (y .0)) g (leb-true n (length (p .0)) h))
 
 pub row-some : (least most : ℕ) (r : Rest) (zs : List ℤ) (q : ℕ) → rowSaid least most r ≡ some (zs, q) → RowSome least most r zs q
-row-some least most r zs q e = let h = at-least least (closed (numbersWalk most r)) zs q e in record { closes = h .0; many = h .1 }
+row-some least most r zs q e = let h = at-least least (lineEnded (numbersWalk most r)) zs q e in record { closes = h .0; many = h .1 }
 
-pub some-row : (least most : ℕ) (r : Rest) (zs : List ℤ) (q : ℕ) → closed (numbersWalk most r) ≡ some (zs, q) → least ≤ length zs → rowSaid least most r ≡ some (zs, q)
+pub some-row : (least most : ℕ) (r : Rest) (zs : List ℤ) (q : ℕ) → lineEnded (numbersWalk most r) ≡ some (zs, q) → least ≤ length zs → rowSaid least most r ≡ some (zs, q)
 some-row least most r zs q e h = let t = le-leb least (length zs) h in ap (atLeast least) e ∙ rw t refl

@@ -9,7 +9,7 @@ use lib.IntN.{ℤ}
 use native.Mathlib.Omega.{arith}
 use Rattle.text.specs.Rest.{Rest, restAt, WordMet, EndMet, BadMet}
 use Rattle.read_state.specs.Numbers.{Walk, ended, full, stuck, numbersWalk}
-use Rattle.read_vertices.specs.Into.{EndedAfter, FullAfter, StoppedAfter, numbersIs, closed, WholeRow, NoRow, rowIs}
+use Rattle.read_vertices.specs.Into.{EndedAfter, FullAfter, StoppedAfter, numbersIs, lineEnded, WholeRow, NoRow, rowIs}
 use Rattle.read_vertices.specs.declared.Numbers.{Numbers}
 use Rattle.read_vertices.specs.declared.Numbers.the-variants.{Ended, Full, Stopped}
 use Rattle.read_vertices.specs.declared.NumberRow.{NumberRow}
@@ -18,7 +18,7 @@ use Rattle.read_vertices.proofs.Walking.{before-stored}
 use Rattle.read_vertices.proofs.Closed.{nothing, closing-some, row-some, some-row}
 
 stopped-short : (n first : ℕ) (w : Walk) → ((zs : List ℤ) (q : ℕ) → w ≡ ended zs q → n < first + length zs)
-    → ((zs : List ℤ) (r : Rest) → w ≡ full zs r → n < first + length zs) → (zs : List ℤ) (q : ℕ) → closed w ≡ some (zs, q) → n < first + length zs
+    → ((zs : List ℤ) (r : Rest) → w ≡ full zs r → n < first + length zs) → (zs : List ℤ) (q : ℕ) → lineEnded w ≡ some (zs, q) → n < first + length zs
 stopped-short n first (ended ys p) f g zs q e =
     let h : _≡_ {A = List ℤ × ℕ} (ys, p) (zs, q) = cc in
     subst (λ (x : List ℤ × ℕ). n < first + length (x .0)) h (f ys p refl)
@@ -52,7 +52,7 @@ module _ (least most : ℕ) (s : List ℕ) (at first : ℕ) (l m : List ℤ) whe
     pub row-ended : least ≤ n → WholeRow least most s at first l m n q
     row-ended k =
         let c = h .counted in
-        record { found = h .found; said = some-row least most (restAt s at) (h .found) q (ap closed (h .walked)) (omega arith); counted = c; room = h .room; stored = h .stored }
+        record { found = h .found; said = some-row least most (restAt s at) (h .found) q (ap lineEnded (h .walked)) (omega arith); counted = c; room = h .room; stored = h .stored }
 
     pub row-few : n < least → NoRow least most s at first l m
     row-few k =
@@ -61,7 +61,7 @@ module _ (least most : ℕ) (s : List ℕ) (at first : ℕ) (l m : List ℤ) whe
           before = before-stored l m first (h .found) (h .stored);
           short = λ zs p e.
               let f = row-some least most (restAt s at) zs p e in
-              let g : _≡_ {A = Option (List ℤ × ℕ)} (some (h .found, q)) (some (zs, p)) = sym (ap closed (h .walked)) ∙ f .closes in
+              let g : _≡_ {A = Option (List ℤ × ℕ)} (some (h .found, q)) (some (zs, p)) = sym (ap lineEnded (h .walked)) ∙ f .closes in
               let i : _≡_ {A = List ℤ × ℕ} (h .found, q) (zs, p) = cc in
               let j : length (h .found) ≡ length zs = ap (λ (x : List ℤ × ℕ). length (x .0)) i in
               let c = h .counted in
@@ -70,10 +70,10 @@ module _ (least most : ℕ) (s : List ℕ) (at first : ℕ) (l m : List ℤ) whe
         }
 
   module _ {e : ℕ} (h : FullAfter most s at first l m e) where
-    here : closed (numbersWalk most (restAt s at)) ≡ closed (full (h .found) (restAt s e))
-    here = ap closed (h .walked)
+    here : lineEnded (numbersWalk most (restAt s at)) ≡ lineEnded (full (h .found) (restAt s e))
+    here = ap lineEnded (h .walked)
 
-    unclosed : closed (full (h .found) (restAt s e)) ≡ none → NoRow least most s at first l m
+    unclosed : lineEnded (full (h .found) (restAt s e)) ≡ none → NoRow least most s at first l m
     unclosed k =
         record {
           same = ap length (h .stored) ∙ length-sets l first (h .found);
@@ -96,7 +96,7 @@ module _ (least most : ℕ) (s : List ℕ) (at first : ℕ) (l m : List ℤ) whe
         }
 
     pub full-word : {p : ℕ} → WordMet s e p → NoRow least most s at first l m
-    full-word {p} w = unclosed (ap (λ (r : Rest). closed (full (h .found) r)) (w .rest))
+    full-word {p} w = unclosed (ap (λ (r : Rest). lineEnded (full (h .found) r)) (w .rest))
 
     pub full-bad : {p : ℕ} → BadMet s e p → NoRow least most s at first l m
     full-bad {p} b = let x = b .no-words in let y = b .bad-at in unclosed (rw (x, y) refl)
@@ -106,7 +106,7 @@ module _ (least most : ℕ) (s : List ℕ) (at first : ℕ) (l m : List ℤ) whe
         let c = h .counted in
         record {
           found = h .found;
-          said = some-row least most (restAt s at) (h .found) q (here ∙ ap (λ (r : Rest). closed (full (h .found) r)) (g .rest)) (omega arith);
+          said = some-row least most (restAt s at) (h .found) q (here ∙ ap (λ (r : Rest). lineEnded (full (h .found) r)) (g .rest)) (omega arith);
           counted = sym c;
           room = h .room;
           stored = h .stored;

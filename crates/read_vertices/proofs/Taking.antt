@@ -16,7 +16,7 @@ use Rattle.text.specs.Rest.{Rest, restAt}
 use Rattle.model.specs.Model.{VertexKind, geometric, texture, normal, parametric}
 use Rattle.model.specs.Parse.{defaults, vertexRecord}
 use Rattle.read_vertices.specs.Into.{rowSaid, WholeRow, NoRow}
-use Rattle.read_vertices.specs.Vertex.{fewestNumbers, mostNumbers, width, lead, layoutOf, recorded, vertexSaid, TakenVertex, NoVertex, blank}
+use Rattle.read_vertices.specs.Vertex.{fewestNumbers, mostNumbers, width, leadingNumbers, layoutOf, recorded, vertexSaid, TakenVertex, NoVertex, blank}
 use Rattle.read_vertices.specs.declared.Layout.{Layout}
 use Rattle.read_vertices.proofs.Walking.{before-stored}
 use Rattle.read_vertices.proofs.Closed.{nothing, closed-some, row-some}
@@ -43,7 +43,7 @@ blank-wide texture = refl
 blank-wide normal = refl
 blank-wide parametric = refl
 
-lead-most : (k : VertexKind) → lead k + mostNumbers k ≤ width k
+lead-most : (k : VertexKind) → leadingNumbers k + mostNumbers k ≤ width k
 lead-most geometric = omega arith
 lead-most texture = omega arith
 lead-most normal = omega arith
@@ -59,14 +59,14 @@ module _ (l : List ℤ) (first : ℕ) (zs : List ℤ) where
   plain : (k : VertexKind) → length zs ≤ length (blank (width k)) → sets (sets l first (blank (width k))) (first + 0) zs ≡ sets l first (zs ++ drop (length zs) (blank (width k)))
   plain k h = ap (λ (i : ℕ). sets (sets l first (blank (width k))) i zs) (add-zero first) ∙ sets-over l first (blank (width k)) zs h
 
-  row-plain : (k : VertexKind) → lead k ≡ 0 → length zs ≤ mostNumbers k → sets (sets l first (blank (width k))) (first + lead k) zs ≡ sets l first (vertexRecord k zs)
+  row-plain : (k : VertexKind) → leadingNumbers k ≡ 0 → length zs ≤ mostNumbers k → sets (sets l first (blank (width k))) (first + leadingNumbers k) zs ≡ sets l first (vertexRecord k zs)
   row-plain geometric e h = plain geometric h
   row-plain texture e h = plain texture h
   row-plain normal e h = plain normal h
   row-plain parametric e h = absurd (omega arith)
 
-  row-led : (k : VertexKind) → (lead k ≡ 0 → ⊥) → length zs ≤ mostNumbers k → (x : ℤ) → x ≡ pos (length zs)
-      → set (sets (sets l first (blank (width k))) (first + lead k) zs) first x ≡ sets l first (vertexRecord k zs)
+  row-led : (k : VertexKind) → (leadingNumbers k ≡ 0 → ⊥) → length zs ≤ mostNumbers k → (x : ℤ) → x ≡ pos (length zs)
+      → set (sets (sets l first (blank (width k))) (first + leadingNumbers k) zs) first x ≡ sets l first (vertexRecord k zs)
   row-led geometric e h x f = absurd (e refl)
   row-led texture e h x f = absurd (e refl)
   row-led normal e h x f = absurd (e refl)
@@ -137,13 +137,13 @@ module _ (k : VertexKind) (s : List ℕ) (at used : ℕ) (l : List ℤ) {h : Lay
       inside =
           let g = room in
           let n = lead-most k in
-          let w : h .width * used + h .lead ≡ width k * used + lead k = ap (λ (g : Layout). g .width * used + g .lead) is in
+          let w : h .width * used + h .lead ≡ width k * used + leadingNumbers k = ap (λ (g : Layout). g .width * used + g .lead) is in
           omega arith
 
       module _ {m : List ℤ} where
         pub no-vertex : NoRow (h .least) (h .most) s at (h .width * used + h .lead) u m → NoVertex k s at used l m
         no-vertex row =
-            let no : NoRow (fewestNumbers k) (mostNumbers k) s at (width k * used + lead k) u m =
+            let no : NoRow (fewestNumbers k) (mostNumbers k) s at (width k * used + leadingNumbers k) u m =
             subst (λ (g : Layout). NoRow (g .least) (g .most) s at (g .width * used + g .lead) u m) is row in
             record {
               same = no .same ∙ kept;
@@ -159,14 +159,14 @@ module _ (k : VertexKind) (s : List ℕ) (at used : ℕ) (l : List ℤ) {h : Lay
             }
 
         module _ {n q : ℕ} (row : WholeRow (h .least) (h .most) s at (h .width * used + h .lead) u m n q) where
-          whole : WholeRow (fewestNumbers k) (mostNumbers k) s at (width k * used + lead k) u m n q
+          whole : WholeRow (fewestNumbers k) (mostNumbers k) s at (width k * used + leadingNumbers k) u m n q
           whole = subst (λ (g : Layout). WholeRow (g .least) (g .most) s at (g .width * used + g .lead) u m n q) is row
 
           fewer : length (whole .found) ≤ mostNumbers k
           fewer = row-short k (restAt s at) (whole .found) q (whole .said)
 
-          placed : m ≡ sets (sets l (width k * used) (blank (width k))) (width k * used + lead k) (whole .found)
-          placed = whole .stored ∙ ap (λ (x : List ℤ). sets x (width k * used + lead k) (whole .found)) blanked
+          placed : m ≡ sets (sets l (width k * used) (blank (width k))) (width k * used + leadingNumbers k) (whole .found)
+          placed = whole .stored ∙ ap (λ (x : List ℤ). sets x (width k * used + leadingNumbers k) (whole .found)) blanked
 
           pub count-small : n ≤ 4
           count-small = let a = fewer in let b = whole .counted in let c = four k in omega arith
@@ -178,7 +178,7 @@ module _ (k : VertexKind) (s : List ℕ) (at used : ℕ) (l : List ℤ) {h : Lay
               four parametric = omega arith
 
           long : length m ≡ length l
-          long = ap length (whole .stored) ∙ length-sets u (width k * used + lead k) (whole .found) ∙ kept
+          long = ap length (whole .stored) ∙ length-sets u (width k * used + leadingNumbers k) (whole .found) ∙ kept
 
           pub still-long : (i : ℕ) (x : ℤ) → length (set m i x) ≡ length l
           still-long i x = length-set m i x ∙ long
@@ -196,7 +196,7 @@ module _ (k : VertexKind) (s : List ℕ) (at used : ℕ) (l : List ℤ) {h : Lay
 
           pub taken-plain : h .lead ≡ 0 → TakenVertex k s at used l m q
           taken-plain e =
-              let leads : lead k ≡ 0 = sym (ap (λ (g : Layout). g .lead) is) ∙ e in
+              let leads : leadingNumbers k ≡ 0 = sym (ap (λ (g : Layout). g .lead) is) ∙ e in
               record {
                 row = vertexRecord k (whole .found);
                 said = ap (recorded k) (whole .said);

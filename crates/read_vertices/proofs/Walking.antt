@@ -15,13 +15,13 @@ use Rattle.text.specs.Rest.{Rest, restAt, endOf, WordMet, EndMet, BadMet, after
 use Rattle.text.specs.declared.AfterBlanks.{AfterBlanks}
 use Rattle.text.specs.declared.AfterBlanks.the-variants.{Start, End, Bad}
 use Rattle.digits.specs.Said.{Said, says, wrong}
-use Rattle.digits.specs.Answers.{ended as endedAt}
+use Rattle.digits.specs.Answers.{endsAt as endedAt}
 use Rattle.decimals.specs.Number.{numberOf}
 use Rattle.word_numbers.specs.Answers.{saidNumber}
 use Rattle.word_numbers.specs.declared.Number.{Number}
 use Rattle.word_numbers.specs.declared.Number.the-variants.{Value, Malformed, OutOfRange}
 use Rattle.digits.proofs.Saids.{ended-says, ended-wrong}
-use Rattle.read_state.specs.Numbers.{Walk, ended, full, stuck, onto, onNumber, numbersWalk}
+use Rattle.read_state.specs.Numbers.{Walk, ended, full, stuck, ontoWalk, onNumber, numbersWalk}
 use Rattle.read_vertices.specs.Into.{EndedAfter, FullAfter, StoppedAfter}
 use Rattle.lists.proofs.Laws.{sets-append}
 
@@ -46,7 +46,7 @@ after-none (ended zs q) = refl
 after-none (full zs r) = refl
 after-none stuck = refl
 
-after-onto : (zs : List ℤ) (z : ℤ) (k : Walk) → after zs (onto z k) ≡ after (zs ++ z ∷ []) k
+after-onto : (zs : List ℤ) (z : ℤ) (k : Walk) → after zs (ontoWalk z k) ≡ after (zs ++ z ∷ []) k
 after-onto zs z (ended ys q) = ap (λ (l : List ℤ). ended l q) (sym (append-assoc zs (z ∷ []) ys))
 after-onto zs z (full ys r) = ap (λ (l : List ℤ). full l r) (sym (append-assoc zs (z ∷ []) ys))
 after-onto zs z stuck = refl
@@ -180,7 +180,7 @@ module _ (most : ℕ) (s : List ℕ) (at first : ℕ) (l : List ℤ) (i count : 
         on =
             w .rest
             ∙ ap (after (w .done)) (met ∙ ap (λ (x : Said ℤ). onNumber x (numbersWalk (most - (count + 1)) (restAt s (endOf s p)))) (v .0))
-            ∙ ap (λ (j : ℕ). after (w .done) (onto z (numbersWalk (most - (count + 1)) (restAt s j)))) (sym (v .1))
+            ∙ ap (λ (j : ℕ). after (w .done) (ontoWalk z (numbersWalk (most - (count + 1)) (restAt s j)))) (sym (v .1))
             ∙ after-onto (w .done) z (numbersWalk (most - (count + 1)) (restAt s e))
 
         longer : length (w .done ++ z ∷ []) ≡ count + 1

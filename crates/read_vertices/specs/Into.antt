@@ -52,17 +52,17 @@ closing zs [] none q = some (zs, q)
 closing zs [] (some p) q = none
 closing zs (w ∷ ws) b q = none
 
-abbrev pub closed : Walk → Option (List ℤ × ℕ)
-closed (ended zs q) = some (zs, q)
-closed (full zs r) = closing zs (r .words) (r .bad) (r .next)
-closed stuck = none
+abbrev pub lineEnded : Walk → Option (List ℤ × ℕ)
+lineEnded (ended zs q) = some (zs, q)
+lineEnded (full zs r) = closing zs (r .words) (r .bad) (r .next)
+lineEnded stuck = none
 
 abbrev pub atLeast : ℕ → Option (List ℤ × ℕ) → Option (List ℤ × ℕ)
 atLeast n none = none
 atLeast n (some p) = cond (leb n (length (p .0))) (some p) none
 
 abbrev pub rowSaid : ℕ → ℕ → Rest → Option (List ℤ × ℕ)
-rowSaid least most r = atLeast least (closed (numbersWalk most r))
+rowSaid least most r = atLeast least (lineEnded (numbersWalk most r))
 
 pub record WholeRow (least most : ℕ) (s : List ℕ) (at first : ℕ) (l m : List ℤ) (count next : ℕ) : Type 0 where
   pub found : List ℤ

@@ -33,14 +33,14 @@ width normal = vnWidth
 width parametric = vpWidth
 
 -- "vp the count given and u v w": how many numbers of the record stand before those of the line
-abbrev pub lead : VertexKind → ℕ
-lead geometric = 0
-lead texture = 0
-lead normal = 0
-lead parametric = 1
+abbrev pub leadingNumbers : VertexKind → ℕ
+leadingNumbers geometric = 0
+leadingNumbers texture = 0
+leadingNumbers normal = 0
+leadingNumbers parametric = 1
 
 abbrev pub layoutOf : VertexKind → Layout
-layoutOf k = record { least = fewestNumbers k; most = mostNumbers k; width = width k; lead = lead k }
+layoutOf k = record { least = fewestNumbers k; most = mostNumbers k; width = width k; lead = leadingNumbers k }
 
 -- what the code stores before the line's numbers, in a record of width n: what is absent is 0, and the last of four 1.000000
 abbrev pub blank : ℕ → List ℤ

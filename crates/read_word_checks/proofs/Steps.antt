@@ -8,7 +8,7 @@ use lib.IntN.{ℤ}
 use Rattle.text.specs.Words.{Word, wordOf}
 use Rattle.text.specs.Rest.{restAt, wordAt, endOf}
 use Rattle.digits.specs.Said.{Said, wrong}
-use Rattle.digits.specs.Answers.{ended}
+use Rattle.digits.specs.Answers.{endsAt}
 use Rattle.references.specs.Corner.{Corner, cornerOf}
 use Rattle.references.specs.Answers.{saidCorner}
 use Rattle.references.specs.declared.corner.CornerWord.{CornerWord}
@@ -37,7 +37,7 @@ owed-not b n p r h = rw h refl
 
 -- ---- the first corner, and the others
 module _ (n : parse.Seen) (t : List ℤ) (a b : Bool) (s : List ℕ) (at : ℕ) (r : CornerWord)
-    (h : saidCorner r ≡ ended (cornerOf (n .counts) (record { vt = a; vn = b }) (wordOf (drop at s))) (endOf s at)) where
+    (h : saidCorner r ≡ endsAt (cornerOf (n .counts) (record { vt = a; vn = b }) (wordOf (drop at s))) (endOf s at)) where
   pub pattern-end : {v vt vn z : ℕ} → r ≡ corner.Of v vt vn z → z ≡ endOf s at
   pattern-end {v} {vt} {vn} {z} k =
       (ended-says (cornerOf (n .counts) (record { vt = a; vn = b }) (wordOf (drop at s))) (record { v = v; vt = vt; vn = vn }) (endOf s at) z (ap saidCorner (sym k) ∙ h)) .1

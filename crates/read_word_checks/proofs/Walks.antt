@@ -18,7 +18,7 @@ use Rattle.read_word_checks.specs.declared.word.WordCheck.{WordCheck}
 use Rattle.read_word_checks.specs.declared.word.WordCheck.the-variants.{Valid, Fault}
 use Rattle.read_word_checks.specs.declared.tests.Tests.{Tests}
 use Rattle.read_word_checks.specs.declared.Refusal.the-variants.{Refused, Nothing}
-use Rattle.read_word_checks.specs.Faults.{checkOf, saidBy, testBy, onCheck, faultIn}
+use Rattle.read_word_checks.specs.Faults.{checkOf, testedBy, testBy, onCheck, faultIn}
 
 -- ---- no word is left
 module _ (s : List ℕ) (i : ℕ) (r : AfterBlanks) (m : afterBlanksIs s i r) where
@@ -77,11 +77,11 @@ module _ (n : parse.Seen) (t : List ℤ) (f : Tests) (m : ℕ) where
 
   module _ (s : List ℕ) (at i index : ℕ) (k : Faulting s at i index) where
     word-next : {p : ℕ} → WordMet s i p
-        → onCheck (checkOf (saidBy n t (testBy f m index) (wordAt s p))) p (faultIn n t f m (suc index) ((restAt s (endOf s p)) .words))
+        → onCheck (checkOf (testedBy n t (testBy f m index) (wordAt s p))) p (faultIn n t f m (suc index) ((restAt s (endOf s p)) .words))
         ≡ faultIn n t f m 0 ((restAt s at) .words)
     word-next {p} w = sym (ap (λ (r : Rest). faultIn n t f m index (r .words)) (w .rest)) ∙ k .rest
 
-    pub fault-turn : {p e : ℕ} → WordMet s i p → e ≡ endOf s p → Valid ≡ checkOf (saidBy n t (testBy f m index) (wordAt s p)) → (Faulting s at e (index + 1)) × (i < e)
+    pub fault-turn : {p e : ℕ} → WordMet s i p → e ≡ endOf s p → Valid ≡ checkOf (testedBy n t (testBy f m index) (wordAt s p)) → (Faulting s at e (index + 1)) × (i < e)
     fault-turn {p} {e} w d h =
         let x = w .from in
         let y = w .more in
@@ -96,7 +96,7 @@ module _ (n : parse.Seen) (t : List ℤ) (f : Tests) (m : ℕ) where
           omega arith,
         )
 
-    pub fault-wrong : {p a : ℕ} → WordMet s i p → Fault a ≡ checkOf (saidBy n t (testBy f m index) (wordAt s p)) → Refused a p ≡ faultIn n t f m 0 ((restAt s at) .words)
+    pub fault-wrong : {p a : ℕ} → WordMet s i p → Fault a ≡ checkOf (testedBy n t (testBy f m index) (wordAt s p)) → Refused a p ≡ faultIn n t f m 0 ((restAt s at) .words)
     fault-wrong {p} w h = ap (λ (y : WordCheck). onCheck y p (faultIn n t f m (suc index) ((restAt s (endOf s p)) .words))) h ∙ word-next w
 
     pub fault-none : (restAt s i) .words ≡ [] → Nothing ≡ faultIn n t f m 0 ((restAt s at) .words)

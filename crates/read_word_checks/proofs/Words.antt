@@ -11,7 +11,7 @@ use native.Mathlib.Omega.{arith}
 use borrow.Author.Tests.{ltb-true, ltb-false, le-leb, lt-leb}
 use Rattle.text.specs.Words.{Word, wordOf}
 use Rattle.digits.specs.Said.{Said, says, wrong}
-use Rattle.digits.specs.Answers.{ended}
+use Rattle.digits.specs.Answers.{endsAt}
 use Rattle.references.specs.Corner.{Corner, agree}
 use Rattle.references.specs.Answers.{saidCorner, saidReference}
 use Rattle.references.specs.declared.corner.CornerWord.{CornerWord}
@@ -27,17 +27,17 @@ use Rattle.read_word_checks.specs.declared.word.WordCheck.{WordCheck}
 use Rattle.read_word_checks.specs.declared.word.WordCheck.the-variants.{Valid, Fault}
 use Rattle.statements.specs.declared.rules.WordForm.{WordForm}
 use Rattle.read_word_checks.specs.declared.tests.Test.{Test}
-use Rattle.read_word_checks.specs.Faults.{checkOf, alikeSaid, givenBy, wideSaid, saidBy}
+use Rattle.read_word_checks.specs.Faults.{checkOf, alikeSaid, givenBy, wideSaid, testedBy}
 
-heard-ended : {A : Type 0} (x : Said A) (e : ℕ) → checkOf (ended x e) ≡ checkOf x
+heard-ended : {A : Type 0} (x : Said A) (e : ℕ) → checkOf (endsAt x e) ≡ checkOf x
 heard-ended (says a) e = refl
 heard-ended (wrong n) e = refl
 
-pub told : {A R : Type 0} (f : R → Said (A × ℕ)) (x : Said A) (e : ℕ) {r a : R} → r ≡ a → f r ≡ ended x e → checkOf (f a) ≡ checkOf x
+pub told : {A R : Type 0} (f : R → Said (A × ℕ)) (x : Said A) (e : ℕ) {r a : R} → r ≡ a → f r ≡ endsAt x e → checkOf (f a) ≡ checkOf x
 told {R = R} f x e {r} {a} k h = ap (λ (y : R). checkOf (f y)) (sym k) ∙ ap checkOf h ∙ heard-ended x e
 
 -- ---- 9
-module _ (bare flat : Bool) (x : Said Corner) (e : ℕ) (r : CornerWord) (h : saidCorner r ≡ ended x e) where
+module _ (bare flat : Bool) (x : Said Corner) (e : ℕ) (r : CornerWord) (h : saidCorner r ≡ endsAt x e) where
   module _ {v vt vn z : ℕ} (k : r ≡ corner.Of v vt vn z) where
     found : x ≡ says (record { v = v; vt = vt; vn = vn })
     found = (ended-says x (record { v = v; vt = vt; vn = vn }) e z (ap saidCorner (sym k) ∙ h)) .0
@@ -55,7 +55,7 @@ module _ (bare flat : Bool) (x : Said Corner) (e : ℕ) (r : CornerWord) (h : sa
   alike-wrong n {a} k w = let f : x ≡ wrong n = ended-wrong x n e (sym w ∙ ap saidCorner (sym k) ∙ h) in rw f refl
 
 -- ---- 12
-module _ (t : List ℤ) (x : Said ℕ) (e : ℕ) (r : Reference) (h : saidReference r ≡ ended x e) where
+module _ (t : List ℤ) (x : Said ℕ) (e : ℕ) (r : Reference) (h : saidReference r ≡ endsAt x e) where
   pub wide-is : (b : Bool) {k z : ℕ} → r ≡ reference.Item k z → b ≡ givenBy t k → cond b Valid (Fault 12) ≡ checkOf (wideSaid t x)
   wide-is true {k} {z} i b = let f : x ≡ says k = (ended-says x k e z (ap saidReference (sym i) ∙ h)) .0 in rw (f, ← b) refl
   wide-is false {k} {z} i b = let f : x ≡ says k = (ended-says x k e z (ap saidReference (sym i) ∙ h)) .0 in rw (f, ← b) refl
@@ -80,7 +80,7 @@ heard-on g (wrong n) = refl
 pub by-form : (n : parse.Seen) (w : Word) {f g : WordForm} {h : WordCheck} → f ≡ g → h ≡ checkOf (parse.saidOf n g w) → h ≡ checkOf (parse.saidOf n f w)
 by-form n w e k = rw e k
 
-pub by-test : (n : parse.Seen) (t : List ℤ) (w : Word) {f g : Test} {h : WordCheck} → f ≡ g → h ≡ checkOf (saidBy n t g w) → h ≡ checkOf (saidBy n t f w)
+pub by-test : (n : parse.Seen) (t : List ℤ) (w : Word) {f g : Test} {h : WordCheck} → f ≡ g → h ≡ checkOf (testedBy n t g w) → h ≡ checkOf (testedBy n t f w)
 by-test n t w e k = rw e k
 
 pub by-argument : (s : List ℕ) (at : ℕ) (f : Argument → WordCheck) {a : Argument} {h : WordCheck} → a ≡ argumentAt s at → h ≡ f a → h ≡ f (argumentOf (wordOf (drop at s)))

@@ -51,10 +51,10 @@ wideSaid t (says k) = cond (givenBy t k) (says (parse.whole k)) (wrong 12)
 wideSaid t (wrong m) = wrong m
 
 -- the word w by the test
-abbrev pub saidBy : parse.Seen → List ℤ → Test → Word → Said parse.Value
-saidBy n t (test.Form f) w = parse.saidOf n f w
-saidBy n t (test.Alike a b bare flat) w = alikeSaid bare flat (cornerOf (n .counts) (record { vt = a; vn = b }) (w .bytes))
-saidBy n t test.Wide w = wideSaid t (referenceOf (n .vp) (w .bytes))
+abbrev pub testedBy : parse.Seen → List ℤ → Test → Word → Said parse.Value
+testedBy n t (test.Form f) w = parse.saidOf n f w
+testedBy n t (test.Alike a b bare flat) w = alikeSaid bare flat (cornerOf (n .counts) (record { vt = a; vn = b }) (w .bytes))
+testedBy n t test.Wide w = wideSaid t (referenceOf (n .vp) (w .bytes))
 
 -- the test of word i of n
 abbrev pub testBy : Tests → ℕ → ℕ → Test
@@ -69,7 +69,7 @@ onCheck (Fault n) p b = Refused n p
 -- the first of the words, from the i-th of m on, that fails its test
 abbrev pub faultIn : parse.Seen → List ℤ → Tests → ℕ → ℕ → List Word → Refusal
 faultIn n t f m i [] = Nothing
-faultIn n t f m i (w ∷ ws) = onCheck (checkOf (saidBy n t (testBy f m i) w)) (w .place) (faultIn n t f m (suc i) ws)
+faultIn n t f m i (w ∷ ws) = onCheck (checkOf (testedBy n t (testBy f m i) w)) (w .place) (faultIn n t f m (suc i) ws)
 
 -- 9, of words that are corners
 abbrev pub alikeTests : Bool → Bool → Corner → Tests

@@ -21,7 +21,7 @@ ghost use Rattle.references.specs.Corner.{cornerOf, agree};
 ghost use Rattle.digits.specs.Degree.{degreeOf, smoothingOf, nameOf};
 ghost use Rattle.keywords.specs.Lookup.{argumentTable};
 ghost use Rattle.model.specs.Parse.{saidOf, directionOf, directionSaid, typeSaid, rationalSaid};
-ghost use Rattle.read_word_checks.specs.Faults.{checkOf, countsBy, seenBy, alikeSaid, givenBy, wideSaid, saidBy};
+ghost use Rattle.read_word_checks.specs.Faults.{checkOf, countsBy, seenBy, alikeSaid, givenBy, wideSaid, testedBy};
 
 pub enum WordCheck {
     Valid,
@@ -284,7 +284,7 @@ pub fn word_fault(
 ) -> WordCheck
     requires { ⌜ at ≤ length (now text) ⌝ }
     requires { ⌜ now «argument_table» ≡ argumentTable ⌝ }
-    ensures { λ r. ⌜ r ≡ checkOf (saidBy (seenBy seen) (now (vp .entry)) test (wordAt (now (text .entry)) at)) ⌝ }
+    ensures { λ r. ⌜ r ≡ checkOf (testedBy (seenBy seen) (now (vp .entry)) test (wordAt (now (text .entry)) at)) ⌝ }
 {
     match test {
         Test::Form(form) => form_fault(text, at, form, seen, argument_table),

@@ -13,7 +13,7 @@ use Rattle.lists.proofs.Tests.{and-both, and-left, and-right, test, never}
 use Rattle.text.specs.Words.{wordOf}
 use Rattle.text.specs.Rest.{endOf}
 use Rattle.digits.specs.Said.{says}
-use Rattle.digits.specs.Answers.{ended}
+use Rattle.digits.specs.Answers.{endsAt}
 use Rattle.digits.specs.Digits.{isDigit, natOf, negative, unminus}
 use Rattle.references.specs.Reference.{item}
 use Rattle.references.specs.Corner.{Counts, Parts, split, cornerOf}
@@ -85,7 +85,7 @@ ahead {count} {number = number} f e t =
 
 -- ---- the third part
 pub normal-end : {normal : Bool} {nvn v vt : ℕ} {s : List ℕ} {at number end : ℕ} → AheadRead nvn s at number end → normal ≡ true → {b : ℕ} → b ≡ first (drop end s) → b ≤ 32
-    → says (record { v = v; vt = vt; vn = number }, end) ≡ ended (third normal nvn true v vt (split (wordOf (drop at s)))) (endOf s at)
+    → says (record { v = v; vt = vt; vn = number }, end) ≡ endsAt (third normal nvn true v vt (split (wordOf (drop at s)))) (endOf s at)
 normal-end {normal} {nvn} {v} {vt} {s} {at} {number} {end} a h {b} e l =
     let some = a .some in
     normal-of normal nvn true v vt s at (part a (low-stops (drop end s) b e l)) h
@@ -107,21 +107,21 @@ module _ {nvt : ℕ} {s : List ℕ} {at number end : ℕ} (q : NoneRead s at num
     both a = sym (and-both (le-leb 1 v k) (le-leb 1 number (a .some)))
 
     pub second-slash : b ≡ 47
-        → ended (third normal nvn true v number (split (wordOf (drop (end + 1) s)))) (endOf s (end + 1))
-        ≡ ended (second nvt nvn texture normal v (split (wordOf (drop at s)))) (endOf s at)
+        → endsAt (third normal nvn true v number (split (wordOf (drop (end + 1) s)))) (endOf s (end + 1))
+        ≡ endsAt (second nvt nvn texture normal v (split (wordOf (drop at s)))) (endOf s at)
     second-slash g =
         ⊎-elim
         (λ (n : NoneRead s at number end).
-        ap₂ (λ (m i : ℕ). ended (third normal nvn true v m (split (wordOf (drop (i + 1) s)))) (endOf s (i + 1))) (n .number-is) (n .end-is)
+        ap₂ (λ (m i : ℕ). endsAt (third normal nvn true v m (split (wordOf (drop (i + 1) s)))) (endOf s (i + 1))) (n .number-is) (n .end-is)
         ∙ texture-slash nvt nvn texture normal v s at refl (n .slash)
-        (ended (third normal nvn true v 0 (split (wordOf (drop (at + 1) s)))) (endOf s (at + 1))) true (sym (le-leb 1 v k)) refl)
+        (endsAt (third normal nvn true v 0 (split (wordOf (drop (at + 1) s)))) (endOf s (at + 1))) true (sym (le-leb 1 v k)) refl)
         (λ (a : AheadRead nvt s at number end).
         texture-normal nvt nvn texture normal v s at refl (no-slash a) (part a (slash-stops (drop end s) b e g)) e h g
-        (ended (third normal nvn true v number (split (wordOf (drop (end + 1) s)))) (endOf s (end + 1))) true (both a) refl)
+        (endsAt (third normal nvn true v number (split (wordOf (drop (end + 1) s)))) (endOf s (end + 1))) true (both a) refl)
         q
 
     pub second-end : b ≤ 32
-        → says (record { v = v; vt = number; vn = 0 }, end) ≡ ended (second nvt nvn texture normal v (split (wordOf (drop at s)))) (endOf s at)
+        → says (record { v = v; vt = number; vn = 0 }, end) ≡ endsAt (second nvt nvn texture normal v (split (wordOf (drop at s)))) (endOf s at)
     second-end l =
         ⊎-elim
         (λ (n : NoneRead s at number end).
@@ -134,12 +134,12 @@ module _ {nvt : ℕ} {s : List ℕ} {at number end : ℕ} (q : NoneRead s at num
 -- ---- the whole corner
 module _ (c : Counts) (k : Parts) {s : List ℕ} {at number end : ℕ} (a : AheadRead (c .v) s at number end) {b : ℕ} (e : b ≡ first (drop end s)) where
   pub first-slash : b ≡ 47
-      → ended (second (c .vt) (c .vn) (k .vt) (k .vn) number (split (wordOf (drop (end + 1) s)))) (endOf s (end + 1)) ≡ ended (cornerOf c k (wordOf (drop at s))) (endOf s at)
+      → endsAt (second (c .vt) (c .vn) (k .vt) (k .vn) number (split (wordOf (drop (end + 1) s)))) (endOf s (end + 1)) ≡ endsAt (cornerOf c k (wordOf (drop at s))) (endOf s at)
   first-slash g =
       corner-slash c k s at (part a (slash-stops (drop end s) b e g)) e g
-      (ended (second (c .vt) (c .vn) (k .vt) (k .vn) number (split (wordOf (drop (end + 1) s)))) (endOf s (end + 1))) refl
+      (endsAt (second (c .vt) (c .vn) (k .vt) (k .vn) number (split (wordOf (drop (end + 1) s)))) (endOf s (end + 1))) refl
 
-  pub first-end : b ≤ 32 → says (record { v = number; vt = 0; vn = 0 }, end) ≡ ended (cornerOf c k (wordOf (drop at s))) (endOf s at)
+  pub first-end : b ≤ 32 → says (record { v = number; vt = 0; vn = 0 }, end) ≡ endsAt (cornerOf c k (wordOf (drop at s))) (endOf s at)
   first-end l =
       corner-end c k s at (part a (low-stops (drop end s) b e l)) e (low-no-word b l)
       (says (record { v = number; vt = 0; vn = 0 }, end)) true (sym (le-leb 1 number (a .some))) refl

@@ -8,7 +8,7 @@ use lib.IntN.{pos}
 use Rattle.spellings.specs.Rows.{bytes}
 use Rattle.keywords.specs.Arguments.{arguments, argumentBytes}
 use Rattle.digits.specs.Said.{Said, says, wrong}
-use Rattle.digits.specs.Digits.{whole}
+use Rattle.digits.specs.Digits.{isWhole}
 use Rattle.digits.specs.Degree.{degreeOf, smoothingOf, nameOf}
 use Rattle.decimals.specs.Number.{numberOf, decimal, numerator, denominator, nearest}
 use Rattle.references.specs.Reference.{isReference, refer, referenceOf}
@@ -46,5 +46,5 @@ examples :
     × (smoothingOf (bytes "off") ≡ says 0)
     × (nameOf (replicate 256 97) ≡ wrong 6)
     × (writtenCorner (corner 12 0 3) ≡ bytes "12//3")
-unfolding numberOf decimal numerator denominator nearest isReference refer referenceOf whole cornerOf degreeOf smoothingOf arguments argumentBytes nameOf writtenWhole writtenMillionths
+unfolding numberOf decimal numerator denominator nearest isReference refer referenceOf isWhole cornerOf degreeOf smoothingOf arguments argumentBytes nameOf writtenWhole writtenMillionths
 examples = (refl, refl, refl, refl, refl, refl, refl, refl, refl, refl, refl, refl)

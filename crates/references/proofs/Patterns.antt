@@ -13,8 +13,8 @@ use Rattle.text.specs.Bytes.{isWord}
 use Rattle.text.specs.Words.{wordOf}
 use Rattle.text.specs.Rest.{endOf}
 use Rattle.digits.specs.Said.{Said, says, wrong, must}
-use Rattle.digits.specs.Answers.{ended}
-use Rattle.digits.specs.Digits.{whole}
+use Rattle.digits.specs.Answers.{endsAt}
+use Rattle.digits.specs.Digits.{isWhole}
 use Rattle.references.specs.Reference.{isReference, refer}
 use Rattle.references.specs.Corner.{Corner, Counts, Parts, split, formed, patterned, cornerOf}
 use Rattle.digits.specs.Straight.{first, isEmpty}
@@ -41,10 +41,10 @@ module _ (normal : Bool) (nvn : ℕ) (there : Bool) (v vt : ℕ) where
 
   module _ (s : List ℕ) (at : ℕ) where
     abbrev Says : Said (Corner × ℕ) → Type 0
-    Says r = r ≡ ended (third normal nvn there v vt (split (wordOf (drop at s)))) (endOf s at)
+    Says r = r ≡ endsAt (third normal nvn there v vt (split (wordOf (drop at s)))) (endOf s at)
 
     none : (normal && isReference (piece (drop at s))) ≡ false → Says (wrong 6)
-    none h = sym (ap (λ (x : Said Corner). ended x (endOf s at)) (ap (third normal nvn there v vt) (split-word (drop at s)) ∙ third-none (piece (drop at s)) (others (drop at s)) h))
+    none h = sym (ap (λ (x : Said Corner). endsAt x (endOf s at)) (ap (third normal nvn there v vt) (split-word (drop at s)) ∙ third-none (piece (drop at s)) (others (drop at s)) h))
 
     pub normal-none : normal ≡ false → Says (wrong 6)
     normal-none h = none (and-first (isReference (piece (drop at s))) h)
@@ -58,7 +58,7 @@ module _ (normal : Bool) (nvn : ℕ) (there : Bool) (v vt : ℕ) where
           ⊎-elim
           (λ (t : eqb (first (drop end s)) 47 ≡ true).
           let q = slashed p (eqb-true (first (drop end s)) 47 t) in
-          sym (ap (λ (x : List (List ℕ)). ended (third normal nvn there v vt x) (endOf s at)) (q .parts ∙ ap (λ (x : List (List ℕ)). piece (drop at s) ∷ x) (split-word (drop (end + 1) s)))))
+          sym (ap (λ (x : List (List ℕ)). endsAt (third normal nvn there v vt x) (endOf s at)) (q .parts ∙ ap (λ (x : List (List ℕ)). piece (drop at s) ∷ x) (split-word (drop (end + 1) s)))))
           (λ (t : eqb (first (drop end s)) 47 ≡ false).
           none (and-second normal (other p (starts-word (drop end s) o) (λ h. never (sym t ∙ eq-eqb (first (drop end s)) 47 h)))))
           (test (eqb (first (drop end s)) 47))
@@ -74,13 +74,13 @@ module _ (normal : Bool) (nvn : ℕ) (there : Bool) (v vt : ℕ) where
         pub normal-missing : number ≡ 0 → Says (wrong 8)
         normal-missing z =
             let e : (there && leb 1 number) ≡ false = rw z (and-second there refl) in
-            sym (ap (λ (x : Said Corner). ended x (endOf s at)) (found ∙ ap (λ (x : Bool). must x 8 (says (record { v = v; vt = vt; vn = number }))) e))
+            sym (ap (λ (x : Said Corner). endsAt x (endOf s at)) (found ∙ ap (λ (x : Bool). must x 8 (says (record { v = v; vt = vt; vn = number }))) e))
 
-        pub normal-of : (number ≡ 0 → ⊥) → (r : Said (Corner × ℕ)) → r ≡ ended (must there 8 (says (record { v = v; vt = vt; vn = number }))) end → Says r
+        pub normal-of : (number ≡ 0 → ⊥) → (r : Said (Corner × ℕ)) → r ≡ endsAt (must there 8 (says (record { v = v; vt = vt; vn = number }))) end → Says r
         normal-of z r q =
             let e : (there && leb 1 number) ≡ there = rw (le-leb 1 number (omega arith)) (and-true there) in
             q
-            ∙ ap₂ ended
+            ∙ ap₂ endsAt
             (sym (found ∙ ap (λ (x : Bool). must x 8 (says (record { v = v; vt = vt; vn = number }))) e))
             (done p (starts-none (drop end s) o) .ends)
 
@@ -96,23 +96,23 @@ module _ (nvt nvn : ℕ) (texture normal : Bool) (v : ℕ) where
   second-third [] d ps h k = never (nothing ∙ k)
     where
       nothing : false ≡ isReference []
-      nothing = unfold isReference whole in refl
+      nothing = unfold isReference isWhole in refl
   second-third (x ∷ b) d ps h k = rw (h, k) refl
 
   module _ (s : List ℕ) (at : ℕ) where
     abbrev SaysSecond : Said (Corner × ℕ) → Type 0
-    SaysSecond r = r ≡ ended (second nvt nvn texture normal v (split (wordOf (drop at s)))) (endOf s at)
+    SaysSecond r = r ≡ endsAt (second nvt nvn texture normal v (split (wordOf (drop at s)))) (endOf s at)
 
     lone : (first (drop at s) ≡ 47 → ⊥) → (l : List ℕ) → l ≡ drop at s → piece l ≡ [] → others l ≡ []
     lone n l e h = rw h (rw (ne-eqb (first l) 47 (λ q. n (ap first (sym e) ∙ q))) refl)
 
     gone : (first (drop at s) ≡ 47 → ⊥) → (texture && isReference (piece (drop at s))) ≡ false → SaysSecond (wrong 6)
     gone n h =
-        sym (ap (λ (x : Said Corner). ended x (endOf s at))
+        sym (ap (λ (x : Said Corner). endsAt x (endOf s at))
         (ap (second nvt nvn texture normal v) (split-word (drop at s)) ∙ second-none (piece (drop at s)) (others (drop at s)) (lone n (drop at s) refl) h))
 
     pub texture-slash : {b : ℕ} → b ≡ first (drop at s) → b ≡ 47 → (r : Said (Corner × ℕ)) (there : Bool) → there ≡ leb 1 v
-        → r ≡ ended (third normal nvn there v 0 (split (wordOf (drop (at + 1) s)))) (endOf s (at + 1)) → SaysSecond r
+        → r ≡ endsAt (third normal nvn there v 0 (split (wordOf (drop (at + 1) s)))) (endOf s (at + 1)) → SaysSecond r
     texture-slash e h r there j q =
         let f : first (drop at s) ≡ 47 = sym e ∙ h in
         let w : wordOf (drop at s) ≡ 47 ∷ wordOf (drop (at + 1) s) = byte-word (drop at s) 47 f refl refl ∙ ap (λ (l : List ℕ). 47 ∷ wordOf l) (sym (next-at s at)) in
@@ -121,7 +121,7 @@ module _ (nvt nvn : ℕ) (texture normal : Bool) (v : ℕ) where
         let y = split-word (drop (at + 1) s) in
         let d : List ℕ = drop (at + 1) s in
         q
-        ∙ ap₂ ended
+        ∙ ap₂ endsAt
         (ap₂ (λ (t : Bool) (x : List (List ℕ)). third normal nvn t v 0 x) j y
         ∙ sym (ap (λ (x : List ℕ). second nvt nvn texture normal v (split x)) w ∙ ap (λ (x : List (List ℕ)). second nvt nvn texture normal v ([] ∷ x)) y))
         n
@@ -148,12 +148,12 @@ module _ (nvt nvn : ℕ) (texture normal : Bool) (v : ℕ) where
 
         module _ (h : texture ≡ true) where
           pub texture-normal : c ≡ 47 → (r : Said (Corner × ℕ)) (there : Bool) → there ≡ (leb 1 v && leb 1 number)
-              → r ≡ ended (third normal nvn there v number (split (wordOf (drop (end + 1) s)))) (endOf s (end + 1)) → SaysSecond r
+              → r ≡ endsAt (third normal nvn there v number (split (wordOf (drop (end + 1) s)))) (endOf s (end + 1)) → SaysSecond r
           texture-normal g r there j q =
               let z = slashed p (sym f ∙ g) in
               let y = split-word (drop (end + 1) s) in
               q
-              ∙ ap₂ ended
+              ∙ ap₂ endsAt
               (ap₂ (λ (t : Bool) (x : List (List ℕ)). third normal nvn t v number x) j y
               ∙ ap (λ (m : ℕ). third normal nvn (leb 1 v && leb 1 m) v m (piece (drop (end + 1) s) ∷ others (drop (end + 1) s))) (sym (z .is))
               ∙ sym (ap (second nvt nvn texture normal v) (z .parts ∙ ap (λ (x : List (List ℕ)). piece (drop at s) ∷ x) y)
@@ -161,11 +161,11 @@ module _ (nvt nvn : ℕ) (texture normal : Bool) (v : ℕ) where
               (z .ends)
 
           pub texture-end : isWord c ≡ false → (r : Said (Corner × ℕ)) (there : Bool) → there ≡ (leb 1 v && leb 1 number)
-              → r ≡ ended (must there 8 (says (record { v = v; vt = number; vn = 0 }))) end → SaysSecond r
+              → r ≡ endsAt (must there 8 (says (record { v = v; vt = number; vn = 0 }))) end → SaysSecond r
           texture-end w r there j q =
               let z = done p (ap isWord (sym f) ∙ w) in
               q
-              ∙ ap₂ ended
+              ∙ ap₂ endsAt
               (ap (λ (t : Bool). must t 8 (says (record { v = v; vt = number; vn = 0 }))) j
               ∙ ap (λ (m : ℕ). must (leb 1 v && leb 1 m) 8 (says (record { v = v; vt = m; vn = 0 }))) (sym (z .is))
               ∙ sym (ap (second nvt nvn texture normal v) (z .parts) ∙ rw (h, z .form) refl))
@@ -198,12 +198,12 @@ module _ (c : Counts) (k : Parts) where
 
   module _ (s : List ℕ) (at : ℕ) where
     abbrev SaysCorner : Said (Corner × ℕ) → Type 0
-    SaysCorner r = r ≡ ended (cornerOf c k (wordOf (drop at s))) (endOf s at)
+    SaysCorner r = r ≡ endsAt (cornerOf c k (wordOf (drop at s))) (endOf s at)
 
     lost : isReference (piece (drop at s)) ≡ false → SaysCorner (wrong 6)
     unfolding cornerOf
     lost h =
-        sym (ap (λ (x : Said Corner). ended x (endOf s at)) (ap (patterned c k) (split-word (drop at s)) ∙ first-none (piece (drop at s)) (others (drop at s)) h))
+        sym (ap (λ (x : Said Corner). endsAt x (endOf s at)) (ap (patterned c k) (split-word (drop at s)) ∙ first-none (piece (drop at s)) (others (drop at s)) h))
 
     pub corner-bad : (leb 1 (length (places (drop at s))) && leb (length (places (drop at s))) 10) ≡ false → SaysCorner (wrong 6)
     corner-bad h = lost (no-part s at h)
@@ -216,24 +216,24 @@ module _ (c : Counts) (k : Parts) where
       corner-in g = slashed p (sym f ∙ g) .fits
 
       pub corner-slash : b ≡ 47 → (r : Said (Corner × ℕ))
-          → r ≡ ended (second (c .vt) (c .vn) (k .vt) (k .vn) number (split (wordOf (drop (end + 1) s)))) (endOf s (end + 1)) → SaysCorner r
+          → r ≡ endsAt (second (c .vt) (c .vn) (k .vt) (k .vn) number (split (wordOf (drop (end + 1) s)))) (endOf s (end + 1)) → SaysCorner r
       unfolding cornerOf
       corner-slash g r q =
           let z = slashed p (sym f ∙ g) in
           let y = split-word (drop (end + 1) s) in
           q
-          ∙ ap₂ ended
+          ∙ ap₂ endsAt
           (ap₂ (λ (m : ℕ) (x : List (List ℕ)). second (c .vt) (c .vn) (k .vt) (k .vn) m x) (sym (z .is)) y
           ∙ sym (ap (patterned c k) (z .parts ∙ ap (λ (x : List (List ℕ)). piece (drop at s) ∷ x) y)
           ∙ first-second (piece (drop at s)) (piece (drop (end + 1) s)) (others (drop (end + 1) s)) (z .form)))
           (z .ends)
 
-      pub corner-end : isWord b ≡ false → (r : Said (Corner × ℕ)) (there : Bool) → there ≡ leb 1 number → r ≡ ended (must there 8 (says (record { v = number; vt = 0; vn = 0 }))) end → SaysCorner r
+      pub corner-end : isWord b ≡ false → (r : Said (Corner × ℕ)) (there : Bool) → there ≡ leb 1 number → r ≡ endsAt (must there 8 (says (record { v = number; vt = 0; vn = 0 }))) end → SaysCorner r
       unfolding cornerOf
       corner-end w r there j q =
           let z = done p (ap isWord (sym f) ∙ w) in
           q
-          ∙ ap₂ ended
+          ∙ ap₂ endsAt
           (ap (λ (t : Bool). must t 8 (says (record { v = number; vt = 0; vn = 0 }))) j
           ∙ ap (λ (m : ℕ). must (leb 1 m) 8 (says (record { v = m; vt = 0; vn = 0 }))) (sym (z .is))
           ∙ sym (ap (patterned c k) (z .parts) ∙ rw (z .form) refl))

@@ -10,7 +10,7 @@ use lib.Dec.{leb, eqb}
 use borrow.Author.Tests.{le-leb, ne-eqb, eqb-true}
 use native.Mathlib.Omega.{arith}
 use Rattle.lists.proofs.Tests.{and-both, test, never}
-use Rattle.digits.specs.Digits.{isDigit, natOf, whole, negative, unminus}
+use Rattle.digits.specs.Digits.{isDigit, natOf, isWhole, negative, unminus}
 use Rattle.references.specs.Reference.{isReference, item, refer}
 use Rattle.digits.specs.Straight.{first, isEmpty, past, front}
 use Rattle.references.specs.Straight.{places}
@@ -49,17 +49,17 @@ module _ (f : ℕ → Bool) (fd : (b : ℕ) → isDigit b ≡ true → f b ≡ t
     pub refer-yes : (l : List ℕ) → isEmpty (front f (past (unminus l))) ≡ true → 1 ≤ length (places l) → length (places l) ≤ 10 → isReference (front f l) ≡ true
     unfolding isReference
     refer-yes l o a b =
-        ap (whole 10) (front-minus l)
+        ap (isWhole 10) (front-minus l)
         ∙ whole-yes f fd 10 (unminus l) o
         ∙ and-both (le-leb 1 (length (places l)) a) (le-leb (length (places l)) 10 b)
 
     pub refer-not : (l : List ℕ) → isEmpty (front f (past (unminus l))) ≡ false → isReference (front f l) ≡ false
     unfolding isReference
-    refer-not l o = ap (whole 10) (front-minus l) ∙ whole-not f fd 10 (unminus l) o
+    refer-not l o = ap (isWhole 10) (front-minus l) ∙ whole-not f fd 10 (unminus l) o
 
     pub refer-bad : (l : List ℕ) → (leb 1 (length (places l)) && leb (length (places l)) 10) ≡ false → isReference (front f l) ≡ false
     unfolding isReference
-    refer-bad l h = ap (whole 10) (front-minus l) ∙ whole-bad f fd 10 (unminus l) h
+    refer-bad l h = ap (isWhole 10) (front-minus l) ∙ whole-bad f fd 10 (unminus l) h
 
     pub refer-is : (count : ℕ) (l : List ℕ) → isEmpty (front f (past (unminus l))) ≡ true → refer count (front f l) ≡ item (negative l) count (natOf 0 (places l))
     unfolding refer

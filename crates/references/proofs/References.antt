@@ -14,7 +14,7 @@ use Rattle.text.specs.Bytes.{isWord}
 use Rattle.text.specs.Words.{wordOf}
 use Rattle.text.specs.Rest.{endOf}
 use Rattle.digits.specs.Said.{says, wrong}
-use Rattle.digits.specs.Answers.{ended}
+use Rattle.digits.specs.Answers.{endsAt}
 use Rattle.digits.specs.Digits.{natOf, negative, unminus}
 use Rattle.references.specs.Reference.{isReference, item, refer, referenceOf}
 use Rattle.digits.specs.Straight.{first, isEmpty, run, past, cap, front, WholeRead}
@@ -80,7 +80,7 @@ stops count s at number end p =
 
 -- ---- reference_at
 pub reference-bad : (count : ℕ) (s : List ℕ) (at : ℕ) → (leb 1 (length (places (drop at s))) && leb (length (places (drop at s))) 10) ≡ false
-    → wrong 6 ≡ ended (referenceOf count (wordOf (drop at s))) (endOf s at)
+    → wrong 6 ≡ endsAt (referenceOf count (wordOf (drop at s))) (endOf s at)
 unfolding referenceOf
 reference-bad count s at h = rw (ap isReference (word-front (drop at s)) ∙ refer-bad isWord digit-word refl (drop at s) h) refl
 
@@ -88,7 +88,7 @@ module _ (count : ℕ) (s : List ℕ) (at number end : ℕ) (p : PartRead count 
   overs : (b : Bool) → b ≡ isEmpty (wordOf (drop end s)) → isEmpty (front isWord (past (unminus (drop at s)))) ≡ b
   overs b o = sym (o ∙ ap isEmpty (word-front (drop end s) ∙ ap (front isWord) (stops count s at number end p)))
 
-  pub reference-not : false ≡ isEmpty (wordOf (drop end s)) → wrong 6 ≡ ended (referenceOf count (wordOf (drop at s))) (endOf s at)
+  pub reference-not : false ≡ isEmpty (wordOf (drop end s)) → wrong 6 ≡ endsAt (referenceOf count (wordOf (drop at s))) (endOf s at)
   unfolding referenceOf
   reference-not o = rw (ap isReference (word-front (drop at s)) ∙ refer-not isWord digit-word refl (drop at s) (overs false o)) refl
 
@@ -99,11 +99,11 @@ module _ (count : ℕ) (s : List ℕ) (at number end : ℕ) (p : PartRead count 
     is : refer count (wordOf (drop at s)) ≡ number
     is = ap (refer count) (word-front (drop at s)) ∙ refer-is isWord digit-word refl count (drop at s) (overs true o) ∙ sym (p .number-is)
 
-    pub reference-missing : number ≡ 0 → wrong 8 ≡ ended (referenceOf count (wordOf (drop at s))) (endOf s at)
+    pub reference-missing : number ≡ 0 → wrong 8 ≡ endsAt (referenceOf count (wordOf (drop at s))) (endOf s at)
     unfolding referenceOf
     reference-missing z = rw (form, is ∙ z) refl
 
-    pub reference-item : (number ≡ 0 → ⊥) → says (number, end) ≡ ended (referenceOf count (wordOf (drop at s))) (endOf s at)
+    pub reference-item : (number ≡ 0 → ⊥) → says (number, end) ≡ endsAt (referenceOf count (wordOf (drop at s))) (endOf s at)
     reference-item z =
         said (referenceOf count (wordOf (drop at s))) number (endOf s at) end found
         (p .end-is ∙ ap (λ (n : ℕ). at + n) (sym (ap length (word-front (drop at s)) ∙ refer-length isWord digit-word refl (drop at s) (overs true o))))

@@ -11,7 +11,7 @@ use native.Mathlib.Omega.{arith}
 use Rattle.lists.specs.Lists.{same}
 use Rattle.lists.proofs.Tests.{and-left, and-right, and-both, test, never}
 use Rattle.digits.specs.Said.{says, must}
-use Rattle.digits.specs.Digits.{isDigit, digits, natOf, whole, negative, unminus}
+use Rattle.digits.specs.Digits.{isDigit, digits, natOf, isWhole, negative, unminus}
 use Rattle.keywords.specs.declared.Argument.the-variants.{Off}
 use Rattle.keywords.specs.Arguments.{arguments, argumentBytes}
 use Rattle.digits.specs.Degree.{degreeOf, smoothingOf}
@@ -37,8 +37,8 @@ pub written-value : (n : ℕ) → n < 10 ^ 10 → natOf 0 (writtenWhole n) ≡ n
 unfolding writtenWhole
 written-value n h = short-value 10 n h
 
-whole-back : (k n : ℕ) → n < 10 ^ suc k → whole (suc k) (writtenWhole n) ≡ true
-unfolding whole
+whole-back : (k n : ℕ) → n < 10 ^ suc k → isWhole (suc k) (writtenWhole n) ≡ true
+unfolding isWhole
 whole-back k n h =
     rw (written-digits n, le-leb 1 (length (writtenWhole n)) (written-some n), le-leb (length (writtenWhole n)) (suc k) (written-few k n h)) refl
 
@@ -52,7 +52,7 @@ degree-back n h =
 pub degree-fits : (w : List ℕ) (n : ℕ) → degreeOf w ≡ says n → degreeFits n ≡ true
 unfolding degreeOf
 degree-fits w n h =
-    let p = must-both (whole 3 w) (leb 1 (natOf 0 w) && leb (natOf 0 w) 20) 6 7 (natOf 0 w) n h in
+    let p = must-both (isWhole 3 w) (leb 1 (natOf 0 w) && leb (natOf 0 w) 20) 6 7 (natOf 0 w) n h in
     ap degreeFits (sym (p .2)) ∙ p .1
 
 -- ---- smoothing numbers
@@ -75,7 +75,7 @@ smoothing-fits w n h =
     ⊎-elim
     (λ (t : same w (argumentBytes Off) ≡ true). let e : n ≡ 0 = (let y = rw t at h in cc) in rw e refl)
     (λ (t : same w (argumentBytes Off) ≡ false).
-    let p = must-both (whole 5 w) (leb (natOf 0 w) 65535) 6 7 (natOf 0 w) n (rw t at h) in
+    let p = must-both (isWhole 5 w) (leb (natOf 0 w) 65535) 6 7 (natOf 0 w) n (rw t at h) in
     ap smoothingFits (sym (p .2)) ∙ p .1)
     (test (same w (argumentBytes Off)))
 
@@ -88,7 +88,7 @@ no-minus (b ∷ bs) h =
 
 pub reference-form : (n : ℕ) → n < 10 ^ 10 → isReference (writtenWhole n) ≡ true
 unfolding isReference
-reference-form n l = ap (whole 10) (no-minus (writtenWhole n) (written-digits n) .0) ∙ whole-back 9 n l
+reference-form n l = ap (isWhole 10) (no-minus (writtenWhole n) (written-digits n) .0) ∙ whole-back 9 n l
 
 pub refer-back : (count n : ℕ) → referenceFits count n ≡ true → n < 10 ^ 10 → refer count (writtenWhole n) ≡ n
 unfolding refer

@@ -5,11 +5,11 @@ use mathlib.Core.List.{List}
 use mathlib.Core.Bool.{Bool, cond, _&&_}
 use lib.Dec.{leb}
 use Rattle.digits.specs.Said.{Said, says, must}
-use Rattle.digits.specs.Digits.{natOf, whole, negative, unminus}
+use Rattle.digits.specs.Digits.{natOf, isWhole, negative, unminus}
 
 -- "optional -, then 1 to 10 digits"
 unfoldable pub isReference : List ℕ → Bool
-isReference w = whole 10 (unminus w)
+isReference w = isWhole 10 (unminus w)
 
 -- "k means the k-th of its kind so far; -k the k-th from the last", counted from 1; 0 where there is none
 abbrev pub item : Bool → ℕ → ℕ → ℕ

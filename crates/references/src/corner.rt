@@ -12,7 +12,7 @@ ghost use lib.Dec.{leb};
 ghost use Rattle.text.specs.Words.{wordOf};
 ghost use Rattle.text.specs.Rest.{endOf};
 ghost use Rattle.digits.specs.Said.{says, must};
-ghost use Rattle.digits.specs.Answers.{ended};
+ghost use Rattle.digits.specs.Answers.{endsAt};
 ghost use Rattle.references.specs.Corner.{split, cornerOf};
 ghost use Rattle.references.specs.Answers.{saidCorner, aheadIs};
 ghost use Rattle.references.specs.Straight.{second, third, secondIs};
@@ -29,7 +29,7 @@ pub enum CornerWord {
 }
 
 fn made(there: bool, v: u32, vt: u32, vn: u32, end: usize) -> CornerWord
-    ensures { λ r. ⌜ saidCorner r ≡ ended (must there 8 (says (record { v = v; vt = vt; vn = vn }))) end ⌝ }
+    ensures { λ r. ⌜ saidCorner r ≡ endsAt (must there 8 (says (record { v = v; vt = vt; vn = vn }))) end ⌝ }
 {
     if there {
         return CornerWord::Of {
@@ -62,7 +62,7 @@ fn normal_at(
     normal: bool,
 ) -> CornerWord
     requires { ⌜ at ≤ length (now text) ⌝ }
-    ensures { λ r. ⌜ saidCorner r ≡ ended (third normal nvn there v vt (split (wordOf (drop at (now (text .entry)))))) (endOf (now (text .entry)) at) ⌝ }
+    ensures { λ r. ⌜ saidCorner r ≡ endsAt (third normal nvn there v vt (split (wordOf (drop at (now (text .entry)))))) (endOf (now (text .entry)) at) ⌝ }
 {
     if !normal {
         return CornerWord::Malformed;
@@ -92,7 +92,7 @@ fn texture_at(
     normal: bool,
 ) -> CornerWord
     requires { ⌜ at ≤ length (now text) ⌝ }
-    ensures { λ r. ⌜ saidCorner r ≡ ended (second nvt nvn texture normal v (split (wordOf (drop at (now (text .entry)))))) (endOf (now (text .entry)) at) ⌝ }
+    ensures { λ r. ⌜ saidCorner r ≡ endsAt (second nvt nvn texture normal v (split (wordOf (drop at (now (text .entry)))))) (endOf (now (text .entry)) at) ⌝ }
 {
     if byte_at(text, at) == 47 {
         return normal_at(text, at + 1, v != 0, v, 0, nvn, normal);
@@ -126,7 +126,7 @@ pub fn corner_at(
     normal: bool,
 ) -> CornerWord
     requires { ⌜ at ≤ length (now text) ⌝ }
-    ensures { λ r. ⌜ saidCorner r ≡ ended (cornerOf (record { v = nv; vt = nvt; vn = nvn }) (record { vt = texture; vn = normal }) (wordOf (drop at (now (text .entry))))) (endOf (now (text .entry)) at) ⌝ }
+    ensures { λ r. ⌜ saidCorner r ≡ endsAt (cornerOf (record { v = nv; vt = nvt; vn = nvn }) (record { vt = texture; vn = normal }) (wordOf (drop at (now (text .entry))))) (endOf (now (text .entry)) at) ⌝ }
 {
     match part_at(text, at, nv) {
         Part::Malformed => CornerWord::Malformed,
@@ -171,7 +171,7 @@ fn refers(number: u64, count: u32) -> bool
 
 fn normal_ahead(text: &[u8], at: usize, v: u32, vt: u32, nvn: u32, normal: bool) -> Ahead
     requires { ⌜ at + 10 < length (now text) ⌝ }
-    ensures { λ r. ⌜ aheadIs (ended (third normal nvn true v vt (split (wordOf (drop at (now (text .entry)))))) (endOf (now (text .entry)) at)) r ⌝ }
+    ensures { λ r. ⌜ aheadIs (endsAt (third normal nvn true v vt (split (wordOf (drop at (now (text .entry)))))) (endOf (now (text .entry)) at)) r ⌝ }
 {
     if !normal {
         return Ahead::Other;
@@ -219,7 +219,7 @@ fn texture_ahead(
     normal: bool,
 ) -> Ahead
     requires { ⌜ (at + 21 < length (now text)) × (1 ≤ v) ⌝ }
-    ensures { λ r. ⌜ aheadIs (ended (second nvt nvn texture normal v (split (wordOf (drop at (now (text .entry)))))) (endOf (now (text .entry)) at)) r ⌝ }
+    ensures { λ r. ⌜ aheadIs (endsAt (second nvt nvn texture normal v (split (wordOf (drop at (now (text .entry)))))) (endOf (now (text .entry)) at)) r ⌝ }
 {
     if !texture {
         return Ahead::Other;
@@ -254,7 +254,7 @@ fn corner_ahead(
     normal: bool,
 ) -> Ahead
     requires { ⌜ at + 32 < length (now text) ⌝ }
-    ensures { λ r. ⌜ aheadIs (ended (cornerOf (record { v = nv; vt = nvt; vn = nvn }) (record { vt = texture; vn = normal }) (wordOf (drop at (now (text .entry))))) (endOf (now (text .entry)) at)) r ⌝ }
+    ensures { λ r. ⌜ aheadIs (endsAt (cornerOf (record { v = nv; vt = nvt; vn = nvn }) (record { vt = texture; vn = normal }) (wordOf (drop at (now (text .entry))))) (endOf (now (text .entry)) at)) r ⌝ }
 {
     let w = digits_upto(text, at, 10, 0);
     if !refers(w.value, nv) {
@@ -288,7 +288,7 @@ pub fn quick_corner_at(
     normal: bool,
 ) -> CornerWord
     requires { ⌜ at ≤ length (now text) ⌝ }
-    ensures { λ r. ⌜ saidCorner r ≡ ended (cornerOf (record { v = nv; vt = nvt; vn = nvn }) (record { vt = texture; vn = normal }) (wordOf (drop at (now (text .entry))))) (endOf (now (text .entry)) at) ⌝ }
+    ensures { λ r. ⌜ saidCorner r ≡ endsAt (cornerOf (record { v = nv; vt = nvt; vn = nvn }) (record { vt = texture; vn = normal }) (wordOf (drop at (now (text .entry))))) (endOf (now (text .entry)) at) ⌝ }
 {
     if 32 < text.len() - at {
         if let Ahead::Corner { v, vt, vn, end } = corner_ahead(

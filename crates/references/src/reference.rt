@@ -7,7 +7,7 @@ ghost use Prim.Native.Nat.{_+_, _≤_, _<_};
 ghost use lib.ListN.{length, drop};
 ghost use Rattle.text.specs.Words.{wordOf};
 ghost use Rattle.text.specs.Rest.{endOf};
-ghost use Rattle.digits.specs.Answers.{ended};
+ghost use Rattle.digits.specs.Answers.{endsAt};
 ghost use Rattle.digits.specs.Digits.{negative};
 ghost use Rattle.references.specs.Reference.{item, referenceOf};
 ghost use Rattle.references.specs.Answers.{saidReference};
@@ -85,7 +85,7 @@ pub fn part_at(text: &[u8], at: usize, count: u32) -> Part
 // The reference to one of `count` that the word at `at` is.
 pub fn reference_at(text: &[u8], at: usize, count: u32) -> Reference
     requires { ⌜ at ≤ length (now text) ⌝ }
-    ensures { λ r. ⌜ saidReference r ≡ ended (referenceOf count (wordOf (drop at (now (text .entry))))) (endOf (now (text .entry)) at) ⌝ }
+    ensures { λ r. ⌜ saidReference r ≡ endsAt (referenceOf count (wordOf (drop at (now (text .entry))))) (endOf (now (text .entry)) at) ⌝ }
 {
     match part_at(text, at, count) {
         Part::Malformed => Reference::Malformed,

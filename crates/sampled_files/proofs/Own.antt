@@ -28,7 +28,7 @@ use Rattle.model.proofs.Placed.{Wide}
 use Rattle.tidy_form.proofs.Placed.{vertices-wide}
 use Rattle.point_rows.specs.Places.{direction}
 use Rattle.sampler.specs.Points.{bodyDirection, directionU, directionV, controlOf}
-use Rattle.sampled_files.specs.Files.{along, alongU, alongV, vertexOfCorner, controlIn, axesIn}
+use Rattle.sampled_files.specs.Files.{sampledDirection, alongU, alongV, vertexOfCorner, controlIn, axesIn}
 use Rattle.tidy_form.proofs.Placed.{Kept}
 use Rattle.model.proofs.BodyRows.{laidBody}
 
@@ -50,9 +50,9 @@ grid-same u v p q c e h =
     (λ i k. ap (λ (z : ℤ). weightAt u p i *ᶠ weightAt v q j *ᶠ whole z) (h i j k l)))
 
 -- ---- a direction
-direction-is : (t : Basis) → (t ≡ bezier) ⊎ (t ≡ bspline) → (n : ℕ) (x : List ℤ) → direction (bodyDirection (basisNumber t) n (length x)) x ≡ along t n x
-direction-is t (inl e) n x = subst (λ (y : Basis). direction (bodyDirection (basisNumber y) n (length x)) x ≡ along y n x) (sym e) refl
-direction-is t (inr e) n x = subst (λ (y : Basis). direction (bodyDirection (basisNumber y) n (length x)) x ≡ along y n x) (sym e) refl
+direction-is : (t : Basis) → (t ≡ bezier) ⊎ (t ≡ bspline) → (n : ℕ) (x : List ℤ) → direction (bodyDirection (basisNumber t) n (length x)) x ≡ sampledDirection t n x
+direction-is t (inl e) n x = subst (λ (y : Basis). direction (bodyDirection (basisNumber y) n (length x)) x ≡ sampledDirection y n x) (sym e) refl
+direction-is t (inr e) n x = subst (λ (y : Basis). direction (bodyDirection (basisNumber y) n (length x)) x ≡ sampledDirection y n x) (sym e) refl
 
 pub u-is : (t : Tables) (p l : ℕ) (b : Body) → (b .basis ≡ bezier) ⊎ (b .basis ≡ bspline) → parametersU t (laidBody p l b) ≡ b .us → directionU t (laidBody p l b) ≡ alongU b
 u-is t p l b k e =

@@ -18,14 +18,14 @@ sampledBasis cardinal = curves.bezier
 sampledBasis taylor = curves.bezier
 
 -- "Controls k along one direction, from p parameters and degree n"
-abbrev pub along : Basis → ℕ → List ℤ → Direction
-along t n x = record { basis = sampledBasis t; degree = n; controls = controls t n (length x); parameters = x }
+abbrev pub sampledDirection : Basis → ℕ → List ℤ → Direction
+sampledDirection t n x = record { basis = sampledBasis t; degree = n; controls = controls t n (length x); parameters = x }
 
 abbrev pub alongU : Body → Direction
-alongU b = along (b .basis) (b .degree-u) (b .us)
+alongU b = sampledDirection (b .basis) (b .degree-u) (b .us)
 
 abbrev pub alongV : Body → Direction
-alongV b = along (b .basis) (b .degree-v) (b .vs)
+alongV b = sampledDirection (b .basis) (b .degree-v) (b .vs)
 
 -- the number of vertex k on an axis, which counts from 1 in its list
 abbrev pub coordinateIn : List (List ℤ) → (k axis : ℕ) → ℤ

@@ -24,7 +24,7 @@ use Rattle.record_rules.proofs.Element.{obeys-facts}
 use Rattle.point_exact.specs.Rules.{Rules}
 use Rattle.point_exact.specs.Exact.{curveExact}
 use Rattle.point_exact.proofs.CurveNear.{curve-near}
-use Rattle.point_runs.specs.Runs.{joined, listed, parameterAt}
+use Rattle.point_runs.specs.Runs.{joined, tabulated, parameterAt}
 use Rattle.sampler.specs.Points.{directionU, controlOf, axesOf, curveAt, runNumbers}
 use Rattle.sampler.specs.Answers.{PointAnswer, RunAnswer, wanted, carried, elementOf, bodyOf, refusalOf, filledRun, curvePoint, pointOnCurve, runInto}
 use Rattle.sampler.specs.Demand3.{sampling, Curve, OnCurve, CurveClaim, PointsOnCurves, RunClaim, RunsOnCurves}
@@ -87,14 +87,14 @@ joined-at w f h (suc n) j k a b = go (eq-or-lt-of-le (le-of-suc-le-suc a)) (λ l
         let m : w * j + k < length (joined n f) = omega (arith, long, mul-le-mul-left w l) in
         List·getD-append (joined n f) (f n) (pos 0) (w * j + k) m ∙ r l
 
-pub listed-at : (n k : ℕ) (f : ℕ → ℤ) → k < n → getD (listed n f) k (pos 0) ≡ f k
+pub listed-at : (n k : ℕ) (f : ℕ → ℤ) → k < n → getD (tabulated n f) k (pos 0) ≡ f k
 listed-at n k f h =
     let e : k ≡ 1 * k + 0 = omega arith in
-    ap (λ (q : ℕ). getD (listed n f) q (pos 0)) e ∙ joined-at 1 (λ i. f i ∷ []) (λ i. refl) n k 0 h (omega arith)
+    ap (λ (q : ℕ). getD (tabulated n f) q (pos 0)) e ∙ joined-at 1 (λ i. f i ∷ []) (λ i. refl) n k 0 h (omega arith)
 
 -- ---- a point alone
 coordinates-are : (t : Tables) (e : Element) (b : Body) (p : ℤ) (q : Bool) → eqb (e .kind) 5 ≡ q
-    → (curvePoint t e b p .outcome .coordinates ≡ listed (axesOf e) (curveAt t e b p)) × (curvePoint t e b p .outcome .number ≡ 0)
+    → (curvePoint t e b p .outcome .coordinates ≡ tabulated (axesOf e) (curveAt t e b p)) × (curvePoint t e b p .outcome .number ≡ 0)
 unfolding curvePoint
 coordinates-are t e b p true h = simp h (refl, refl)
 coordinates-are t e b p false h = simp h (refl, refl)
@@ -105,7 +105,7 @@ unfolding pointOnCurve
 answer-is {used} {t} {number} c p a b = rw (curve-given c, le-yes (bodyOf t number .«start_u») p a, le-yes p (bodyOf t number .«end_u») b)
 
 pub curve-coordinates : {used : Used} {t : Tables} {number : ℕ} → Curve used t number → (p : ℤ) → bodyOf t number .«start_u» ≤ℤ p → p ≤ℤ bodyOf t number .«end_u»
-    → pointOnCurve used t number p .outcome .coordinates ≡ listed (axesOf (elementOf t number)) (curveAt t (elementOf t number) (bodyOf t number) p)
+    → pointOnCurve used t number p .outcome .coordinates ≡ tabulated (axesOf (elementOf t number)) (curveAt t (elementOf t number) (bodyOf t number) p)
 curve-coordinates {used} {t} {number} c p a b =
     ap (λ (r : PointAnswer). r .outcome .coordinates) (answer-is c p a b) ∙ coordinates-are t (elementOf t number) (bodyOf t number) p (eqb (elementOf t number .kind) 5) refl .0
 
@@ -140,7 +140,7 @@ module _ {used : Used} {t : Tables} {number : ℕ} (c : Curve used t number) (st
   filled = sym (run-given used t number steps at points (curve-given c) some most room)
 
   abbrev f : ℕ → List ℤ
-  f j = listed (axesOf e) (curveAt t e m (parameterAt (m .«start_u») (m .«end_u») steps j))
+  f j = tabulated (axesOf e) (curveAt t e m (parameterAt (m .«start_u») (m .«end_u») steps j))
 
   long : (j : ℕ) → length (f j) ≡ axesOf e
   long j = listed-length (axesOf e) (curveAt t e m (parameterAt (m .«start_u») (m .«end_u») steps j))

@@ -14,7 +14,7 @@ use Rattle.tables.specs.declared.Used.{Used}
 use Rattle.tables.specs.declared.Element.{Element}
 use Rattle.point_exact.specs.Rules.{Rules}
 use Rattle.point_exact.proofs.SurfaceNear.{surface-near}
-use Rattle.point_runs.specs.Runs.{listed}
+use Rattle.point_runs.specs.Runs.{tabulated}
 use Rattle.sampler.specs.Points.{directionU, directionV, gridOf, surfaceAt}
 use Rattle.sampler.specs.Answers.{PointAnswer, elementOf, bodyOf, refusalOf, surfacePoint, pointOnSurface}
 use Rattle.sampler.specs.Demand3.{sampling, Surface, OnSurface, SurfaceClaim, PointsOnSurfaces}
@@ -53,13 +53,13 @@ module _ {used : Used} {t : Tables} {number : ℕ} (c : Surface used t number) w
     unfolding pointOnSurface
     answer-is = rw (surface-given, le-yes (b .«start_u») p p-from, le-yes p (b .«end_u») p-upto, le-yes (b .«start_v») q q-from, le-yes q (b .«end_v») q-upto)
 
-coordinates-are : (t : Tables) (e : Element) (b : Body) (p q : ℤ) → surfacePoint t e b p q .outcome .coordinates ≡ listed 3 (surfaceAt t e b p q)
+coordinates-are : (t : Tables) (e : Element) (b : Body) (p q : ℤ) → surfacePoint t e b p q .outcome .coordinates ≡ tabulated 3 (surfaceAt t e b p q)
 unfolding surfacePoint
 coordinates-are t e b p q = refl
 
 pub surface-coordinates : {used : Used} {t : Tables} {number : ℕ} → Surface used t number → (p q : ℤ) → bodyOf t number .«start_u» ≤ℤ p → p ≤ℤ bodyOf t number .«end_u»
     → bodyOf t number .«start_v» ≤ℤ q → q ≤ℤ bodyOf t number .«end_v»
-    → pointOnSurface used t number p q .outcome .coordinates ≡ listed 3 (surfaceAt t (elementOf t number) (bodyOf t number) p q)
+    → pointOnSurface used t number p q .outcome .coordinates ≡ tabulated 3 (surfaceAt t (elementOf t number) (bodyOf t number) p q)
 surface-coordinates {used} {t} {number} c p q f g h k =
     ap (λ (r : PointAnswer). r .outcome .coordinates) (answer-is c p q f g h k) ∙ coordinates-are t (elementOf t number) (bodyOf t number) p q
 

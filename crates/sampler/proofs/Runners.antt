@@ -19,8 +19,8 @@ use Rattle.tables.specs.declared.Element.{Element}
 use Rattle.point_exact.specs.Sampled.{curveSampled}
 use Rattle.point_rows.specs.Places.{direction}
 use Rattle.point_rows.specs.Controls.{controlAt, ControlsLent}
-use Rattle.point_runs.specs.Runs.{joined, listed, parameterAt}
-use Rattle.point_runs.specs.Inner.{pointAt, pointsUpto, Ranged}
+use Rattle.point_runs.specs.Runs.{joined, tabulated, parameterAt}
+use Rattle.point_runs.specs.Inner.{curvePointAt, pointsUpto, Ranged}
 use Rattle.sampler.specs.Points.{bodyDirection, axesOf, controlOf, curveAt, runNumbers}
 use Rattle.sampler.specs.Answers.{runAnswer, elementOf, bodyOf, refusalOf, filledRun, runInto}
 use Rattle.point_runs.specs.Inner.{runBy, axesBy}
@@ -35,12 +35,12 @@ joined-cong : (n : ℕ) (f g : ℕ → List ℤ) → ((i : ℕ) → f i ≡ g i)
 joined-cong zero f g h = refl
 joined-cong (suc n) f g h = ap₂ (λ (a b : List ℤ). a ++ b) (joined-cong n f g h) (h n)
 
-listed-cong : (n : ℕ) (f g : ℕ → ℤ) → ((i : ℕ) → f i ≡ g i) → listed n f ≡ listed n g
+listed-cong : (n : ℕ) (f g : ℕ → ℤ) → ((i : ℕ) → f i ≡ g i) → tabulated n f ≡ tabulated n g
 listed-cong n f g h = joined-cong n (λ i. f i ∷ []) (λ i. g i ∷ []) (λ i. ap (λ (z : ℤ). z ∷ []) (h i))
 
 run-numbers : (t : Tables) (e : Element) (b : Body) (steps : ℕ) (q : Bool) → eqb (e .kind) 5 ≡ q
     → runBy (e .kind) (t .vertices .v) (t .vertices .vp) (t .elements .corners) (e .corners .first) (bodyDirection (b .basis) (b .«degree_u») (b .«count_u»)) (parametersU t b) (b .«start_u») (b .«end_u») steps ≡ runNumbers t e b steps
-unfolding runBy runNumbers pointsUpto pointAt
+unfolding runBy runNumbers pointsUpto curvePointAt
 run-numbers t e b steps true h =
     rw h (joined-cong (steps + 1) _ _ (λ j. listed-cong 2 _ _ (λ k. plane-coordinate t e b (parameterAt (b .«start_u») (b .«end_u») steps j) k h)))
 run-numbers t e b steps false h =

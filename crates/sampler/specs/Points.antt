@@ -14,7 +14,7 @@ use Rattle.tables.specs.declared.Element.{Element}
 use Rattle.point_exact.specs.Directions.{Direction}
 use Rattle.point_exact.specs.Sampled.{curveSampled, surfaceSampled}
 use Rattle.point_rows.specs.Places.{direction}
-use Rattle.point_runs.specs.Runs.{joined, listed, parameterAt}
+use Rattle.point_runs.specs.Runs.{joined, tabulated, parameterAt}
 use Rattle.point_rows.specs.declared.BodyDirection.{BodyDirection}
 
 -- "Controls k along one direction, from p parameters and degree n", of the two types that are sampled
@@ -51,4 +51,4 @@ surfaceAt t e b p q axis = surfaceSampled (directionU t b) (directionV t b) p q 
 
 -- the numbers of a run's points, one point after the other
 unfoldable pub runNumbers : Tables → Element → Body → (steps : ℕ) → List ℤ
-runNumbers t e b steps = joined (steps + 1) (λ j. listed (axesOf e) (curveAt t e b (parameterAt (b .«start_u») (b .«end_u») steps j)))
+runNumbers t e b steps = joined (steps + 1) (λ j. tabulated (axesOf e) (curveAt t e b (parameterAt (b .«start_u») (b .«end_u») steps j)))

@@ -115,23 +115,23 @@ controlForm free.Curve2 = form.Control
 controlForm free.Surface = form.Corner (record { vt = true; vn = true })
 
 -- ---- the rows: where a statement may stand, how many words follow its keyword, the form of each word, what is held against its line
-abbrev pub row : Standing → Count → Forms → Held → Rules
-row a c f h = record { standing = a; count = c; forms = f; held = h }
+abbrev pub ruleRow : Standing → Count → Forms → Held → Rules
+ruleRow a c f h = record { standing = a; count = c; forms = f; held = h }
 
 -- a statement outside bodies whose words have one form
 abbrev pub plain : Count → WordForm → Rules
-plain c f = row standing.Outside c (forms.All f) held.Nothing
+plain c f = ruleRow standing.Outside c (forms.All f) held.Nothing
 
 -- "parm u or v, then 2 or more; trim, hole a positive multiple of three (two numbers, a curv2 number); end 0; cstype 1 or 2; deg 1 or 2; g any; s, usemtl 1"
 abbrev pub rulesOf : Carried → Rules
 rulesOf (Vertex k) = plain (vertexCount k) form.Number
-rulesOf (Element k) = row standing.Outside (AtLeast (fewest k)) (forms.All (form.Corner (parts k))) (held.Corners (parts k))
-rulesOf (Body k) = row standing.Outside (AtLeast (rangeWords k + fewestControls k)) (forms.Range (rangeWords k) (controlForm k)) (held.Body k)
-rulesOf Parameters = row standing.Parameters (AtLeast 3) forms.Parameters held.Nothing
-rulesOf Trim = row standing.Surface Threes forms.Loop held.Nothing
-rulesOf Hole = row standing.Surface Threes forms.Loop held.Nothing
-rulesOf End = row standing.Body (Exactly 0) (forms.All form.Anything) held.End
-rulesOf BodyType = row standing.Outside (Within 1 2) forms.Type held.Nothing
+rulesOf (Element k) = ruleRow standing.Outside (AtLeast (fewest k)) (forms.All (form.Corner (parts k))) (held.Corners (parts k))
+rulesOf (Body k) = ruleRow standing.Outside (AtLeast (rangeWords k + fewestControls k)) (forms.Range (rangeWords k) (controlForm k)) (held.Body k)
+rulesOf Parameters = ruleRow standing.Parameters (AtLeast 3) forms.Parameters held.Nothing
+rulesOf Trim = ruleRow standing.Surface Threes forms.Loop held.Nothing
+rulesOf Hole = ruleRow standing.Surface Threes forms.Loop held.Nothing
+rulesOf End = ruleRow standing.Body (Exactly 0) (forms.All form.Anything) held.End
+rulesOf BodyType = ruleRow standing.Outside (Within 1 2) forms.Type held.Nothing
 rulesOf Degree = plain (Within 1 2) form.Degree
 rulesOf Group = plain Any form.Name
 rulesOf Smoothing = plain (Exactly 1) form.Smoothing

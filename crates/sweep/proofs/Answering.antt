@@ -19,14 +19,14 @@ use Rattle.tables.specs.declared.Used.{Used}
 use Rattle.tables.specs.declared.Corner.{Corner}
 use Rattle.model.specs.Model.{VertexKind, geometric, texture, normal, parametric}
 use Rattle.table_rules.specs.Whole.{wholeObeys}
-use Rattle.sweep_marks.specs.Marks.{numberListed, cornerBy, cornerNumbers, runBy, runsBy, cornersUpto}
+use Rattle.sweep_marks.specs.Marks.{numberListed, cornerBy, cornerNumbers, markedRun, runsBy, cornersUpto}
 use Rattle.sweep_marks.proofs.Counting.{kept-dropped, kept-most}
 use Rattle.sweep_marks.proofs.FlatBelow.{flatBelow-same}
 use Rattle.sweep_marks.proofs.Numbering.{length-numbers, numbers-at}
 use Rattle.sweep_rows.proofs.Renumbering.{length-runs}
-use Rattle.sweep.specs.Named.{named, reference, usedOf, newNumber, newNumbers, cornerAfter, cornersAfter}
-use Rattle.sweep.specs.Swept.{sweepAnswer, sweepInto, sweptUsed, droppedOf, sweptTables, numbersOf, numbersNeeded, keptIn, droppedIn, sweptAnswer, refusedSweep}
-use Rattle.sweep.specs.Vertices.{VerticesSwept, fewer, refusalOf}
+use Rattle.sweep.specs.Named.{named, reference, usedOfKind, newNumber, newNumbers, cornerAfter, cornersAfter}
+use Rattle.sweep.specs.Swept.{sweepAnswer, sweepInto, sweptUsed, droppedOf, sweptTables, sweptNumbers, numbersNeeded, keptIn, droppedIn, sweptAnswer, refusedSweep}
+use Rattle.sweep.specs.Vertices.{VerticesSwept, fewer, sweepRefusal}
 use Rattle.sweep.specs.declared.Dropped.{Dropped}
 use Rattle.sweep.specs.declared.SweepResult.the-variants as result
 use Rattle.table_rules.proofs.Lent.{Lent, lent-facts}
@@ -49,28 +49,28 @@ module _ (f : ℕ → Bool) (n : ℕ) where
 
 module _ (used : Used) (t : Tables) (rest : List ℕ) where
   abbrev list : List ℕ
-  list = numbersOf used t ++ rest
+  list = sweptNumbers used t ++ rest
 
   abbrev N : VertexKind → List ℕ
-  N kind = newNumbers (named used t kind) (usedOf kind used)
+  N kind = newNumbers (named used t kind) (usedOfKind kind used)
 
-  long : (kind : VertexKind) → length (N kind) ≡ usedOf kind used
-  long kind = length-numbers (named used t kind) (usedOf kind used)
+  long : (kind : VertexKind) → length (N kind) ≡ usedOfKind kind used
+  long kind = length-numbers (named used t kind) (usedOfKind kind used)
 
   split-v : list ≡ [] ++ (N geometric ++ (N texture ++ (N normal ++ (N parametric ++ rest))))
-  unfolding numbersOf
+  unfolding sweptNumbers
   split-v = simp append-assoc
 
   split-vt : list ≡ N geometric ++ (N texture ++ (N normal ++ (N parametric ++ rest)))
-  unfolding numbersOf
+  unfolding sweptNumbers
   split-vt = simp append-assoc
 
   split-vn : list ≡ (N geometric ++ N texture) ++ (N normal ++ (N parametric ++ rest))
-  unfolding numbersOf
+  unfolding sweptNumbers
   split-vn = simp append-assoc
 
   split-vp : list ≡ ((N geometric ++ N texture) ++ N normal) ++ (N parametric ++ rest)
-  unfolding numbersOf
+  unfolding sweptNumbers
   split-vp = simp append-assoc
 
   two-long : length (N geometric ++ N texture) ≡ used .v + used .vt
@@ -80,7 +80,7 @@ module _ (used : Used) (t : Tables) (rest : List ℕ) where
   three-long = length-append (N geometric ++ N texture) (N normal) ∙ ap₂ (λ (a b : ℕ). a + b) two-long (long normal)
 
   -- a corner whose numbers are those of used records
-  module _ (e : ℕ) (c : Corner) (within : (kind : VertexKind) → reference kind e c ≤ usedOf kind used) where
+  module _ (e : ℕ) (c : Corner) (within : (kind : VertexKind) → reference kind e c ≤ usedOfKind kind used) where
     first-after : numberListed list (cond (eqb e curve2Kind) (used .v + used .vt + used .vn) 0) (c .v)
         ≡ cond (eqb e curve2Kind) (newNumber (named used t parametric) (c .v)) (newNumber (named used t geometric) (c .v))
     first-after = go (test (eqb e curve2Kind))
@@ -105,7 +105,7 @@ module _ (used : Used) (t : Tables) (rest : List ℕ) where
 
   module _ (h : wholeObeys used t ≡ true) where
     runs-are : runsBy used list (t .elements .elements) (t .elements .corners) (used .elements) ≡ cornersAfter used t
-    unfolding runsBy runBy cornersAfter
+    unfolding runsBy markedRun cornersAfter
     runs-are =
         flatBelow-same _ _ (used .elements) (λ i l.
         flatBelow-same _ _ (elementAt t i .corners .count) (λ j k.
@@ -125,8 +125,8 @@ module _ (used : Used) (t : Tables) (rest : List ℕ) where
 
 -- ---- refused
 module _ (used : Used) (t : Tables) (list : List ℕ) where
-  pub refused-is : {n : ℕ} → n ≡ refusalOf used t (length list) → (n ≡ 0 → ⊥) → sweepAnswer (result.Refused n) t list ≡ sweepInto used t list
-  unfolding refusalOf sweepInto
+  pub refused-is : {n : ℕ} → n ≡ sweepRefusal used t (length list) → (n ≡ 0 → ⊥) → sweepAnswer (result.Refused n) t list ≡ sweepInto used t list
+  unfolding sweepRefusal sweepInto
   refused-is {n} e z = go (wholeObeys used t) (leb (numbersNeeded used) (length list)) e
     where
       go : (w r : Bool) → n ≡ cond w (cond r 0 16) 15 →
@@ -140,8 +140,8 @@ module _ (used : Used) (t : Tables) (list : List ℕ) where
     pub whole : wholeObeys used t ≡ true
     pub room : numbersNeeded used ≤ length list
 
-  pub passed : {n : ℕ} → n ≡ refusalOf used t (length list) → n ≡ 0 → Passed
-  unfolding refusalOf
+  pub passed : {n : ℕ} → n ≡ sweepRefusal used t (length list) → n ≡ 0 → Passed
+  unfolding sweepRefusal
   passed {n} e z = go (wholeObeys used t) (leb (numbersNeeded used) (length list)) refl refl (sym e ∙ z)
     where
       go : (w r : Bool) → wholeObeys used t ≡ w → leb (numbersNeeded used) (length list) ≡ r → _≡_ {A = ℕ} (cond w (cond r 0 16) 15) 0 → Passed
@@ -155,7 +155,7 @@ module _ (used : Used) (t : Tables) (list : List ℕ) where
 
   module _ {after : Used} {v vt vn vp : List ℤ} {numbers : List ℕ} (s : VerticesSwept used looked list after v vt vn vp numbers) where
     in-full : VerticesSwept used t list after v vt vn vp numbers
-    unfolding named sweptUsed numbersOf
+    unfolding named sweptUsed sweptNumbers
     in-full = record { counts = s .counts; v-is = s .v-is; vt-is = s .vt-is; vn-is = s .vn-is; vp-is = s .vp-is; numbers-are = s .numbers-are }
 
     pub fewer-left : (after .v ≤ used .v) × (after .vt ≤ used .vt) × (after .vn ≤ used .vn) × (after .vp ≤ used .vp)
@@ -165,8 +165,8 @@ module _ (used : Used) (t : Tables) (list : List ℕ) where
         (kept-most (named used t geometric) (used .v), kept-most (named used t texture) (used .vt), kept-most (named used t normal) (used .vn), kept-most (named used t parametric) (used .vp))
 
     -- what is not kept is dropped
-    left-over : (kind : VertexKind) → usedOf kind used - keptIn used t kind ≡ droppedIn used t kind
-    left-over kind = let e = kept-dropped (named used t kind) (usedOf kind used) in omega arith
+    left-over : (kind : VertexKind) → usedOfKind kind used - keptIn used t kind ≡ droppedIn used t kind
+    left-over kind = let e = kept-dropped (named used t kind) (usedOfKind kind used) in omega arith
 
     dropped-are : fewer used after ≡ droppedOf used t
     unfolding sweptUsed droppedOf
@@ -187,14 +187,14 @@ module _ (used : Used) (t : Tables) (list : List ℕ) where
     unfolding sweepInto sweptTables
     swept-is p {once} {corners} {elements} {bodies} {loops} {ranges} {parameters} {spans} {dropped} lent a c e b r q l x d =
         let f = in-full in
-        let moved : once ≡ sets (t .elements .corners) 0 (runsBy used (numbersOf used t ++ drop (numbersNeeded used) list) (t .elements .elements) (t .elements .corners) (used .elements)) =
+        let moved : once ≡ sets (t .elements .corners) 0 (runsBy used (sweptNumbers used t ++ drop (numbersNeeded used) list) (t .elements .elements) (t .elements .corners) (used .elements)) =
         a ∙ ap (λ (k : List ℕ). sets (t .elements .corners) 0 (runsBy used k (t .elements .elements) (t .elements .corners) (used .elements))) (f .numbers-are) in
         let all : tables v vt vn vp corners elements bodies ranges parameters loops spans ≡ sweptTables used t =
         tables-eq (vertex-tables-eq (f .v-is) (f .vt-is) (f .vn-is) (f .vp-is))
         (element-tables-eq (corners-are used t (drop (numbersNeeded used) list) (p .whole) lent moved c) e) (body-tables-eq b r q l x) in
         let left : dropped ≡ droppedOf used t = d ∙ dropped-are in
         let counts : after ≡ sweptUsed used t = f .counts in
-        let listed : numbers ≡ numbersOf used t ++ drop (numbersNeeded used) list = f .numbers-are in
+        let listed : numbers ≡ sweptNumbers used t ++ drop (numbersNeeded used) list = f .numbers-are in
         ap₂ (λ (y : Used) (z : Dropped). sweepAnswer (result.Swept y z) (tables v vt vn vp corners elements bodies ranges parameters loops spans) numbers) counts left
         ∙ ap₂ (λ (y : Tables) (z : List ℕ). sweepAnswer (result.Swept (sweptUsed used t) (droppedOf used t)) y z) all listed
         ∙ rw (p .whole, le-leb (numbersNeeded used) (length list) (p .room))

@@ -12,16 +12,16 @@ use Rattle.tables.specs.Tables.{Tables}
 use Rattle.tables.specs.declared.Used.{Used}
 use Rattle.model.specs.Model.{VertexKind, geometric, texture, normal, parametric}
 use Rattle.sweep_marks.specs.Counting.{keptUpto, newNumbers, keptRows}
-use Rattle.sweep_marks.specs.Marks.{namedIn}
+use Rattle.sweep_marks.specs.Marks.{namedInTables}
 use Rattle.sweep_marks.proofs.Numbering.{length-numbers}
 use Rattle.sweep_rows.proofs.Stored.{drop-past}
 use Rattle.sweep.specs.Named.{named}
-use Rattle.sweep.specs.Swept.{sweptUsed, numbersOf}
+use Rattle.sweep.specs.Swept.{sweptUsed, sweptNumbers}
 use Rattle.sweep.specs.Vertices.{VerticesSwept}
 
 -- what is named is asked of two tables alone
-pub named-in : (used : Used) (t : Tables) (kind : VertexKind) → namedIn (used .elements) (t .elements .elements) (t .elements .corners) kind ≡ named used t kind
-unfolding named namedIn
+pub named-in : (used : Used) (t : Tables) (kind : VertexKind) → namedInTables (used .elements) (t .elements .elements) (t .elements .corners) kind ≡ named used t kind
+unfolding named namedInTables
 named-in used t kind = refl
 
 -- a list of which the first a entries are xs and the rest as in l
@@ -60,7 +60,7 @@ Swept f w a n kept list numbers before after =
 
 module _ (used : Used) (t : Tables) (list : List ℕ) where
   abbrev test : VertexKind → ℕ → Bool
-  test kind = namedIn (used .elements) (t .elements .elements) (t .elements .corners) kind
+  test kind = namedInTables (used .elements) (t .elements .elements) (t .elements .corners) kind
 
   pub vertices-swept : {k₁ k₂ k₃ k₄ : ℕ} {l₁ l₂ l₃ l₄ : List ℕ} {v vt vn vp : List ℤ}
       → Swept (test geometric) 4 0 (used .v) k₁ list l₁ (t .vertices .v) v
@@ -68,7 +68,7 @@ module _ (used : Used) (t : Tables) (list : List ℕ) where
       → Swept (test normal) 3 (used .v + used .vt) (used .vn) k₃ l₂ l₃ (t .vertices .vn) vn
       → Swept (test parametric) 4 (used .v + used .vt + used .vn) (used .vp) k₄ l₃ l₄ (t .vertices .vp) vp
       → VerticesSwept used t list (record { v = k₁; vt = k₂; vn = k₃; vp = k₄; corners = used .corners; elements = used .elements; bodies = used .bodies; parameters = used .parameters; loops = used .loops }) v vt vn vp l₄
-  unfolding named namedIn numbersOf sweptUsed
+  unfolding named namedInTables sweptNumbers sweptUsed
   vertices-swept p q r s =
       let one = front-at (front-more (front-none list) (test geometric) (used .v) (p .1)) (let e : 0 + used .v ≡ used .v = omega arith in e) in
       let four = front-more (front-more (front-more one (test texture) (used .vt) (q .1)) (test normal) (used .vn) (r .1)) (test parametric) (used .vp) (s .1) in
@@ -78,5 +78,5 @@ module _ (used : Used) (t : Tables) (list : List ℕ) where
         vt-is = q .2;
         vn-is = r .2;
         vp-is = s .2;
-        numbers-are = four .is ∙ ap (λ (k : ℕ). numbersOf used t ++ drop k list) (four .long);
+        numbers-are = four .is ∙ ap (λ (k : ℕ). sweptNumbers used t ++ drop k list) (four .long);
       }

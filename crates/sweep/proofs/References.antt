@@ -20,7 +20,7 @@ use Rattle.record_rules.proofs.OneVertex.{Vertex, vertex-facts, parameter-facts
 use Rattle.record_rules.proofs.Element.{obeys-facts}
 use Rattle.table_rules.specs.Whole.{endsBefore, elementFollows, wholeObeys}
 use Rattle.sweep_marks.specs.Marks.{cornersUpto}
-use Rattle.sweep.specs.Named.{usedOf, reference}
+use Rattle.sweep.specs.Named.{usedOfKind, reference}
 use Rattle.sweep.proofs.Whole.{Whole, whole-parts, elements-facts, runs-at, runs-end}
 
 pub control-facts : (l : List ℤ) (used k : ℕ) → controlObeys l used k ≡ true → Vertex 4 l used k
@@ -53,7 +53,7 @@ module _ (used : Used) (t : Tables) (kind : ℕ) (first c : Corner) where
       record { point = and-left p a two; vt = and-right p a two; vn = and-right (p && a) b h }
 
   -- what it names is used
-  pub reference-within : CornerParts used t kind first c → (k : VertexKind) → reference k kind c ≤ usedOf k used
+  pub reference-within : CornerParts used t kind first c → (k : VertexKind) → reference k kind c ≤ usedOfKind k used
   unfolding pointObeys
   reference-within p geometric = go (eqb kind 5) (p .point)
     where
@@ -79,7 +79,7 @@ module _ (used : Used) (t : Tables) where
     parts = whole-parts used t h
 
     pub references-within : (kind : VertexKind) (i j : ℕ) → i < used .elements → j < elementAt t i .corners .count →
-        reference kind (elementAt t i .kind) (cornerAt t (elementAt t i .corners) j) ≤ usedOf kind used
+        reference kind (elementAt t i .kind) (cornerAt t (elementAt t i .corners) j) ≤ usedOfKind kind used
     references-within kind i j l k =
         let e = elementAt t i in
         let o = obeys-facts used t _ i (elements-facts used t (parts .elements) i l) in

@@ -14,11 +14,11 @@ pub use Rattle.sweep_marks.specs.Counting.{reference, anyBelow, keptUpto, dropp
 unfoldable pub use Rattle.sweep_marks.specs.Counting.{newNumbers, keptRows}
 
 -- the records of one kind: how many are used, their table, and the numbers of each
-abbrev pub usedOf : VertexKind → Used → ℕ
-usedOf geometric used = used .v
-usedOf texture used = used .vt
-usedOf normal used = used .vn
-usedOf parametric used = used .vp
+abbrev pub usedOfKind : VertexKind → Used → ℕ
+usedOfKind geometric used = used .v
+usedOfKind texture used = used .vt
+usedOfKind normal used = used .vn
+usedOfKind parametric used = used .vp
 
 abbrev pub tableIn : VertexKind → Tables → List ℤ
 tableIn geometric t = t .vertices .v

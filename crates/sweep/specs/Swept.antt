@@ -16,7 +16,7 @@ use Rattle.tables.specs.declared.Used.{Used}
 use Rattle.model.specs.Model.{VertexKind, geometric, texture, normal, parametric}
 use Rattle.model.specs.Layout.{noneUsed}
 use Rattle.table_rules.specs.Whole.{wholeObeys}
-use Rattle.sweep.specs.Named.{usedOf, tableIn, widthIn, named, keptUpto, droppedUpto, newNumbers, keptRows, cornersAfter}
+use Rattle.sweep.specs.Named.{usedOfKind, tableIn, widthIn, named, keptUpto, droppedUpto, newNumbers, keptRows, cornersAfter}
 use Rattle.sweep.specs.declared.Dropped.{Dropped}
 use Rattle.sweep.specs.declared.SweepResult.{SweepResult}
 use Rattle.sweep.specs.declared.SweepResult.the-variants as result
@@ -51,10 +51,10 @@ sweepAnswer r t numbers = record { answer = r; outcome = sweepOutcome r; tables 
 
 -- how many of a kind stay, and how many do not: "dropped is counted from the references alone"
 abbrev pub keptIn : Used → Tables → VertexKind → ℕ
-keptIn used t kind = keptUpto (named used t kind) (usedOf kind used)
+keptIn used t kind = keptUpto (named used t kind) (usedOfKind kind used)
 
 abbrev pub droppedIn : Used → Tables → VertexKind → ℕ
-droppedIn used t kind = droppedUpto (named used t kind) (usedOf kind used)
+droppedIn used t kind = droppedUpto (named used t kind) (usedOfKind kind used)
 
 unfoldable pub sweptUsed : Used → Tables → Used
 sweptUsed used t =
@@ -81,7 +81,7 @@ droppedOf used t =
 
 -- the rows of a kind that stay
 abbrev pub rowsAfter : Used → Tables → VertexKind → List ℤ
-rowsAfter used t kind = keptRows (widthIn kind) (named used t kind) (tableIn kind t) (usedOf kind used)
+rowsAfter used t kind = keptRows (widthIn kind) (named used t kind) (tableIn kind t) (usedOfKind kind used)
 
 -- "Entries after the used ones are 0", in every table
 unfoldable pub sweptTables : Used → Tables → Tables
@@ -94,8 +94,8 @@ sweptTables used t =
     }
 
 -- "for each old record, all v, then vt, vn, vp, its new number, or 0 if dropped"
-unfoldable pub numbersOf : Used → Tables → List ℕ
-numbersOf used t =
+unfoldable pub sweptNumbers : Used → Tables → List ℕ
+sweptNumbers used t =
     newNumbers (named used t geometric) (used .v) ++ newNumbers (named used t texture) (used .vt)
     ++ newNumbers (named used t normal) (used .vn) ++ newNumbers (named used t parametric) (used .vp)
 
@@ -117,7 +117,7 @@ sweptAnswer used t numbers =
       answer = result.Swept (sweptUsed used t) (droppedOf used t);
       outcome = record { number = 0; used = sweptUsed used t; dropped = droppedOf used t };
       tables = sweptTables used t;
-      numbers = numbersOf used t ++ drop (numbersNeeded used) numbers;
+      numbers = sweptNumbers used t ++ drop (numbersNeeded used) numbers;
     }
 
 -- "15 if any record .. breaks a rule ..; 16 if the list of new numbers lacks room"

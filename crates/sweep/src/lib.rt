@@ -3,7 +3,7 @@ ghost use mathlib.Core.Path.{_≡_};
 ghost use Prim.Native.Nat.{_≤_};
 ghost use Rattle.tables.specs.Tables.{tables};
 ghost use Rattle.sweep.specs.Swept.{sweepAnswer, sweepInto};
-ghost use Rattle.sweep.specs.Vertices.{fewer, refusalOf};
+ghost use Rattle.sweep.specs.Vertices.{fewer, sweepRefusal};
 use crate::rest::clear_rest;
 use crate::vertices::sweep_vertices;
 use sweep_rows::corners::renumber;
@@ -44,7 +44,7 @@ fn refusal_of(
     spans: &[i32],
     room: usize,
 ) -> u32
-    ensures { λ r. ⌜ r ≡ refusalOf used (tables (now (v .entry)) (now (vt .entry)) (now (vn .entry)) (now (vp .entry)) (now (corners .entry)) (now (elements .entry)) (now (bodies .entry)) (now (ranges .entry)) (now (parameters .entry)) (now (loops .entry)) (now (spans .entry))) room ⌝ }
+    ensures { λ r. ⌜ r ≡ sweepRefusal used (tables (now (v .entry)) (now (vt .entry)) (now (vn .entry)) (now (vp .entry)) (now (corners .entry)) (now (elements .entry)) (now (bodies .entry)) (now (ranges .entry)) (now (parameters .entry)) (now (loops .entry)) (now (spans .entry))) room ⌝ }
 {
     if !whole_obeys(
         used,

@@ -18,7 +18,7 @@ use Rattle.tables.specs.declared.CornerRun.{CornerRun}
 use Rattle.tables.specs.declared.Element.{Element}
 use Rattle.model.specs.Model.{VertexKind, geometric, texture, normal, parametric}
 use Rattle.sweep_marks.specs.Counting.{reference, anyBelow}
-use Rattle.sweep_marks.specs.Marks.{placeOf, namedIn, numberIn, markNumber, markEvery, markElement, markElements, markedIn}
+use Rattle.sweep_marks.specs.Marks.{placeOf, namedInTables, cornerNumberIn, markNumber, markEvery, markElement, markElements, markedIn}
 use Rattle.sweep_marks.proofs.Counting.{any-same, any-none}
 
 -- ---- one number
@@ -42,15 +42,15 @@ mark-number l (suc k) i h = go (test (eqb i k))
 module _ (corners : List ℕ) (run : CornerRun) (place : ℕ) where
   pub length-every : (n : ℕ) (l : List ℕ) → length (markEvery corners run place n l) ≡ length l
   length-every zero l = refl
-  length-every (suc n) l = length-mark (markEvery corners run place n l) (numberIn corners run n place) ∙ length-every n l
+  length-every (suc n) l = length-mark (markEvery corners run place n l) (cornerNumberIn corners run n place) ∙ length-every n l
 
   mark-every : (n : ℕ) (l : List ℕ) (i : ℕ) → i < length l →
-      markedIn (markEvery corners run place n l) (suc i) ≡ (markedIn l (suc i) || anyBelow n (λ j. eqb (numberIn corners run j place) (suc i)))
+      markedIn (markEvery corners run place n l) (suc i) ≡ (markedIn l (suc i) || anyBelow n (λ j. eqb (cornerNumberIn corners run j place) (suc i)))
   mark-every zero l i h = sym (or-false (markedIn l (suc i)))
   mark-every (suc n) l i h =
-      let any : Bool = anyBelow n (λ j. eqb (numberIn corners run j place) (suc i)) in
-      let last : Bool = eqb (numberIn corners run n place) (suc i) in
-      mark-number (markEvery corners run place n l) (numberIn corners run n place) i (rw (length-every n l) h)
+      let any : Bool = anyBelow n (λ j. eqb (cornerNumberIn corners run j place) (suc i)) in
+      let last : Bool = eqb (cornerNumberIn corners run n place) (suc i) in
+      mark-number (markEvery corners run place n l) (cornerNumberIn corners run n place) i (rw (length-every n l) h)
       ∙ ap (λ (b : Bool). b || last) (mark-every n l i h)
       ∙ or-assoc (markedIn l (suc i)) any last
 
@@ -59,21 +59,21 @@ module _ (corners : List ℕ) (run : CornerRun) (j : ℕ) where
   abbrev corner : Corner
   corner = cornerIn corners (cornerPlace run j)
 
-  first-placed : numberIn corners run j 0 ≡ corner .v
+  first-placed : cornerNumberIn corners run j 0 ≡ corner .v
   first-placed = rw add-zero refl
 
   -- the number in the place of that kind, where it has one
-  placed : (kind : VertexKind) (e : ℕ) → eqb (placeOf kind e) 3 ≡ false → numberIn corners run j (placeOf kind e) ≡ reference kind e corner
+  placed : (kind : VertexKind) (e : ℕ) → eqb (placeOf kind e) 3 ≡ false → cornerNumberIn corners run j (placeOf kind e) ≡ reference kind e corner
   placed geometric e h = go (test (eqb e curve2Kind))
     where
-      go : (eqb e curve2Kind ≡ true) ⊎ (eqb e curve2Kind ≡ false) → numberIn corners run j (placeOf geometric e) ≡ reference geometric e corner
+      go : (eqb e curve2Kind ≡ true) ⊎ (eqb e curve2Kind ≡ false) → cornerNumberIn corners run j (placeOf geometric e) ≡ reference geometric e corner
       go (inl t) = absurd (let z : true ≡ false = (rw t at h) in let n : _≡_ {A = ℕ} 0 1 = cc in omega arith)
       go (inr t) = rw t first-placed
   placed texture e h = refl
   placed normal e h = refl
   placed parametric e h = go (test (eqb e curve2Kind))
     where
-      go : (eqb e curve2Kind ≡ true) ⊎ (eqb e curve2Kind ≡ false) → numberIn corners run j (placeOf parametric e) ≡ reference parametric e corner
+      go : (eqb e curve2Kind ≡ true) ⊎ (eqb e curve2Kind ≡ false) → cornerNumberIn corners run j (placeOf parametric e) ≡ reference parametric e corner
       go (inl t) = rw t first-placed
       go (inr t) = absurd (let z : true ≡ false = (rw t at h) in let n : _≡_ {A = ℕ} 0 1 = cc in omega arith)
 
@@ -112,7 +112,7 @@ module _ (kind : VertexKind) (corners : List ℕ) where
           let none : inElement e (suc i) ≡ false = any-none _ (e .corners .count) (λ j. rw (unplaced corners (e .corners) j kind (e .kind) t) (ne-eqb 0 (suc i) (λ z. omega arith))) in
           rw (t, none) (sym (or-false (markedIn l (suc i))))
       go (inr t) =
-          let same : anyBelow (e .corners .count) (λ j. eqb (numberIn corners (e .corners) j (placeOf kind (e .kind))) (suc i)) ≡ inElement e (suc i)
+          let same : anyBelow (e .corners .count) (λ j. eqb (cornerNumberIn corners (e .corners) j (placeOf kind (e .kind))) (suc i)) ≡ inElement e (suc i)
           = any-same _ _ (e .corners .count) (λ j. ap (λ (n : ℕ). eqb n (suc i)) (placed corners (e .corners) j kind (e .kind) t)) in
           rw t (mark-every corners (e .corners) (placeOf kind (e .kind)) (e .corners .count) l i h ∙ ap (λ (b : Bool). markedIn l (suc i) || b) same)
 
@@ -123,8 +123,8 @@ module _ (kind : VertexKind) (corners : List ℕ) where
     length-elements (suc n) l = length-element (elementIn elements n) (markElements kind elements corners n l) ∙ length-elements n l
 
     mark-elements : (n : ℕ) (l : List ℕ) (i : ℕ) → i < length l →
-        markedIn (markElements kind elements corners n l) (suc i) ≡ (markedIn l (suc i) || namedIn n elements corners kind (suc i))
-    unfolding namedIn
+        markedIn (markElements kind elements corners n l) (suc i) ≡ (markedIn l (suc i) || namedInTables n elements corners kind (suc i))
+    unfolding namedInTables
     mark-elements zero l i h = sym (or-false (markedIn l (suc i)))
     mark-elements (suc n) l i h =
         let e = elementIn elements n in
@@ -133,10 +133,10 @@ module _ (kind : VertexKind) (corners : List ℕ) where
         ∙ or-assoc (markedIn l (suc i)) (anyBelow n (λ i′. inElement (elementIn elements i′) (suc i))) (inElement e (suc i))
 
     -- from cleared marks on
-    pub marks-named : (n m i : ℕ) → i < m → markedIn (markElements kind elements corners n (replicate m 0)) (suc i) ≡ namedIn n elements corners kind (suc i)
+    pub marks-named : (n m i : ℕ) → i < m → markedIn (markElements kind elements corners n (replicate m 0)) (suc i) ≡ namedInTables n elements corners kind (suc i)
     marks-named n m i h =
         let clear : markedIn (replicate m 0) (suc i) ≡ false = rw (getD-replicate {A = ℕ} m i 0 0 h) in
-        mark-elements n (replicate m 0) i (rw (length-replicate {A = ℕ} m 0) h) ∙ ap (λ (b : Bool). b || namedIn n elements corners kind (suc i)) clear
+        mark-elements n (replicate m 0) i (rw (length-replicate {A = ℕ} m 0) h) ∙ ap (λ (b : Bool). b || namedInTables n elements corners kind (suc i)) clear
 
 -- ---- a loop that goes through F 0, F 1, .. : what it has come to
 pub record Reached (F : ℕ → List ℕ) (count : ℕ) (m : List ℕ) (j : ℕ) : Type 0 where
@@ -161,7 +161,7 @@ module _ (l : List ℕ) where
   mark-outside (suc k) h b = sym (set-out l k 1 (omega arith))
 
 pub every-more : (corners : List ℕ) (run : CornerRun) (place j : ℕ) (l : List ℕ) {m m′ : List ℕ} {number : ℕ} → m ≡ markEvery corners run place j l →
-    number ≡ numberIn corners run j place → m′ ≡ markNumber m number → m′ ≡ markEvery corners run place (suc j) l
+    number ≡ cornerNumberIn corners run j place → m′ ≡ markNumber m number → m′ ≡ markEvery corners run place (suc j) l
 every-more corners run place j l a b c = c ∙ ap₂ markNumber a b
 
 -- ---- the place of a number in a corner

@@ -28,8 +28,8 @@ placeOf normal e = 2
 placeOf parametric e = cond (eqb e curve2Kind) 0 3
 
 -- `named`, over the two tables that it looks at
-unfoldable pub namedIn : ℕ → List ℕ → List ℕ → VertexKind → ℕ → Bool
-namedIn n elements corners kind k =
+unfoldable pub namedInTables : ℕ → List ℕ → List ℕ → VertexKind → ℕ → Bool
+namedInTables n elements corners kind k =
     anyBelow n (λ i.
     anyBelow (elementIn elements i .corners .count) (λ j.
     eqb (reference kind (elementIn elements i .kind) (cornerIn corners (cornerPlace (elementIn elements i .corners) j))) k))
@@ -42,13 +42,13 @@ markNumber l zero = l
 markNumber l (suc k) = set l k 1
 
 -- the number in that place of corner k of a run
-abbrev pub numberIn : List ℕ → CornerRun → (k place : ℕ) → ℕ
-numberIn corners run k place = getD corners (cornerPlace run k + place) 0
+abbrev pub cornerNumberIn : List ℕ → CornerRun → (k place : ℕ) → ℕ
+cornerNumberIn corners run k place = getD corners (cornerPlace run k + place) 0
 
 -- the marks after the number in that place of the first n corners of a run
 abbrev pub markEvery : List ℕ → CornerRun → (place : ℕ) → ℕ → List ℕ → List ℕ
 markEvery corners run place zero l = l
-markEvery corners run place (suc n) l = markNumber (markEvery corners run place n l) (numberIn corners run n place)
+markEvery corners run place (suc n) l = markNumber (markEvery corners run place n l) (cornerNumberIn corners run n place)
 
 -- the marks after an element, and after the first n
 abbrev pub markElement : VertexKind → List ℕ → Element → List ℕ → List ℕ
@@ -84,13 +84,13 @@ abbrev pub cornerNumbers : Corner → List ℕ
 cornerNumbers c = c .v ∷ c .vt ∷ c .vn ∷ []
 
 -- those of the first n corners of a run, and of the first n elements
-unfoldable pub runBy : Used → List ℕ → List ℕ → (e : ℕ) → CornerRun → (n : ℕ) → List ℕ
-runBy used numbers corners e run n =
+unfoldable pub markedRun : Used → List ℕ → List ℕ → (e : ℕ) → CornerRun → (n : ℕ) → List ℕ
+markedRun used numbers corners e run n =
     flatBelow n (λ j. cornerNumbers (cornerBy used numbers e (cornerIn corners (cornerPlace run j))))
 
 unfoldable pub runsBy : Used → List ℕ → List ℕ → List ℕ → ℕ → List ℕ
 runsBy used numbers elements corners n =
-    flatBelow n (λ i. runBy used numbers corners (elementIn elements i .kind) (elementIn elements i .corners) (elementIn elements i .corners .count))
+    flatBelow n (λ i. markedRun used numbers corners (elementIn elements i .kind) (elementIn elements i .corners) (elementIn elements i .corners .count))
 
 -- where the corners of the first n elements end, where they follow on
 abbrev pub cornersUpto : List ℕ → ℕ → ℕ

@@ -16,7 +16,7 @@ use Rattle.tables.specs.declared.Used.{Used}
 use Rattle.tables.specs.declared.Corner.{Corner}
 use Rattle.tables.specs.declared.CornerRun.{CornerRun}
 use Rattle.sweep_marks.specs.Counting.{flatBelow}
-use Rattle.sweep_marks.specs.Marks.{numberListed, cornerBy, cornerNumbers, runBy, runsBy, cornersUpto}
+use Rattle.sweep_marks.specs.Marks.{numberListed, cornerBy, cornerNumbers, markedRun, runsBy, cornersUpto}
 use Rattle.sweep_marks.proofs.FlatBelow.{flatBelow-same, flatBelow-length}
 use Rattle.sweep_rows.proofs.Stored.{getD-sets-past}
 
@@ -29,40 +29,40 @@ corner-past l i vs at h =
     rw (a, b, c)
 
 module _ (used : Used) (numbers : List ℕ) where
-  length-run : (l : List ℕ) (kind : ℕ) (run : CornerRun) (n : ℕ) → length (runBy used numbers l kind run n) ≡ 3 * n
-  unfolding runBy
+  length-run : (l : List ℕ) (kind : ℕ) (run : CornerRun) (n : ℕ) → length (markedRun used numbers l kind run n) ≡ 3 * n
+  unfolding markedRun
   length-run l kind run n = flatBelow-length _ 3 n (λ j h. refl)
 
   -- ---- an element: j of its corners
   pub record Renumbered (l m : List ℕ) (kind : ℕ) (run : CornerRun) (j : ℕ) : Type 0 where
     pub within : j ≤ run .count
     pub long : length m ≡ length l
-    pub stored : m ≡ sets l (run .first) (runBy used numbers l kind run j)
+    pub stored : m ≡ sets l (run .first) (markedRun used numbers l kind run j)
 
   pub renumbered-none : (l : List ℕ) (kind : ℕ) (run : CornerRun) → Renumbered l l kind run 0
-  unfolding runBy
+  unfolding markedRun
   renumbered-none l kind run = record { within = omega arith; long = refl; stored = refl }
 
   module _ {l m : List ℕ} {kind : ℕ} {run : CornerRun} {j : ℕ} (c : Renumbered l m kind run j) (lent : cornersEnd run ≤ length l) where
     pub renumbered-more : {old new : Corner} {room : Bool} {m′ : List ℕ} → j < run .count → old ≡ cornerIn m (cornerPlace run j) → new ≡ cornerBy used numbers kind old →
         room ≡ leb (cornerPlace run j + 3) (length m) → m′ ≡ cond room (sets m (cornerPlace run j) (cornerNumbers new)) m → Renumbered l m′ kind run (j + 1)
-    unfolding runBy
+    unfolding markedRun
     renumbered-more {old} {new} {room} {m′} h a b found stored =
-        let stores : List ℕ = runBy used numbers l kind run j in
+        let stores : List ℕ = markedRun used numbers l kind run j in
         let many : length stores ≡ 3 * j = length-run l kind run j in
         let here : old ≡ cornerIn l (cornerPlace run j) =
         a ∙ ap (λ (x : List ℕ). cornerIn x (cornerPlace run j)) (c .stored) ∙ corner-past l (run .first) stores (cornerPlace run j) (omega arith) in
         let fits : room ≡ true = found ∙ le-leb (cornerPlace run j + 3) (length m) (let e = c .long in omega arith) in
-        let next : m′ ≡ sets l (run .first) (runBy used numbers l kind run (suc j)) =
+        let next : m′ ≡ sets l (run .first) (markedRun used numbers l kind run (suc j)) =
         stored
         ∙ ap (λ (r : Bool). cond r (sets m (cornerPlace run j) (cornerNumbers new)) m) fits
         ∙ ap₂ (λ (x : List ℕ) (k : Corner). sets x (cornerPlace run j) (cornerNumbers k)) (c .stored) (b ∙ ap (cornerBy used numbers kind) here)
         ∙ ap (λ (k : ℕ). sets (sets l (run .first) stores) (run .first + k) (cornerNumbers (cornerBy used numbers kind (cornerIn l (cornerPlace run j))))) (sym many)
         ∙ sym (sets-append l (run .first) stores (cornerNumbers (cornerBy used numbers kind (cornerIn l (cornerPlace run j))))) in
-        record { within = omega arith; long = ap length next ∙ length-sets l (run .first) (runBy used numbers l kind run (suc j)); stored = rw add-one next }
+        record { within = omega arith; long = ap length next ∙ length-sets l (run .first) (markedRun used numbers l kind run (suc j)); stored = rw add-one next }
 
-    pub renumbered-all : run .count ≤ j → m ≡ sets l (run .first) (runBy used numbers l kind run (run .count))
-    renumbered-all h = c .stored ∙ ap (λ (k : ℕ). sets l (run .first) (runBy used numbers l kind run k)) (let w = c .within in let e : j ≡ run .count = omega arith in e)
+    pub renumbered-all : run .count ≤ j → m ≡ sets l (run .first) (markedRun used numbers l kind run (run .count))
+    renumbered-all h = c .stored ∙ ap (λ (k : ℕ). sets l (run .first) (markedRun used numbers l kind run k)) (let w = c .within in let e : j ≡ run .count = omega arith in e)
 
   -- ---- all elements
   module _ (elements : List ℕ) where
@@ -73,7 +73,7 @@ module _ (used : Used) (numbers : List ℕ) where
         let e = elementIn elements n in
         let a = length-runs l n in
         let b = length-run l (e .kind) (e .corners) (e .corners .count) in
-        length-append (runsBy used numbers elements l n) (runBy used numbers l (e .kind) (e .corners) (e .corners .count)) ∙ (let z : length (runsBy used numbers elements l n) + length (runBy used numbers l (e .kind) (e .corners) (e .corners .count)) ≡ cornersUpto elements n + 3 * e .corners .count = omega arith in z)
+        length-append (runsBy used numbers elements l n) (markedRun used numbers l (e .kind) (e .corners) (e .corners .count)) ∙ (let z : length (runsBy used numbers elements l n) + length (markedRun used numbers l (e .kind) (e .corners) (e .corners .count)) ≡ cornersUpto elements n + 3 * e .corners .count = omega arith in z)
 
     pub upto-more : (i n : ℕ) → i < n → cornersUpto elements i + 3 * elementIn elements i .corners .count ≤ cornersUpto elements n
     upto-more i zero h = absurd (omega arith)
@@ -102,8 +102,8 @@ module _ (used : Used) (numbers : List ℕ) where
         run-fits lent = let e = c .long in let q = upto-more i n h in omega arith
 
         -- the element's corners have not been written yet
-        run-same : let e = elementIn elements i in runBy used numbers m (e .kind) (e .corners) (e .corners .count) ≡ runBy used numbers l (e .kind) (e .corners) (e .corners .count)
-        unfolding runBy
+        run-same : let e = elementIn elements i in markedRun used numbers m (e .kind) (e .corners) (e .corners .count) ≡ markedRun used numbers l (e .kind) (e .corners) (e .corners .count)
+        unfolding markedRun
         run-same =
             let e = elementIn elements i in
             let runs : List ℕ = runsBy used numbers elements l i in
@@ -112,12 +112,12 @@ module _ (used : Used) (numbers : List ℕ) where
             ap (λ (x : Corner). cornerNumbers (cornerBy used numbers (e .kind) x))
             (ap (λ (x : List ℕ). cornerIn x (cornerPlace (e .corners) j)) (c .stored) ∙ corner-past l 0 runs (cornerPlace (e .corners) j) (omega arith)))
 
-        pub runs-more : {m′ : List ℕ} → (let e = elementIn elements i in m′ ≡ sets m (e .corners .first) (runBy used numbers m (e .kind) (e .corners) (e .corners .count))) → RunsRenumbered l m′ n (i + 1)
+        pub runs-more : {m′ : List ℕ} → (let e = elementIn elements i in m′ ≡ sets m (e .corners .first) (markedRun used numbers m (e .kind) (e .corners) (e .corners .count))) → RunsRenumbered l m′ n (i + 1)
         unfolding runsBy
         runs-more {m′} stored =
             let e = elementIn elements i in
             let runs : List ℕ = runsBy used numbers elements l i in
-            let run : List ℕ = runBy used numbers l (e .kind) (e .corners) (e .corners .count) in
+            let run : List ℕ = markedRun used numbers l (e .kind) (e .corners) (e .corners .count) in
             let next : m′ ≡ sets l 0 (runsBy used numbers elements l (suc i)) =
             stored
             ∙ ap₂ (λ (x : List ℕ) (k : List ℕ). sets x (e .corners .first) k) (c .stored) run-same

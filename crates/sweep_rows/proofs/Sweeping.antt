@@ -11,7 +11,7 @@ use lib.Seq.{length-take-le}
 use Rattle.lists.specs.Lists.{filled}
 use Rattle.model.specs.Model.{VertexKind}
 use Rattle.sweep_marks.specs.Counting.{keptUpto, newNumbers, keptRows}
-use Rattle.sweep_marks.specs.Marks.{namedIn, markElements, markedIn}
+use Rattle.sweep_marks.specs.Marks.{namedInTables, markElements, markedIn}
 use Rattle.sweep_marks.proofs.Counting.{kept-same}
 use Rattle.sweep_marks.proofs.Marking.{length-elements, marks-named}
 use Rattle.sweep_marks.proofs.Numbering.{length-numbers, numbers-same, numbers-marked}
@@ -19,7 +19,7 @@ use Rattle.sweep_rows.proofs.Moving.{rows-same}
 
 module _ (kind : VertexKind) (count : ℕ) (elements corners : List ℕ) (n : ℕ) where
   abbrev test : ℕ → Bool
-  test = namedIn count elements corners kind
+  test = namedInTables count elements corners kind
 
   module _ {clear marks numbers : List ℕ} {kept : ℕ} (a : clear ≡ replicate n 0) (b : marks ≡ markElements kind elements corners count clear)
       (c : kept ≡ keptUpto (markedIn marks) (length marks)) (d : numbers ≡ newNumbers (markedIn marks) (length marks)) where

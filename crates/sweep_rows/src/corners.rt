@@ -6,7 +6,7 @@ ghost use lib.Dec.{eqb};
 ghost use lib.ListN.{length};
 ghost use lib.Seq.{sets};
 ghost use Rattle.tables.specs.Records.{cornersEnd, elementIn, curve2Kind};
-ghost use Rattle.sweep_marks.specs.Marks.{numberListed, cornerBy, runBy, runsBy, cornersUpto};
+ghost use Rattle.sweep_marks.specs.Marks.{numberListed, cornerBy, markedRun, runsBy, cornersUpto};
 use tables::Corner;
 use tables::CornerRun;
 use tables::Used;
@@ -46,7 +46,7 @@ fn corner_by(used: Used, numbers: &[u32], kind: u32, corner: Corner) -> Corner
 
 fn renumber_run(used: Used, numbers: &[u32], corners: &mut [u32], kind: u32, run: CornerRun)
     requires { ⌜ cornersEnd run ≤ length (now corners) ⌝ }
-    ensures { λ r. ⌜ now (corners .exit) ≡ sets (now (corners .entry)) (run .first) (runBy used (now (numbers .entry)) (now (corners .entry)) kind run (run .count)) ⌝ }
+    ensures { λ r. ⌜ now (corners .exit) ≡ sets (now (corners .entry)) (run .first) (markedRun used (now (numbers .entry)) (now (corners .entry)) kind run (run .count)) ⌝ }
 {
     let mut j: u32 = 0;
     while j < run.count {

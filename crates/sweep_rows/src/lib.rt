@@ -6,7 +6,7 @@ ghost use lib.IntN.{pos};
 ghost use lib.ListN.{length, take, drop};
 ghost use Rattle.lists.specs.Lists.{filled};
 ghost use Rattle.sweep_marks.specs.Counting.{keptUpto, newNumbers, keptRows};
-ghost use Rattle.sweep_marks.specs.Marks.{kindOf, namedIn};
+ghost use Rattle.sweep_marks.specs.Marks.{kindOf, namedInTables};
 use sweep_marks::VertexTable;
 use sweep_marks::mark_elements;
 use sweep_marks::number_marks;
@@ -26,7 +26,7 @@ fn sweep_table(
     numbers: &mut [u32],
 ) -> u32
     requires { ⌜ (width * length (now numbers) ≤ length (now values)) × (width ≤ 4) × (length (now numbers) ≤ 4294967295) ⌝ }
-    ensures { λ r. ⌜ (r ≡ keptUpto (namedIn count (now (elements .entry)) (now (corners .entry)) (kindOf table)) (length (now (numbers .entry)))) × (now (numbers .exit) ≡ newNumbers (namedIn count (now (elements .entry)) (now (corners .entry)) (kindOf table)) (length (now (numbers .entry)))) × (now (values .exit) ≡ filled (length (now (values .entry))) (pos 0) (keptRows width (namedIn count (now (elements .entry)) (now (corners .entry)) (kindOf table)) (now (values .entry)) (length (now (numbers .entry))))) ⌝ }
+    ensures { λ r. ⌜ (r ≡ keptUpto (namedInTables count (now (elements .entry)) (now (corners .entry)) (kindOf table)) (length (now (numbers .entry)))) × (now (numbers .exit) ≡ newNumbers (namedInTables count (now (elements .entry)) (now (corners .entry)) (kindOf table)) (length (now (numbers .entry)))) × (now (values .exit) ≡ filled (length (now (values .entry))) (pos 0) (keptRows width (namedInTables count (now (elements .entry)) (now (corners .entry)) (kindOf table)) (now (values .entry)) (length (now (numbers .entry))))) ⌝ }
 {
     table_store::clear_u32(numbers);
     mark_elements(table, elements, count, corners, numbers);
@@ -48,7 +48,7 @@ pub fn sweep_part(
     n: u32,
 ) -> u32
     requires { ⌜ (from + n ≤ length (now numbers)) × (width * n ≤ length (now values)) × (width ≤ 4) ⌝ }
-    ensures { λ r. ⌜ (r ≡ keptUpto (namedIn count (now (elements .entry)) (now (corners .entry)) (kindOf table)) n) × (now (numbers .exit) ≡ take from (now (numbers .entry)) ++ (newNumbers (namedIn count (now (elements .entry)) (now (corners .entry)) (kindOf table)) n ++ drop (from + n) (now (numbers .entry)))) × (now (values .exit) ≡ filled (length (now (values .entry))) (pos 0) (keptRows width (namedIn count (now (elements .entry)) (now (corners .entry)) (kindOf table)) (now (values .entry)) n)) ⌝ }
+    ensures { λ r. ⌜ (r ≡ keptUpto (namedInTables count (now (elements .entry)) (now (corners .entry)) (kindOf table)) n) × (now (numbers .exit) ≡ take from (now (numbers .entry)) ++ (newNumbers (namedInTables count (now (elements .entry)) (now (corners .entry)) (kindOf table)) n ++ drop (from + n) (now (numbers .entry)))) × (now (values .exit) ≡ filled (length (now (values .entry))) (pos 0) (keptRows width (namedInTables count (now (elements .entry)) (now (corners .entry)) (kindOf table)) (now (values .entry)) n)) ⌝ }
 {
     let end = from + n as usize;
     sweep_table(

@@ -12,7 +12,7 @@ use Rattle.tables.specs.declared.Used.{Used}
 use Rattle.tables.specs.declared.Corner.{Corner}
 use Rattle.model.specs.Model.{VertexKind, geometric, texture, normal, parametric}
 use Rattle.sweep_marks.specs.Counting.{newNumber}
-use Rattle.sweep.specs.Named.{usedOf, tableIn, widthIn, named, cornerAfter}
+use Rattle.sweep.specs.Named.{usedOfKind, tableIn, widthIn, named, cornerAfter}
 use Rattle.sweep.specs.Swept.{keptIn, droppedIn, rowsAfter, sweptUsed, droppedOf, noneDropped}
 use Rattle.swept_files.specs.Promises.{referenceIn}
 use Rattle.sweep_marks.proofs.Counting.{kept-dropped}
@@ -24,12 +24,12 @@ use Rattle.swept_files.proofs.Standing.{Standing, reference-in}
 abbrev pub cornerNumbers : Corner → List ℕ
 cornerNumbers c = c .v ∷ c .vt ∷ c .vn ∷ []
 
-module _ (used : Used) (t : Tables) (all : (kind : VertexKind) (k : ℕ) → 1 ≤ k → k ≤ usedOf kind used → named used t kind k ≡ true) where
-  kept-same : (kind : VertexKind) → keptIn used t kind ≡ usedOf kind used
-  kept-same kind = kept-all (named used t kind) (usedOf kind used) (all kind)
+module _ (used : Used) (t : Tables) (all : (kind : VertexKind) (k : ℕ) → 1 ≤ k → k ≤ usedOfKind kind used → named used t kind k ≡ true) where
+  kept-same : (kind : VertexKind) → keptIn used t kind ≡ usedOfKind kind used
+  kept-same kind = kept-all (named used t kind) (usedOfKind kind used) (all kind)
 
   none-dropped : (kind : VertexKind) → droppedIn used t kind ≡ 0
-  none-dropped kind = let a = kept-same kind in let b = kept-dropped (named used t kind) (usedOf kind used) in omega arith
+  none-dropped kind = let a = kept-same kind in let b = kept-dropped (named used t kind) (usedOfKind kind used) in omega arith
 
   pub used-same : sweptUsed used t ≡ used
   unfolding sweptUsed
@@ -39,11 +39,11 @@ module _ (used : Used) (t : Tables) (all : (kind : VertexKind) (k : ℕ) → 1 �
   unfolding droppedOf
   dropped-none = rw (none-dropped geometric, none-dropped texture, none-dropped normal, none-dropped parametric) refl
 
-  pub rows-same : (kind : VertexKind) → rowsAfter used t kind ≡ take (widthIn kind * usedOf kind used) (tableIn kind t)
-  rows-same kind = rows-all (widthIn kind) (named used t kind) (tableIn kind t) (usedOf kind used) (all kind)
+  pub rows-same : (kind : VertexKind) → rowsAfter used t kind ≡ take (widthIn kind * usedOfKind kind used) (tableIn kind t)
+  rows-same kind = rows-all (widthIn kind) (named used t kind) (tableIn kind t) (usedOfKind kind used) (all kind)
 
   -- ---- numbers
-  new-same : (kind : VertexKind) (k : ℕ) → named used t kind k ≡ true → k ≤ usedOf kind used → newNumber (named used t kind) k ≡ k
+  new-same : (kind : VertexKind) (k : ℕ) → named used t kind k ≡ true → k ≤ usedOfKind kind used → newNumber (named used t kind) k ≡ k
   new-same kind k e h = new-named (named used t kind) k e ∙ kept-all (named used t kind) k (λ j a b. all kind j a (omega arith))
 
   module _ (s : Standing used t) (i j : ℕ) (h : i < used .elements) (l : j < elementAt t i .corners .count) where

@@ -16,7 +16,7 @@ use Rattle.record_rules.specs.Bodies.{bodyObeys}
 use Rattle.record_rules.specs.Rules.{elementObeys, obeys}
 use Rattle.record_rules.proofs.Facts.{Corners, corners-facts}
 use Rattle.sweep_marks.specs.Counting.{reference}
-use Rattle.sweep.specs.Named.{usedOf}
+use Rattle.sweep.specs.Named.{usedOfKind}
 use Rattle.swept_files.specs.Promises.{referenceIn}
 use Rattle.sweep.proofs.References.{CornerParts, corner-parts, reference-within}
 
@@ -70,7 +70,7 @@ module _ (used : Used) (t : Tables) (curves i : ℕ) (h : obeys used t curves i 
       let e = elementAt t i in
       corner-parts used t (e .kind) (cornerAt t (e .corners) 0) (cornerAt t (e .corners) j) (corners-there .each j l)
 
-  pub held-within : (k : VertexKind) (j : ℕ) → j < elementAt t i .corners .count → referenceIn k t i j ≤ usedOf k used
+  pub held-within : (k : VertexKind) (j : ℕ) → j < elementAt t i .corners .count → referenceIn k t i j ≤ usedOfKind k used
   held-within k j l =
       let e = elementAt t i in
       reference-within used t (e .kind) (cornerAt t (e .corners) 0) (cornerAt t (e .corners) j) (corner-there j l) k

@@ -17,7 +17,7 @@ use Rattle.record_rules.specs.Rules.{elementObeys, obeys}
 use Rattle.table_rules.specs.Whole.{lentAll, verticesObey, elementsObey, runsFollow, wholeObeys}
 use Rattle.sweep_marks.specs.Counting.{newNumbers, keptRows}
 use Rattle.sweep.specs.Named.{named, cornersAfter}
-use Rattle.sweep.specs.Swept.{sweptUsed, droppedOf, sweptTables, numbersOf, sweepInto}
+use Rattle.sweep.specs.Swept.{sweptUsed, droppedOf, sweptTables, sweptNumbers, sweepInto}
 use Rattle.sweep.specs.declared.SweepResult.the-variants as result
 
 abbrev pub m : ℤ
@@ -55,5 +55,5 @@ pub one-swept : sweepInto (counts 3 2 3) before (7 ∷ 7 ∷ 7 ∷ 7 ∷ 7 ∷ 7
       tables = after;
       numbers = 0 ∷ 1 ∷ 2 ∷ 1 ∷ 0 ∷ 1 ∷ 1 ∷ 0 ∷ 2 ∷ 7 ∷ [];
     }
-unfolding sweepInto wholeObeys lentAll verticesObey elementsObey runsFollow obeys elementObeys cornersObey eachCorner cornerObeys pointObeys attributeObeys leastCorners withTexture withNormal vertexObeys parameterVertexObeys controlObeys givenObeys runInRange inRange bodyObeys bodyHeld held recordObeys typeObeys degreeObeys parametersObey curveObeys flatObeys curveCount inOrder widest sweptUsed droppedOf sweptTables numbersOf named newNumbers keptRows cornersAfter
+unfolding sweepInto wholeObeys lentAll verticesObey elementsObey runsFollow obeys elementObeys cornersObey eachCorner cornerObeys pointObeys attributeObeys leastCorners withTexture withNormal vertexObeys parameterVertexObeys controlObeys givenObeys runInRange inRange bodyObeys bodyHeld held recordObeys typeObeys degreeObeys parametersObey curveObeys flatObeys curveCount inOrder widest sweptUsed droppedOf sweptTables sweptNumbers named newNumbers keptRows cornersAfter
 one-swept = refl

@@ -13,7 +13,7 @@ use Rattle.tables.specs.declared.Used.{Used}
 use Rattle.tables.proofs.Filled.{length-filled}
 use Rattle.model.specs.Model.{VertexKind, geometric, texture, normal, parametric}
 use Rattle.sweep_marks.specs.Counting.{keptUpto, newNumber}
-use Rattle.sweep.specs.Named.{usedOf, tableIn, widthIn, named}
+use Rattle.sweep.specs.Named.{usedOfKind, tableIn, widthIn, named}
 use Rattle.sweep.specs.Swept.{keptIn, droppedIn, rowsAfter, sweptUsed, sweptTables, droppedOf}
 use Rattle.swept_files.specs.Promises.{rowNumbered, droppedAs}
 use Rattle.sweep_marks.proofs.Counting.{kept-most}
@@ -22,14 +22,14 @@ use Rattle.swept_files.proofs.Parts.{row-within}
 use Rattle.swept_files.proofs.Rows.{rows-fit, table-row}
 use Rattle.table_rules.proofs.Lent.{Lent}
 
-pub lent-in : (used : Used) (t : Tables) → Lent used t → (kind : VertexKind) → widthIn kind * usedOf kind used ≤ length (tableIn kind t)
+pub lent-in : (used : Used) (t : Tables) → Lent used t → (kind : VertexKind) → widthIn kind * usedOfKind kind used ≤ length (tableIn kind t)
 lent-in used t l geometric = l .vertices .v
 lent-in used t l texture = l .vertices .vt
 lent-in used t l normal = l .vertices .vn
 lent-in used t l parametric = l .vertices .vp
 
 module _ (used : Used) (t : Tables) where
-  pub used-in : (kind : VertexKind) → usedOf kind (sweptUsed used t) ≡ keptIn used t kind
+  pub used-in : (kind : VertexKind) → usedOfKind kind (sweptUsed used t) ≡ keptIn used t kind
   unfolding sweptUsed
   used-in geometric = refl
   used-in texture = refl
@@ -65,7 +65,7 @@ module _ (used : Used) (t : Tables) (lent : Lent used t) (kind : VertexKind) whe
   w = widthIn kind
 
   abbrev n : ℕ
-  n = usedOf kind used
+  n = usedOfKind kind used
 
   abbrev l : List ℤ
   l = tableIn kind t
@@ -74,7 +74,7 @@ module _ (used : Used) (t : Tables) (lent : Lent used t) (kind : VertexKind) whe
   table-length =
       ap length (table-in used t kind) ∙ length-filled (length l) (pos 0) (rowsAfter used t kind) (rows-fit w f l n (lent-in used t lent kind))
 
-  pub rows-lent : w * usedOf kind (sweptUsed used t) ≤ length (tableIn kind (sweptTables used t))
+  pub rows-lent : w * usedOfKind kind (sweptUsed used t) ≤ length (tableIn kind (sweptTables used t))
   rows-lent =
       let a = table-length in
       let b = lent-in used t lent kind in
@@ -86,18 +86,18 @@ module _ (used : Used) (t : Tables) (lent : Lent used t) (kind : VertexKind) whe
     record-moved =
         ap (λ (x : List ℤ). take w (drop (w * keptUpto f i) x)) (table-in used t kind) ∙ table-row w f l n (lent-in used t lent kind) i h e
 
-    pub moved : Moved w l (tableIn kind (sweptTables used t)) (usedOf kind (sweptUsed used t)) (suc i) (suc (keptUpto f i))
+    pub moved : Moved w l (tableIn kind (sweptTables used t)) (usedOfKind kind (sweptUsed used t)) (suc i) (suc (keptUpto f i))
     moved =
         let a = kept-named f i e in
         let b = kept-more f (suc i) n h in
         let u = used-in used t kind in
-        let q : suc (keptUpto f i) ≤ usedOf kind (sweptUsed used t) = omega arith in
+        let q : suc (keptUpto f i) ≤ usedOfKind kind (sweptUsed used t) = omega arith in
         let x : suc (keptUpto f i) - 1 ≡ keptUpto f i = omega arith in
         let y : suc i - 1 ≡ i = omega arith in
         record {
           some = omega arith;
           most = q;
-          lent = rw x (let r = row-within w (keptUpto f i) (usedOf kind (sweptUsed used t)) q in let s = rows-lent in omega arith);
+          lent = rw x (let r = row-within w (keptUpto f i) (usedOfKind kind (sweptUsed used t)) q in let s = rows-lent in omega arith);
           same = rw (x, y) record-moved;
         }
 
@@ -106,10 +106,10 @@ module _ (used : Used) (t : Tables) (lent : Lent used t) (kind : VertexKind) whe
   new-moved zero h e = ap (rowNumbered kind (sweptTables used t)) (new-zero f)
   new-moved (suc i) h e = ap (rowNumbered kind (sweptTables used t)) (new-named f (suc i) e ∙ kept-named f i e) ∙ record-moved i h e
 
-  pub moved-to : (k : ℕ) → 1 ≤ k → k ≤ n → f k ≡ true → Moved w l (tableIn kind (sweptTables used t)) (usedOf kind (sweptUsed used t)) k (newNumber f k)
+  pub moved-to : (k : ℕ) → 1 ≤ k → k ≤ n → f k ≡ true → Moved w l (tableIn kind (sweptTables used t)) (usedOfKind kind (sweptUsed used t)) k (newNumber f k)
   moved-to zero a h e = absurd (omega arith)
   moved-to (suc i) a h e = rw (new-named f (suc i) e ∙ kept-named f i e) (moved i h e)
 
   -- each record that is left was one of them
-  pub moved-from : (m : ℕ) → m < usedOf kind (sweptUsed used t) → Old f n (suc m)
+  pub moved-from : (m : ℕ) → m < usedOfKind kind (sweptUsed used t) → Old f n (suc m)
   moved-from m h = let u = used-in used t kind in kept-old f n (suc m) (omega arith) (omega arith)

@@ -11,8 +11,8 @@ use Rattle.tables.specs.declared.Used.{Used}
 use Rattle.model.specs.Model.{VertexKind, geometric, texture, normal, parametric}
 use Rattle.table_rules.specs.Whole.{wholeObeys}
 use Rattle.sweep_marks.specs.Counting.{keptUpto, flatBelow, newNumber, newNumbers}
-use Rattle.sweep.specs.Named.{usedOf, named}
-use Rattle.sweep.specs.Swept.{numbersOf, numbersNeeded, sweptUsed, sweptTables, sweptAnswer}
+use Rattle.sweep.specs.Named.{usedOfKind, named}
+use Rattle.sweep.specs.Swept.{sweptNumbers, numbersNeeded, sweptUsed, sweptTables, sweptAnswer}
 use Rattle.swept_files.specs.Promises.{rowNumbered, referenceIn, listedFrom, numberAfter, Renumbered, RestKept}
 use Rattle.swept_files.proofs.Counting.{kept-named, kept-more, kept-order, new-zero, new-named}
 use Rattle.sweep_marks.proofs.FlatBelow.{flatBelow-length}
@@ -68,13 +68,13 @@ module _ (used : Used) (t : Tables) where
       let c = length-append (numbersV ++ numbersVt ++ numbersVn) numbersVp in
       record { one = v; two = omega arith; three = omega arith; four = omega arith }
 
-  pub numbers-long : length (numbersOf used t) ≡ numbersNeeded used
-  unfolding numbersOf
+  pub numbers-long : length (sweptNumbers used t) ≡ numbersNeeded used
+  unfolding sweptNumbers
   numbers-long = reach .four
 
   module _ (rest : List ℕ) where
-    listed : (kind : VertexKind) (i : ℕ) → i < usedOf kind used → getD (numbersOf used t ++ rest) (listedFrom kind used + i) 0 ≡ newNumber (named used t kind) (suc i)
-    unfolding numbersOf
+    listed : (kind : VertexKind) (i : ℕ) → i < usedOfKind kind used → getD (sweptNumbers used t ++ rest) (listedFrom kind used + i) 0 ≡ newNumber (named used t kind) (suc i)
+    unfolding sweptNumbers
     listed geometric i h =
         let r = reach in
         let z : 0 + i ≡ i = omega arith in
@@ -106,7 +106,7 @@ module _ (used : Used) (t : Tables) where
         ∙ getD-append-add (numbersV ++ numbersVt ++ numbersVn) numbersVp i 0
         ∙ numbers-at (named used t parametric) (used .vp) i h
 
-    number-of : (kind : VertexKind) (k : ℕ) → k ≤ usedOf kind used → numberAfter kind used (numbersOf used t ++ rest) k ≡ newNumber (named used t kind) k
+    number-of : (kind : VertexKind) (k : ℕ) → k ≤ usedOfKind kind used → numberAfter kind used (sweptNumbers used t ++ rest) k ≡ newNumber (named used t kind) k
     number-of kind zero h = sym (new-zero (named used t kind))
     number-of kind (suc i) h = listed kind i h
 
@@ -118,18 +118,18 @@ module _ (used : Used) (t : Tables) (s : Standing used t) (numbers : List ℕ) (
   abbrev after : ℕ → ℕ
   after k = numberAfter kind used (sweptAnswer used t numbers .numbers) k
 
-  after-is : (k : ℕ) → k ≤ usedOf kind used → after k ≡ newNumber f k
+  after-is : (k : ℕ) → k ≤ usedOfKind kind used → after k ≡ newNumber f k
   after-is k h = number-of used t (drop (numbersNeeded used) numbers) kind k h
 
-  after-kept : (k : ℕ) → k ≤ usedOf kind used → f k ≡ true → after k ≡ keptUpto f k
+  after-kept : (k : ℕ) → k ≤ usedOfKind kind used → f k ≡ true → after k ≡ keptUpto f k
   after-kept k h e = after-is k h ∙ new-named f k e
 
-  after-within : (k : ℕ) → 1 ≤ k → k ≤ usedOf kind used → f k ≡ true → (1 ≤ after k) × (after k ≤ usedOf kind (sweptUsed used t))
+  after-within : (k : ℕ) → 1 ≤ k → k ≤ usedOfKind kind used → f k ≡ true → (1 ≤ after k) × (after k ≤ usedOfKind kind (sweptUsed used t))
   after-within zero a b e = absurd (omega arith)
   after-within (suc i) a b e =
       let q = after-kept (suc i) b e in
       let n = kept-named f i e in
-      let m = kept-more f (suc i) (usedOf kind used) b in
+      let m = kept-more f (suc i) (usedOfKind kind used) b in
       let u = used-in used t kind in
       (omega arith, omega arith)
 
@@ -154,13 +154,13 @@ rest-kept used t numbers room =
     let l = numbers-long used t in
     let d = length-drop (numbersNeeded used) numbers in
     record {
-      long = length-append (numbersOf used t) (drop (numbersNeeded used) numbers)
-          ∙ (let e : length (numbersOf used t) + length (drop (numbersNeeded used) numbers) ≡ length numbers = omega arith in e);
+      long = length-append (sweptNumbers used t) (drop (numbersNeeded used) numbers)
+          ∙ (let e : length (sweptNumbers used t) + length (drop (numbersNeeded used) numbers) ≡ length numbers = omega arith in e);
       rest = λ i h.
-          (let e : i ≡ length (numbersOf used t) + (i - numbersNeeded used) = omega arith in
+          (let e : i ≡ length (sweptNumbers used t) + (i - numbersNeeded used) = omega arith in
           let g : numbersNeeded used + (i - numbersNeeded used) ≡ i = omega arith in
-          ap (λ (k : ℕ). getD (numbersOf used t ++ drop (numbersNeeded used) numbers) k 0) e
-          ∙ getD-append-add (numbersOf used t) (drop (numbersNeeded used) numbers) (i - numbersNeeded used) 0
+          ap (λ (k : ℕ). getD (sweptNumbers used t ++ drop (numbersNeeded used) numbers) k 0) e
+          ∙ getD-append-add (sweptNumbers used t) (drop (numbersNeeded used) numbers) (i - numbersNeeded used) 0
           ∙ getD-drop (numbersNeeded used) numbers (i - numbersNeeded used) 0
           ∙ ap (λ (k : ℕ). getD numbers k 0) g);
     }

@@ -19,7 +19,7 @@ use Rattle.tables.specs.declared.Body.{Body}
 use Rattle.record_rules.specs.Rules.{curvesBefore}
 use Rattle.record_rules.proofs.Element.{obeys-facts}
 use Rattle.table_rules.specs.Whole.{wholeObeys}
-use Rattle.point_runs.specs.Runs.{joined, listed, parameterAt}
+use Rattle.point_runs.specs.Runs.{joined, tabulated, parameterAt}
 use Rattle.point_runs.proofs.Steps.{parameter-from, parameter-upto}
 use Rattle.sampler.specs.Points.{axesOf, curveAt, surfaceAt, runNumbers}
 use Rattle.sampler.specs.Answers.{PointAnswer, wanted, carried, elementOf, bodyOf, refusalOf, RunAnswer, inside, refusedPoint, curvePoint, pointOnCurve, surfacePoint, pointOnSurface, refusedRun, filledRun, runInto}
@@ -28,7 +28,7 @@ use Rattle.sampler.proofs.Obeyed.{Granted, granted, curved, surfaced}
 use Rattle.sampler.proofs.Refusals.{kinds, past-used}
 use Rattle.sampler.proofs.Entries.{sound-inside}
 use Rattle.point_chords.specs.Chords.{parameters, numbers}
-use Rattle.polyline.specs.Answers.{PolylineAnswer, pointAt, parametersOf, numbersOf, refusedPolyline, filledPolyline, polylineInto}
+use Rattle.polyline.specs.Answers.{PolylineAnswer, pointAt, parametersOf, polylineNumbers, refusedPolyline, filledPolyline, polylineInto}
 use Rattle.sweep.specs.Swept.{sweptUsed, sweptTables}
 use Rattle.swept_files.specs.Promises.{SameShown}
 use Rattle.swept_files.specs.Samples.{SampledSame}
@@ -135,7 +135,7 @@ module _ (used : Used) (t : Tables) (u : Used) (w : Tables) (count : u .elements
     run-same steps =
         let p : ℕ → ℤ = λ j. parameterAt (b .«start_u») (b .«end_u») steps j in
         let ordered = curve-facts .along .ranged .ordered in
-        joined-below (steps + 1) (λ j. listed (axesOf e) (curveAt w e b (p j))) (λ j. listed (axesOf e) (curveAt t e b (p j)))
+        joined-below (steps + 1) (λ j. tabulated (axesOf e) (curveAt w e b (p j))) (λ j. tabulated (axesOf e) (curveAt t e b (p j)))
         (λ j l. joined-below (axesOf e) (λ i. curveAt w e b (p j) i ∷ []) (λ i. curveAt t e b (p j) i ∷ [])
         (λ i m. ap (λ (z : ℤ). z ∷ []) (at-parameter (p j)
         (and-both (le-yes (b .«start_u») (p j) (parameter-from (b .«start_u») (b .«end_u») ordered steps j)) (le-yes (p j) (b .«end_u») (parameter-upto (b .«start_u») (b .«end_u») ordered steps j (omega arith))))
@@ -173,7 +173,7 @@ module _ (used : Used) (t : Tables) (u : Used) (w : Tables) (count : u .elements
       ap₂ (λ (x : Element) (y : Body). answer x (runNumbers w x y steps)) (granted-element false given) (granted-body false given) ∙ ap (answer e) (run-same given steps))
 
   polyline-answer : (tolerance : ℤ) (at : ℕ) (points : List ℤ) → polylineInto u w number tolerance at points ≡ polylineInto used t number tolerance at points
-  unfolding polylineInto parametersOf numbersOf
+  unfolding polylineInto parametersOf polylineNumbers
   polyline-answer tolerance at points =
       let answer : (ℤ → List ℤ) → Element → Body → PolylineAnswer = λ f x y.
       let ps = parameters f tolerance (y .«start_u») (y .«end_u») in

@@ -16,7 +16,7 @@ use Rattle.tables.specs.declared.Element.{Element}
 use Rattle.model.specs.Model.{VertexKind, geometric, texture, normal, parametric}
 use Rattle.table_rules.specs.Whole.{wholeObeys}
 use Rattle.sweep_marks.specs.Counting.{keptUpto, newNumber, flatBelow}
-use Rattle.sweep.specs.Named.{usedOf, tableIn, widthIn, named, cornerAfter, cornersAfter}
+use Rattle.sweep.specs.Named.{usedOfKind, tableIn, widthIn, named, cornerAfter, cornersAfter}
 use Rattle.sweep.specs.Swept.{SweepAnswer, numbersNeeded, rowsAfter, sweptUsed, sweptTables, sweptAnswer, sweepInto}
 use Rattle.swept_files.specs.Promises.{referenceIn, AllNamed, Unchanged}
 use Rattle.sweep_marks.proofs.Counting.{kept-most}
@@ -47,7 +47,7 @@ module _ (used : Used) (t : Tables) (h : wholeObeys used t ≡ true) where
   again : Standing U W
   again = standing U W (swept-obeys used t h)
 
-  still-named : (kind : VertexKind) (k : ℕ) → 1 ≤ k → k ≤ usedOf kind U → named U W kind k ≡ true
+  still-named : (kind : VertexKind) (k : ℕ) → 1 ≤ k → k ≤ usedOfKind kind U → named U W kind k ≡ true
   still-named kind zero a b = absurd (omega arith)
   still-named kind (suc m) a b =
       let f = named used t kind in
@@ -67,7 +67,7 @@ module _ (used : Used) (t : Tables) (h : wholeObeys used t ≡ true) where
   rows-again kind =
       let f = named used t kind in
       let w = widthIn kind in
-      let n = usedOf kind used in
+      let n = usedOfKind kind used in
       let l = tableIn kind t in
       let lent = lent-in used t (s .lent) kind in
       let k : w * keptUpto f n ≤ length l = (let q = mul-le-mul-left w (kept-most f n) in omega arith) in

@@ -12,7 +12,7 @@ use Rattle.model.specs.Model.{VertexKind}
 use Rattle.record_rules.specs.Rules.{obeys, curvesBefore}
 use Rattle.table_rules.specs.Whole.{followsAt, endsBefore, endsUsed, wholeObeys}
 use Rattle.sweep_marks.specs.Counting.{newNumber}
-use Rattle.sweep.specs.Named.{usedOf, named}
+use Rattle.sweep.specs.Named.{usedOfKind, named}
 use Rattle.sweep.specs.Swept.{sweptTables}
 use Rattle.swept_files.specs.Promises.{referenceIn}
 use Rattle.table_rules.proofs.Lent.{Lent, lent-facts}
@@ -45,7 +45,7 @@ standing used t h =
 
 -- the reference of a kind in one corner, before and after
 pub record Reference (used : Used) (t : Tables) (kind : VertexKind) (i j : ℕ) : Type 0 where
-  pub within : referenceIn kind t i j ≤ usedOf kind used
+  pub within : referenceIn kind t i j ≤ usedOfKind kind used
   pub names : named used t kind (referenceIn kind t i j) ≡ true
   pub after : referenceIn kind (sweptTables used t) i j ≡ newNumber (named used t kind) (referenceIn kind t i j)
 

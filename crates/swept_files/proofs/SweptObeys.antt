@@ -14,7 +14,7 @@ use Rattle.record_rules.specs.Vertices.{vertexObeys, parameterVertexObeys}
 use Rattle.record_rules.specs.Rules.{obeys, curvesBefore}
 use Rattle.record_rules.proofs.Below.{below-at, below-all}
 use Rattle.table_rules.specs.Whole.{verticesObey, wholeObeys}
-use Rattle.sweep.specs.Named.{usedOf, tableIn, widthIn}
+use Rattle.sweep.specs.Named.{usedOfKind, tableIn, widthIn}
 use Rattle.sweep.specs.Swept.{sweptUsed, sweptTables}
 use Rattle.table_rules.proofs.Lent.{Lent, lent-of}
 use Rattle.sweep.proofs.Whole.{whole-parts, whole-of, elements-of}
@@ -60,16 +60,16 @@ module _ (used : Used) (t : Tables) (s : Standing used t) where
   -- a test of a record that looks at its numbers alone holds of every record that is left, where it held of all
   kind-after : (kind : VertexKind) (rule : List ℤ → ℕ → ℕ → Bool)
       → ((l after : List ℤ) (n left k m : ℕ) → Moved (widthIn kind) l after left k m → rule l n k ≡ true → rule after left m ≡ true)
-      → allBelow (usedOf kind used) (λ k. rule (tableIn kind t) (usedOf kind used) (suc k)) ≡ true
-      → allBelow (usedOf kind U) (λ k. rule (tableIn kind W) (usedOf kind U) (suc k)) ≡ true
+      → allBelow (usedOfKind kind used) (λ k. rule (tableIn kind t) (usedOfKind kind used) (suc k)) ≡ true
+      → allBelow (usedOfKind kind U) (λ k. rule (tableIn kind W) (usedOfKind kind U) (suc k)) ≡ true
   kind-after kind rule moves h =
-      below-all (λ k. rule (tableIn kind W) (usedOf kind U) (suc k)) (usedOf kind U)
+      below-all (λ k. rule (tableIn kind W) (usedOfKind kind U) (suc k)) (usedOfKind kind U)
       (λ m l.
       (let o = moved-from used t (s .lent) kind m l in
       let i = o .index in
-      moves (tableIn kind t) (tableIn kind W) (usedOf kind used) (usedOf kind U) (suc i) (suc m)
-      (subst (Moved (widthIn kind) (tableIn kind t) (tableIn kind W) (usedOf kind U) (suc i)) (o .counted) (moved used t (s .lent) kind i (o .less) (o .passes)))
-      (below-at (λ k. rule (tableIn kind t) (usedOf kind used) (suc k)) (usedOf kind used) i h (o .less))))
+      moves (tableIn kind t) (tableIn kind W) (usedOfKind kind used) (usedOfKind kind U) (suc i) (suc m)
+      (subst (Moved (widthIn kind) (tableIn kind t) (tableIn kind W) (usedOfKind kind U) (suc i)) (o .counted) (moved used t (s .lent) kind i (o .less) (o .passes)))
+      (below-at (λ k. rule (tableIn kind t) (usedOfKind kind used) (suc k)) (usedOfKind kind used) i h (o .less))))
 
   vertices-after : verticesObey used t ≡ true → verticesObey U W ≡ true
   unfolding verticesObey

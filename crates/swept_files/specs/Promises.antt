@@ -11,7 +11,7 @@ use Rattle.tables.specs.Records.{elementAt, bodyAt, cornerAt, partAt}
 use Rattle.tables.specs.declared.Used.{Used}
 use Rattle.model.specs.Model.{VertexKind, geometric, texture, normal, parametric}
 use Rattle.sweep_marks.specs.Counting.{reference, droppedUpto}
-use Rattle.sweep.specs.Named.{usedOf, tableIn, widthIn, named}
+use Rattle.sweep.specs.Named.{usedOfKind, tableIn, widthIn, named}
 use Rattle.sweep.specs.declared.Dropped.{Dropped}
 use Rattle.sweep.specs.Swept.{SweepAnswer, numbersNeeded, noneDropped}
 
@@ -37,7 +37,7 @@ pub record NamedBy (used : Used) (t : Tables) (kind : VertexKind) (k : ℕ) : Ty
 
 -- "removes every v, vt, vn and vp that no corner names": those that are left, a corner names
 abbrev pub AllNamed : Used → Tables → Type 0
-AllNamed used t = (kind : VertexKind) (k : ℕ) → 1 ≤ k → k ≤ usedOf kind used → NamedBy used t kind k
+AllNamed used t = (kind : VertexKind) (k : ℕ) → 1 ≤ k → k ≤ usedOfKind kind used → NamedBy used t kind k
 
 -- "Every element shows the same coordinates, names and loops as before", corner by corner; an element's record holds its names
 pub record SameShown (used : Used) (t w : Tables) : Type 0 where
@@ -64,8 +64,8 @@ droppedAs parametric d = d .vp
 
 -- "For each kind, kept plus dropped is the old count, and dropped is counted from the references alone."
 pub record SweepCounted (used : Used) (t : Tables) (a : SweepAnswer) (kind : VertexKind) : Type 0 where
-  pub sum : usedOf kind (a .outcome .used) + droppedAs kind (a .outcome .dropped) ≡ usedOf kind used
-  pub dropped : droppedAs kind (a .outcome .dropped) ≡ droppedUpto (named used t kind) (usedOf kind used)
+  pub sum : usedOfKind kind (a .outcome .used) + droppedAs kind (a .outcome .dropped) ≡ usedOfKind kind used
+  pub dropped : droppedAs kind (a .outcome .dropped) ≡ droppedUpto (named used t kind) (usedOfKind kind used)
 
 -- where the new numbers of a kind begin in the list: "all v, then vt, vn, vp"
 abbrev pub listedFrom : VertexKind → Used → ℕ
@@ -82,12 +82,12 @@ numberAfter kind used numbers (suc k) = getD numbers (listedFrom kind used + k) 
 -- "its new number, or 0 if dropped"; "Kept records keep their order": a kept record is the record of its new number, as it was, and a corner that named it
 -- holds that number
 pub record Renumbered (used : Used) (t : Tables) (a : SweepAnswer) (kind : VertexKind) : Type 0 where
-  pub zeros : (k : ℕ) → 1 ≤ k → k ≤ usedOf kind used → named used t kind k ≡ false → numberAfter kind used (a .numbers) k ≡ 0
-  pub within : (k : ℕ) → 1 ≤ k → k ≤ usedOf kind used → named used t kind k ≡ true
-      → (1 ≤ numberAfter kind used (a .numbers) k) × (numberAfter kind used (a .numbers) k ≤ usedOf kind (a .outcome .used))
-  pub order : (j k : ℕ) → 1 ≤ j → j < k → k ≤ usedOf kind used → named used t kind j ≡ true → named used t kind k ≡ true
+  pub zeros : (k : ℕ) → 1 ≤ k → k ≤ usedOfKind kind used → named used t kind k ≡ false → numberAfter kind used (a .numbers) k ≡ 0
+  pub within : (k : ℕ) → 1 ≤ k → k ≤ usedOfKind kind used → named used t kind k ≡ true
+      → (1 ≤ numberAfter kind used (a .numbers) k) × (numberAfter kind used (a .numbers) k ≤ usedOfKind kind (a .outcome .used))
+  pub order : (j k : ℕ) → 1 ≤ j → j < k → k ≤ usedOfKind kind used → named used t kind j ≡ true → named used t kind k ≡ true
       → numberAfter kind used (a .numbers) j < numberAfter kind used (a .numbers) k
-  pub contents : (k : ℕ) → 1 ≤ k → k ≤ usedOf kind used → named used t kind k ≡ true
+  pub contents : (k : ℕ) → 1 ≤ k → k ≤ usedOfKind kind used → named used t kind k ≡ true
       → rowNumbered kind (a .tables) (numberAfter kind used (a .numbers) k) ≡ rowNumbered kind t k
   pub references : (i j : ℕ) → i < used .elements → j < elementAt t i .corners .count
       → referenceIn kind (a .tables) i j ≡ numberAfter kind used (a .numbers) (referenceIn kind t i j)

@@ -9,8 +9,8 @@ use lib.Dec.{eqb}
 use native.Mathlib.Omega.{arith}
 use Rattle.lists.proofs.Tests.{test, never, and-right}
 use Rattle.text.specs.Bytes.{isWord, isBlank, lf, lineEnd}
-use Rattle.text.specs.Lines.{Mode, gap, word, comment, join, Look, goes, ends, refused, plain, look, extent}
-use Rattle.text.specs.Words.{Word, wordOf, isGap, opens, words, refusedAt}
+use Rattle.text.specs.Lines.{Mode, gap, word, comment, join, Look, goes, ends, refused, plainByte, look, extent}
+use Rattle.text.specs.Words.{Word, wordOf, isGap, opensWord, words, refusedAt}
 
 -- two things that a byte does are not the same
 pub goes-ends : {A : Type 0} {n : Mode} → ends ≡ goes n → A
@@ -61,7 +61,7 @@ end-kept (b ∷ bs) h =
     (λ (t : eqb b 10 ≡ false). rw t (more (eqb b 10) (eqb b 13) (lf bs) (lf (take (extent join bs) bs)) (lf-kept bs) t h))
     (test (eqb b 10))
 
--- ---- `plain` over its tests
+-- ---- `plainByte` over its tests
 abbrev pub tested : Bool → Bool → Bool → Bool → Bool → Look
 tested w k e f g = cond w (goes word) (cond k (goes gap) (cond e ends (cond f (cond g (goes join) refused) refused)))
 
@@ -82,7 +82,7 @@ refuses false false false true true e′ g′ a j h = goes-refused (sym h)
 refuses false false false true false e′ g′ a j h = rw (a refl, j refl) refl
 refuses false false false false g e′ g′ a j h = rw (a refl) refl
 
-plain-goes : (b : ℕ) (bs : List ℕ) (n : Mode) → plain b bs ≡ goes n → plain b (take (extent n bs) bs) ≡ goes n
+plain-goes : (b : ℕ) (bs : List ℕ) (n : Mode) → plainByte b bs ≡ goes n → plainByte b (take (extent n bs) bs) ≡ goes n
 plain-goes b bs n h =
     stays (isWord b) (isBlank b) (lineEnd (b ∷ bs)) (eqb b 92) (lineEnd bs) (lineEnd (b ∷ take (extent n bs) bs)) (lineEnd (take (extent n bs) bs)) n
     (end-cut (suc (extent n bs)) (b ∷ bs))
@@ -102,7 +102,7 @@ look-goes comment b bs n h =
     (test (lineEnd (b ∷ bs)))
 look-goes join b bs n h = h
 
-plain-refused : (b : ℕ) (bs : List ℕ) (k : ℕ) → plain b bs ≡ refused → plain b (take k bs) ≡ refused
+plain-refused : (b : ℕ) (bs : List ℕ) (k : ℕ) → plainByte b bs ≡ refused → plainByte b (take k bs) ≡ refused
 plain-refused b bs k h =
     refuses (isWord b) (isBlank b) (lineEnd (b ∷ bs)) (eqb b 92) (lineEnd bs) (lineEnd (b ∷ take k bs)) (lineEnd (take k bs))
     (end-cut (suc k) (b ∷ bs)) (end-cut k bs) h
@@ -127,7 +127,7 @@ pub no-word : (j b : ℕ) (bs : List ℕ) → isWord b ≡ false → wordOf (tak
 no-word zero b bs t = refl
 no-word (suc j) b bs t = rw t refl
 
-pub word-plain : (b : ℕ) (bs : List ℕ) → isWord b ≡ true → plain b bs ≡ goes word
+pub word-plain : (b : ℕ) (bs : List ℕ) → isWord b ≡ true → plainByte b bs ≡ goes word
 word-plain b bs t = rw t refl
 
 wordOf-cut : (l : List ℕ) → wordOf (take (extent word l) l) ≡ wordOf l
@@ -138,13 +138,13 @@ wordOf-cut (b ∷ bs) =
     (λ (t : isWord b ≡ false). no-word (extent word (b ∷ bs)) b bs t ∙ sym (no-word (suc (length bs)) b bs t) ∙ rw t refl)
     (test (isWord b))
 
-pub in-word : (m n : Mode) → opens m n ≡ true → n ≡ word
+pub in-word : (m n : Mode) → opensWord m n ≡ true → n ≡ word
 in-word m gap h = never (and-right (isGap m) false h)
 in-word m word h = refl
 in-word m comment h = never (and-right (isGap m) false h)
 in-word m join h = never (and-right (isGap m) false h)
 
-first-word : (m n : Mode) (p b : ℕ) (bs : List ℕ) (ws : List Word) (t : Bool) → opens m n ≡ t
+first-word : (m n : Mode) (p b : ℕ) (bs : List ℕ) (ws : List Word) (t : Bool) → opensWord m n ≡ t
     → cond t (record { place = p; bytes = wordOf (b ∷ take (extent n bs) bs) } ∷ ws) ws ≡ cond t (record { place = p; bytes = wordOf (b ∷ bs) } ∷ ws) ws
 first-word m n p b bs ws true o =
     ap (λ (r : List ℕ). record { place = p; bytes = cond (isWord b) (b ∷ r) [] } ∷ ws)
@@ -154,7 +154,7 @@ first-word m n p b bs ws false o = refl
 words-step : (m : Mode) (p b : ℕ) (bs : List ℕ) → ((n : Mode) → words n (suc p) (take (extent n bs) bs) ≡ words n (suc p) bs)
     → (k : Look) → look m b bs ≡ k → words m p (take (extent m (b ∷ bs)) (b ∷ bs)) ≡ words m p (b ∷ bs)
 words-step m p b bs ih (goes n) e =
-    rw e (rw (look-goes m b bs n e) (rw (ih n) (first-word m n p b bs (words n (suc p) bs) (opens m n) refl)))
+    rw e (rw (look-goes m b bs n e) (rw (ih n) (first-word m n p b bs (words n (suc p) bs) (opensWord m n) refl)))
 words-step m p b bs ih ends e = rw e refl
 words-step m p b bs ih refused e = rw e (rw (look-refused m b bs (extent word bs) e) refl)
 

@@ -10,7 +10,7 @@ use lib.Dec.{eqb}
 use native.Mathlib.Omega.{arith}
 use Rattle.lists.proofs.Tests.{test}
 use Rattle.text.specs.Bytes.{isWord, isBlank, lineEnd}
-use Rattle.text.specs.Lines.{Mode, gap, word, comment, join, Look, goes, ends, refused, plain, look, extent, ending, strideOf, Line, lineOf, linesFrom, linesOf}
+use Rattle.text.specs.Lines.{Mode, gap, word, comment, join, Look, goes, ends, refused, plainByte, look, extent, ending, strideOf, Line, lineOf, linesFrom, linesOf}
 use Rattle.text.specs.Words.{wordsOf, badOf}
 use Rattle.text.specs.Rest.{restAt, linesAt}
 use Rattle.text.proofs.Cut.{goes-ends, ends-refused}
@@ -27,7 +27,7 @@ ends-tested false false false true true h = goes-ends (sym h)
 ends-tested false false false true false h = ends-refused (sym h)
 ends-tested false false false false g h = ends-refused (sym h)
 
-ends-plain : (b : ℕ) (bs : List ℕ) → plain b bs ≡ ends → lineEnd (b ∷ bs) ≡ true
+ends-plain : (b : ℕ) (bs : List ℕ) → plainByte b bs ≡ ends → lineEnd (b ∷ bs) ≡ true
 ends-plain b bs h = ends-tested (isWord b) (isBlank b) (lineEnd (b ∷ bs)) (eqb b 92) (lineEnd bs) h
 
 ends-line : (m : Mode) (b : ℕ) (bs : List ℕ) → look m b bs ≡ ends → lineEnd (b ∷ bs) ≡ true

@@ -15,8 +15,8 @@ use Rattle.lists.specs.Lists.{all, same}
 use Rattle.lists.proofs.Tests.{test, never, and-left, and-right, and-both}
 use Rattle.lists.proofs.Laws.{same-refl, same-eq}
 use Rattle.text.specs.Bytes.{isWord, isBlank, lineEnd}
-use Rattle.text.specs.Lines.{Mode, gap, word, comment, join, Look, goes, ends, refused, plain, look, onward}
-use Rattle.text.specs.Words.{Word, wordOf, isInWord, opens, words}
+use Rattle.text.specs.Lines.{Mode, gap, word, comment, join, Look, goes, ends, refused, plainByte, look, onward}
+use Rattle.text.specs.Words.{Word, wordOf, isInWord, opensWord, words}
 use Rattle.text.specs.Rest.{restAt, endOf}
 use Rattle.text.specs.Tokens.{isToken, startsWord}
 use Rattle.text.proofs.Cut.{goes-ends, goes-refused, words-cut, in-word}
@@ -90,13 +90,13 @@ word-tested false false false true true h = other h refl refl
 word-tested false false false true false h = goes-refused h
 word-tested false false false false g h = goes-refused h
 
-starts : (m n : Mode) (b : ℕ) (bs : List ℕ) → look m b bs ≡ goes n → opens m n ≡ true → startsWord b ≡ true
+starts : (m n : Mode) (b : ℕ) (bs : List ℕ) → look m b bs ≡ goes n → opensWord m n ≡ true → startsWord b ≡ true
 starts gap n b bs e o =
     let w : n ≡ word = in-word gap n o in
     ⊎-elim
     (λ (t : eqb b 35 ≡ true). other {m = comment} {n = n} (rw t at e) refl (rw w refl))
     (λ (t : eqb b 35 ≡ false).
-    let z : plain b bs ≡ goes word = (rw t at e) ∙ ap goes w in
+    let z : plainByte b bs ≡ goes word = (rw t at e) ∙ ap goes w in
     let y : isWord b ≡ true = word-tested (isWord b) (isBlank b) (lineEnd (b ∷ bs)) (eqb b 92) (lineEnd bs) z in
     and-both y (rw t refl))
     (test (eqb b 35))
@@ -116,7 +116,7 @@ module _ (s : List ℕ) where
       and-both (and-both x (le-leb (p + length (wordOf (b ∷ bs))) (length s) l)) (rw d (same-refl (wordOf (b ∷ bs))))
 
   step : (m : Mode) (p b : ℕ) (bs : List ℕ) → drop p s ≡ b ∷ bs → ((n : Mode) → all (stands s) (words n (suc p) bs) ≡ true)
-      → (k : Look) → look m b bs ≡ k → (t : Bool) → opens m (onward k (λ n. n) gap gap) ≡ t → all (stands s) (words m p (b ∷ bs)) ≡ true
+      → (k : Look) → look m b bs ≡ k → (t : Bool) → opensWord m (onward k (λ n. n) gap gap) ≡ t → all (stands s) (words m p (b ∷ bs)) ≡ true
   step m p b bs d ih (goes n) e true o = rw e (rw o (and-both (token-here p b bs d (starts m n b bs e o)) (ih n)))
   step m p b bs d ih (goes n) e false o = rw e (rw o (ih n))
   step m p b bs d ih ends e t o = rw e refl
@@ -128,7 +128,7 @@ module _ (s : List ℕ) where
   stand : (m : Mode) (p : ℕ) (l : List ℕ) → drop p s ≡ l → all (stands s) (words m p l) ≡ true
   stand m p [] d = refl
   stand m p (b ∷ bs) d =
-      step m p b bs d (λ n. stand n (suc p) bs (next-drop p b bs d)) (look m b bs) refl (opens m (onward (look m b bs) (λ n. n) gap gap)) refl
+      step m p b bs d (λ n. stand n (suc p) bs (next-drop p b bs d)) (look m b bs) refl (opensWord m (onward (look m b bs) (λ n. n) gap gap)) refl
 
   pub words-stand : (at : ℕ) → all (stands s) ((restAt s at) .words) ≡ true
   unfolding restAt
@@ -158,7 +158,7 @@ module _ (s : List ℕ) where
 
 -- ---- no more words than bytes
 few-step : (m : Mode) (p b : ℕ) (bs : List ℕ) → ((n : Mode) → length (words n (suc p) bs) ≤ length bs)
-    → (k : Look) → look m b bs ≡ k → (t : Bool) → opens m (onward k (λ n. n) gap gap) ≡ t → length (words m p (b ∷ bs)) ≤ suc (length bs)
+    → (k : Look) → look m b bs ≡ k → (t : Bool) → opensWord m (onward k (λ n. n) gap gap) ≡ t → length (words m p (b ∷ bs)) ≤ suc (length bs)
 few-step m p b bs ih (goes n) e true o = let z : length (words n (suc p) bs) ≤ length bs = ih n in rw e (rw o (omega arith))
 few-step m p b bs ih (goes n) e false o = let z : length (words n (suc p) bs) ≤ length bs = ih n in rw e (rw o (omega arith))
 few-step m p b bs ih ends e t o = rw e (omega arith)
@@ -166,4 +166,4 @@ few-step m p b bs ih refused e t o = rw e (omega arith)
 
 pub few : (m : Mode) (p : ℕ) (l : List ℕ) → length (words m p l) ≤ length l
 few m p [] = omega arith
-few m p (b ∷ bs) = few-step m p b bs (λ n. few n (suc p) bs) (look m b bs) refl (opens m (onward (look m b bs) (λ n. n) gap gap)) refl
+few m p (b ∷ bs) = few-step m p b bs (λ n. few n (suc p) bs) (look m b bs) refl (opensWord m (onward (look m b bs) (λ n. n) gap gap)) refl

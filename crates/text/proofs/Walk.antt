@@ -14,7 +14,7 @@ use Rattle.lists.proofs.Tests.{test, never, and-left, and-right}
 use Rattle.text.specs.Bytes.{isWord, isBlank, lf, lineEnd}
 use Rattle.text.specs.Tokens.{startsWord}
 use Rattle.text.specs.Lines.{Mode, gap, word, comment, join, goes, ends, refused, look, onward, extent, ending}
-use Rattle.text.specs.Words.{Word, wordOf, opens, words, refusedAt}
+use Rattle.text.specs.Words.{Word, wordOf, opensWord, words, refusedAt}
 use Rattle.text.specs.Rest.{Rest, restAt, push}
 use Rattle.text.proofs.Cut.{words-cut, refused-cut, word-plain}
 
@@ -60,10 +60,10 @@ module _ (m : Mode) (p b : ℕ) (bs : List ℕ) where
   stride-goes : (n : Mode) → look m b bs ≡ goes n → p + strideIn m (b ∷ bs) ≡ suc p + strideIn n bs
   stride-goes n e = rw e (omega arith)
 
-  pub rest-goes : (n : Mode) → look m b bs ≡ goes n → opens m n ≡ false → restIn m p (b ∷ bs) ≡ restIn n (suc p) bs
+  pub rest-goes : (n : Mode) → look m b bs ≡ goes n → opensWord m n ≡ false → restIn m p (b ∷ bs) ≡ restIn n (suc p) bs
   rest-goes n e o = rest-eq (rw e (rw o refl)) (rw e refl) (stride-goes n e)
 
-  pub rest-opens : (n : Mode) → look m b bs ≡ goes n → opens m n ≡ true
+  pub rest-opens : (n : Mode) → look m b bs ≡ goes n → opensWord m n ≡ true
       → restIn m p (b ∷ bs) ≡ push (record { place = p; bytes = wordOf (b ∷ bs) }) (restIn n (suc p) bs)
   rest-opens n e o = rest-eq (rw e (rw o refl)) (rw e refl) (stride-goes n e)
 
@@ -150,8 +150,8 @@ outside p b bs t =
     rest-eq
     (rw (not-hash b t, t)
     (tame (isBlank b) (lineEnd (b ∷ bs)) (eqb b 92) (lineEnd bs)
-    (λ n. cond (opens word n) (record { place = p; bytes = [] } ∷ words n (suc p) bs) (words n (suc p) bs))
-    (λ n. cond (opens gap n) (record { place = p; bytes = [] } ∷ words n (suc p) bs) (words n (suc p) bs))
+    (λ n. cond (opensWord word n) (record { place = p; bytes = [] } ∷ words n (suc p) bs) (words n (suc p) bs))
+    (λ n. cond (opensWord gap n) (record { place = p; bytes = [] } ∷ words n (suc p) bs) (words n (suc p) bs))
     [] [] refl refl))
     (rw (not-hash b t) refl) (rw (not-hash b t) refl)
 

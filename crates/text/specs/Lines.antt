@@ -19,8 +19,8 @@ pub data Look : Type 0 where
 
 -- the byte b between words or in a word, with the bytes bs after it: "A backslash right before LF or CR LF joins the next line and counts as a blank.
 -- Other backslashes and other CRs are refused"
-abbrev pub plain : ℕ → List ℕ → Look
-plain b bs =
+abbrev pub plainByte : ℕ → List ℕ → Look
+plainByte b bs =
     cond (isWord b) (goes word)
     (cond (isBlank b) (goes gap)
     (cond (lineEnd (b ∷ bs)) ends
@@ -29,8 +29,8 @@ plain b bs =
 
 -- "A # at the start of a word opens a comment to the end of the physical line; in a comment every byte but LF is allowed and a backslash joins nothing."
 abbrev pub look : Mode → ℕ → List ℕ → Look
-look gap b bs = cond (eqb b 35) (goes comment) (plain b bs)
-look word b bs = plain b bs
+look gap b bs = cond (eqb b 35) (goes comment) (plainByte b bs)
+look word b bs = plainByte b bs
 look comment b bs = cond (lineEnd (b ∷ bs)) ends (goes comment)
 look join b bs = cond (eqb b 10) (goes gap) (goes join)
 

@@ -30,14 +30,14 @@ isInWord word = true
 isInWord comment = false
 isInWord join = false
 
-abbrev pub opens : Mode → Mode → Bool
-opens m n = isGap m && isInWord n
+abbrev pub opensWord : Mode → Mode → Bool
+opensWord m n = isGap m && isInWord n
 
 -- the words of a line whose bytes are l, from place p on
 abbrev pub words : Mode → ℕ → List ℕ → List Word
 words m p [] = []
 words m p (b ∷ bs) =
-    onward (look m b bs) (λ n. cond (opens m n) (record { place = p; bytes = wordOf (b ∷ bs) } ∷ words n (suc p) bs) (words n (suc p) bs)) [] []
+    onward (look m b bs) (λ n. cond (opensWord m n) (record { place = p; bytes = wordOf (b ∷ bs) } ∷ words n (suc p) bs) (words n (suc p) bs)) [] []
 
 -- the first byte that is not allowed
 abbrev pub refusedAt : Mode → ℕ → List ℕ → Option ℕ

@@ -24,7 +24,7 @@ use Rattle.model.specs.Model.{Names, Shape, point, line, face, Free, curve, cur
 use Rattle.model.specs.Statements.{loop, end}
 use Rattle.model.specs.Statements as statements
 use Rattle.model.specs.Layout.{runOf, listed, shapeNumber, freeNumber, kindNumber, bodyNumber}
-use Rattle.model.specs.In.{each, cornersFrom, begunIn, kindFrom}
+use Rattle.model.specs.In.{each, modelCorners, begunIn, kindFrom}
 use Rattle.model.proofs.Stands.{Among}
 use Rattle.model.proofs.Placed.{NamesStand}
 use Rattle.model.proofs.ElementRows.{laidRun, laidElement}
@@ -65,9 +65,9 @@ module _ (W : Weights) (t : Tables) (r : records-element.Element) where
   abbrev b : records-body.Body
   b = bodyAt t (r .body - 1)
 
-  corner-words : map writtenCorner (rows.cornersFrom (r .corners .count) (drop (r .corners .first) (t .elements .corners))) ≡ map writtenCorner (cornersFrom t r)
+  corner-words : map writtenCorner (rows.storedCorners (r .corners .count) (drop (r .corners .first) (t .elements .corners))) ≡ map writtenCorner (modelCorners t r)
   corner-words =
-      ap (λ (k : ℕ). map writtenCorner (rows.cornersFrom (r .corners .count) (drop k (t .elements .corners)))) (let e : r .corners .first ≡ cornerPlace (r .corners) 0 = omega arith in e)
+      ap (λ (k : ℕ). map writtenCorner (rows.storedCorners (r .corners .count) (drop k (t .elements .corners)))) (let e : r .corners .first ≡ cornerPlace (r .corners) 0 = omega arith in e)
       ∙ ap (map writtenCorner) (corners-are t (r .corners) (r .corners .count) 0)
 
   abbrev ls : List Loop
@@ -78,17 +78,17 @@ module _ (W : Weights) (t : Tables) (r : records-element.Element) where
       ap (λ (o : List (List (List ℕ))). o ++ endLine ∷ []) (loops-are t W (b .loops) (b .«first_loop»))
       ∙ sym (map-append (printed W) (map loop ls) (end ∷ []))
 
-  own-plain : (k : Shape) → r .kind ≡ shapeNumber k → own ≡ map (printed W) (elementLines (kindFrom t r) (cornersFrom t r))
+  own-plain : (k : Shape) → r .kind ≡ shapeNumber k → own ≡ map (printed W) (elementLines (kindFrom t r) (modelCorners t r))
   own-plain point e = rw (e, corner-words) refl
   own-plain line e = rw (e, corner-words) refl
   own-plain face e = rw (e, corner-words) refl
 
-  own-free : (k : Free) → r .kind ≡ freeNumber k → own ≡ map (printed W) (elementLines (kindFrom t r) (cornersFrom t r))
+  own-free : (k : Free) → r .kind ≡ freeNumber k → own ≡ map (printed W) (elementLines (kindFrom t r) (modelCorners t r))
   own-free curve e = rw (e, corner-words, type-words b, loop-lines) refl
   own-free curve2 e = rw (e, corner-words, type-words b, loop-lines) refl
   own-free surface e = rw (e, corner-words, type-words b, loop-lines) refl
 
-  pub own-lines : (k : Kind) → r .kind ≡ kindNumber k → own ≡ map (printed W) (elementLines (kindFrom t r) (cornersFrom t r))
+  pub own-lines : (k : Kind) → r .kind ≡ kindNumber k → own ≡ map (printed W) (elementLines (kindFrom t r) (modelCorners t r))
   own-lines (plain k) e = own-plain k e
   own-lines (free x) e = own-free (x .free) e
 
@@ -133,7 +133,7 @@ module _ (W : Weights) (s : List ℕ) (used : Used) (t : Tables) where
     pub body : ℕ
     pub is : askedElement used (t .elements .elements) i ≡ laidElement first body e
     pub kind : kindFrom t (laidElement first body e) ≡ e .kind
-    pub corners : cornersFrom t (laidElement first body e) ≡ e .corners
+    pub corners : modelCorners t (laidElement first body e) ≡ e .corners
 
   names-lines : (k : ℕ) (c : CornerRun) (b k' : ℕ) (c' : CornerRun) (b' : ℕ) (m n : Names) → NamesStand s m → NamesStand s n → stays (m .material) (n .material) ≡ true
       → namesLines s (named k c b m) (named k' c' b' n)

@@ -22,7 +22,7 @@ use Rattle.model.specs.In.{each, rowAt, cornerFrom, partFrom, Begun, goesOn, be
 use Rattle.tidy_form.specs.declared.Weights.{Weights}
 use Rattle.tidy_form.specs.Printed as printing
 use Rattle.tidy_form.specs.Printed.{vertexKeyword, loopKeyword, coordinates, printed}
-use Rattle.tidy_writer.specs.Rows.{rowNumbers, vertexRows, cornersFrom, partWords, goingOn, loopLines}
+use Rattle.tidy_writer.specs.Rows.{rowNumbers, vertexRows, storedCorners, partWords, goingOn, loopLines}
 
 -- ---- reading on from an entry
 here : {A : Type 0} (n : ℕ) (l : List A) (z : A) → getD (drop n l) 0 z ≡ getD l n z
@@ -40,7 +40,7 @@ vertices-are W X k counted c w l (suc n) i =
     ∙ ap (λ (y : List (List (List ℕ))). (keywordOf (vertexKeyword k) ∷ map writtenNumber (coordinates W k (rowAt w l i))) ∷ y) (vertices-are W X k counted c w l n (suc i))
 
 -- ---- corners
-pub corners-are : (t : Tables) (run : CornerRun) (n k : ℕ) → cornersFrom n (drop (cornerPlace run k) (t .elements .corners)) ≡ each (λ j. cornerFrom (cornerAt t run j)) n k
+pub corners-are : (t : Tables) (run : CornerRun) (n k : ℕ) → storedCorners n (drop (cornerPlace run k) (t .elements .corners)) ≡ each (λ j. cornerFrom (cornerAt t run j)) n k
 corners-are t run zero k = refl
 corners-are t run (suc n) k =
     let l = t .elements .corners in
@@ -48,7 +48,7 @@ corners-are t run (suc n) k =
     let c : record { v = getD (drop at l) 0 0; vt = getD (drop at l) 1 0; vn = getD (drop at l) 2 0 } ≡ cornerFrom (cornerIn l at) = rw (here at l 0, getD-drop at l 1 0, getD-drop at l 2 0) refl in
     let d : drop cornerWidth (drop at l) ≡ drop (cornerPlace run (suc k)) l =
     drop-drop cornerWidth at l ∙ ap (λ (j : ℕ). drop j l) (let e : cornerPlace run k + cornerWidth ≡ cornerPlace run (suc k) = omega arith in e) in
-    ap₂ (λ (x : Corner) (y : List ℕ). x ∷ cornersFrom n y) c d ∙ ap (λ (y : List Corner). cornerFrom (cornerAt t run k) ∷ y) (corners-are t run n (suc k))
+    ap₂ (λ (x : Corner) (y : List ℕ). x ∷ storedCorners n y) c d ∙ ap (λ (y : List Corner). cornerFrom (cornerAt t run k) ∷ y) (corners-are t run n (suc k))
 
 -- ---- parts: those that go on, and the lines of the loops that begin
 module _ (t : Tables) where

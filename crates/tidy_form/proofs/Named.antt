@@ -19,7 +19,7 @@ use Rattle.model.specs.Statements.{Statement, vertex, element, group, smoothing
 use Rattle.model.specs.Parse.{fine, unless, Keyword, a-vertex, an-element, a-body, parm, trim, hole, ends, cstype, deg, g, s, usemtl, over, a-name, Value, name, Seen, saidOf, placed, valuesOf, counted, checked, namesOf, cornersOf, unlike, inForce, narrowIn, rangeWords, complete, countsAgree, rangeWithin, seenIn, parse, formOf, materialOf}
 use Rattle.model.proofs.Pieces.{opened, finished}
 use Rattle.model.specs.Room.{Rooms, fits}
-use Rattle.model.specs.Read.{keywordOf, statement, step, read, readLines, readOf}
+use Rattle.model.specs.Read.{carriedIn, statement, step, read, readLines, readOf}
 use Rattle.model.proofs.Placed.{WordsStand, NamesStand, ElementsStand}
 use Rattle.tidy_form.proofs.Words.{then-fine, placed-fine, on-says}
 use Rattle.tidy_form.proofs.Back.{names-of}
@@ -167,7 +167,7 @@ module _ (t : List ℕ) where
   unfolding statement
   step-stands R x y l [] b q e h = subst Standing (let z : x ≡ y = cc in z) h
   step-stands R x y l (w ∷ ws) b q e h =
-      let a = then-fine (keywordOf (statementOf (w .bytes)) (w .place)) _ y e in
+      let a = then-fine (carriedIn (statementOf (w .bytes)) (w .place)) _ y e in
       let c = then-fine (parse (a .0) x (w .place) ws) _ y (a .2) in
       let d = must-fine (fits R (apply (c .0) x)) 14 (w .place) _ y (c .2) in
       let r = names-run t (l .place) w ws (ap (words gap (l .place)) (sym b) ∙ q) in

@@ -11,8 +11,8 @@ use native.Mathlib.Omega.{arith}
 use native.Mathlib.Numerals.{add-one}
 use Rattle.lists.proofs.Tests.{test, never, and-left, and-right}
 use Rattle.text.specs.Bytes.{isWord, isBlank, lf, lineEnd}
-use Rattle.text.specs.Lines.{Mode, gap, word, comment, join, Look, goes, ends, refused, plain, look, onward}
-use Rattle.text.specs.Words.{Word, wordOf, isGap, isInWord, opens, words}
+use Rattle.text.specs.Lines.{Mode, gap, word, comment, join, Look, goes, ends, refused, plainByte, look, onward}
+use Rattle.text.specs.Words.{Word, wordOf, isGap, isInWord, opensWord, words}
 use Rattle.text.proofs.Cut.{end-cut, stays, no-word, in-word}
 
 -- ---- the words from one word on
@@ -27,7 +27,7 @@ pub record Onward (s : List ℕ) (w : Word) (ws : List Word) : Type 0 where
   pub after : words mode place (drop place s) ≡ ws
 
 onward-step : (s : List ℕ) (m : Mode) (p b : ℕ) (bs : List ℕ) (w : Word) (ws : List Word) → drop p s ≡ b ∷ bs
-    → ((n : Mode) → words n (suc p) bs ≡ w ∷ ws → Onward s w ws) → (k : Look) → look m b bs ≡ k → (t : Bool) → opens m (onward k (λ n. n) gap gap) ≡ t
+    → ((n : Mode) → words n (suc p) bs ≡ w ∷ ws → Onward s w ws) → (k : Look) → look m b bs ≡ k → (t : Bool) → opensWord m (onward k (λ n. n) gap gap) ≡ t
     → words m p (b ∷ bs) ≡ w ∷ ws → Onward s w ws
 onward-step s m p b bs w ws d ih (goes n) e true o h =
     let x : words m p (b ∷ bs) ≡ record { place = p; bytes = wordOf (b ∷ bs) } ∷ words n (suc p) bs = rw e (rw o refl) in
@@ -55,7 +55,7 @@ onward-step s m p b bs w ws d ih refused e t o h = absurd (let x : words m p (b 
 pub onward-from : (s : List ℕ) (m : Mode) (p : ℕ) (l : List ℕ) (w : Word) (ws : List Word) → drop p s ≡ l → words m p l ≡ w ∷ ws → Onward s w ws
 onward-from s m p [] w ws d h = absurd (let z : _≡_ {A = ℕ} 0 1 = cc in omega arith)
 onward-from s m p (b ∷ bs) w ws d h =
-    onward-step s m p b bs w ws d (λ n e. onward-from s n (suc p) bs w ws (next-drop s p b bs d) e) (look m b bs) refl (opens m (onward (look m b bs) (λ n. n) gap gap)) refl h
+    onward-step s m p b bs w ws d (λ n e. onward-from s n (suc p) bs w ws (next-drop s p b bs d) e) (look m b bs) refl (opensWord m (onward (look m b bs) (λ n. n) gap gap)) refl h
 
 -- ---- up to the end of the last word
 abbrev pub longer : Bool → ℕ → ℕ
@@ -97,7 +97,7 @@ end-kept (b ∷ bs) p h = go (eqb b 10) refl (longer-none (upto gap bs)) (longer
 join-word : join ≡ word → false ≡ true
 join-word h = ap isInWord h
 
-plain-goes : (b : ℕ) (bs : List ℕ) (n : Mode) → (0 < upto n bs) ⊎ (n ≡ word) → plain b bs ≡ goes n → plain b (take (upto n bs) bs) ≡ goes n
+plain-goes : (b : ℕ) (bs : List ℕ) (n : Mode) → (0 < upto n bs) ⊎ (n ≡ word) → plainByte b bs ≡ goes n → plainByte b (take (upto n bs) bs) ≡ goes n
 plain-goes b bs n l h =
     stays (isWord b) (isBlank b) (lineEnd (b ∷ bs)) (eqb b 92) (lineEnd bs) (lineEnd (b ∷ take (upto n bs) bs)) (lineEnd (take (upto n bs) bs)) n
     (end-cut (suc (upto n bs)) (b ∷ bs))
@@ -123,7 +123,7 @@ word-cut (b ∷ bs) =
     (λ (t : isWord b ≡ false). no-word (upto word (b ∷ bs)) b bs t ∙ sym (no-word (suc (length bs)) b bs t) ∙ rw t refl)
     (test (isWord b))
 
-first-word : (m n : Mode) (p b : ℕ) (bs : List ℕ) (ws : List Word) (t : Bool) → opens m n ≡ t
+first-word : (m n : Mode) (p b : ℕ) (bs : List ℕ) (ws : List Word) (t : Bool) → opensWord m n ≡ t
     → cond t (record { place = p; bytes = wordOf (b ∷ take (upto n bs) bs) } ∷ ws) ws ≡ cond t (record { place = p; bytes = wordOf (b ∷ bs) } ∷ ws) ws
 first-word m n p b bs ws true o =
     ap (λ (r : List ℕ). record { place = p; bytes = cond (isWord b) (b ∷ r) [] } ∷ ws) (let e : n ≡ word = in-word m n o in rw e (word-cut bs))
@@ -149,9 +149,9 @@ cut-step : (m : Mode) (p b : ℕ) (bs : List ℕ) (n : Mode) → look m b bs ≡
     → words m p (take (longer (isInWord n) (upto n bs)) (b ∷ bs)) ≡ words m p (b ∷ bs)
 cut-step m p b bs n e ih (further q r) =
     let l : (0 < upto n bs) ⊎ (n ≡ word) = ⊎-elim (λ (x : 0 < upto n bs). inl x) (λ (x : isInWord n ≡ true). inr (mode-word n x)) r in
-    rw (q, e) (rw (look-goes m b bs n l e) (rw ih (first-word m n p b bs (words n (suc p) bs) (opens m n) refl)))
+    rw (q, e) (rw (look-goes m b bs n l e) (rw ih (first-word m n p b bs (words n (suc p) bs) (opensWord m n) refl)))
 cut-step m p b bs n e ih (nowhere q r t) =
-    let o : opens m n ≡ false = rw t (never-second (isGap m)) in
+    let o : opensWord m n ≡ false = rw t (never-second (isGap m)) in
     let x : words n (suc p) bs ≡ [] = sym ih ∙ ap (λ (j : ℕ). words n (suc p) (take j bs)) r in
     rw (q, e, o) (sym x)
   where

@@ -20,7 +20,7 @@ use Rattle.model.specs.Model.{geometric, texture, normal, parametric, Vertices,
 use Rattle.model.specs.Statements.{Statement, vertex, element, group, smoothing, material, type, degree, body, parameters, loop, end, passed, apply, ended, closed}
 use Rattle.model.specs.Parse.{Parsed, fine, fault, unless, parse}
 use Rattle.model.specs.Room.{Rooms, fits}
-use Rattle.model.specs.Read.{keywordOf, statement, step, Answer, read, refused, finish, onParsed, readLines, readOf}
+use Rattle.model.specs.Read.{carriedIn, statement, step, Answer, read, refused, finish, onParsed, readLines, readOf}
 use Rattle.tidy_form.proofs.Texts.{words-tokens, lines-length}
 use Rattle.tidy_form.proofs.Words.{Small, then-fine}
 use Rattle.tidy_form.proofs.Standing.{seenOf}
@@ -42,7 +42,7 @@ pub step-did : (R : Rooms) (x y : State) (ws : List Word) → all isToken (bytes
 unfolding statement
 step-did R x y [] a h = inl (let z : x ≡ y = cc in sym z)
 step-did R x y (w ∷ ws) a h =
-    let p = then-fine (keywordOf (statementOf (w .bytes)) (w .place)) _ y h in
+    let p = then-fine (carriedIn (statementOf (w .bytes)) (w .place)) _ y h in
     let q = then-fine (parse (p .0) x (w .place) ws) _ y (p .2) in
     let r = must-fine (fits R (apply (q .0) x)) 14 (w .place) _ y (q .2) in
     inr (record {

@@ -10,7 +10,7 @@ use borrow.Author.Tests.{le-leb}
 use Rattle.lists.proofs.Tests.{test, never, and-right}
 use Rattle.text.specs.Bytes.{isWord, isBlank, lineEnd}
 use Rattle.text.specs.Lines.{Mode, gap, word, comment, join, Look, goes, ends, refused, look, onward, lineOf}
-use Rattle.text.specs.Words.{Word, wordOf, isGap, isInWord, opens, words}
+use Rattle.text.specs.Words.{Word, wordOf, isGap, isInWord, opensWord, words}
 use Rattle.text.proofs.Cut.{words-cut}
 use Rattle.tables.specs.Asking.{partOf}
 use Rattle.model.specs.Layout.{lastEnd}
@@ -33,7 +33,7 @@ word-stops true k e f g (inr h) = absurd (let z : _≡_ {A = ℕ} 0 1 = cc in om
 word-stops false k e f g h = refl
 
 -- outside a word, no byte goes on in one unless it opens it
-outside-goes : (m : Mode) (b : ℕ) (bs : List ℕ) (n : Mode) → isInWord m ≡ false → opens m n ≡ false → look m b bs ≡ goes n → isInWord n ≡ false
+outside-goes : (m : Mode) (b : ℕ) (bs : List ℕ) (n : Mode) → isInWord m ≡ false → opensWord m n ≡ false → look m b bs ≡ goes n → isInWord n ≡ false
 outside-goes gap b bs n i o h = o
 outside-goes word b bs n i o h = never (sym i)
 outside-goes comment b bs n i o h =
@@ -59,7 +59,7 @@ longer-under : (t : Bool) (k : ℕ) → longer t (cond t k 0) ≡ cond t (suc k)
 longer-under true k = longer-one k
 longer-under false k = refl
 
-no-step : (m : Mode) (b : ℕ) (bs : List ℕ) (n : Mode) → look m b bs ≡ goes n → opens m n ≡ false → upto n bs ≡ underway n bs → longer (isInWord n) (upto n bs) ≡ underway m (b ∷ bs)
+no-step : (m : Mode) (b : ℕ) (bs : List ℕ) (n : Mode) → look m b bs ≡ goes n → opensWord m n ≡ false → upto n bs ≡ underway n bs → longer (isInWord n) (upto n bs) ≡ underway m (b ∷ bs)
 no-step gap b bs n e o h = let i = outside-goes gap b bs n refl o e in rw (h, i) refl
 no-step word b bs n e o h =
     let i = word-goes (isWord b) (isBlank b) (lineEnd (b ∷ bs)) (lib.Dec.eqb b 92) (lineEnd bs) n e in
@@ -80,7 +80,7 @@ none-under comment = refl
 none-under join = refl
 
 none-look : (m : Mode) (p b : ℕ) (bs : List ℕ) → ((n : Mode) → words n (suc p) bs ≡ [] → upto n bs ≡ underway n bs) → (k : Look) → look m b bs ≡ k
-    → (t : Bool) → opens m (onward k (λ n. n) gap gap) ≡ t → words m p (b ∷ bs) ≡ [] → onward k (λ n. longer (isInWord n) (upto n bs)) 0 0 ≡ underway m (b ∷ bs)
+    → (t : Bool) → opensWord m (onward k (λ n. n) gap gap) ≡ t → words m p (b ∷ bs) ≡ [] → onward k (λ n. longer (isInWord n) (upto n bs)) 0 0 ≡ underway m (b ∷ bs)
 none-look m p b bs ih (goes n) e true o h =
     absurd (let x : words m p (b ∷ bs) ≡ record { place = p; bytes = wordOf (b ∷ bs) } ∷ words n (suc p) bs = rw e (rw o refl) in let z : _≡_ {A = ℕ} 0 1 = cc in omega arith)
 none-look m p b bs ih (goes n) e false o h =
@@ -91,10 +91,10 @@ none-look m p b bs ih refused e t o h = stops m b bs (inr e)
 
 upto-none : (m : Mode) (p : ℕ) (l : List ℕ) → words m p l ≡ [] → upto m l ≡ underway m l
 upto-none m p [] h = none-under m
-upto-none m p (b ∷ bs) h = none-look m p b bs (λ n e. upto-none n (suc p) bs e) (look m b bs) refl (opens m (onward (look m b bs) (λ n. n) gap gap)) refl h
+upto-none m p (b ∷ bs) h = none-look m p b bs (λ n e. upto-none n (suc p) bs e) (look m b bs) refl (opensWord m (onward (look m b bs) (λ n. n) gap gap)) refl h
 
 -- ---- up to the last word's end
-opens-word : (m : Mode) (b : ℕ) (bs : List ℕ) (n : Mode) → look m b bs ≡ goes n → opens m n ≡ true → isWord b ≡ true
+opens-word : (m : Mode) (b : ℕ) (bs : List ℕ) (n : Mode) → look m b bs ≡ goes n → opensWord m n ≡ true → isWord b ≡ true
 opens-word gap b bs n e o =
     ⊎-elim
     (λ (t : lib.Dec.eqb b 35 ≡ true). never (let y : goes comment ≡ goes n = rw t at e in let z : n ≡ comment = cc in sym (ap isInWord z) ∙ o))
@@ -110,7 +110,7 @@ longer-more t (suc k) h = refl
 
 last-look : (m : Mode) (p b : ℕ) (bs : List ℕ) (w : Word) (ws : List Word)
     → ((n : Mode) (w : Word) (ws : List Word) → words n (suc p) bs ≡ w ∷ ws → lastEnd w ws ≡ suc p + upto n bs) → (k : Look) → look m b bs ≡ k
-    → (t : Bool) → opens m (onward k (λ n. n) gap gap) ≡ t → words m p (b ∷ bs) ≡ w ∷ ws → lastEnd w ws ≡ p + onward k (λ n. longer (isInWord n) (upto n bs)) 0 0
+    → (t : Bool) → opensWord m (onward k (λ n. n) gap gap) ≡ t → words m p (b ∷ bs) ≡ w ∷ ws → lastEnd w ws ≡ p + onward k (λ n. longer (isInWord n) (upto n bs)) 0 0
 last-look m p b bs w ws ih (goes n) e true o h =
     let x : words m p (b ∷ bs) ≡ record { place = p; bytes = wordOf (b ∷ bs) } ∷ words n (suc p) bs = rw e (rw o refl) in
     let y : record { place = p; bytes = wordOf (b ∷ bs) } ∷ words n (suc p) bs ≡ w ∷ ws = sym x ∙ h in
@@ -143,7 +143,7 @@ last-look m p b bs w ws ih refused e t o h = absurd (let x : words m p (b ∷ bs
 last-end : (m : Mode) (p : ℕ) (l : List ℕ) (w : Word) (ws : List Word) → words m p l ≡ w ∷ ws → lastEnd w ws ≡ p + upto m l
 last-end m p [] w ws h = absurd (let z : _≡_ {A = ℕ} 0 1 = cc in omega arith)
 last-end m p (b ∷ bs) w ws h =
-    last-look m p b bs w ws (λ n v vs e. last-end n (suc p) bs v vs e) (look m b bs) refl (opens m (onward (look m b bs) (λ n. n) gap gap)) refl h
+    last-look m p b bs w ws (λ n v vs e. last-end n (suc p) bs v vs e) (look m b bs) refl (opensWord m (onward (look m b bs) (λ n. n) gap gap)) refl h
 
 -- ---- the run of names
 run-words : (s : List ℕ) (w : Word) (ws : List Word) → words gap (w .place) (drop (w .place) s) ≡ w ∷ ws

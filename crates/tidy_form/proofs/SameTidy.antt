@@ -15,7 +15,7 @@ use Rattle.model.specs.Model.{Names, Element, Model, State, start}
 use Rattle.model.specs.Statements.{Statement, group, material, apply}
 use Rattle.model.specs.Parse.{fine, unless, parse}
 use Rattle.model.specs.Room.{Rooms, fits}
-use Rattle.model.specs.Read.{keywordOf, statement, step, read, readLines, readOf}
+use Rattle.model.specs.Read.{carriedIn, statement, step, read, readLines, readOf}
 use Rattle.tidy_form.specs.declared.Weights.{Weights}
 use Rattle.tidy_form.specs.Tidied.{vertexLines, sameWords, groupLines, smoothingLines, materialLines, elementLines, elementsLines, tidied}
 use Rattle.tidy_form.specs.Printed.{printed, tidyText}
@@ -95,10 +95,10 @@ step-same : (R S : Rooms) (x y z : State) (ws : List Word) → step R x ws ≡ f
 unfolding statement
 step-same R S x y z [] p q = cc
 step-same R S x y z (w ∷ ws) p q =
-    let a = then-fine (keywordOf (statementOf (w .bytes)) (w .place)) _ y p in
+    let a = then-fine (carriedIn (statementOf (w .bytes)) (w .place)) _ y p in
     let b = then-fine (parse (a .0) x (w .place) ws) _ y (a .2) in
     let c = must-fine (fits R (apply (b .0) x)) 14 (w .place) _ y (b .2) in
-    let d = then-fine (keywordOf (statementOf (w .bytes)) (w .place)) _ z q in
+    let d = then-fine (carriedIn (statementOf (w .bytes)) (w .place)) _ z q in
     let k : a .0 ≡ d .0 = (let u = a .1 in let v = d .1 in cc) in
     let e = then-fine (parse (d .0) x (w .place) ws) _ z (d .2) in
     let f = must-fine (fits S (apply (e .0) x)) 14 (w .place) _ z (e .2) in

@@ -40,7 +40,7 @@ keyOf end = ends
 keyOf passed = over
 
 -- its spelling is read as it
-pub key-back : (t : Statement) (p : ℕ) → reading.keywordOf (statementOf (keywordOf (keywordIn t))) p ≡ fine (keyOf t)
+pub key-back : (t : Statement) (p : ℕ) → reading.carriedIn (statementOf (keywordOf (keywordIn t))) p ≡ fine (keyOf t)
 unfolding statementOf keywordOf keywords
 key-back (vertex geometric z) p = refl
 key-back (vertex texture z) p = refl
@@ -56,14 +56,14 @@ key-back (type r t) p = refl
 key-back (degree m n) p = refl
 key-back (body b cs) p = go (b .free)
   where
-    go : (k : Free) → reading.keywordOf (statementOf (keywordOf (Rattle.tidy_form.specs.Printed.freeKeyword k))) p ≡ fine (a-body k)
+    go : (k : Free) → reading.carriedIn (statementOf (keywordOf (Rattle.tidy_form.specs.Printed.freeKeyword k))) p ≡ fine (a-body k)
     go curve = refl
     go curve2 = refl
     go surface = refl
 key-back (parameters d z) p = refl
 key-back (loop l) p = go (l .hole)
   where
-    go : (h : Bool) → reading.keywordOf (statementOf (keywordOf (Rattle.tidy_form.specs.Printed.loopKeyword h))) p ≡ fine (loopKey h)
+    go : (h : Bool) → reading.carriedIn (statementOf (keywordOf (Rattle.tidy_form.specs.Printed.loopKeyword h))) p ≡ fine (loopKey h)
     go true = refl
     go false = refl
 key-back end p = refl

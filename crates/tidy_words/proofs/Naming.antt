@@ -12,7 +12,7 @@ use Rattle.lists.specs.Lists.{same}
 use Rattle.lists.proofs.Tests.{test}
 use Rattle.lists.proofs.Laws.{same-refl}
 use Rattle.text.specs.Lines.{Mode, gap, Look, goes, ends, refused, look}
-use Rattle.text.specs.Words.{Word, wordOf, opens, words}
+use Rattle.text.specs.Words.{Word, wordOf, opensWord, words}
 use Rattle.text.specs.Rest.{Rest, restAt, endOf, WordMet}
 use Rattle.text.specs.Written.{bytesOf}
 use Rattle.text.proofs.Cut.{words-cut}
@@ -43,7 +43,7 @@ moved-first false p q b bs vs ws e = e
 
 moved-step : (m : Mode) (p q b : ℕ) (bs : List ℕ) → ((n : Mode) → bytesOf (words n (suc p) bs) ≡ bytesOf (words n (suc q) bs))
     → (k : Look) → look m b bs ≡ k → bytesOf (words m p (b ∷ bs)) ≡ bytesOf (words m q (b ∷ bs))
-moved-step m p q b bs ih (goes n) e = rw e (moved-first (opens m n) p q b bs (words n (suc p) bs) (words n (suc q) bs) (ih n))
+moved-step m p q b bs ih (goes n) e = rw e (moved-first (opensWord m n) p q b bs (words n (suc p) bs) (words n (suc q) bs) (ih n))
 moved-step m p q b bs ih ends e = rw e refl
 moved-step m p q b bs ih refused e = rw e refl
 

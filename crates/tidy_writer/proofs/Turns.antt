@@ -29,7 +29,7 @@ use Rattle.tidy_form.specs.declared.Weights.{Weights}
 use Rattle.tidy_form.specs.Printed.{coordinates, degreeWords}
 use Rattle.tidy_words.specs.Emitting.{Emitted}
 use Rattle.tidy_words.specs.Emitting.{spaced}
-use Rattle.tidy_writer.specs.Rows.{rowNumbers, vertexRows, cornersFrom, partWords, goingOn, loopWords, begunLines, loopLines}
+use Rattle.tidy_writer.specs.Rows.{rowNumbers, vertexRows, storedCorners, partWords, goingOn, loopWords, begunLines, loopLines}
 use Rattle.tidy_words.specs.Naming.{sameBytes}
 use Rattle.tidy_writer.specs.TidyFrom.{changed, smoothed}
 use Rattle.tidy_words.proofs.Emissions.{emitted-then, emitted-is}
@@ -143,8 +143,8 @@ pub first-read : (l : List ℕ) (i : ℕ) → getD (drop i l) 0 0 ≡ getD l i 0
 first-read l i = getD-drop i l 0 0 ∙ ap (λ (j : ℕ). getD l j 0) (let k : i + 0 ≡ i = omega arith in k)
 
 corners-turn : (l : List ℕ) (i n : ℕ) → 0 < n
-    → spaced (map writtenCorner (cornersFrom n (drop i l)))
-    ≡ (32 ∷ writtenCorner (record { v = getD l i 0; vt = getD l (i + 1) 0; vn = getD l (i + 2) 0 })) ++ spaced (map writtenCorner (cornersFrom (n - 1) (drop (i + 3) l)))
+    → spaced (map writtenCorner (storedCorners n (drop i l)))
+    ≡ (32 ∷ writtenCorner (record { v = getD l i 0; vt = getD l (i + 1) 0; vn = getD l (i + 2) 0 })) ++ spaced (map writtenCorner (storedCorners (n - 1) (drop (i + 3) l)))
 corners-turn l i zero h = absurd (omega arith)
 corners-turn l i (suc n) h =
     ap₂ (λ (x y : ℕ). row x y (getD (drop i l) 2 0) n (drop 3 (drop i l))) (first-read l i) (getD-drop i l 1 0)
@@ -152,18 +152,18 @@ corners-turn l i (suc n) h =
     ∙ ap (λ (m : ℕ). row (getD l i 0) (getD l (i + 1) 0) (getD l (i + 2) 0) m (drop (i + 3) l)) (let e : n ≡ suc n - 1 = omega arith in e)
   where
     row : ℕ → ℕ → ℕ → ℕ → List ℕ → List ℕ
-    row x y z m t = (32 ∷ writtenCorner (record { v = x; vt = y; vn = z })) ++ spaced (map writtenCorner (cornersFrom m t))
+    row x y z m t = (32 ∷ writtenCorner (record { v = x; vt = y; vn = z })) ++ spaced (map writtenCorner (storedCorners m t))
 
 -- corner k of a run
 pub corner-turn : (l : List ℕ) (run : CornerRun) (k n : ℕ) (c : Corner) → 0 < n → c ≡ cornerIn l (cornerPlace run k)
-    → spaced (map writtenCorner (cornersFrom n (drop (cornerPlace run k) l)))
-    ≡ (32 ∷ writtenCorner (record { v = c .v; vt = c .vt; vn = c .vn })) ++ spaced (map writtenCorner (cornersFrom (n - 1) (drop (cornerPlace run (k + 1)) l)))
+    → spaced (map writtenCorner (storedCorners n (drop (cornerPlace run k) l)))
+    ≡ (32 ∷ writtenCorner (record { v = c .v; vt = c .vt; vn = c .vn })) ++ spaced (map writtenCorner (storedCorners (n - 1) (drop (cornerPlace run (k + 1)) l)))
 corner-turn l run k n c h e =
     corners-turn l (cornerPlace run k) n h
-    ∙ ap₂ (λ (x : Corner) (i : ℕ). (32 ∷ writtenCorner (record { v = x .v; vt = x .vt; vn = x .vn })) ++ spaced (map writtenCorner (cornersFrom (n - 1) (drop i l)))) (sym e)
+    ∙ ap₂ (λ (x : Corner) (i : ℕ). (32 ∷ writtenCorner (record { v = x .v; vt = x .vt; vn = x .vn })) ++ spaced (map writtenCorner (storedCorners (n - 1) (drop i l)))) (sym e)
     (let d : cornerPlace run k + 3 ≡ cornerPlace run (k + 1) = omega arith in d)
 
-pub corners-none : (l : List ℕ) (n : ℕ) → n ≤ 0 → spaced (map writtenCorner (cornersFrom n l)) ≡ []
+pub corners-none : (l : List ℕ) (n : ℕ) → n ≤ 0 → spaced (map writtenCorner (storedCorners n l)) ≡ []
 corners-none l zero h = refl
 corners-none l (suc n) h = absurd (omega arith)
 

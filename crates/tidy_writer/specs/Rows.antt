@@ -45,9 +45,9 @@ rangeCount n = cond (eqb n curveKind) 2 (cond (eqb n surfaceKind) 4 0)
 abbrev pub bodyIndex : ℕ → ℕ
 bodyIndex number = number - 1
 
-abbrev pub cornersFrom : ℕ → List ℕ → List Corner
-cornersFrom zero l = []
-cornersFrom (suc n) l = record { v = getD l 0 0; vt = getD l 1 0; vn = getD l 2 0 } ∷ cornersFrom n (drop cornerWidth l)
+abbrev pub storedCorners : ℕ → List ℕ → List Corner
+storedCorners zero l = []
+storedCorners (suc n) l = record { v = getD l 0 0; vt = getD l 1 0; vn = getD l 2 0 } ∷ storedCorners n (drop cornerWidth l)
 
 abbrev pub rangeNumbers : Body → List ℤ
 rangeNumbers b = b .«start_u» ∷ b .«end_u» ∷ b .«start_v» ∷ b .«end_v» ∷ []
@@ -55,7 +55,7 @@ rangeNumbers b = b .«start_u» ∷ b .«end_u» ∷ b .«start_v» ∷ b .«end
 abbrev pub elementWords : List ℕ → Body → Element → List (List ℕ)
 elementWords corners b e =
     keywordOf (kindKeyword (e .kind))
-    ∷ (map writtenNumber (take (rangeCount (e .kind)) (rangeNumbers b)) ++ map writtenCorner (cornersFrom (e .corners .count) (drop (e .corners .first) corners)))
+    ∷ (map writtenNumber (take (rangeCount (e .kind)) (rangeNumbers b)) ++ map writtenCorner (storedCorners (e .corners .count) (drop (e .corners .first) corners)))
 
 -- ---- "Before a body: cstype, deg"
 abbrev pub basisArgument : ℕ → Argument

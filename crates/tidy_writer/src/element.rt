@@ -8,7 +8,7 @@ ghost use Rattle.references.specs.Written.{writtenCorner};
 ghost use Rattle.keywords.specs.Lookup.{keywordTable};
 ghost use Rattle.tidy_words.specs.Emitting.{Emitted};
 ghost use Rattle.tidy_words.specs.Emitting.{spaced};
-ghost use Rattle.tidy_writer.specs.Rows.{kindKeyword, rangeCount, bodyIndex, cornersFrom, elementWords};
+ghost use Rattle.tidy_writer.specs.Rows.{kindKeyword, rangeCount, bodyIndex, storedCorners, elementWords};
 use crate::vertices;
 use tables::CornerRun;
 use tables::kinds;
@@ -50,7 +50,7 @@ pub fn body_index(number: u32) -> u32
 // Each corner of a run, with a space before it.
 fn emit_corners(corners: &[u32], run: CornerRun, out: &mut [u8], at: usize) -> usize
     requires { ⌜ at ≤ 16777217 ⌝ }
-    ensures { λ r. ⌜ Emitted at (spaced (map writtenCorner (cornersFrom (run .count) (drop (run .first) (now (corners .entry)))))) (now (out .entry)) (now (out .exit)) r ⌝ }
+    ensures { λ r. ⌜ Emitted at (spaced (map writtenCorner (storedCorners (run .count) (drop (run .first) (now (corners .entry)))))) (now (out .entry)) (now (out .exit)) r ⌝ }
 {
     let mut k: usize = 0;
     let mut left = run.count;

@@ -12,7 +12,7 @@ use Rattle.lists.proofs.Tests.{never}
 use Rattle.text.specs.Words.{wordOf}
 use Rattle.text.specs.Rest.{endOf}
 use Rattle.digits.specs.Said.{Said, says}
-use Rattle.digits.specs.Answers.{ended}
+use Rattle.digits.specs.Answers.{endsAt}
 use Rattle.digits.specs.Digits.{isDigit, natOf}
 use Rattle.decimals.specs.Number.{isE}
 use Rattle.lists.specs.Signs.{withSign}
@@ -94,7 +94,7 @@ module _ {s : List ℕ} {at whole end value : ℕ} (f : UptoRead 6 s at whole en
         }
 
     pub decimals-of : (count : ℕ) → first (drop end s) ≤ 32 → (count + (end - at) ≡ 0 → ⊥)
-        → says (10 * m, end) ≡ ended (pointed count whole (wordOf (drop at s))) (endOf s at)
+        → says (10 * m, end) ≡ endsAt (pointed count whole (wordOf (drop at s))) (endOf s at)
     decimals-of count l n =
         ap (λ (t : ℕ). says (t, end)) moved
         ∙ fraction-of s at count whole end value end seven none n (word-over (drop end s) (low-no-word (first (drop end s)) l)) (10 * 10 ^ (6 - (end - at))) tenfold
@@ -104,7 +104,7 @@ pub four : {s : List ℕ} {at end value : ℕ} → UptoRead 4 s at 0 end value �
 four f o = let m = few-all f o in all-whole f m (omega arith)
 
 pub bare-of : {s : List ℕ} {at end value b : ℕ} → UptoRead 4 s at 0 end value → b ≡ first (drop end s) → b ≤ 32 → (end ≡ at → ⊥)
-    → says (10 * (value * 1000000), end) ≡ ended (magnitudeOf (wordOf (drop at s))) (endOf s at)
+    → says (10 * (value * 1000000), end) ≡ endsAt (magnitudeOf (wordOf (drop at s))) (endOf s at)
 bare-of {s} {at} {end} {value} {b} f e l n =
     let m : 10 * (value * 1000000) ≡ value * 10000000 = omega arith in
     ap (λ (t : ℕ). says (t, end)) m
@@ -112,7 +112,7 @@ bare-of {s} {at} {end} {value} {b} f e l n =
     (word-over (drop end s) (low-no-word (first (drop end s)) (omega arith)))
 
 -- ---- quick_number_at
-pub settle-exact : (minus : Bool) (m end : ℕ) (z : ℤ) → m ≤ 2000000000 → z ≡ withSign minus m → says (z, end) ≡ ended (settleOf minus (10 * m)) end
+pub settle-exact : (minus : Bool) (m end : ℕ) (z : ℤ) → m ≤ 2000000000 → z ≡ withSign minus m → says (z, end) ≡ endsAt (settleOf minus (10 * m)) end
 settle-exact minus m end z h q =
     let e : m ≡ (10 * m + 5) / 10 = omega arith in
     said (settleOf minus (10 * m)) z end end (settle-in minus (10 * m) z (omega arith) (q ∙ ap (withSign minus) e)) refl

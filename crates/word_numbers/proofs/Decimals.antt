@@ -13,7 +13,7 @@ use native.Mathlib.Nat.{mul-pos}
 use Rattle.lists.proofs.Tests.{and-left, and-right, and-second, test}
 use Rattle.text.specs.Words.{wordOf}
 use Rattle.digits.specs.Said.{Said, says, wrong, must}
-use Rattle.digits.specs.Answers.{ended}
+use Rattle.digits.specs.Answers.{endsAt}
 use Rattle.digits.specs.Digits.{isDigit, digits, natOf, negative}
 use Rattle.decimals.specs.Number.{mantissa, exponent, before, after, decimal, numerator, denominator, raised, lowered, nearest, unsigned, limited, valueOf, numberOf}
 use Rattle.decimals.specs.Straight.{tenMillionths, magnitudeOf, pointed, settleOf, hasExponent, shifted, scaledOf, sizeOf}
@@ -88,10 +88,10 @@ module _ (n a : ℕ) (l : List ℕ) where
   pointed-of o k = rw (word-all l o, run-digits l, le-leb 1 (n + length (run l)) k) refl
 
 -- ---- without an exponent, else with one
-pub size-plain : (u : List ℕ) (m e end : ℕ) → says (m, e) ≡ ended (magnitudeOf u) end → says (m, e) ≡ ended (sizeOf u) end
+pub size-plain : (u : List ℕ) (m e end : ℕ) → says (m, e) ≡ endsAt (magnitudeOf u) end → says (m, e) ≡ endsAt (sizeOf u) end
 size-plain u m e end h = let q = ended-says (magnitudeOf u) m end e h in rw (q .0) (ap (λ (n : ℕ). says (m, n)) (q .1))
 
-pub size-scaled : (u : List ℕ) (end : ℕ) (r : Said (ℕ × ℕ)) → wrong 6 ≡ ended (magnitudeOf u) end → r ≡ ended (scaledOf u) end → r ≡ ended (sizeOf u) end
+pub size-scaled : (u : List ℕ) (end : ℕ) (r : Said (ℕ × ℕ)) → wrong 6 ≡ endsAt (magnitudeOf u) end → r ≡ endsAt (scaledOf u) end → r ≡ endsAt (sizeOf u) end
 size-scaled u end r h k = rw (ended-wrong (magnitudeOf u) 6 end h) k
 
 -- ---- the number

@@ -15,7 +15,7 @@ use Rattle.text.specs.Bytes.{isWord}
 use Rattle.text.specs.Words.{wordOf}
 use Rattle.text.specs.Rest.{endOf}
 use Rattle.digits.specs.Said.{Said, says, wrong}
-use Rattle.digits.specs.Answers.{ended}
+use Rattle.digits.specs.Answers.{endsAt}
 use Rattle.digits.specs.Digits.{natOf, negative}
 use Rattle.decimals.specs.Number.{isSign, unsigned, numberOf}
 use Rattle.decimals.specs.Straight.{pointed, magnitudeOf, sizeOf, settleOf}
@@ -47,16 +47,16 @@ module _ (s : List ℕ) (at count whole last value end : ℕ) (f : UptoRead 7 s 
       let x = scaled-small whole (drop at s) w in
       omega arith
 
-  pub fraction-none : count + (end - at) ≡ 0 → wrong 6 ≡ ended (pointed count whole (wordOf (drop at s))) (endOf s at)
+  pub fraction-none : count + (end - at) ≡ 0 → wrong 6 ≡ endsAt (pointed count whole (wordOf (drop at s))) (endOf s at)
   fraction-none z = unsaid _ 6 (endOf s at) (pointed-none count whole (drop at s) (let q = stop in omega arith))
 
-  pub fraction-not : false ≡ isEmpty (wordOf (drop end s)) → wrong 6 ≡ ended (pointed count whole (wordOf (drop at s))) (endOf s at)
+  pub fraction-not : false ≡ isEmpty (wordOf (drop end s)) → wrong 6 ≡ endsAt (pointed count whole (wordOf (drop at s))) (endOf s at)
   fraction-not o =
       unsaid _ 6 (endOf s at)
       (pointed-not count whole (drop at s) (sym (o ∙ ap (λ (l : List ℕ). isEmpty (wordOf l)) (past-at s at end stop))))
 
   pub fraction-of : (count + (end - at) ≡ 0 → ⊥) → true ≡ isEmpty (wordOf (drop end s)) → (k : ℕ) → k ≡ 10 ^ (7 - (last - at))
-      → says (value * k, end) ≡ ended (pointed count whole (wordOf (drop at s))) (endOf s at)
+      → says (value * k, end) ≡ endsAt (pointed count whole (wordOf (drop at s))) (endOf s at)
   fraction-of n o k e =
       let l : List ℕ = drop at s in
       let q = stop in
@@ -82,7 +82,7 @@ module _ (s : List ℕ) (at end value : ℕ) (w : WholeRead s at end value) wher
   measure-in b e p = byte-in s end (ap (λ (n : ℕ). eqb n 10) (sym e ∙ p))
 
   pub measure-point : (b : ℕ) → b ≡ first (drop end s) → b ≡ 46 → (r : Said (ℕ × ℕ))
-      → r ≡ ended (pointed (end - at) value (wordOf (drop (end + 1) s))) (endOf s (end + 1)) → r ≡ ended (magnitudeOf (wordOf (drop at s))) (endOf s at)
+      → r ≡ endsAt (pointed (end - at) value (wordOf (drop (end + 1) s))) (endOf s (end + 1)) → r ≡ endsAt (magnitudeOf (wordOf (drop at s))) (endOf s at)
   measure-point b e p r h =
       let l : List ℕ = drop at s in
       let y = w .end-is in
@@ -95,7 +95,7 @@ module _ (s : List ℕ) (at end value : ℕ) (w : WholeRead s at end value) wher
       let x : length (wordOf (drop (end + 1) s)) ≡ length (wordOf (drop 1 (past l))) = ap (λ (x : List ℕ). length (wordOf x)) n in
       let v : endOf s (end + 1) ≡ endOf s at = omega arith in
       h
-      ∙ ap₂ ended
+      ∙ ap₂ endsAt
       (ap (λ (x : List ℕ). pointed (end - at) value (wordOf x)) n ∙ ap₂ (λ (x y : ℕ). pointed x y (wordOf (drop 1 (past l)))) q (w .value-is) ∙ sym (point-at l f))
       v
 
@@ -103,13 +103,13 @@ module _ (s : List ℕ) (at end value : ℕ) (w : WholeRead s at end value) wher
     other : first (past (drop at s)) ≡ 46 → ⊥
     other h = p (e ∙ ap first here ∙ h)
 
-    pub measure-none : end ≡ at → wrong 6 ≡ ended (magnitudeOf (wordOf (drop at s))) (endOf s at)
+    pub measure-none : end ≡ at → wrong 6 ≡ endsAt (magnitudeOf (wordOf (drop at s))) (endOf s at)
     measure-none z = unsaid _ 6 (endOf s at) (none-at (drop at s) other (let y = w .end-is in omega arith))
 
-    pub measure-not : false ≡ isEmpty (wordOf (drop end s)) → wrong 6 ≡ ended (magnitudeOf (wordOf (drop at s))) (endOf s at)
+    pub measure-not : false ≡ isEmpty (wordOf (drop end s)) → wrong 6 ≡ endsAt (magnitudeOf (wordOf (drop at s))) (endOf s at)
     measure-not o = unsaid _ 6 (endOf s at) (other-at (drop at s) other (overs false o))
 
-    pub measure-of : (end ≡ at → ⊥) → true ≡ isEmpty (wordOf (drop end s)) → says (value * 10000000, end) ≡ ended (magnitudeOf (wordOf (drop at s))) (endOf s at)
+    pub measure-of : (end ≡ at → ⊥) → true ≡ isEmpty (wordOf (drop end s)) → says (value * 10000000, end) ≡ endsAt (magnitudeOf (wordOf (drop at s))) (endOf s at)
     measure-of n o =
         let l : List ℕ = drop at s in
         let y = w .end-is in
@@ -129,27 +129,27 @@ module _ (s : List ℕ) (at b n : ℕ) (h : at ≤ length s) (e : b ≡ first (d
   ends : endOf s (at + n) ≡ endOf s at
   ends = sign.ends s at b n h e k
 
-  pub number-not : wrong 6 ≡ ended (sizeOf (wordOf (drop (at + n) s))) (endOf s (at + n)) → wrong 6 ≡ ended (numberOf (wordOf (drop at s))) (endOf s at)
+  pub number-not : wrong 6 ≡ endsAt (sizeOf (wordOf (drop (at + n) s))) (endOf s (at + n)) → wrong 6 ≡ endsAt (numberOf (wordOf (drop at s))) (endOf s at)
   number-not m =
       unsaid _ 6 (endOf s at) (number-bad (wordOf (drop at s)) (ap sizeOf (sym unsigned-is) ∙ ended-wrong _ 6 (endOf s (at + n)) m))
 
-  module _ (v end : ℕ) (m : says (v, end) ≡ ended (sizeOf (wordOf (drop (at + n) s))) (endOf s (at + n))) where
+  module _ (v end : ℕ) (m : says (v, end) ≡ endsAt (sizeOf (wordOf (drop (at + n) s))) (endOf s (at + n))) where
     end-is : end ≡ endOf s at
     end-is = ended-says (sizeOf (wordOf (drop (at + n) s))) v (endOf s (at + n)) end m .1 ∙ ends
 
     pub number-from : at ≤ end
     number-from = let z = end-is in omega arith
 
-    pub number-over : 64 < end - at → wrong 6 ≡ ended (numberOf (wordOf (drop at s))) (endOf s at)
+    pub number-over : 64 < end - at → wrong 6 ≡ endsAt (numberOf (wordOf (drop at s))) (endOf s at)
     number-over l = unsaid _ 6 (endOf s at) (number-long (wordOf (drop at s)) (let z = end-is in omega arith))
 
-    pub number-read : end - at ≤ 64 → (r : Said (ℤ × ℕ)) → r ≡ ended (settleOf (eqb b 45) v) end → r ≡ ended (numberOf (wordOf (drop at s))) (endOf s at)
+    pub number-read : end - at ≤ 64 → (r : Said (ℤ × ℕ)) → r ≡ endsAt (settleOf (eqb b 45) v) end → r ≡ endsAt (numberOf (wordOf (drop at s))) (endOf s at)
     number-read l r q =
         let z = end-is in
         let w : List ℕ = wordOf (drop at s) in
         let x = ended-says (sizeOf (wordOf (drop (at + n) s))) v (endOf s (at + n)) end m .0 in
         let y = number-of w v (ap sizeOf (sym unsigned-is) ∙ x) (omega arith) in
         q
-        ∙ ap₂ ended
+        ∙ ap₂ endsAt
         (ap (λ (t : Bool). settleOf t v) (ap (λ (x : ℕ). eqb x 45) e ∙ sym (signs .negative-is)) ∙ sym y)
         end-is

@@ -17,7 +17,7 @@ ghost use lib.ListN.{length, drop, take};
 ghost use mathlib.Core.Bool.{cond};
 ghost use Rattle.text.specs.Words.{wordOf};
 ghost use Rattle.text.specs.Rest.{endOf};
-ghost use Rattle.digits.specs.Answers.{ended};
+ghost use Rattle.digits.specs.Answers.{endsAt};
 ghost use Rattle.decimals.specs.Number.{numberOf, isSign};
 ghost use Rattle.lists.specs.Signs.{withSign};
 ghost use Rattle.decimals.specs.Answers.{saidMagnitude};
@@ -76,7 +76,7 @@ fn scale(n: usize) -> u64
 // From the byte after the point on, `count` digits before it whose number is `whole`.
 fn fraction(text: &[u8], at: usize, count: usize, whole: u64) -> Magnitude
     requires { ⌜ (at ≤ length (now text)) × (count ≤ at) × (whole ≤ 20000000005) ⌝ }
-    ensures { λ r. ⌜ saidMagnitude r ≡ ended (pointed count whole (wordOf (drop at (now (text .entry))))) (endOf (now (text .entry)) at) ⌝ }
+    ensures { λ r. ⌜ saidMagnitude r ≡ endsAt (pointed count whole (wordOf (drop at (now (text .entry))))) (endOf (now (text .entry)) at) ⌝ }
 {
     let f = seven(text, at, whole);
     let last = f.end;
@@ -96,7 +96,7 @@ fn fraction(text: &[u8], at: usize, count: usize, whole: u64) -> Magnitude
 // Digits with at most one point, in ten-millionths.
 fn measure(text: &[u8], at: usize) -> Magnitude
     requires { ⌜ at ≤ length (now text) ⌝ }
-    ensures { λ r. ⌜ saidMagnitude r ≡ ended (magnitudeOf (wordOf (drop at (now (text .entry))))) (endOf (now (text .entry)) at) ⌝ }
+    ensures { λ r. ⌜ saidMagnitude r ≡ endsAt (magnitudeOf (wordOf (drop at (now (text .entry))))) (endOf (now (text .entry)) at) ⌝ }
 {
     let w = whole_part(text, at);
     let end = w.end;
@@ -128,7 +128,7 @@ fn signed_of(minus: bool, m: u64) -> i32
 
 // Rounded to millionths, with the sign.
 fn settle(minus: bool, value: u64, end: usize) -> Number
-    ensures { λ r. ⌜ saidNumber r ≡ ended (settleOf minus value) end ⌝ }
+    ensures { λ r. ⌜ saidNumber r ≡ endsAt (settleOf minus value) end ⌝ }
 {
     if 20_000_000_004 < value {
         return Number::OutOfRange;
@@ -142,7 +142,7 @@ fn settle(minus: bool, value: u64, end: usize) -> Number
 // The number without its sign: most have no exponent.
 fn size(text: &[u8], at: usize) -> Magnitude
     requires { ⌜ at ≤ length (now text) ⌝ }
-    ensures { λ r. ⌜ saidMagnitude r ≡ ended (sizeOf (wordOf (drop at (now (text .entry))))) (endOf (now (text .entry)) at) ⌝ }
+    ensures { λ r. ⌜ saidMagnitude r ≡ endsAt (sizeOf (wordOf (drop at (now (text .entry))))) (endOf (now (text .entry)) at) ⌝ }
 {
     match measure(text, at) {
         Magnitude::Of { value, end } => Magnitude::Of {
@@ -156,8 +156,8 @@ fn size(text: &[u8], at: usize) -> Magnitude
 // The word at `at` as a number, `size` being that of what follows its sign.
 fn settled(text: &[u8], at: usize, b: u8, size: Magnitude) -> Number
     requires { ⌜ (at ≤ length (now text)) × (b ≡ first (drop at (now text))) ⌝ }
-    requires { ⌜ saidMagnitude size ≡ ended (sizeOf (wordOf (drop (at + cond (isSign b) 1 0) (now text)))) (endOf (now text) (at + cond (isSign b) 1 0)) ⌝ }
-    ensures { λ r. ⌜ saidNumber r ≡ ended (numberOf (wordOf (drop at (now (text .entry))))) (endOf (now (text .entry)) at) ⌝ }
+    requires { ⌜ saidMagnitude size ≡ endsAt (sizeOf (wordOf (drop (at + cond (isSign b) 1 0) (now text)))) (endOf (now text) (at + cond (isSign b) 1 0)) ⌝ }
+    ensures { λ r. ⌜ saidNumber r ≡ endsAt (numberOf (wordOf (drop at (now (text .entry))))) (endOf (now (text .entry)) at) ⌝ }
 {
     match size {
         Magnitude::Bad => Number::Malformed,
@@ -173,7 +173,7 @@ fn settled(text: &[u8], at: usize, b: u8, size: Magnitude) -> Number
 // The number that the word at `at` is.
 pub fn number_at(text: &[u8], at: usize) -> Number
     requires { ⌜ at ≤ length (now text) ⌝ }
-    ensures { λ r. ⌜ saidNumber r ≡ ended (numberOf (wordOf (drop at (now (text .entry))))) (endOf (now (text .entry)) at) ⌝ }
+    ensures { λ r. ⌜ saidNumber r ≡ endsAt (numberOf (wordOf (drop at (now (text .entry))))) (endOf (now (text .entry)) at) ⌝ }
 {
     let b = byte_at(text, at);
     settled(text, at, b, size(text, at + sign_length(b)))
@@ -205,7 +205,7 @@ fn in_millionths(value: u64, n: usize) -> u64
 fn mantissa_ahead(text: &[u8], at: usize, count: usize, f: Run, whole: u64) -> Exact
     requires { ⌜ UptoRead 6 (now text) at whole (f .end) (f .value) ⌝ }
     requires { ⌜ (f .end < length (now text)) × (count ≤ at) × (whole ≤ 20000000005) ⌝ }
-    ensures { λ r. ⌜ exactIs (at + 6) (ended (pointed count whole (wordOf (drop at (now (text .entry))))) (endOf (now (text .entry)) at)) (DecimalsAhead (now (text .entry)) at count whole) r ⌝ }
+    ensures { λ r. ⌜ exactIs (at + 6) (endsAt (pointed count whole (wordOf (drop at (now (text .entry))))) (endOf (now (text .entry)) at)) (DecimalsAhead (now (text .entry)) at count whole) r ⌝ }
 {
     let stop = f.end;
     if is_e(byte_in(text, stop)) {
@@ -223,7 +223,7 @@ fn mantissa_ahead(text: &[u8], at: usize, count: usize, f: Run, whole: u64) -> E
 // The same as `fraction`.
 fn decimals_ahead(text: &[u8], at: usize, count: usize, whole: u64) -> Exact
     requires { ⌜ (at + 6 < length (now text)) × (count ≤ at) × (whole ≤ 20000000005) ⌝ }
-    ensures { λ r. ⌜ exactIs (at + 6) (ended (pointed count whole (wordOf (drop at (now (text .entry))))) (endOf (now (text .entry)) at)) (DecimalsAhead (now (text .entry)) at count whole) r ⌝ }
+    ensures { λ r. ⌜ exactIs (at + 6) (endsAt (pointed count whole (wordOf (drop at (now (text .entry))))) (endOf (now (text .entry)) at)) (DecimalsAhead (now (text .entry)) at count whole) r ⌝ }
 {
     let f = digits_upto(text, at, 6, whole);
     let end = f.end;
@@ -243,7 +243,7 @@ fn decimals_ahead(text: &[u8], at: usize, count: usize, whole: u64) -> Exact
 // The same as `measure`.
 fn measure_ahead(text: &[u8], at: usize) -> Exact
     requires { ⌜ at + 11 < length (now text) ⌝ }
-    ensures { λ r. ⌜ exactIs (at + 11) (ended (magnitudeOf (wordOf (drop at (now (text .entry))))) (endOf (now (text .entry)) at)) (MantissaAhead (now (text .entry)) at) r ⌝ }
+    ensures { λ r. ⌜ exactIs (at + 11) (endsAt (magnitudeOf (wordOf (drop at (now (text .entry))))) (endOf (now (text .entry)) at)) (MantissaAhead (now (text .entry)) at) r ⌝ }
 {
     let w = digits_upto(text, at, 4, 0);
     let end = w.end;
@@ -266,7 +266,7 @@ fn measure_ahead(text: &[u8], at: usize) -> Exact
 // The same as `number_at`, quicker for most numbers.
 pub fn quick_number_at(text: &[u8], at: usize) -> Number
     requires { ⌜ at ≤ length (now text) ⌝ }
-    ensures { λ r. ⌜ saidNumber r ≡ ended (numberOf (wordOf (drop at (now (text .entry))))) (endOf (now (text .entry)) at) ⌝ }
+    ensures { λ r. ⌜ saidNumber r ≡ endsAt (numberOf (wordOf (drop at (now (text .entry))))) (endOf (now (text .entry)) at) ⌝ }
 {
     if 12 < text.len() - at {
         let b = byte_in(text, at);

@@ -8,6 +8,10 @@ use borrow.Author.Needs.{needs}
 use Rattle.kuhlabires.proofs.kuhlabires_polyline.Statement.{statement}
 use Rattle.kuhlabires.proofs.kuhlabires_polyline.Tie as tie
 
+-- the points of the code that the proof looks back to
+abbrev at-start : tie.After-polyline-of → tie.Start
+at-start c = c .before .before .before .before .before .before .before .before
+
 polyline-requires : tie.Need-polyline-requires
 polyline-requires c κs = search needs
 
@@ -19,7 +23,7 @@ same-length c = search needs
 
 returns : tie.Need-returns
 returns c =
-    let start = c .before .before .before .before .before .before .before .before in
+    let start = at-start c in
     let a = start .args in
     let lent = (tables (a .v .now) (a .vt .now) (a .vn .now) (a .vp .now) (a .corners .now) (a .elements .now) (a .bodies .now) (a .ranges .now) (a .parameters .now) (a .loops .now) (a .spans .now)) in
     polyline-halves (a .used) lent (a .element) (a .tolerance) (toZ w32 (ofZ w32 (a .tolerance))) (a .at) (a .points .now) (c .before .before .polyline .ensures) (toZ-ofZ (start .fits .tolerance)) (c .polyline-of .ensures)

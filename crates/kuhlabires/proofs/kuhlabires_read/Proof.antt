@@ -4,6 +4,13 @@ use borrow.Author.Needs.{needs}
 use Rattle.kuhlabires.proofs.kuhlabires_read.Statement.{statement}
 use Rattle.kuhlabires.proofs.kuhlabires_read.Tie as tie
 
+-- the points of the code that the proof looks back to
+abbrev at-slice-known6 : tie.After-read-of → tie.After-slice-known6
+at-slice-known6 c = c .before .before .before .before .before .before .before .before
+
+abbrev at-read : tie.After-slice-known6 → tie.After-read
+at-read c = c .before .before .before .before .before .before .before .before
+
 read-requires : tie.Need-read-requires
 read-requires c κs = search needs
 
@@ -45,8 +52,8 @@ same-length-11 c = search needs
 
 returns : tie.Need-returns
 returns c =
-    let filled = c .before .before .before .before .before .before .before .before in
-    let read = filled .before .before .before .before .before .before .before .before in
+    let filled = at-slice-known6 c in
+    let read = at-read filled in
     halves (read .read .ensures) (c .read-of .ensures)
 
 pub kuhlabires-read-spec : {M : Type 1} → statement M

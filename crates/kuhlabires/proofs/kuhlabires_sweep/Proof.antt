@@ -4,6 +4,10 @@ use borrow.Author.Needs.{needs}
 use Rattle.kuhlabires.proofs.kuhlabires_sweep.Statement.{statement}
 use Rattle.kuhlabires.proofs.kuhlabires_sweep.Tie as tie
 
+-- the points of the code that the proof looks back to
+abbrev at-sweep : tie.After-sweep-of → tie.After-sweep
+at-sweep c = c .before .before .before .before .before .before .before .before .before .before .before .before .before .before .before .before .before .before
+
 sweep-requires : tie.Need-sweep-requires
 sweep-requires c κs = search needs
 
@@ -47,7 +51,7 @@ same-length-12 : tie.Need-same-length-12
 same-length-12 c = search needs
 
 returns : tie.Need-returns
-returns c = sweep-thirds (c .before .before .before .before .before .before .before .before .before .before .before .before .before .before .before .before .before .before .sweep .ensures) (c .sweep-of .ensures)
+returns c = sweep-thirds (at-sweep c .sweep .ensures) (c .sweep-of .ensures)
 
 pub kuhlabires-sweep-spec : {M : Type 1} → statement M
 kuhlabires-sweep-spec =

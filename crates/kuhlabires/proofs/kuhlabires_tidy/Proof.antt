@@ -9,6 +9,19 @@ use borrow.Author.Needs.{needs}
 use Rattle.kuhlabires.proofs.kuhlabires_tidy.Statement.{statement}
 use Rattle.kuhlabires.proofs.kuhlabires_tidy.Tie as tie
 
+-- the points of the code that the proof looks back to
+abbrev at-bodies : tie.After-tidy-of → tie.After-bodies
+at-bodies c = c .before .before .before .before .before .before .before .before .before
+
+abbrev at-tidy : tie.After-bodies → tie.After-tidy
+at-tidy c = c .before .before .before .before .before .before .before .before .before
+
+abbrev at-weights-of : tie.After-tidy → tie.After-weights-of
+at-weights-of c = c .before .before .before .before .before .before .before .before .before .before .before .before .before
+
+abbrev at-start : tie.After-weights-of → tie.Start
+at-start c = c .before .before .before .before .before .before .before
+
 weights-of-requires : tie.Need-weights-of-requires
 weights-of-requires c κs = search needs
 
@@ -56,10 +69,10 @@ same-length-12 c = search needs
 
 returns : tie.Need-returns
 returns c =
-    let filled = c .before .before .before .before .before .before .before .before .before in
-    let tidied = filled .before .before .before .before .before .before .before .before .before in
-    let chosen = tidied .before .before .before .before .before .before .before .before .before .before .before .before .before in
-    let a = chosen .before .before .before .before .before .before .before .args in
+    let filled = at-bodies c in
+    let tidied = at-tidy filled in
+    let chosen = at-weights-of tidied in
+    let a = at-start chosen .args in
     let t = tables (now (a .v)) (now (a .vt)) (now (a .vn)) (now (a .vp)) (now (a .corners)) (now (a .elements)) (now (a .bodies)) (now (a .ranges)) (now (a .parameters)) (now (a .loops)) (now (a .spans)) in
     thirds (tidied .tidy .ensures ∙ ap (λ (w : Weights). tidyInto w (now (a .text)) t (now (a .out))) (chosen .weights-of .ensures)) (c .tidy-of .ensures)
 

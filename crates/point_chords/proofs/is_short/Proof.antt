@@ -2,7 +2,7 @@
 use mathlib.Core.Path.{ap}
 use lib.IntN.{ℤ, pos}
 use lib.Signed.{leZ}
-use Rattle.point_chords.specs.Chords.{short}
+use Rattle.point_chords.specs.Chords.{shortInterval}
 use Rattle.point_chords.proofs.Sizes.{wide-fits, way-fits, way-is}
 use Rattle.point_chords.proofs.is_short.Statement.{statement}
 use Rattle.point_chords.proofs.is_short.Tie as tie
@@ -17,7 +17,7 @@ sub-result : tie.Need-sub-result
 sub-result c = way-fits (c .fits .b) (c .fits .a)
 
 returns : tie.Need-returns
-unfolding short
+unfolding shortInterval
 returns c = ap (λ (z : ℤ). leZ z (pos 1)) (way-is (c .fits .b) (c .fits .a))
 
 pub is-short-spec : {M : Type 1} → statement M

@@ -10,10 +10,10 @@ use borrow.Author.Tests.{not-false}
 use mir.Syntax.{w32}
 use mir.Val.{toZ, ofZ}
 use mir.Facts.{toZ-ofZ}
-use Rattle.point_exact.specs.Sampled.{pyramid, partAt, gapAt}
+use Rattle.point_exact.specs.Sampled.{pyramid, offsetAt, gapAt}
 use Rattle.point_rows.specs.Places.{direction}
 use Rattle.point_guess.specs.Steps.{Axis, Encodes, Next}
-use Rattle.point_guess.specs.Rows.{placeAt, numberAt, Encoded}
+use Rattle.point_guess.specs.Rows.{placeAt, axisNumber, Encoded}
 use Rattle.point_guess.proofs.Levels.{Level, Left, made-none, made-more, left-all, left-less, next-place, next-of, level-encoded, level-row, pyramid-one}
 use Rattle.point_guess.proofs.descend.Statement.{statement}
 use Rattle.point_guess.proofs.descend.Tie as tie
@@ -21,7 +21,7 @@ use Rattle.point_guess.proofs.descend.Tie as tie
 abbrev Inv-loop2 : tie.InvT-loop2
 Inv-loop2 trusted x along chosen t first rest₀ last a₀ i₀ rest a i =
     (i ≤ last) × (rest .count ≡ rest₀ .count) × (a ≡ placeAt (rest₀ .places) i) × Left (rest₀ .places) (rest .places) i
-    × Level (partAt (direction along x) (toZ w32 t) (last - 1)) (gapAt (direction along x) (toZ w32 t) (last - 1)) (rest₀ .places) (rest .places) i
+    × Level (offsetAt (direction along x) (toZ w32 t) (last - 1)) (gapAt (direction along x) (toZ w32 t) (last - 1)) (rest₀ .places) (rest .places) i
 
 abbrev μ-loop2 : tie.MeasureT-loop2
 μ-loop2 trusted x along chosen t first rest₀ last a₀ i₀ rest a i = last - i
@@ -29,8 +29,8 @@ abbrev μ-loop2 : tie.MeasureT-loop2
 abbrev Inv-loop : tie.InvT-loop
 Inv-loop trusted x along chosen t first rest₀ rest =
     Encoded (rest .places) (rest .count) × (0 < rest .count) × (rest .count ≤ along .degree + 1)
-    × ((k : Axis) → pyramid (partAt (direction along x) (toZ w32 t)) (gapAt (direction along x) (toZ w32 t)) (rest .count - 1) (numberAt (rest .places) k)
-    ≡ pyramid (partAt (direction along x) (toZ w32 t)) (gapAt (direction along x) (toZ w32 t)) (along .degree) (numberAt (rest₀ .places) k))
+    × ((k : Axis) → pyramid (offsetAt (direction along x) (toZ w32 t)) (gapAt (direction along x) (toZ w32 t)) (rest .count - 1) (axisNumber (rest .places) k)
+    ≡ pyramid (offsetAt (direction along x) (toZ w32 t)) (gapAt (direction along x) (toZ w32 t)) (along .degree) (axisNumber (rest₀ .places) k))
 
 abbrev μ-loop : tie.MeasureT-loop
 μ-loop trusted x along chosen t first rest₀ rest = rest .count
@@ -118,7 +118,7 @@ module _ (c : tie.Joined1 Inv-loop2 μ-loop2 Inv-loop μ-loop) where
   turn = c .before .before .before .before .before
 
   new : let d = direction (s turn .args .along) (s turn .args .x .now) in let t = toZ w32 (ofZ w32 (s turn .args .t)) in let r = l turn .loop .rest .count - 1 - 1 in
-      Next (partAt d t r (i turn)) (gapAt d t r (i turn)) (placeAt (l turn .loop .rest .places) (i turn)) (placeAt (l turn .loop .rest .places) (suc (i turn))) (c .if1 .p)
+      Next (offsetAt d t r (i turn)) (gapAt d t r (i turn)) (placeAt (l turn .loop .rest .places) (i turn)) (placeAt (l turn .loop .rest .places) (suc (i turn))) (c .if1 .p)
   new =
       let d = direction (s turn .args .along) (s turn .args .x .now) in
       let t = toZ w32 (ofZ w32 (s turn .args .t)) in
@@ -126,7 +126,7 @@ module _ (c : tie.Joined1 Inv-loop2 μ-loop2 Inv-loop μ-loop) where
       let e = turn .before .loop2 .inv .2 in
       let f = next-is turn ∙ ap (placeAt (l turn .loop .rest .places)) (add-one (i turn)) in
       let g = c .before .before .before .interval-of .ensures in
-      let N = Next (partAt d t r (i turn)) (gapAt d t r (i turn)) (placeAt (l turn .loop .rest .places) (i turn)) (placeAt (l turn .loop .rest .places) (suc (i turn))) in
+      let N = Next (offsetAt d t r (i turn)) (gapAt d t r (i turn)) (placeAt (l turn .loop .rest .places) (i turn)) (placeAt (l turn .loop .rest .places) (suc (i turn))) in
       ⊎-elim
       (λ w. subst N (sym (w .2)) (next-of e f (w .1 .ensures)))
       (λ w. subst N (sym (w .1)) (next-place g e f (c .before .certain .ensures (not-false _ (w .0 .left)) t (g .fair))))
@@ -163,10 +163,10 @@ loop-again c =
     let last = l .loop .rest .count - 1 in
     let e : m .i ≡ last = omega arith in
     let done = rw e at (m .inv .4) in (
-      level-encoded (partAt d t) (gapAt d t) (l .loop .rest .places) done (omega (arith, m .inv .3 .long, l .loop .inv .0 .most)),
+      level-encoded (offsetAt d t) (gapAt d t) (l .loop .rest .places) done (omega (arith, m .inv .3 .long, l .loop .inv .0 .most)),
       omega arith,
       omega arith,
-      λ k. level-row (partAt d t) (gapAt d t) (l .loop .rest .places) done (omega arith) k ∙ l .loop .inv .3 k,
+      λ k. level-row (offsetAt d t) (gapAt d t) (l .loop .rest .places) done (omega arith) k ∙ l .loop .inv .3 k,
     )
 
 element-copy-out-result : tie.Need-element-copy-out-result Inv-loop2 μ-loop2 Inv-loop μ-loop
@@ -179,7 +179,7 @@ returns c =
     let d = direction (s .args .along) (s .args .x .now) in
     record {
       whole = m .inv .0 .each 0 (m .inv .1);
-      is = λ k. sym (pyramid-one (partAt d (s .args .t)) (gapAt d (s .args .t)) (m .rest .count - 1) (numberAt (m .rest .places) k) (omega arith)) ∙ rw (toZ-ofZ (s .fits .t)) at (m .inv .3 k);
+      is = λ k. sym (pyramid-one (offsetAt d (s .args .t)) (gapAt d (s .args .t)) (m .rest .count - 1) (axisNumber (m .rest .places) k) (omega arith)) ∙ rw (toZ-ofZ (s .fits .t)) at (m .inv .3 k);
     }
 
 pub descend-spec : {M : Type 1} → statement M

@@ -11,10 +11,10 @@ use mir.Syntax.{w32}
 use mir.Val.{toZ, ofZ}
 use mir.Facts.{toZ-ofZ}
 use Rattle.lists.proofs.Tests.{and-left, and-right, never}
-use Rattle.point_exact.specs.Sampled.{pyramid, partAt, gapAt}
+use Rattle.point_exact.specs.Sampled.{pyramid, offsetAt, gapAt}
 use Rattle.point_rows.specs.Places.{direction}
 use Rattle.point_guess.specs.Steps.{Axis, Encodes}
-use Rattle.point_guess.specs.Rows.{placeAt, numberAt, Encoded}
+use Rattle.point_guess.specs.Rows.{placeAt, axisNumber, Encoded}
 use Rattle.point_guess.proofs.Levels.{Level, Left, made-none, made-more, left-all, left-less, next-place, level-encoded, level-row, pyramid-one}
 use Rattle.point_guess.proofs.guess_point.Statement.{statement}
 use Rattle.point_guess.proofs.guess_point.Tie as tie
@@ -22,7 +22,7 @@ use Rattle.point_guess.proofs.guess_point.Tie as tie
 abbrev Inv-loop2 : tie.InvT-loop2
 Inv-loop2 trusted x along chosen t first work₀ last sure₀ a₀ i₀ work sure a i =
     (i ≤ last) × (a ≡ placeAt (work₀ .places) i) × Left (work₀ .places) (work .places) i
-    × (sure ≡ true → Level (partAt (direction along x) (toZ w32 t) (last - 1)) (gapAt (direction along x) (toZ w32 t) (last - 1)) (work₀ .places) (work .places) i)
+    × (sure ≡ true → Level (offsetAt (direction along x) (toZ w32 t) (last - 1)) (gapAt (direction along x) (toZ w32 t) (last - 1)) (work₀ .places) (work .places) i)
 
 abbrev μ-loop2 : tie.MeasureT-loop2
 μ-loop2 trusted x along chosen t first work₀ last sure₀ a₀ i₀ work sure a i = last - i
@@ -30,8 +30,8 @@ abbrev μ-loop2 : tie.MeasureT-loop2
 abbrev Inv-loop : tie.InvT-loop
 Inv-loop trusted x along chosen t first work₀ last₀ work last =
     Encoded (work .places) (last + 1) × (last ≤ along .degree)
-    × ((k : Axis) → pyramid (partAt (direction along x) (toZ w32 t)) (gapAt (direction along x) (toZ w32 t)) last (numberAt (work .places) k)
-    ≡ pyramid (partAt (direction along x) (toZ w32 t)) (gapAt (direction along x) (toZ w32 t)) (along .degree) (numberAt (work₀ .places) k))
+    × ((k : Axis) → pyramid (offsetAt (direction along x) (toZ w32 t)) (gapAt (direction along x) (toZ w32 t)) last (axisNumber (work .places) k)
+    ≡ pyramid (offsetAt (direction along x) (toZ w32 t)) (gapAt (direction along x) (toZ w32 t)) (along .degree) (axisNumber (work₀ .places) k))
 
 abbrev μ-loop : tie.MeasureT-loop
 μ-loop trusted x along chosen t first work₀ last₀ work last = last
@@ -148,9 +148,9 @@ loop-again c =
     let e : m .i ≡ last = omega arith in
     let f : last - 1 + 1 ≡ last = omega (arith, some) in
     let done = rw e at (m .inv .3 (not-false _ (c .if1 .left))) in (
-      rw f (level-encoded (partAt d t) (gapAt d t) (l .loop .work .places) done (omega (arith, m .inv .2 .long, l .loop .inv .0 .most))),
+      rw f (level-encoded (offsetAt d t) (gapAt d t) (l .loop .work .places) done (omega (arith, m .inv .2 .long, l .loop .inv .0 .most))),
       omega (arith, l .loop .inv .1),
-      λ k. level-row (partAt d t) (gapAt d t) (l .loop .work .places) done some k ∙ l .loop .inv .2 k,
+      λ k. level-row (offsetAt d t) (gapAt d t) (l .loop .work .places) done some k ∙ l .loop .inv .2 k,
     )
 
 element-copy-out-t30 : tie.Need-element-copy-out-t30 Inv-loop2 μ-loop2 Inv-loop μ-loop
@@ -163,7 +163,7 @@ returns-2 c e =
     let d = direction (s .args .along) (s .args .x .now) in
     record {
       whole = m .inv .0 .each 0 (omega arith);
-      is = λ k. sym (pyramid-one (partAt d (s .args .t)) (gapAt d (s .args .t)) (m .last) (numberAt (m .work .places) k) (omega arith)) ∙ rw (toZ-ofZ (s .fits .t)) at (m .inv .2 k);
+      is = λ k. sym (pyramid-one (offsetAt d (s .args .t)) (gapAt d (s .args .t)) (m .last) (axisNumber (m .work .places) k) (omega arith)) ∙ rw (toZ-ofZ (s .fits .t)) at (m .inv .2 k);
     }
 
 pub guess-point-spec : {M : Type 1} → statement M

@@ -19,7 +19,7 @@ use mir.Facts.{toZ-ofZ}
 use Rattle.lists.proofs.Tests.{never}
 use Rattle.rounding.proofs.Bits.{read-back-small}
 use Rattle.point_exact.specs.Directions.{Direction}
-use Rattle.point_exact.specs.Sampled.{pyramid, partAt, gapAt}
+use Rattle.point_exact.specs.Sampled.{pyramid, offsetAt, gapAt}
 use Rattle.point_rows.specs.declared.BodyDirection.{BodyDirection}
 use Rattle.point_rows.specs.Places.{direction}
 use Rattle.point_rows.specs.Finding.{Sound, On, Hint}
@@ -27,14 +27,14 @@ use Rattle.point_rows.specs.Controls.{ControlsLent}
 use Rattle.point_rows.proofs.Searched.{limit-inside}
 use Rattle.point_rows.proofs.Grids.{held-part}
 use Rattle.point_guess.specs.Steps.{Axis, Encodes, Next}
-use Rattle.point_guess.specs.Rows.{placeAt, numberAt, Encoded, Descended}
+use Rattle.point_guess.specs.Rows.{placeAt, axisNumber, Encoded, Descended}
 use Rattle.point_guess.specs.declared.Place.{Place}
 use Rattle.point_guess.specs.declared.Row.{Row}
 use Rattle.point_guess.proofs.Levels.{Level, Left, made-none, made-more, left-all, left-less, next-place, next-of, level-encoded, level-row, pyramid-one}
 use Rattle.point_single.specs.Points.{Spanned}
 use Rattle.point_single.proofs.Making.{there, span-place, curve-has}
-use Rattle.point_runs.specs.Runs.{listed, parameterAt}
-use Rattle.point_runs.specs.Inner.{coordinateOf, pointAt, pointsUpto}
+use Rattle.point_runs.specs.Runs.{tabulated, parameterAt}
+use Rattle.point_runs.specs.Inner.{coordinateOf, curvePointAt, pointsUpto}
 use Rattle.point_runs.proofs.Steps.{parameter-first, run-sound, run-hint, room}
 use Rattle.point_runs.proofs.Written.{point-written, lent-pasted, run-length, point-length}
 use Rattle.point_runs.proofs.write_points.Statement.{statement}
@@ -42,7 +42,7 @@ use Rattle.point_runs.proofs.write_points.Tie as tie
 
 -- the parts and the intervals at t
 abbrev parts : (along : BodyDirection) (x : List ℤ) (t : ℤ) → ℕ → ℕ → ℕ
-parts along x t = partAt (direction along x) t
+parts along x t = offsetAt (direction along x) t
 
 abbrev gaps : (along : BodyDirection) (x : List ℤ) (t : ℤ) → ℕ → ℕ → ℕ
 gaps along x t = gapAt (direction along x) t
@@ -69,8 +69,8 @@ abbrev μ-loop4 : tie.MeasureT-loop4
 abbrev Inv-loop3 : tie.InvT-loop3
 Inv-loop3 points values corners first axis axes x along start end steps chosen row zero trusted n rest₀ j t next sure one-gap h rest =
     Encoded (rest .places) (rest .count) × (rest .count ≤ n) × (0 < n → 0 < rest .count) × (length (rest .places) ≡ 21)
-    × (0 < n → (k : Axis) → pyramid (parts along x (toZ w32 t)) (gaps along x (toZ w32 t)) (rest .count - 1) (numberAt (rest .places) k)
-    ≡ pyramid (parts along x (toZ w32 t)) (gaps along x (toZ w32 t)) n (numberAt (row .places) k))
+    × (0 < n → (k : Axis) → pyramid (parts along x (toZ w32 t)) (gaps along x (toZ w32 t)) (rest .count - 1) (axisNumber (rest .places) k)
+    ≡ pyramid (parts along x (toZ w32 t)) (gaps along x (toZ w32 t)) n (axisNumber (row .places) k))
 
 abbrev μ-loop3 : tie.MeasureT-loop3
 μ-loop3 points values corners first axis axes x along start end steps chosen row zero trusted n rest₀ j t next sure one-gap h rest = rest .count
@@ -488,7 +488,7 @@ module _ (c : tie.Joined3 Inv-loop2 μ-loop2 Inv-loop4 μ-loop4 Inv-loop3 μ-loo
       ⊎-elim
       (λ e. subst Worked (sym (e .11)) (record {
         whole = g .each 0 (omega arith) .whole;
-        is = λ k. sym (pyramid-one (partAt D T) (gapAt D T) (D .degree) (numberAt (start .if1 .row .places) k) (e .8 .taken));
+        is = λ k. sym (pyramid-one (offsetAt D T) (gapAt D T) (D .degree) (axisNumber (start .if1 .row .places) k) (e .8 .taken));
       }))
       (⊎-elim
       (λ e. let w = e .5 .inv in
@@ -496,7 +496,7 @@ module _ (c : tie.Joined3 Inv-loop2 μ-loop2 Inv-loop4 μ-loop4 Inv-loop3 μ-loo
       let one : e .5 .rest .count - 1 ≡ 0 = omega (arith, e .6 .left) in
       subst Worked (sym (e .10)) (record {
         whole = w .0 .each 0 (w .2 some);
-        is = λ k. sym (pyramid-one (partAt D T) (gapAt D T) (e .5 .rest .count - 1) (numberAt (e .5 .rest .places) k) one) ∙ w .4 some k;
+        is = λ k. sym (pyramid-one (offsetAt D T) (gapAt D T) (e .5 .rest .count - 1) (axisNumber (e .5 .rest .places) k) one) ∙ w .4 some k;
       }))
       (λ e. subst Worked (sym (e .2)) (guessed (not-false _ (e .0 .left)))))
       (c .if3 .came)
@@ -543,8 +543,8 @@ loop-less c = omega (arith, early (p (start (c .before .before .before .before .
 
 -- the point that is made
 made : (c : tie.After-point-at Inv-loop2 μ-loop2 Inv-loop4 μ-loop4 Inv-loop3 μ-loop3 Inv-loop μ-loop) → let q = p (start (c .before)) in let v = s q .args in let r = c .point-at .result in
-    listed (v .axes) (coordinateOf (toZ w32 (ofZ w32 (r .x))) (toZ w32 (ofZ w32 (r .y))) (toZ w32 (ofZ w32 (r .z))))
-    ≡ pointAt (v .values .now) (v .corners .now) (v .first) (v .axis) (v .axes) (v .along) (v .x .now) (a q (l q .loop .j))
+    tabulated (v .axes) (coordinateOf (toZ w32 (ofZ w32 (r .x))) (toZ w32 (ofZ w32 (r .y))) (toZ w32 (ofZ w32 (r .z))))
+    ≡ curvePointAt (v .values .now) (v .corners .now) (v .first) (v .axis) (v .axes) (v .along) (v .x .now) (a q (l q .loop .j))
 made c =
     let g = spanned (start (c .before)) in
     let q = p (start (c .before)) in
@@ -562,7 +562,7 @@ loop-again c =
     let q = p f in
     let v = s q .args in
     let j = l q .loop .j in
-    let at : ℕ → List ℤ = λ i. pointAt (v .values .now) (v .corners .now) (v .first) (v .axis) (v .axes) (v .along) (v .x .now) (a q i) in
+    let at : ℕ → List ℤ = λ i. curvePointAt (v .values .now) (v .corners .now) (v .first) (v .axis) (v .axes) (v .along) (v .x .now) (a q i) in
     let long : (i : ℕ) → length (at i) ≡ v .axes = λ i. point-length (v .values .now) (v .corners .now) (v .first) (v .axis) (v .axes) (v .along) (v .x .now) (a q i) in
     let e = lent-pasted at (v .points .now) (v .axes) j long (omega (arith, fits q)) (rw (toZ-ofZ (s q .fits .start), toZ-ofZ (s q .fits .end)) at (l q .loop .inv .3)) (c .before .write-point .ensures) (made k) in
     let i : j ≡ j + 1 - 1 = omega arith in

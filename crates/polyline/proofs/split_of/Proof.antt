@@ -10,7 +10,7 @@ use mir.Facts.{toZ-ofZ}
 use Rattle.tables.specs.Tables.{tables}
 use Rattle.sampler.specs.Answers.{PointAnswer, pointAnswer}
 use Rattle.sampler.specs.Sampling.{answerOnCurve}
-use Rattle.point_chords.specs.Chords.{middle, short, straight}
+use Rattle.point_chords.specs.Chords.{middle, shortInterval, straight}
 use Rattle.polyline.specs.declared.Split.the-variants as split
 use Rattle.polyline.proofs.Halves.{split-none, split-short, split-straight, split-halves}
 use Rattle.polyline.proofs.split_of.Statement.{statement}
@@ -30,7 +30,7 @@ module _ (c : tie.After-is-short) where
   abbrev s1 : tie.Start
   s1 = c .before .before .before
 
-  short-is : c .is-short .result ≡ short (s1 .args .a) (s1 .args .b)
+  short-is : c .is-short .result ≡ shortInterval (s1 .args .a) (s1 .args .b)
   short-is = rw (toZ-ofZ (s1 .fits .a), toZ-ofZ (s1 .fits .b)) at (c .is-short .ensures)
 
 module _ (c : tie.After-curve-at) where

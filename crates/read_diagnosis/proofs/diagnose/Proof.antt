@@ -8,6 +8,16 @@ use borrow.Author.Needs.{needs}
 use Rattle.read_diagnosis.proofs.diagnose.Statement.{statement}
 use Rattle.read_diagnosis.proofs.diagnose.Tie as tie
 
+-- the points of the code that the proof looks back to
+abbrev at-start : tie.After-skip-blanks → tie.Start
+at-start c = c .before .before .before .before .before .before .before .before .before
+
+abbrev at-start-2 : tie.After-known-told → tie.Start
+at-start-2 c = c .before .before .before .before .before .before .before .before
+
+abbrev at-scan-line : tie.After-known-told3 → tie.After-scan-line
+at-scan-line c = c .before .before .before .before .before .before .before
+
 scan-line-requires : tie.Need-scan-line-requires
 scan-line-requires c κs = search needs
 
@@ -25,14 +35,14 @@ enum-known-p-2 c = search needs
 
 sub-statement-fault : tie.Need-sub-statement-fault
 sub-statement-fault c =
-    let start = c .before .before .before .before .before .before .before .before .before .before .before .before in
+    let start = at-start (c .before .before .before) in
     let a = start .args in
     let words = W.start-words (now (a .text)) (a .at) _ (c .before .before .before .skip-blanks .ensures) (c .before .p2 .given .1) in
-    L.some-word (now (a .text)) (a .at) _ (c .before .before .before .before .before .before .before .scan-line .ensures) (c .before .before .before .before .before .count .given .1) words
+    L.some-word (now (a .text)) (a .at) _ (at-scan-line c .scan-line .ensures) (c .before .before .before .before .before .count .given .1) words
 
 statement-fault-requires : tie.Need-statement-fault-requires
 statement-fault-requires c κs =
-    let start = c .before .before .before .before .before .before .before .before .before .before .before .before in
+    let start = at-start (c .before .before .before) in
     let a = start .args in
     let met = F.word-found (now (a .text)) (a .at) _ (c .before .before .before .skip-blanks .ensures) (c .before .p2 .given .1) in
     let more = met .more in
@@ -48,26 +58,26 @@ enum-told-2 c = search needs
 returns : tie.Need-returns
 returns c =
     λ x is held.
-    let a = c .before .before .before .before .before .before .before .before .args in
+    let a = at-start-2 c .args in
     L.diagnosis-bad (now (a .text)) (a .at) _ (c .before .before .before .scan-line .ensures) x (c .before .p .given .1)
 
 returns-2 : tie.Need-returns-2
 returns-2 c =
     λ x is held.
-    let a = c .before .before .before .before .before .before .before .before .before .before .before .before .before .args in
+    let a = at-start (c .before .before .before .before) .args in
     let words = W.start-words (now (a .text)) (a .at) _ (c .before .before .before .before .skip-blanks .ensures) (c .before .before .p2 .given .1) in
-    L.diagnosis-line (now (a .text)) (a .at) _ (c .before .before .before .before .before .before .before .before .scan-line .ensures) (c .before .before .before .before .before .before .count .given .1) (a .state) (now (a .vp)) (c .before .before .p2 .given .0 .0) x is held words (c .statement-fault .ensures)
+    L.diagnosis-line (now (a .text)) (a .at) _ (at-scan-line (c .before) .scan-line .ensures) (c .before .before .before .before .before .before .count .given .1) (a .state) (now (a .vp)) (c .before .before .p2 .given .0 .0) x is held words (c .statement-fault .ensures)
 
 returns-3 : tie.Need-returns-3
 returns-3 c =
     λ x is held.
-    let a = c .before .before .before .before .before .before .before .before .before .before .before .args in
+    let a = at-start (c .before .before) .args in
     L.diagnosis-none (now (a .text)) (a .at) _ (c .before .before .before .before .before .before .scan-line .ensures) (c .before .before .before .before .count .given .1) x (W.end-words (now (a .text)) (a .at) _ (c .before .before .skip-blanks .ensures) (c .enum-told .given .1))
 
 returns-4 : tie.Need-returns-4
 returns-4 c =
     λ x is held.
-    let a = c .before .before .before .before .before .before .before .before .before .before .before .args in
+    let a = at-start (c .before .before) .args in
     L.diagnosis-none (now (a .text)) (a .at) _ (c .before .before .before .before .before .before .scan-line .ensures) (c .before .before .before .before .count .given .1) x (W.bad-words (now (a .text)) (a .at) _ (c .before .before .skip-blanks .ensures) (c .enum-told2 .given .1))
 
 pub diagnose-spec : {M : Type 1} → statement M

@@ -7,6 +7,10 @@ use borrow.Author.Needs.{needs}
 use Rattle.read_diagnosis.proofs.line_fault.Statement.{statement}
 use Rattle.read_diagnosis.proofs.line_fault.Tie as tie
 
+-- the points of the code that the proof looks back to
+abbrev at-start : tie.After-counted → tie.Start
+at-start c = c .before .before .before .before .before .before
+
 rules-of-requires : tie.Need-rules-of-requires
 rules-of-requires c κs = search needs
 
@@ -24,13 +28,13 @@ words-fault-requires c κs = search needs
 
 returns : tie.Need-returns
 returns c =
-    let a = c .before .before .before .before .before .before .before .before .args in
+    let a = at-start (c .before .before) .args in
     let ws = (restAt (now (a .text)) (a .at)) .words in
     S.line-goes (seenBy (a .seen)) (now (a .vp)) (a .form) (a .kind) (a .key) (a .statement) (a .words) ws _ (c .before .before .before .before .before .before .rules-of .ensures) (c .before .before .before .before .before .says-v .ensures) (c .before .before .before .before .allowed .ensures) (c .before .before .before .if1 .taken) (c .before .before .counted .ensures) (c .before .if2 .taken) (c .words-fault .ensures)
 
 returns-2 : tie.Need-returns-2
 returns-2 c =
-    let a = c .before .before .before .before .before .before .before .args in
+    let a = at-start (c .before) .args in
     let ws = (restAt (now (a .text)) (a .at)) .words in
     S.line-count (seenBy (a .seen)) (now (a .vp)) (a .form) (a .kind) (a .key) (a .statement) (a .words) ws _ (c .before .before .before .before .before .rules-of .ensures) (c .before .before .before .before .says-v .ensures) (c .before .before .before .allowed .ensures) (c .before .before .if1 .taken) (c .before .counted .ensures) (c .if2 .left)
 

@@ -7,6 +7,10 @@ use borrow.Author.Needs.{needs}
 use Rattle.read_diagnosis.proofs.says_v.Statement.{statement}
 use Rattle.read_diagnosis.proofs.says_v.Tie as tie
 
+-- the points of the code that the proof looks back to
+abbrev at-start : tie.After-is-v → tie.Start
+at-start c = c .before .before .before .before .before .before .before
+
 skip-blanks-requires : tie.Need-skip-blanks-requires
 skip-blanks-requires c κs = search needs
 
@@ -26,7 +30,7 @@ enum-told-2 : tie.Need-enum-told-2
 enum-told-2 c = search needs
 
 returns : tie.Need-returns
-returns c = let a = c .before .before .before .before .before .before .before .args in W.v-first (now (a .text)) (a .at) (c .before .before .before .p .given .0 .0) (W.start-words (now (a .text)) (a .at) _ (c .before .before .before .before .before .skip-blanks .ensures) (c .before .before .before .p .given .1)) (c .is-v .ensures ∙ ap (λ y. isV (directionOf y)) (c .before .argument-at .ensures))
+returns c = let a = at-start c .args in W.v-first (now (a .text)) (a .at) (c .before .before .before .p .given .0 .0) (W.start-words (now (a .text)) (a .at) _ (c .before .before .before .before .before .skip-blanks .ensures) (c .before .before .before .p .given .1)) (c .is-v .ensures ∙ ap (λ y. isV (directionOf y)) (c .before .argument-at .ensures))
 
 returns-2 : tie.Need-returns-2
 returns-2 c = let a = c .before .before .before .before .args in sym (ap saysV (W.end-words (now (a .text)) (a .at) _ (c .before .before .skip-blanks .ensures) (c .enum-told .given .1)))

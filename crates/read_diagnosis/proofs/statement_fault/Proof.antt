@@ -6,6 +6,10 @@ use borrow.Author.Needs.{needs}
 use Rattle.read_diagnosis.proofs.statement_fault.Statement.{statement}
 use Rattle.read_diagnosis.proofs.statement_fault.Tie as tie
 
+-- the points of the code that the proof looks back to
+abbrev at-start : tie.After-line-fault → tie.Start
+at-start c = c .before .before .before .before .before .before .before
+
 keyword-at-requires : tie.Need-keyword-at-requires
 keyword-at-requires c κs = search needs
 
@@ -25,7 +29,7 @@ enum-told-2 : tie.Need-enum-told-2
 enum-told-2 c = search needs
 
 returns : tie.Need-returns
-returns c = let a = c .before .before .before .before .before .before .before .args in S.statement-known (seenBy (a .seen)) (now (a .vp)) (a .form) (a .kind) (now (a .text)) (a .key) (a .words) _ (c .before .before .before .before .before .keyword-at .ensures) (c .before .before .before .statement .given .1) (c .before .word-end .ensures .0) (c .line-fault .ensures)
+returns c = let a = at-start c .args in S.statement-known (seenBy (a .seen)) (now (a .vp)) (a .form) (a .kind) (now (a .text)) (a .key) (a .words) _ (c .before .before .before .before .before .keyword-at .ensures) (c .before .before .before .statement .given .1) (c .before .word-end .ensures .0) (c .line-fault .ensures)
 
 returns-2 : tie.Need-returns-2
 returns-2 c = let a = c .before .before .before .before .args in S.statement-refused (seenBy (a .seen)) (now (a .vp)) (a .form) (a .kind) (now (a .text)) (a .key) (a .words) _ (c .before .before .keyword-at .ensures) (c .enum-told .given .1)

@@ -4,6 +4,13 @@ use borrow.Author.Needs.{needs}
 use Rattle.read_rooms.proofs.both.Statement.{statement}
 use Rattle.read_rooms.proofs.both.Tie as tie
 
+-- the points of the code that the proof looks back to
+abbrev at-start : tie.After-struct-known14 → tie.Start
+at-start c = c .before .before .before .before .before .before .before .before .before .before .before .before .before .before
+
+abbrev at-start-2 : tie.After-struct-known22 → tie.Start
+at-start-2 c = c .before .before .before .before .before .before .before .before .before .before .before .before .before .before .before .before .before .before .before .before .before .before
+
 add-t3 : tie.Need-add-t3
 add-t3 c = search needs
 
@@ -23,19 +30,19 @@ add-t8 : tie.Need-add-t8
 add-t8 c = search needs
 
 add-t9 : tie.Need-add-t9
-add-t9 c = omega (arith, c .before .before .before .before .before .before .before .before .before .before .before .before .before .before .pre)
+add-t9 c = omega (arith, at-start c .pre)
 
 add-t10 : tie.Need-add-t10
-add-t10 c = omega (arith, c .before .before .before .before .before .before .before .before .before .before .before .before .before .before .before .before .pre)
+add-t10 c = omega (arith, at-start (c .before .before) .pre)
 
 add-t11 : tie.Need-add-t11
-add-t11 c = omega (arith, c .before .before .before .before .before .before .before .before .before .before .before .before .before .before .before .before .before .before .pre)
+add-t11 c = omega (arith, at-start (c .before .before .before .before) .pre)
 
 add-t12 : tie.Need-add-t12
-add-t12 c = omega (arith, c .before .before .before .before .before .before .before .before .before .before .before .before .before .before .before .before .before .before .before .before .pre)
+add-t12 c = omega (arith, at-start (c .before .before .before .before .before .before) .pre)
 
 add-t13 : tie.Need-add-t13
-add-t13 c = omega (arith, c .before .before .before .before .before .before .before .before .before .before .before .before .before .before .before .before .before .before .before .before .before .before .pre)
+add-t13 c = omega (arith, at-start-2 c .pre)
 
 returns : tie.Need-returns
 returns c = search needs

@@ -11,6 +11,16 @@ use borrow.Author.Needs.{needs}
 use Rattle.read_rooms.proofs.line_at.Statement.{statement}
 use Rattle.read_rooms.proofs.line_at.Tie as tie
 
+-- the points of the code that the proof looks back to
+abbrev at-skip-blanks : tie.After-scan-line → tie.After-skip-blanks
+at-skip-blanks c = c .before .before .before .before .before .before
+
+abbrev at-p : tie.After-room-for → tie.After-p
+at-p c = c .before .before .before .before .before .before .before .before
+
+abbrev at-start : tie.After-scan-line → tie.Start
+at-start c = at-skip-blanks c .before .before
+
 skip-blanks-requires : tie.Need-skip-blanks-requires
 skip-blanks-requires c κs = search needs
 
@@ -47,7 +57,7 @@ enum-known-count c = search needs
 room-for-requires : tie.Need-room-for-requires
 room-for-requires c κs =
     let scan = c .before .before .before in
-    let start = c .before .before .before .before .before .before .before .before .before .before .before in
+    let start = at-start (c .before .before .before) in
     let g = scan-good (restAt (now (start .args .text)) (scan .before .word-end .result)) _ _ (sym (c .before .count .given .1) ∙ scan .scan-line .ensures) in
     let h = g .1 in
     let few = rest-few (now (start .args .text)) (scan .before .word-end .result) in
@@ -69,16 +79,16 @@ returns-2 c =
 
 returns-3 : tie.Need-returns-3
 returns-3 c =
-    let start = c .before .before .before .before .before .before .before .before .before .before .before .before in
+    let start = at-start (c .before .before .before .before) in
     let key = c .before .before .before .before .before .before in
-    let met = word-found (now (start .args .text)) (start .args .at) _ (c .before .before .before .before .before .before .before .before .before .before .skip-blanks .ensures) (c .before .before .before .before .before .before .before .before .p .given .1) in
+    let met = word-found (now (start .args .text)) (start .args .at) _ (at-skip-blanks (c .before .before .before .before) .skip-blanks .ensures) (at-p c .p .given .1) in
     line-counted (now (start .args .text)) (start .args .at) met (key .keyword-at .result) (key .keyword-at .ensures) (c .before .before .before .before .before .word-end .result) (c .before .before .before .before .before .word-end .ensures .0) _ _ _ (sym (c .before .before .count .given .1) ∙ c .before .before .before .before .scan-line .ensures) (c .room-for .ensures)
 
 returns-4 : tie.Need-returns-4
 returns-4 c =
-    let start = c .before .before .before .before .before .before .before .before .before .before in
+    let start = at-start (c .before .before) in
     let key = c .before .before .before .before in
-    let met = word-found (now (start .args .text)) (start .args .at) _ (c .before .before .before .before .before .before .before .before .skip-blanks .ensures) (c .before .before .before .before .before .before .p .given .1) in
+    let met = word-found (now (start .args .text)) (start .args .at) _ (at-skip-blanks (c .before .before) .skip-blanks .ensures) (c .before .before .before .before .before .before .p .given .1) in
     line-stopped (now (start .args .text)) (start .args .at) met (key .keyword-at .result) (key .keyword-at .ensures) (c .before .before .before .word-end .result) (c .before .before .before .word-end .ensures .0) _ (sym (c .enum-told2 .given .1) ∙ c .before .before .scan-line .ensures)
 
 pub line-at-spec : {M : Type 1} → statement M

@@ -15,7 +15,7 @@ use Rattle.statements.proofs.RowLaws.{row-counted}
 use Rattle.digits.specs.Said.{says}
 use Rattle.digits.specs.Degree.{degreeOf}
 use Rattle.read_settings.specs.Words.{LineAt}
-use Rattle.read_settings.specs.Steps.{degreeWords, secondSaid, secondEnd}
+use Rattle.read_settings.specs.Steps.{degreesFrom, secondSaid, secondEnd}
 use Rattle.read_settings.proofs.Lines as L
 use borrow.Author.Needs.{needs}
 use Rattle.read_settings.proofs.take_degree.Statement.{statement}
@@ -78,7 +78,7 @@ counted-requires : tie.Need-counted-requires
 counted-requires c κs = search needs
 
 returns : tie.Need-returns
-returns c = let d = c .before in L.row-not (s d) _ _ _ _ _ (line d) Degree (λ ws. degreeWords (k d .args .form) ws ((restAt (s d) (k d .args .at)) .next)) _ (sym (not-true _ (c .if1 .taken)) ∙ row d)
+returns c = let d = c .before in L.row-not (s d) _ _ _ _ _ (line d) Degree (λ ws. degreesFrom (k d .args .form) ws ((restAt (s d) (k d .args .at)) .next)) _ (sym (not-true _ (c .if1 .taken)) ∙ row d)
 
 degree-at-requires : tie.Need-degree-at-requires
 degree-at-requires c κs = line (c .before) .first-in
@@ -105,7 +105,7 @@ enum-told-5 : tie.Need-enum-told-5
 enum-told-5 c = search needs
 
 returns-2 : tie.Need-returns-2
-returns-2 c = let a = c .before .before .before .before .args in L.row-refused Degree (restAt (now (a .text)) (a .at)) (λ ws. degreeWords (a .form) ws ((restAt (now (a .text)) (a .at)) .next)) _ (L.line-refused (now (a .text)) (restAt (now (a .text)) (a .at)) _ (c .before .before .line-words .ensures) (c .enum-told .given .1))
+returns-2 c = let a = c .before .before .before .before .args in L.row-refused Degree (restAt (now (a .text)) (a .at)) (λ ws. degreesFrom (a .form) ws ((restAt (now (a .text)) (a .at)) .next)) _ (L.line-refused (now (a .text)) (restAt (now (a .text)) (a .at)) _ (c .before .before .line-words .ensures) (c .enum-told .given .1))
 
 returns-3 : tie.Need-returns-3
 returns-3 c =

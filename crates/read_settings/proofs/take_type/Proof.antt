@@ -10,7 +10,7 @@ use Rattle.statements.specs.declared.Carried.the-variants.{BodyType}
 use Rattle.statements.specs.Rules.{rulesOf, countedBy}
 use Rattle.statements.proofs.RowLaws.{row-counted}
 use Rattle.read_settings.specs.Words.{LineAt}
-use Rattle.read_settings.specs.Steps.{typeWords}
+use Rattle.read_settings.specs.Steps.{typeFrom}
 use Rattle.read_settings.proofs.Lines as L
 use borrow.Author.Needs.{needs}
 use Rattle.read_settings.proofs.take_type.Statement.{statement}
@@ -59,7 +59,7 @@ counted-requires : tie.Need-counted-requires
 counted-requires c κs = search needs
 
 returns : tie.Need-returns
-returns c = let d = c .before in L.row-not (s d) _ _ _ _ _ (line d) BodyType (λ ws. typeWords (k d .args .form) ws ((restAt (s d) (k d .args .at)) .next)) _ (sym (not-true _ (c .if1 .taken)) ∙ row d)
+returns c = let d = c .before in L.row-not (s d) _ _ _ _ _ (line d) BodyType (λ ws. typeFrom (k d .args .form) ws ((restAt (s d) (k d .args .at)) .next)) _ (sym (not-true _ (c .if1 .taken)) ∙ row d)
 
 argument-at-requires : tie.Need-argument-at-requires
 argument-at-requires c κs = search needs
@@ -83,7 +83,7 @@ with-type-requires-2 : tie.Need-with-type-requires-2
 with-type-requires-2 c κs = search needs
 
 returns-4 : tie.Need-returns-4
-returns-4 c = let a = c .before .before .before .before .args in L.row-refused BodyType (restAt (now (a .text)) (a .at)) (λ ws. typeWords (a .form) ws ((restAt (now (a .text)) (a .at)) .next)) _ (L.line-refused (now (a .text)) (restAt (now (a .text)) (a .at)) _ (c .before .before .line-words .ensures) (c .enum-told .given .1))
+returns-4 c = let a = c .before .before .before .before .args in L.row-refused BodyType (restAt (now (a .text)) (a .at)) (λ ws. typeFrom (a .form) ws ((restAt (now (a .text)) (a .at)) .next)) _ (L.line-refused (now (a .text)) (restAt (now (a .text)) (a .at)) _ (c .before .before .line-words .ensures) (c .enum-told .given .1))
 
 returns-5 : tie.Need-returns-5
 returns-5 c = let f = c .before .before .before .before .before in let e = d f in L.type-two (s e) _ _ _ _ _ (line e) (k e .args .form) (held f) (c .before .before .before .before .if2 .left) (f .argument-at .ensures) (c .before .before .before .is-rational .ensures) (not-false _ (c .before .before .if3 .left)) (c .before .argument-at2 .ensures) (c .with-type2 .ensures)

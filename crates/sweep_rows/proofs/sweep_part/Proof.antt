@@ -1,6 +1,6 @@
 -- The part is swept and put back.
 use Rattle.sweep_rows.proofs.Sweeping.{lent-alike, part-long, part-swept}
-use Rattle.sweep_marks.specs.Marks.{kindOf, namedIn}
+use Rattle.sweep_marks.specs.Marks.{kindOf, namedInTables}
 use native.Mathlib.Omega.{arith}
 use denote.Ref.{now}
 use borrow.Author.Needs.{needs}
@@ -32,7 +32,7 @@ same-length-2 : tie.Need-same-length-2
 same-length-2 c = search needs
 
 returns : tie.Need-returns
-returns c = let s = c .before .before .before .before .before .before .before .before .before in let t = c .before .before .before .sweep-table in part-swept (namedIn (s .args .count) (now (s .args .elements)) (now (s .args .corners)) (kindOf (s .args .table))) (s .args .width) (s .args .from) (s .args .n) (now (s .args .numbers)) (now (s .args .values)) (s .pre .0) (t .ensures .0) (t .ensures .1) (t .ensures .2)
+returns c = let s = c .before .before .before .before .before .before .before .before .before in let t = c .before .before .before .sweep-table in part-swept (namedInTables (s .args .count) (now (s .args .elements)) (now (s .args .corners)) (kindOf (s .args .table))) (s .args .width) (s .args .from) (s .args .n) (now (s .args .numbers)) (now (s .args .values)) (s .pre .0) (t .ensures .0) (t .ensures .1) (t .ensures .2)
 
 pub sweep-part-spec : {M : Type 1} → statement M
 sweep-part-spec =

@@ -6,6 +6,16 @@ use borrow.Author.Needs.{needs}
 use Rattle.tidy_output.proofs.emit_refusal.Statement.{statement}
 use Rattle.tidy_output.proofs.emit_refusal.Tie as tie
 
+-- the points of the code that the proof looks back to
+abbrev at-emit-bytes2 : tie.After-slice-known6 → tie.After-emit-bytes2
+at-emit-bytes2 c = c .before .before .before .before .before .before .before .before .before .before
+
+abbrev at-emit-spaced-whole : tie.After-slice-known6 → tie.After-emit-spaced-whole
+at-emit-spaced-whole c = at-emit-bytes2 c .before .before .before .before .before
+
+abbrev at-emit-bytes : tie.After-slice-known6 → tie.After-emit-bytes
+at-emit-bytes c = at-emit-spaced-whole c .before .before .before .before
+
 slice-aggregate-emit-bytes : tie.Need-slice-aggregate-emit-bytes
 slice-aggregate-emit-bytes c = search needs
 
@@ -33,8 +43,8 @@ same-length c = search needs
 returns : tie.Need-returns
 unfolding refusalLine
 returns c =
-    emitted-then (c .before .before .before .before .before .before .before .before .before .before .before .before .before .before .before .before .before .before .before .emit-bytes .ensures) (emitted-then (emitted-spaced (c .before .before .before .before .before .before .before .before .before .before .before .before .before .before .before .emit-spaced-whole .ensures))
-    (emitted-then (c .before .before .before .before .before .before .before .before .before .before .emit-bytes2 .ensures) (emitted-then (emitted-spaced (c .before .before .before .before .before .before .emit-spaced-whole2 .ensures)) (emitted-whole (c .before .before .emit-byte .ensures)))))
+    emitted-then (at-emit-bytes c .emit-bytes .ensures) (emitted-then (emitted-spaced (at-emit-spaced-whole c .emit-spaced-whole .ensures))
+    (emitted-then (at-emit-bytes2 c .emit-bytes2 .ensures) (emitted-then (emitted-spaced (c .before .before .before .before .before .before .emit-spaced-whole2 .ensures)) (emitted-whole (c .before .before .emit-byte .ensures)))))
 
 pub emit-refusal-spec : {M : Type 1} → statement M
 emit-refusal-spec =

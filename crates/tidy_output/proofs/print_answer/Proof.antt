@@ -5,6 +5,13 @@ use borrow.Author.Needs.{needs}
 use Rattle.tidy_output.proofs.print_answer.Statement.{statement}
 use Rattle.tidy_output.proofs.print_answer.Tie as tie
 
+-- the points of the code that the proof looks back to
+abbrev at-start : tie.After-slice-known2 → tie.Start
+at-start c = c .before .before .before .before .before .before .before
+
+abbrev at-start-2 : tie.After-slice-known3 → tie.Start
+at-start-2 c = c .before .before .before .before .before .before .before .before .before
+
 enum-known-tidied : tie.Need-enum-known-tidied
 enum-known-tidied c = search needs
 
@@ -36,13 +43,13 @@ same-length : tie.Need-same-length
 same-length c = search needs
 
 returns-2 : tie.Need-returns-2
-returns-2 c = long-answer (now (c .before .before .before .before .before .before .before .args .out)) (c .before .before .before .before .enum-told .given .1) (c .before .before .print-refusal .ensures)
+returns-2 c = long-answer (now (at-start c .args .out)) (c .before .before .before .before .enum-told .given .1) (c .before .before .print-refusal .ensures)
 
 same-length-2 : tie.Need-same-length-2
 same-length-2 c = search needs
 
 returns-3 : tie.Need-returns-3
-returns-3 c = refused-answer (now (c .before .before .before .before .before .before .before .before .before .args .out)) (c .before .before .before .before .before .before .tidied2 .given .1) (c .before .before .before .before .least2 .result) (c .before .before .before .before .least2 .ensures) (c .before .before .print-refusal2 .ensures)
+returns-3 c = refused-answer (now (at-start-2 c .args .out)) (c .before .before .before .before .before .before .tidied2 .given .1) (c .before .before .before .before .least2 .result) (c .before .before .before .before .least2 .ensures) (c .before .before .print-refusal2 .ensures)
 
 pub print-answer-spec : {M : Type 1} → statement M
 print-answer-spec =

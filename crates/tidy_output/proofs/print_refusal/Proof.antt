@@ -5,6 +5,10 @@ use borrow.Author.Needs.{needs}
 use Rattle.tidy_output.proofs.print_refusal.Statement.{statement}
 use Rattle.tidy_output.proofs.print_refusal.Tie as tie
 
+-- the points of the code that the proof looks back to
+abbrev at-start : tie.After-slice-known2 → tie.Start
+at-start c = c .before .before .before .before .before .before .before
+
 refusal-length-requires : tie.Need-refusal-length-requires
 refusal-length-requires c κs = search needs
 
@@ -19,7 +23,7 @@ same-length c = search needs
 
 returns-2 : tie.Need-returns-2
 returns-2 c =
-    let a = c .before .before .before .before .before .before .before .args in
+    let a = at-start c .args in
     let n = c .before .before .before .before .before .refusal-length in
     refusal-printed (a .number) (a .place) (n .result) (now (a .out)) (n .ensures) (c .before .before .before .before .if1 .left) (c .before .before .emit-refusal .ensures)
 

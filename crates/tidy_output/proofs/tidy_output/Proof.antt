@@ -6,6 +6,19 @@ use borrow.Author.Needs.{needs}
 use Rattle.tidy_output.proofs.tidy_output.Statement.{statement}
 use Rattle.tidy_output.proofs.tidy_output.Tie as tie
 
+-- the points of the code that the proof looks back to
+abbrev at-start : tie.After-slice-known6 → tie.Start
+at-start c = c .before .before .before .before .before .before .before .before .before .before .before
+
+abbrev at-tidy : tie.After-slice-known12 → tie.After-tidy
+at-tidy c = c .before .before .before .before .before .before .before .before .before .before .before .before .before .before .before .before .before .before .before .before .before
+
+abbrev at-else1 : tie.After-slice-known12 → tie.Else1
+at-else1 c = at-tidy c .before .before .before .before .before .before .before .before .before .before .before .before .before
+
+abbrev at-start-2 : tie.After-slice-known12 → tie.Start
+at-start-2 c = at-else1 c .before .before .before .before .before .before .before
+
 print-answer-requires : tie.Need-print-answer-requires
 print-answer-requires c κs = search needs
 
@@ -14,7 +27,7 @@ same-length c = search needs
 
 returns : tie.Need-returns
 returns c =
-    let a = c .before .before .before .before .before .before .before .before .before .before .before .args in
+    let a = at-start c .args in
     output-long (now (a .input)) (tables (now (a .v)) (now (a .vt)) (now (a .vn)) (now (a .vp)) (now (a .corners)) (now (a .elements)) (now (a .bodies)) (now (a .ranges)) (now (a .parameters)) (now (a .loops)) (now (a .spans))) (now (a .out)) (c .before .before .before .before .if1 .taken) (c .before .before .print-answer .ensures)
 
 tidy-requires : tie.Need-tidy-requires
@@ -61,9 +74,9 @@ same-length-13 c = search needs
 
 returns-2 : tie.Need-returns-2
 returns-2 c =
-    let w = c .before .before .before .before .before .before .before .before .before .before .before .before .before .before .before .before .before .before .before .before .before .tidy in
-    let a = c .before .before .before .before .before .before .before .before .before .before .before .before .before .before .before .before .before .before .before .before .before .before .before .before .before .before .before .before .before .before .before .before .before .before .before .before .before .before .before .before .before .args in
-    output-short (now (a .input)) (tables (now (a .v)) (now (a .vt)) (now (a .vn)) (now (a .vp)) (now (a .corners)) (now (a .elements)) (now (a .bodies)) (now (a .ranges)) (now (a .parameters)) (now (a .loops)) (now (a .spans))) (now (a .out)) (c .before .before .before .before .before .before .before .before .before .before .before .before .before .before .before .before .before .before .before .before .before .before .before .before .before .before .before .before .before .before .before .before .before .before .if1 .left) (tables (w .last .1 .1 .0) (w .last .1 .1 .1 .0) (w .last .1 .1 .1 .1 .0) (w .last .1 .1 .1 .1 .1 .0) (w .last .1 .1 .1 .1 .1 .1 .0) (w .last .1 .1 .1 .1 .1 .1 .1 .0) (w .last .1 .1 .1 .1 .1 .1 .1 .1 .0) (w .last .1 .1 .1 .1 .1 .1 .1 .1 .1 .0) (w .last .1 .1 .1 .1 .1 .1 .1 .1 .1 .1 .0) (w .last .1 .1 .1 .1 .1 .1 .1 .1 .1 .1 .1 .0) (w .last .1 .1 .1 .1 .1 .1 .1 .1 .1 .1 .1 .1 .0)) (w .result) (w .last .1 .1 .1 .1 .1 .1 .1 .1 .1 .1 .1 .1 .1 .0) (w .ensures) (c .before .before .print-answer2 .ensures)
+    let w = at-tidy c .tidy in
+    let a = at-start-2 c .args in
+    output-short (now (a .input)) (tables (now (a .v)) (now (a .vt)) (now (a .vn)) (now (a .vp)) (now (a .corners)) (now (a .elements)) (now (a .bodies)) (now (a .ranges)) (now (a .parameters)) (now (a .loops)) (now (a .spans))) (now (a .out)) (at-else1 c .if1 .left) (tables (w .last .1 .1 .0) (w .last .1 .1 .1 .0) (w .last .1 .1 .1 .1 .0) (w .last .1 .1 .1 .1 .1 .0) (w .last .1 .1 .1 .1 .1 .1 .0) (w .last .1 .1 .1 .1 .1 .1 .1 .0) (w .last .1 .1 .1 .1 .1 .1 .1 .1 .0) (w .last .1 .1 .1 .1 .1 .1 .1 .1 .1 .0) (w .last .1 .1 .1 .1 .1 .1 .1 .1 .1 .1 .0) (w .last .1 .1 .1 .1 .1 .1 .1 .1 .1 .1 .1 .0) (w .last .1 .1 .1 .1 .1 .1 .1 .1 .1 .1 .1 .1 .0)) (w .result) (w .last .1 .1 .1 .1 .1 .1 .1 .1 .1 .1 .1 .1 .1 .0) (w .ensures) (c .before .before .print-answer2 .ensures)
 
 pub tidy-output-spec : {M : Type 1} → statement M
 tidy-output-spec =

@@ -6,7 +6,7 @@ use lib.ListN.{drop}
 use denote.Ref.{now}
 use Rattle.text.specs.Words.{wordOf}
 use Rattle.text.specs.Rest.{endOf}
-use Rattle.digits.specs.Answers.{ended}
+use Rattle.digits.specs.Answers.{endsAt}
 use Rattle.digits.specs.Digits.{isDigit}
 use Rattle.decimals.specs.Straight.{pointed, magnitudeOf, DecimalsAhead, MantissaAhead}
 use Rattle.digits.proofs.Fronts.{low-stops}
@@ -55,8 +55,8 @@ returns c =
     let s = now (a .args .text) in
     let n = few-near (w .digits-upto .ensures) in
     let f = four (w .digits-upto .ensures) (ap isDigit (sym (b .byte-in .ensures) ∙ c .before .if1 .taken)) in
-    let x = ended (pointed (w .digits-upto .result .end - a .args .at) (w .digits-upto .result .value) (wordOf (drop (w .digits-upto .result .end + 1) s))) (endOf s (w .digits-upto .result .end + 1)) in
-    exact-on (w .digits-upto .result .end + 1 + 6) (a .args .at + 11) x (ended (magnitudeOf (wordOf (drop (a .args .at) s))) (endOf s (a .args .at))) (DecimalsAhead s (w .digits-upto .result .end + 1) (w .digits-upto .result .end - a .args .at) (w .digits-upto .result .value)) (MantissaAhead s (a .args .at)) (c .decimals-ahead .result)
+    let x = endsAt (pointed (w .digits-upto .result .end - a .args .at) (w .digits-upto .result .value) (wordOf (drop (w .digits-upto .result .end + 1) s))) (endOf s (w .digits-upto .result .end + 1)) in
+    exact-on (w .digits-upto .result .end + 1 + 6) (a .args .at + 11) x (endsAt (magnitudeOf (wordOf (drop (a .args .at) s))) (endOf s (a .args .at))) (DecimalsAhead s (w .digits-upto .result .end + 1) (w .digits-upto .result .end - a .args .at) (w .digits-upto .result .value)) (MantissaAhead s (a .args .at)) (c .decimals-ahead .result)
     (measure-point s (a .args .at) (w .digits-upto .result .end) (w .digits-upto .result .value) f (b .byte-in .result) (b .byte-in .ensures) (c .before .if1 .taken) x refl)
     (omega arith)
     (with-decimals s (a .args .at) (w .digits-upto .result .end) (w .digits-upto .result .value) f (few-all (w .digits-upto .ensures) (ap isDigit (sym (b .byte-in .ensures) ∙ c .before .if1 .taken))) (b .byte-in .result) (b .byte-in .ensures) (c .before .if1 .taken))

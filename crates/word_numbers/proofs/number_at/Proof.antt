@@ -6,7 +6,7 @@ use native.Mathlib.Omega.{arith}
 use denote.Ref.{now}
 use Rattle.text.specs.Words.{wordOf}
 use Rattle.text.specs.Rest.{endOf}
-use Rattle.digits.specs.Answers.{ended}
+use Rattle.digits.specs.Answers.{endsAt}
 use Rattle.decimals.specs.Straight.{sizeOf}
 use Rattle.decimals.proofs.Signed.{sign-fits}
 use borrow.Author.Needs.{needs}
@@ -38,7 +38,7 @@ settled-requires c κs =
     let b = n .before in
     let a = b .before .before in
     let s = now (a .args .text) in
-    ((a .pre, b .byte-at .ensures), c .size .ensures ∙ ap (λ (i : ℕ). ended (sizeOf (wordOf (drop (a .args .at + i) s))) (endOf s (a .args .at + i))) (n .sign-length .ensures))
+    ((a .pre, b .byte-at .ensures), c .size .ensures ∙ ap (λ (i : ℕ). endsAt (sizeOf (wordOf (drop (a .args .at + i) s))) (endOf s (a .args .at + i))) (n .sign-length .ensures))
 
 returns : tie.Need-returns
 returns c = search needs

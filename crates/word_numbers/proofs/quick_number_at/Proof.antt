@@ -9,7 +9,7 @@ use mir.Facts.{toZ-ofZ}
 use mir.Syntax.{w32}
 use Rattle.text.specs.Words.{wordOf}
 use Rattle.text.specs.Rest.{endOf}
-use Rattle.digits.specs.Answers.{ended}
+use Rattle.digits.specs.Answers.{endsAt}
 use Rattle.decimals.specs.Straight.{magnitudeOf, sizeOf, MantissaAhead}
 use Rattle.decimals.specs.Answers.{saidMagnitude}
 use Rattle.word_numbers.specs.Answers.{exactIs}
@@ -62,7 +62,7 @@ returns c =
     let s = now (a .args .text) in
     let at = a .args .at + n .sign-length .result in
     let q =
-    subst (exactIs (at + 11) (ended (magnitudeOf (wordOf (drop at s))) (endOf s at)) (MantissaAhead s at)) (c .before .before .before .millionths .given .1) (c .before .before .before .before .before .measure-ahead .ensures) in
+    subst (exactIs (at + 11) (endsAt (magnitudeOf (wordOf (drop at s))) (endOf s at)) (MantissaAhead s at)) (c .before .before .before .millionths .given .1) (c .before .before .before .before .before .measure-ahead .ensures) in
     let m = c .before .before .before .millionths .given .0 .0 in
     let end = c .before .before .before .millionths .given .0 .1 .0 in
     let l = sign-most (b .byte-in .result) (n .sign-length .result) (n .sign-length .ensures) in
@@ -81,7 +81,7 @@ shifted-requires c κs =
     let a = n .before .before .before .before in
     let s = now (a .args .text) in
     let at = a .args .at + n .sign-length .result in
-    subst (exactIs (at + 11) (ended (magnitudeOf (wordOf (drop at s))) (endOf s at)) (MantissaAhead s at)) (c .before .millionths2 .given .1) (m .measure-ahead .ensures)
+    subst (exactIs (at + 11) (endsAt (magnitudeOf (wordOf (drop at s))) (endOf s at)) (MantissaAhead s at)) (c .before .millionths2 .given .1) (m .measure-ahead .ensures)
 
 settled-requires : tie.Need-settled-requires
 settled-requires c κs =
@@ -93,10 +93,10 @@ settled-requires c κs =
     let at = a .args .at + n .sign-length .result in
     let k = c .before .before .millionths2 .given in
     let q =
-    subst (exactIs (at + 11) (ended (magnitudeOf (wordOf (drop at s))) (endOf s at)) (MantissaAhead s at)) (k .1) (m .measure-ahead .ensures) in (
+    subst (exactIs (at + 11) (endsAt (magnitudeOf (wordOf (drop at s))) (endOf s at)) (MantissaAhead s at)) (k .1) (m .measure-ahead .ensures) in (
       (a .pre, b .byte-in .ensures),
       size-scaled (wordOf (drop at s)) (endOf s at) (saidMagnitude (c .shifted .result)) (ahead-no-decimal s at (k .0 .0) (k .0 .1 .0) q) (c .shifted .ensures)
-          ∙ ap (λ (i : ℕ). ended (sizeOf (wordOf (drop (a .args .at + i) s))) (endOf s (a .args .at + i))) (n .sign-length .ensures),
+          ∙ ap (λ (i : ℕ). endsAt (sizeOf (wordOf (drop (a .args .at + i) s))) (endOf s (a .args .at + i))) (n .sign-length .ensures),
     )
 
 returns-2 : tie.Need-returns-2

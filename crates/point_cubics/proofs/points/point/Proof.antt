@@ -5,7 +5,7 @@ use borrow.Author.Tests.{eq-eqb, ne-eqb}
 use Rattle.rounding.proofs.Bits.{read-back-small}
 use Rattle.sampler.specs.declared.PointResult.the-variants as sampled
 use Rattle.sampler.proofs.Entries.{space-eq}
-use Rattle.point_cubics.specs.Inner.{pointBy}
+use Rattle.point_cubics.specs.Inner.{stepPointBy}
 use Rattle.point_cubics.proofs.points.point.Statement.{statement}
 use Rattle.point_cubics.proofs.points.point.Tie as tie
 
@@ -13,7 +13,7 @@ coordinates-requires : tie.Need-coordinates-requires
 coordinates-requires c κs = let s = c .before .before in (rw (eq-eqb _ _ (c .if1 .taken)) at (s .pre .0), omega arith, s .pre .1)
 
 returns : tie.Need-returns
-unfolding pointBy
+unfolding stepPointBy
 returns c =
     let p = c .before .coordinates .result in
     let h = c .before .coordinates .ensures in
@@ -23,7 +23,7 @@ coordinates-requires-2 : tie.Need-coordinates-requires-2
 coordinates-requires-2 c κs = let s = c .before .before in (rw (ne-eqb _ _ (c .if1 .left)) at (s .pre .0), omega arith, s .pre .1)
 
 returns-2 : tie.Need-returns-2
-unfolding pointBy
+unfolding stepPointBy
 returns-2 c =
     let p = c .before .coordinates2 .result in
     let h = c .before .coordinates2 .ensures in

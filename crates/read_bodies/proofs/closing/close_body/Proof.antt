@@ -3,7 +3,7 @@ use mathlib.Core.Path.{refl}
 use mathlib.Core.List.{_++_}
 use denote.Ref.{now}
 use borrow.Author.Needs.{needs}
-use Rattle.read_bodies.specs.Closing.{parmOf, bodyIn}
+use Rattle.read_bodies.specs.Closing.{parmOf, openBodyIn}
 use Rattle.tables.proofs.Bits.{fitted}
 use Rattle.read_bodies.proofs.Keeping as K
 use Rattle.read_bodies.proofs.closing.close_body.Statement.{statement}
@@ -90,7 +90,7 @@ returns c =
     let a = s .args in
     let us = parmOf (now (a .u-text)) (a .body .«u_at») in
     let vs = parmOf (now (a .v-text)) (a .body .«v_at») in
-    let b = bodyIn (a .form) (a .body) (a .used) (now (a .u-text)) (now (a .v-text)) (now (a .ranges)) in
+    let b = openBodyIn (a .form) (a .body) (a .used) (now (a .u-text)) (now (a .v-text)) (now (a .ranges)) in
     let said = K.judged-to (a .form) (a .body .kind) us vs (a .body .controls) (judge .judge .result) (fitted (arg .judge-arg .given)) (fitted (arg2 .judge-arg2 .given)) (fitted (arg3 .judge-arg3 .given)) (fitted (arg4 .judge-arg4 .given)) (judge .judge .ensures .0) in
     K.no-parameters (a .form) (a .body) (a .used) b (now (a .bodies)) (now (a .ranges)) (now (a .parameters)) (K.has-passed b (a .body .controls) (judge .judge .result) said (u .u .given .1)) (K.has-stored (now (a .parameters)) _ (a .used .parameters) (us ++ vs) (judge .judge .result) (judge .judge .ensures .1) (u .u .given .1)) (c .if1 .taken)
 
@@ -119,7 +119,7 @@ returns-2 c =
     let a = s .args in
     let us = parmOf (now (a .u-text)) (a .body .«u_at») in
     let vs = parmOf (now (a .v-text)) (a .body .«v_at») in
-    let b = bodyIn (a .form) (a .body) (a .used) (now (a .u-text)) (now (a .v-text)) (now (a .ranges)) in
+    let b = openBodyIn (a .form) (a .body) (a .used) (now (a .u-text)) (now (a .v-text)) (now (a .ranges)) in
     let said = K.judged-to (a .form) (a .body .kind) us vs (a .body .controls) (judge .judge .result) (fitted (arg .judge-arg .given)) (fitted (arg2 .judge-arg2 .given)) (fitted (arg3 .judge-arg3 .given)) (fitted (arg4 .judge-arg4 .given)) (judge .judge .ensures .0) in
     K.not-kept (a .form) (a .body) (a .used) b (now (a .bodies)) (now (a .ranges)) (now (a .parameters)) (K.is-refused b (a .body .controls) (judge .judge .result) said (n .n .given .1)) (K.not-stored (now (a .parameters)) _ (a .used .parameters) (us ++ vs) (judge .judge .result) (judge .judge .ensures .1) (n .n .given .1))
 
@@ -148,7 +148,7 @@ returns-3 c =
     let a = s .args in
     let us = parmOf (now (a .u-text)) (a .body .«u_at») in
     let vs = parmOf (now (a .v-text)) (a .body .«v_at») in
-    let b = bodyIn (a .form) (a .body) (a .used) (now (a .u-text)) (now (a .v-text)) (now (a .ranges)) in
+    let b = openBodyIn (a .form) (a .body) (a .used) (now (a .u-text)) (now (a .v-text)) (now (a .ranges)) in
     let said = K.judged-to (a .form) (a .body .kind) us vs (a .body .controls) (judge .judge .result) (fitted (arg .judge-arg .given)) (fitted (arg2 .judge-arg2 .given)) (fitted (arg3 .judge-arg3 .given)) (fitted (arg4 .judge-arg4 .given)) (judge .judge .ensures .0) in
     K.kept (a .form) (a .body) (a .used) b (now (a .bodies)) (now (a .ranges)) (now (a .parameters)) (K.has-passed b (a .body .controls) (judge .judge .result) said (u .u .given .1)) (K.has-stored (now (a .parameters)) _ (a .used .parameters) (us ++ vs) (judge .judge .result) (judge .judge .ensures .1) (u .u .given .1)) (one .if1 .left) (row .store-record .ensures) (range .store-range .ensures) (fitted (told .known-told2 .given .1 .1 .0 .1)) (fitted (told .known-told2 .given .1 .1 .1 .0 .1)) refl refl
 

@@ -4,7 +4,7 @@ use native.Mathlib.Omega.{arith}
 use denote.Ref.{now}
 use Rattle.text.specs.Rest.{Rest, restAt, push, wordAt, endOf}
 use Rattle.text.proofs.Found as F
-use Rattle.read_settings.specs.Words.{lineIs}
+use Rattle.read_settings.specs.Words.{settingLineIs}
 use Rattle.read_settings.proofs.Lines as L
 use borrow.Author.Needs.{needs}
 use Rattle.read_settings.proofs.words.line_words.Statement.{statement}
@@ -33,7 +33,7 @@ returns c =
     let a = c .before .before .before .before .before .before .before .args in
     let s = now (a .text) in
     let w = F.word-found s (a .at) _ (c .before .before .before .before .before .skip-blanks .ensures) (c .before .before .before .p .given .1) in
-    subst (λ (x : Rest). lineIs s x (c .words-after .result)) (sym (w .rest ∙ ap (λ i. push (wordAt s (c .before .before .before .p .given .0 .0)) (restAt s i)) (sym (c .before .word-end .ensures .0)))) (c .words-after .ensures)
+    subst (λ (x : Rest). settingLineIs s x (c .words-after .result)) (sym (w .rest ∙ ap (λ i. push (wordAt s (c .before .before .before .p .given .0 .0)) (restAt s i)) (sym (c .before .word-end .ensures .0)))) (c .words-after .ensures)
 
 returns-2 : tie.Need-returns-2
 returns-2 c = let k = c .before .before .before .before .before in let a = k .args in L.no-words (now (a .text)) (restAt (now (a .text)) (a .at)) (a .at) (k .pre) (L.end-rest (now (a .text)) (a .at) _ (c .before .before .before .skip-blanks .ensures) (c .before .q .given .1))

@@ -4,7 +4,7 @@ use denote.Ref.{now}
 use Rattle.text.specs.Words.{wordOf}
 use Rattle.text.specs.Rest.{endOf}
 use lib.ListN.{drop}
-use Rattle.digits.specs.Answers.{ended}
+use Rattle.digits.specs.Answers.{endsAt}
 use Rattle.references.specs.Corner.{cornerOf}
 use Rattle.references.specs.Answers.{aheadIs}
 use borrow.Author.Needs.{needs}
@@ -24,7 +24,7 @@ returns : tie.Need-returns
 returns c =
     let a = c .before .before .before .before .before .before .args in
     subst
-    (aheadIs (ended (cornerOf (record { v = a .nv; vt = a .nvt; vn = a .nvn }) (record { vt = a .texture; vn = a .normal }) (wordOf (drop (a .at) (now (a .text))))) (endOf (now (a .text)) (a .at))))
+    (aheadIs (endsAt (cornerOf (record { v = a .nv; vt = a .nvt; vn = a .nvn }) (record { vt = a .texture; vn = a .normal }) (wordOf (drop (a .at) (now (a .text))))) (endOf (now (a .text)) (a .at))))
     (c .before .v .given .1) (c .before .before .before .corner-ahead .ensures)
 
 enum-told : tie.Need-enum-told

@@ -8,6 +8,16 @@ use borrow.Author.Needs.{needs}
 use Rattle.tidy_writer.proofs.body.closing_lines.Statement.{statement}
 use Rattle.tidy_writer.proofs.body.closing_lines.Tie as tie
 
+-- the points of the code that the proof looks back to
+abbrev at-loop-lines : tie.After-slice-known5 → tie.After-loop-lines
+at-loop-lines c = c .before .before .before .before .before .before .before .before .before .before
+
+abbrev at-parameter-lines : tie.After-slice-known5 → tie.After-parameter-lines
+at-parameter-lines c = at-loop-lines c .before .before .before .before .before
+
+abbrev at-start : tie.After-slice-known5 → tie.Start
+at-start c = at-parameter-lines c .before .before .before .before
+
 parameter-lines-requires : tie.Need-parameter-lines-requires
 parameter-lines-requires c κs = search needs
 
@@ -28,10 +38,10 @@ same-length c = search needs
 
 returns : tie.Need-returns
 returns c =
-    let a = c .before .before .before .before .before .before .before .before .before .before .before .before .before .before .before .before .before .before .before .args in
+    let a = at-start c .args in
     emitted-is (three-lines (parameterLines (now (a .parameters)) (a .kind) (a .body)) (bodyLoops (now (a .parts)) (now (a .spans)) (a .body)) (endLine ∷ []))
-    (emitted-then (c .before .before .before .before .before .before .before .before .before .before .before .before .before .before .before .parameter-lines .ensures)
-    (emitted-then (c .before .before .before .before .before .before .before .before .before .before .loop-lines .ensures) (emitted-is (one-line endLine) (emitted-then (emitted-whole (c .before .before .before .before .before .before .emit-keyword .ensures)) (emitted-whole (c .before .before .emit-byte .ensures))))))
+    (emitted-then (at-parameter-lines c .parameter-lines .ensures)
+    (emitted-then (at-loop-lines c .loop-lines .ensures) (emitted-is (one-line endLine) (emitted-then (emitted-whole (c .before .before .before .before .before .before .emit-keyword .ensures)) (emitted-whole (c .before .before .emit-byte .ensures))))))
 
 pub closing-lines-spec : {M : Type 1} → statement M
 closing-lines-spec =

@@ -10,6 +10,10 @@ use borrow.Author.Needs.{needs}
 use Rattle.tidy_writer.proofs.body.form_lines.Statement.{statement}
 use Rattle.tidy_writer.proofs.body.form_lines.Tie as tie
 
+-- the points of the code that the proof looks back to
+abbrev at-start : tie.After-slice-known3 → tie.Start
+at-start c = c .before .before .before .before .before .before .before .before .before
+
 type-line-requires : tie.Need-type-line-requires
 type-line-requires c κs = search needs
 
@@ -21,7 +25,7 @@ same-length c = search needs
 
 returns : tie.Need-returns
 returns c =
-    let b = c .before .before .before .before .before .before .before .before .before .args .body in
+    let b = at-start c .args .body in
     emitted-is (two-lines (keywordOf BodyType ∷ typeWords b) (keywordOf Degree ∷ degreeWords (b .«degree_u») (b .«degree_v»))) (emitted-then (c .before .before .before .before .before .before .type-line .ensures) (c .before .before .degree-line .ensures))
 
 pub form-lines-spec : {M : Type 1} → statement M

@@ -14,6 +14,19 @@ use borrow.Author.Needs.{needs}
 use Rattle.tidy_writer.proofs.body.own_lines.Statement.{statement}
 use Rattle.tidy_writer.proofs.body.own_lines.Tie as tie
 
+-- the points of the code that the proof looks back to
+abbrev at-start : tie.After-slice-known2 → tie.Start
+at-start c = c .before .before .before .before .before .before .before .before .before .before .before .before
+
+abbrev at-form-lines : tie.After-slice-known5 → tie.After-form-lines
+at-form-lines c = c .before .before .before .before .before .before .before .before .before .before
+
+abbrev at-body-in : tie.After-slice-known5 → tie.After-body-in
+at-body-in c = at-form-lines c .before .before .before .before
+
+abbrev at-start-2 : tie.After-slice-known5 → tie.Start
+at-start-2 c = at-body-in c .before .before .before .before .before .before
+
 body-index-requires : tie.Need-body-index-requires
 body-index-requires c κs = search needs
 
@@ -32,7 +45,7 @@ same-length c = search needs
 
 returns : tie.Need-returns
 returns c =
-    let a = c .before .before .before .before .before .before .before .before .before .before .before .before .args in
+    let a = at-start c .args in
     let e = a .element in
     let b = bodyIn (now (a .bodies)) (now (a .ranges)) (bodyIndex (e .body)) in
     let w = elementWords (now (a .corners)) b e in
@@ -55,18 +68,18 @@ same-length-2 c = search needs
 
 returns-2 : tie.Need-returns-2
 returns-2 c =
-    let a = c .before .before .before .before .before .before .before .before .before .before .before .before .before .before .before .before .before .before .before .before .args in
+    let a = at-start-2 c .args in
     let e = a .element in
     let b = bodyIn (now (a .bodies)) (now (a .ranges)) (bodyIndex (e .body)) in
     let w = elementWords (now (a .corners)) b e in
     let h : 4 ≤ e .kind = omega arith in
     let C = parameterLines (now (a .parameters)) (e .kind) b ++ (bodyLoops (now (a .parts)) (now (a .spans)) b ++ endLine ∷ []) in
-    let r = body-is (c .before .before .before .before .before .before .before .before .before .before .before .before .before .before) in
+    let r = body-is (at-body-in c) in
     let f = ap (λ (x : Body). writtenLines (formLines x)) r in
     let o = ap (λ (x : Body). writtenLine (elementWords (now (a .corners)) x e)) r in
     let g = ap (λ (x : Body). writtenLines (parameterLines (now (a .parameters)) (e .kind) x ++ (bodyLoops (now (a .parts)) (now (a .spans)) x ++ endLine ∷ []))) r in
     emitted-is (own-body (formLines b) C w (e .kind) h)
-    (emitted-then (emitted-is f (c .before .before .before .before .before .before .before .before .before .before .form-lines .ensures)) (emitted-then (emitted-is o (c .before .before .before .before .before .before .element-line2 .ensures)) (emitted-is g (c .before .before .closing-lines .ensures))))
+    (emitted-then (emitted-is f (at-form-lines c .form-lines .ensures)) (emitted-then (emitted-is o (c .before .before .before .before .before .before .element-line2 .ensures)) (emitted-is g (c .before .before .closing-lines .ensures))))
 
 pub own-lines-spec : {M : Type 1} → statement M
 own-lines-spec =

@@ -13,6 +13,16 @@ use borrow.Author.Needs.{needs}
 use Rattle.tidy_writer.proofs.body.parameter_line.Statement.{statement}
 use Rattle.tidy_writer.proofs.body.parameter_line.Tie as tie
 
+-- the points of the code that the proof looks back to
+abbrev at-emit-spaced-argument : tie.After-slice-known5 → tie.After-emit-spaced-argument
+at-emit-spaced-argument c = c .before .before .before .before .before .before .before .before .before .before
+
+abbrev at-emit-keyword : tie.After-slice-known5 → tie.After-emit-keyword
+at-emit-keyword c = at-emit-spaced-argument c .before .before .before .before
+
+abbrev at-start : tie.After-slice-known5 → tie.Start
+at-start c = at-emit-keyword c .before .before .before
+
 emit-keyword-requires : tie.Need-emit-keyword-requires
 emit-keyword-requires c κs = search needs
 
@@ -30,9 +40,9 @@ same-length c = search needs
 
 returns : tie.Need-returns
 returns c =
-    let a = c .before .before .before .before .before .before .before .before .before .before .before .before .before .before .before .before .before .args in
-    emitted-line (keywordOf Parameters) (argumentBytes (a .direction) ∷ map writtenNumber (take (a .count) (drop (a .first) (now (a .parameters))))) (emitted-whole (c .before .before .before .before .before .before .before .before .before .before .before .before .before .before .emit-keyword .ensures))
-    (emitted-then (emitted-spaced (c .before .before .before .before .before .before .before .before .before .before .emit-spaced-argument .ensures)) (c .before .before .before .before .before .before .emit-numbers .ensures)) (emitted-whole (c .before .before .emit-byte .ensures))
+    let a = at-start c .args in
+    emitted-line (keywordOf Parameters) (argumentBytes (a .direction) ∷ map writtenNumber (take (a .count) (drop (a .first) (now (a .parameters))))) (emitted-whole (at-emit-keyword c .emit-keyword .ensures))
+    (emitted-then (emitted-spaced (at-emit-spaced-argument c .emit-spaced-argument .ensures)) (c .before .before .before .before .before .before .emit-numbers .ensures)) (emitted-whole (c .before .before .emit-byte .ensures))
 
 pub parameter-line-spec : {M : Type 1} → statement M
 parameter-line-spec =

@@ -15,6 +15,13 @@ use borrow.Author.Needs.{needs}
 use Rattle.tidy_writer.proofs.body.parameter_lines.Statement.{statement}
 use Rattle.tidy_writer.proofs.body.parameter_lines.Tie as tie
 
+-- the points of the code that the proof looks back to
+abbrev at-start : tie.After-slice-known2 → tie.Start
+at-start c = c .before .before .before .before .before .before .before
+
+abbrev at-parameter-line : tie.After-slice-known3 → tie.After-parameter-line
+at-parameter-line c = c .before .before .before .before .before .before .before .before
+
 cast-first : tie.Need-cast-first
 cast-first c = search needs
 
@@ -38,19 +45,19 @@ same-length c = search needs
 
 returns : tie.Need-returns
 returns c =
-    let a = c .before .before .before .before .before .before .before .before .before .before .before .before .before .args in
+    let a = at-start (c .before .before .before .before .before .before) .args in
     let b = a .body in
     let u = parameterLine DirectionU (take (b .«count_u») (drop (b .«first_parameter») (now (a .parameters)))) in
     let v = parameterLine DirectionV (take (b .«count_v») (drop (b .«first_parameter» + b .«count_u») (now (a .parameters)))) in
     emitted-is (two-lines u v ∙ ap (λ (t : Bool). writtenLines (u ∷ cond t (v ∷ []) [])) (sym (eq-eqb (a .kind) 6 (c .before .before .before .before .before .if1 .taken))))
-    (emitted-then (c .before .before .before .before .before .before .before .before .parameter-line .ensures) (c .before .before .parameter-line2 .ensures))
+    (emitted-then (at-parameter-line c .parameter-line .ensures) (c .before .before .parameter-line2 .ensures))
 
 same-length-2 : tie.Need-same-length-2
 same-length-2 c = search needs
 
 returns-2 : tie.Need-returns-2
 returns-2 c =
-    let a = c .before .before .before .before .before .before .before .before .args in
+    let a = at-start (c .before) .args in
     let b = a .body in
     let u = parameterLine DirectionU (take (b .«count_u») (drop (b .«first_parameter») (now (a .parameters)))) in
     let v = parameterLine DirectionV (take (b .«count_v») (drop (b .«first_parameter» + b .«count_u») (now (a .parameters)))) in

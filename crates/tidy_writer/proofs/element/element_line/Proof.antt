@@ -6,7 +6,7 @@ use denote.Ref.{now}
 use lib.ListN.{take, drop}
 use Rattle.references.specs.Written.{writtenNumber, writtenCorner}
 use Rattle.keywords.specs.Keywords.{keywordOf}
-use Rattle.tidy_writer.specs.Rows.{kindKeyword, rangeCount, rangeNumbers, cornersFrom}
+use Rattle.tidy_writer.specs.Rows.{kindKeyword, rangeCount, rangeNumbers, storedCorners}
 use Rattle.tables.proofs.Bits.{fitted}
 use Rattle.tidy_words.proofs.Emissions.{emitted-then, emitted-is, emitted-whole}
 use Rattle.tidy_writer.proofs.Turns.{emitted-line, spaced-append}
@@ -43,7 +43,7 @@ returns c =
     let a = c .before .before .before .before .before .before .before .before .before .before .before .before .before .before .before .before .before .before .before .before .before .before .args in
     let e = a .element in
     let ns = map writtenNumber (take (rangeCount (e .kind)) (rangeNumbers (a .body))) in
-    let cs = map writtenCorner (cornersFrom (e .corners .count) (drop (e .corners .first) (now (a .corners)))) in
+    let cs = map writtenCorner (storedCorners (e .corners .count) (drop (e .corners .first) (now (a .corners)))) in
     let k = ap keywordOf (c .before .before .before .before .before .before .before .before .before .before .before .before .before .before .before .before .before .before .before .kind-keyword .ensures) in
     let n = rw (c .before .before .before .before .before .before .before .before .before .before .before .before .range-count .ensures, fitted {z = a .body .«start_u»} (c .before .before .before .before .before .before .before .before .before .before .before .before .before .before .struct-told .given .1 .1 .1 .1 .1 .1 .1 .1 .1 .0 .1), fitted {z = a .body .«end_u»} (c .before .before .before .before .before .before .before .before .before .before .before .before .before .before .struct-told .given .1 .1 .1 .1 .1 .1 .1 .1 .1 .1 .0 .1), fitted {z = a .body .«start_v»} (c .before .before .before .before .before .before .before .before .before .before .before .before .before .before .struct-told .given .1 .1 .1 .1 .1 .1 .1 .1 .1 .1 .1 .0 .1), fitted {z = a .body .«end_v»} (c .before .before .before .before .before .before .before .before .before .before .before .before .before .before .struct-told .given .1 .1 .1 .1 .1 .1 .1 .1 .1 .1 .1 .1 .0 .1)) at (c .before .before .before .before .before .before .before .before .before .before .emit-numbers .ensures) in
     emitted-line (keywordOf (kindKeyword (e .kind))) (ns ++ cs) (emitted-is k (emitted-whole (c .before .before .before .before .before .before .before .before .before .before .before .before .before .before .before .before .before .emit-keyword .ensures)))

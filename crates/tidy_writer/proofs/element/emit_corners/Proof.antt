@@ -9,7 +9,7 @@ use lib.ListN.{drop}
 use Rattle.references.specs.Written.{writtenCorner}
 use Rattle.tables.specs.Records.{cornerPlace}
 use Rattle.tidy_words.specs.Emitting.{spaced}
-use Rattle.tidy_writer.specs.Rows.{cornersFrom}
+use Rattle.tidy_writer.specs.Rows.{storedCorners}
 use Rattle.tidy_words.proofs.Emissions.{Left, left-start, left-turn, left-ends, emitted-spaced}
 use Rattle.tidy_writer.proofs.Turns.{corner-turn, corners-none}
 use Rattle.tidy_writer.proofs.element.emit_corners.Statement.{statement}
@@ -17,7 +17,7 @@ use Rattle.tidy_writer.proofs.element.emit_corners.Tie as tie
 
 abbrev Inv-loop : tie.InvT-loop
 Inv-loop corners run out₀ at k₀ left₀ end₀ out k left end =
-    Left at (spaced (map writtenCorner (cornersFrom (run .count) (drop (run .first) corners)))) out₀ end (spaced (map writtenCorner (cornersFrom left (drop (cornerPlace run k) corners)))) out
+    Left at (spaced (map writtenCorner (storedCorners (run .count) (drop (run .first) corners)))) out₀ end (spaced (map writtenCorner (storedCorners left (drop (cornerPlace run k) corners)))) out
     × (k + left ≡ run .count)
 
 abbrev μ-loop : tie.MeasureT-loop
@@ -27,9 +27,9 @@ loop-holds : tie.Need-loop-holds Inv-loop μ-loop
 loop-holds c =
     let a = c .before .before .args in
     let l = now (a .corners) in
-    let w = spaced (map writtenCorner (cornersFrom (a .run .count) (drop (a .run .first) l))) in
+    let w = spaced (map writtenCorner (storedCorners (a .run .count) (drop (a .run .first) l))) in
     let z : a .run .first ≡ cornerPlace (a .run) 0 = omega arith in (
-      subst (λ (n : ℕ). Left (a .at) w (now (a .out)) (a .at) (spaced (map writtenCorner (cornersFrom (a .run .count) (drop n l)))) (now (a .out))) z (left-start (a .at) w (now (a .out)) (c .before .before .pre)),
+      subst (λ (n : ℕ). Left (a .at) w (now (a .out)) (a .at) (spaced (map writtenCorner (storedCorners (a .run .count) (drop n l)))) (now (a .out))) z (left-start (a .at) w (now (a .out)) (c .before .before .pre)),
       omega arith,
     )
 

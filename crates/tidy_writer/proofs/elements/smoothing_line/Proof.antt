@@ -10,6 +10,16 @@ use borrow.Author.Needs.{needs}
 use Rattle.tidy_writer.proofs.elements.smoothing_line.Statement.{statement}
 use Rattle.tidy_writer.proofs.elements.smoothing_line.Tie as tie
 
+-- the points of the code that the proof looks back to
+abbrev at-emit-keyword : tie.After-slice-known4 → tie.After-emit-keyword
+at-emit-keyword c = c .before .before .before .before .before .before .before .before .before .before
+
+abbrev at-else1 : tie.After-slice-known4 → tie.Else1
+at-else1 c = at-emit-keyword c .before .before
+
+abbrev at-start : tie.After-slice-known4 → tie.Start
+at-start c = at-else1 c .before .before
+
 returns : tie.Need-returns
 returns c =
     let s = c .before .before in
@@ -30,9 +40,9 @@ same-length c = search needs
 
 returns-2 : tie.Need-returns-2
 returns-2 c =
-    let a = c .before .before .before .before .before .before .before .before .before .before .before .before .before .before .args in
-    emitted-is (smoothed-line (a .before) (a .smoothing) (c .before .before .before .before .before .before .before .before .before .before .before .before .if1 .left))
-    (emitted-line (keywordOf Smoothing) (writtenWhole (a .smoothing) ∷ []) (emitted-whole (c .before .before .before .before .before .before .before .before .before .before .emit-keyword .ensures)) (emitted-is (spaced-one (writtenWhole (a .smoothing))) (emitted-spaced (c .before .before .before .before .before .before .emit-spaced-whole .ensures))) (emitted-whole (c .before .before .emit-byte .ensures)))
+    let a = at-start c .args in
+    emitted-is (smoothed-line (a .before) (a .smoothing) (at-else1 c .if1 .left))
+    (emitted-line (keywordOf Smoothing) (writtenWhole (a .smoothing) ∷ []) (emitted-whole (at-emit-keyword c .emit-keyword .ensures)) (emitted-is (spaced-one (writtenWhole (a .smoothing))) (emitted-spaced (c .before .before .before .before .before .before .emit-spaced-whole .ensures))) (emitted-whole (c .before .before .emit-byte .ensures)))
 
 pub smoothing-line-spec : {M : Type 1} → statement M
 smoothing-line-spec =

@@ -15,6 +15,16 @@ use borrow.Author.Needs.{needs}
 use Rattle.tidy_writer.proofs.tidy_text.all_vertices.Statement.{statement}
 use Rattle.tidy_writer.proofs.tidy_text.all_vertices.Tie as tie
 
+-- the points of the code that the proof looks back to
+abbrev at-vertex-lines2 : tie.After-slice-known5 → tie.After-vertex-lines2
+at-vertex-lines2 c = c .before .before .before .before .before .before .before .before .before .before
+
+abbrev at-vertex-lines : tie.After-slice-known5 → tie.After-vertex-lines
+at-vertex-lines c = at-vertex-lines2 c .before .before .before .before
+
+abbrev at-start : tie.After-slice-known5 → tie.Start
+at-start c = at-vertex-lines c .before .before .before
+
 vertex-lines-requires : tie.Need-vertex-lines-requires
 vertex-lines-requires c κs = search needs
 
@@ -32,14 +42,14 @@ same-length c = search needs
 
 returns : tie.Need-returns
 returns c =
-    let a = c .before .before .before .before .before .before .before .before .before .before .before .before .before .before .before .before .before .args in
+    let a = at-start c .args in
     let v = vertexRows (Vertex Geometric) false (a .weights) 4 (a .used .v) (now (a .v)) in
     let vt = vertexRows (Vertex Texture) false Always 3 (a .used .vt) (now (a .vt)) in
     let vn = vertexRows (Vertex Normal) false Always 3 (a .used .vn) (now (a .vn)) in
     let vp = vertexRows (Vertex Parametric) true (a .weights) 4 (a .used .vp) (now (a .vp)) in
     emitted-is (ap (λ (t : List ℕ). writtenLines v ++ t) (three-lines vt vn vp) ∙ lines-append v (vt ++ (vn ++ vp)))
-    (emitted-then (c .before .before .before .before .before .before .before .before .before .before .before .before .before .before .vertex-lines .ensures)
-    (emitted-then (c .before .before .before .before .before .before .before .before .before .before .vertex-lines2 .ensures) (emitted-then (c .before .before .before .before .before .before .vertex-lines3 .ensures) (c .before .before .vertex-lines4 .ensures))))
+    (emitted-then (at-vertex-lines c .vertex-lines .ensures)
+    (emitted-then (at-vertex-lines2 c .vertex-lines2 .ensures) (emitted-then (c .before .before .before .before .before .before .vertex-lines3 .ensures) (c .before .before .vertex-lines4 .ensures))))
 
 pub all-vertices-spec : {M : Type 1} → statement M
 all-vertices-spec =

@@ -11,6 +11,10 @@ use borrow.Author.Needs.{needs}
 use Rattle.tidy_writer.proofs.tidy_text.write_tidy.Statement.{statement}
 use Rattle.tidy_writer.proofs.tidy_text.write_tidy.Tie as tie
 
+-- the points of the code that the proof looks back to
+abbrev at-start : tie.Else1 → tie.Start
+at-start c = c .before .before .before .before .before .before .before .before .before
+
 measure-requires : tie.Need-measure-requires
 measure-requires c κs = search needs
 
@@ -30,7 +34,7 @@ returns c =
 
 returns-2 : tie.Need-returns-2
 returns-2 c =
-    let a = c .before .before .before .before .before .before .before .before .before .args in
+    let a = at-start c .args in
     let w = tidyFrom (a .weights) (now (a .text)) (a .used) (tables (now (a .v)) (now (a .vt)) (now (a .vn)) (now (a .vp)) (now (a .corners)) (now (a .elements)) (now (a .bodies)) (now (a .ranges)) (now (a .parameters)) (now (a .parts)) (now (a .spans))) in
     let m = c .before .before .measure in
     let j : m .result ≡ min (0 + length w) 16777217 = omega (arith, m .ensures) in

@@ -11,6 +11,13 @@ use borrow.Author.Needs.{needs}
 use Rattle.tidy_writer.proofs.vertices.number_line.Statement.{statement}
 use Rattle.tidy_writer.proofs.vertices.number_line.Tie as tie
 
+-- the points of the code that the proof looks back to
+abbrev at-emit-keyword : tie.After-slice-known4 → tie.After-emit-keyword
+at-emit-keyword c = c .before .before .before .before .before .before .before .before .before .before
+
+abbrev at-start : tie.After-slice-known4 → tie.Start
+at-start c = at-emit-keyword c .before .before .before
+
 emit-keyword-requires : tie.Need-emit-keyword-requires
 emit-keyword-requires c κs = search needs
 
@@ -25,9 +32,9 @@ same-length c = search needs
 
 returns : tie.Need-returns
 returns c =
-    let a = c .before .before .before .before .before .before .before .before .before .before .before .before .before .args in
+    let a = at-start c .args in
     emitted-line (keywordOf (a .statement)) (map writtenNumber (take (a .count) (drop (a .first) (now (a .values)))))
-    (emitted-whole (c .before .before .before .before .before .before .before .before .before .before .emit-keyword .ensures)) (c .before .before .before .before .before .before .emit-numbers .ensures) (emitted-whole (c .before .before .emit-byte .ensures))
+    (emitted-whole (at-emit-keyword c .emit-keyword .ensures)) (c .before .before .before .before .before .before .emit-numbers .ensures) (emitted-whole (c .before .before .emit-byte .ensures))
 
 pub number-line-spec : {M : Type 1} → statement M
 number-line-spec =

@@ -15,6 +15,13 @@ use Rattle.tidy_writer.proofs.Turns.{counted-row}
 use Rattle.tidy_writer.proofs.vertices.row_line.Statement.{statement}
 use Rattle.tidy_writer.proofs.vertices.row_line.Tie as tie
 
+-- the points of the code that the proof looks back to
+abbrev at-start : tie.After-slice-known2 → tie.Start
+at-start c = c .before .before .before .before .before .before .before
+
+abbrev at-start-2 : tie.After-slice-known3 → tie.Start
+at-start-2 c = c .before .before .before .before .before .before .before
+
 given-count-requires : tie.Need-given-count-requires
 given-count-requires c κs = search needs
 
@@ -29,7 +36,7 @@ same-length c = search needs
 
 returns : tie.Need-returns
 returns c =
-    let s = c .before .before .before .before .before .before .before in
+    let s = at-start c in
     let a = s .args in
     let g = c .before .before .before .before .given-count in
     let e = counted-row (a .weights) (now (a .values)) (a .first) (a .width) (g .result) (s .pre .1 .0) (g .ensures) ∙ ap (λ (b : Bool). rowNumbers b (a .weights) (take (a .width) (drop (a .first) (now (a .values))))) (sym (c .before .before .before .before .before .if1 .taken)) in
@@ -46,7 +53,7 @@ same-length-2 c = search needs
 
 returns-2 : tie.Need-returns-2
 returns-2 c =
-    let a = c .before .before .before .before .before .before .before .args in
+    let a = at-start-2 c .args in
     let e = c .before .before .before .before .weighted-count .ensures ∙ ap (λ (b : Bool). rowNumbers b (a .weights) (take (a .width) (drop (a .first) (now (a .values))))) (sym (c .before .before .before .before .before .if1 .left)) in
     emitted-is (ap (λ (z : List ℤ). writtenLine (keywordOf (a .statement) ∷ map writtenNumber z)) e) (c .before .before .number-line2 .ensures)
 
