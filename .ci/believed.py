@@ -38,7 +38,7 @@ THEOREMS = {
     "polyline/proofs/Granted.antt": "samplers-fifteen",
     "point_cubics/proofs/Stepped.antt": "points-in-steps two-paths",
     "point_weights/proofs/Sums.antt": "row-sums segment-ends",
-    "point_bounds/proofs/Inside.antt": "curves-inside runs-inside polylines-inside surfaces-inside",
+    "point_bounds/proofs/Inside.antt": "elements-inside",
     "point_bounds/proofs/Files.antt": "files-inside",
     "swept_files/proofs/Kept.antt": "every-sweep",
     "swept_files/proofs/Every.antt": "every-refusal",

@@ -23,10 +23,11 @@ ROOT = Path(__file__).resolve().parent.parent
 ARCHIVE = Path(os.environ.get("KUHLABIRES_ARCHIVE", ROOT / "target" / "staticlib" / "libkuhlabires.a"))
 MEGABYTE = 1_000_000
 SIZES = [1, 2, 4, 8, 16]
+KINDS = ("v and f", "v, vt, vn and f", "v, vt, vn and f, exponents", "polygons of 4,000 corners", "curves and surfaces")
 READERS = ["kuhlabires", "tinyobjloader", "assimp"]
 SAMPLERS = ["kuhlabires", "sisl", "gsl"]
 BATCH = {"alone": 1024, "steps": 1024, "run": 1001, "grid": 101 * 101}  # as points.c has them
-PACKAGES = ["libtinyobjloader-dev", "libassimp-dev", "libsisl-dev", "libgsl-dev", "valgrind", "gcc", "g++", "cargo"]
+PACKAGES = ["libtinyobjloader-dev", "libassimp-dev", "libsisl-dev", "libgsl-dev", "valgrind", "gcc", "g++"]
 
 
 # ---- Installing and building ----
@@ -44,21 +45,25 @@ def install():
         subprocess.run(["apt-get", "install", "-y", "-qq", *missing], check=True, stdout=subprocess.DEVNULL)
 
 
+def run(*words, **more):
+    subprocess.run([str(w) for w in words], check=True, **more)
+
+
+def build_own(folder, archive):
+    """The drivers of this library, linked with that archive; points.c has those of its peers too."""
+    def c(name, *libraries):
+        run("gcc", "-std=gnu11", "-O3", "-I", ROOT / "include", ROOT / "bench" / f"{name}.c", archive, *libraries, "-o", folder / name)
+
+    c("read_kuhlabires")
+    c("points", "-lsisl", "-lgsl", "-lgslcblas", "-lm")
+
+
 def build(folder):
-    bench, host = ROOT / "bench", ROOT / "host"
-
-    def run(*words, **more):
-        subprocess.run([str(w) for w in words], check=True, **more)
-
     if "KUHLABIRES_ARCHIVE" not in os.environ:
         run("rt", "staticlib", "kuhlabires", cwd=ROOT, stdout=subprocess.DEVNULL)
-    run("cargo", "build", "--release", "--offline", "--quiet", cwd=host)
-    run("rustc", "--edition", "2021", "-C", "opt-level=3", bench / "read_kuhlabires.rs", "--extern",
-        f"kuhlabires={host}/target/release/libkuhlabires.rlib", "-o", folder / "read_kuhlabires")
-    run("g++", "-std=c++17", "-O3", bench / "read_tinyobjloader.cpp", "-o", folder / "read_tinyobjloader")
-    run("g++", "-std=c++17", "-O3", bench / "read_assimp.cpp", "-lassimp", "-o", folder / "read_assimp")
-    run("gcc", "-std=gnu11", "-O3", "-I", ROOT / "include", bench / "points.c", ARCHIVE, "-lsisl", "-lgsl", "-lgslcblas", "-lm", "-o",
-        folder / "points")
+    build_own(folder, ARCHIVE)
+    run("g++", "-std=c++17", "-O3", ROOT / "bench" / "read_tinyobjloader.cpp", "-o", folder / "read_tinyobjloader")
+    run("g++", "-std=c++17", "-O3", ROOT / "bench" / "read_assimp.cpp", "-lassimp", "-o", folder / "read_assimp")
 
 
 # ---- Measuring ----
@@ -131,7 +136,7 @@ def reading_rows(folder, rounds, counted):
     """Speed, of each kind and size. The texts of the tables that follow stay: one of each kind, named in `counted`, and every mesh."""
     head("text", "MB", "this, MB/s", "with counting", "tinyobjloader", "assimp", "times tinyobjloader, median (worst)",
          "with counting", "times assimp")
-    for kind in ("v and f", "v, vt, vn and f", "v, vt, vn and f, exponents", "polygons of 4,000 corners", "curves and surfaces"):
+    for kind in KINDS:
         for size, text in texts(kind, [n * MEGABYTE for n in SIZES]):
             path = folder / f"{kind} {size}.obj"
             path.write_bytes(text)

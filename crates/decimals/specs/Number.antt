@@ -4,13 +4,13 @@
 -- 02, Q-2: "A number may end in e or E, an optional sign and one to three digits. The value is still the exact decimal, rounded once."
 use Prim.Native.Nat.{ℕ, _+_, _*_, _^_}
 use mathlib.Core.List.{List, [], _∷_, _++_}
-use mathlib.Core.Bool.{Bool, true, false, cond, _&&_, _||_}
+use mathlib.Core.Bool.{Bool, true, cond, _&&_, _||_}
 use lib.ListN.{length}
 use lib.Dec.{leb, eqb}
 use lib.IntN.{ℤ}
 use Rattle.lists.specs.Signs.{withSign}
 use Rattle.rounding.specs.Round as round
-use Rattle.digits.specs.Said.{Said, says, wrong, must}
+use Rattle.digits.specs.Said.{Said, says, must}
 use Rattle.digits.specs.Digits.{digits, natOf, isWhole, negative}
 
 -- "optional + or -"

@@ -43,12 +43,12 @@ use Rattle.record_rules.specs.Directions.{degreeObeys, typeObeys, parametersObe
 use Rattle.record_rules.specs.Bodies.{flatObeys, curveObeys, recordObeys, bodyObeys}
 use Rattle.sampler.specs.Points.{directionU, controlOf}
 use Rattle.sampler.specs.Answers.{elementOf, bodyOf, PointOutcome, pointOutcome}
-use Rattle.sampler.specs.Demand3.{sampling, Curve}
+use Rattle.sampler.specs.Demand3.{sampling, Obeying, IsCurve, ElementsSampled}
 use Rattle.sampler.proofs.Demanded.{curve-coordinates}
 use Rattle.end_to_end.specs.EntryPoints.{Reader, Tidier, Sampler}
 use Rattle.end_to_end.specs.Demand1.{Outcomes}
 use Rattle.end_to_end.specs.Demand2.{Demand2}
-use Rattle.end_to_end.specs.Demand3.{Rounded, Demand3}
+use Rattle.end_to_end.specs.Demand3.{Demand3}
 use Rattle.end_to_end.specs.Cheats.{TurnsAllDown, FixedTables, TouchesNoTable, FixedCounts, CopiesItsInput, TurnsAllAway, RefusesAll, FixedPoint, RepeatsFirst, OffByOne, Stopped}
 
 -- ---- texts: nothing, an empty line, a v at 0 0 0, a v at 1 0 0
@@ -145,8 +145,11 @@ line-obeys : obeys used line 0 0 ≡ true
 unfolding obeys elementObeys cornersObey eachCorner cornerObeys pointObeys attributeObeys withTexture withNormal leastCorners vertexObeys inRange runInRange bodyObeys recordObeys curveObeys flatObeys widest held bodyHeld typeObeys degreeObeys parametersObey inOrder curveCount
 line-obeys = refl
 
-curved : Curve used line 1
-curved = record { some = omega arith; in-use = omega arith; kind = inl refl; obeyed = line-obeys; plain = refl; type = inl refl }
+obeying : Obeying used line 1
+obeying = (record { some = omega arith; in-use = omega arith; plain = refl; type = inl refl }, line-obeys)
+
+is-curve : IsCurve line 1
+is-curve = inl refl
 
 abbrev exact : (p : ℤ) → Frac
 exact p = curveExact (directionU line (bodyOf line 1)) p (controlOf line (elementOf line 1) 0)
@@ -177,15 +180,15 @@ module _ (reads : Reader) (tidies : Tidier) (samples : Sampler) where
   refuses-all : RefusesAll samples → Outcomes reads tidies samples → Demand3 reads tidies samples → ⊥
   refuses-all h o d =
       let r = h used line 1 (pos 0) in
-      let a = d .curves used line 1 (pos 0) curved (yes-le (pos 0) (pos 0) refl) (yes-le (pos 0) (pos 1) refl) .axes in
+      let a = ap length (d .obeying used line 1 obeying .curve is-curve (pos 0) (yes-le (pos 0) (pos 0) refl) (yes-le (pos 0) (pos 1) refl) .rounded) in
       let none : length (samples .curve used line 1 (pos 0) .outcome .coordinates) ≡ 0 = ap (λ (x : PointOutcome). length (x .coordinates)) (o .curve used line 1 (pos 0) ∙ ap pointOutcome (r .1)) in
       let z : _≡_ {A = ℕ} 0 3 = sym none ∙ a in
       omega arith
 
   fixed-point : FixedPoint samples → Demand3 reads tidies samples → ⊥
   fixed-point h d =
-      let a = d .curves used line 1 (pos 0) curved (yes-le (pos 0) (pos 0) refl) (yes-le (pos 0) (pos 1) refl) .near 0 (omega arith) in
-      let b = d .curves used line 1 (pos 1) curved (yes-le (pos 0) (pos 1) refl) (yes-le (pos 1) (pos 1) refl) .near 0 (omega arith) in
+      let a = d .obeying used line 1 obeying .curve is-curve (pos 0) (yes-le (pos 0) (pos 0) refl) (yes-le (pos 0) (pos 1) refl) .near 0 (omega arith) in
+      let b = d .obeying used line 1 obeying .curve is-curve (pos 1) (yes-le (pos 0) (pos 1) refl) (yes-le (pos 1) (pos 1) refl) .near 0 (omega arith) in
       no-both (getD (samples .curve used line 1 (pos 0) .outcome .coordinates) 0 (pos 0)) a
       (subst (λ (x : PointOutcome). Close (getD (x .coordinates) 0 (pos 0)) (exact (pos 1)) 1) (h used line 1 (pos 1) (pos 0)) b)
 
@@ -194,17 +197,17 @@ module _ (reads : Reader) (tidies : Tidier) (samples : Sampler) where
   unfolding parameterAt
   repeats-first h d =
       let points = pos 0 ∷ pos 0 ∷ pos 0 ∷ pos 0 ∷ pos 0 ∷ pos 0 ∷ [] in
-      let r = d .runs used line 1 1 0 points curved (omega arith) (omega arith) (omega arith) in
+      let r = d .obeying used line 1 obeying .run is-curve 1 0 points (omega arith) (omega arith) (omega arith) in
       let a = r .near 0 0 (omega arith) (omega arith) in
       let b = r .near 1 0 (omega arith) (omega arith) in
       no-both (getD (samples .run used line 1 1 0 points .points) 0 (pos 0)) a
       (subst (λ (z : ℤ). Close z (exact (pos 1)) 1) (h used line 1 1 0 points 1 0 (omega arith)) b)
 
-off-by-one : (samples : Sampler) → OffByOne samples → Rounded samples → ⊥
+off-by-one : (samples : Sampler) → OffByOne samples → ElementsSampled samples → ⊥
 off-by-one samples h r =
     let low = yes-le (pos 0) (pos 0) refl in
     let high = yes-le (pos 0) (pos 1) refl in
-    let e = r .curves used line 1 (pos 0) curved low high ∙ sym (curve-coordinates curved (pos 0) low high) in
+    let e = r used line 1 obeying .curve is-curve (pos 0) low high .rounded ∙ sym (curve-coordinates (obeying, is-curve) (pos 0) low high) in
     let f = sym (ap (λ (l : List ℤ). getD l 0 (pos 0)) e) ∙ h used line 1 (pos 0) 0 in
     no-more (getD (sampling .curve used line 1 (pos 0) .outcome .coordinates) 0 (pos 0)) f
   where

@@ -12,13 +12,13 @@ use Rattle.sampled_files.specs.Files.{axesIn}
 use Rattle.sampled_files.specs.Polylines.{PointsOfPolyline}
 use Rattle.sampled_files.proofs.Polylines.{accepted-polylines}
 use Rattle.end_to_end.specs.Polylines.{FilledPolylines, OwnPolylines}
-use Rattle.end_to_end.proofs.Third.{shown, never-15, a-curve}
+use Rattle.end_to_end.proofs.Third.{shown, never-15, its-obeying}
 
 pub filled-polylines : FilledPolylines
 filled-polylines s S u h =
     let t = readInto s S .tables in
     record {
-      given = λ number c k tolerance at points n l. polylines-on-curves u t number tolerance at points (a-curve s S u h number c k) n l;
+      given = λ number c. polylines-on-curves u t number (its-obeying s S u h number c);
       never-15 = λ number tolerance at points e. never-15 s S u h false number (samplers-fifteen u t number tolerance at points e);
     }
 

@@ -2,12 +2,10 @@
 use Prim.Native.Nat.{ℕ, _-_, _≤_}
 use mathlib.Core.Path.{_≡_, sym, ap, _∙_, subst}
 use mathlib.Core.Bool.{Bool, true, false}
-use mathlib.Core.Logic.{_⊎_}
 use mathlib.Core.List.{List}
 use native.Mathlib.Omega.{arith}
 use lib.ListN.{take}
 use Rattle.tables.specs.Tables.{Tables}
-use Rattle.tables.specs.Records.{curveKind, curve2Kind, surfaceKind}
 use Rattle.tables.specs.declared.Used.{Used}
 use Rattle.model.specs.Model.{Model}
 use Rattle.model.specs.Room.{Rooms}
@@ -16,19 +14,18 @@ use Rattle.model.specs.Layout.{tablesOf, usedOf}
 use Rattle.read_lines.specs.declared.ReadResult.the-variants as reading
 use Rattle.reader.specs.Reading.{roomsOf, readInto}
 use Rattle.record_rules.specs.Rules.{obeys, curvesBefore}
-use Rattle.sampler.specs.Answers.{elementOf, refusalOf}
-use Rattle.sampler.specs.Demand3.{sampling, Curve, Surface}
-use Rattle.sampler.proofs.Demanded.{curve-coordinates, points-on-curves, filled as run-filled, runs-on-curves}
-use Rattle.sampler.proofs.OnSurfaces.{surface-coordinates, points-on-surfaces}
+use Rattle.sampler.specs.Answers.{refusalOf}
+use Rattle.sampler.specs.Demand3.{sampling, Plain, Obeying}
+use Rattle.sampler.proofs.OnSurfaces.{elements-sampled}
 use Rattle.tidier.specs.declared.TidyResult.the-variants.{Written}
 use Rattle.tidier.specs.Tidying.{tidyInto}
 use Rattle.tidy_form.specs.declared.Weights.{Weights}
 use Rattle.tidy_form.specs.Printed.{tidyText}
-use Rattle.sampled_files.specs.Joined as joined
+use Rattle.sampled_files.specs.Joined.{SampledAlike}
 use Rattle.sampled_files.proofs.Never15.{used-elements, obeyed, sampling-never-15}
 use Rattle.sampled_files.proofs.Accepted.{accepted-curves, accepted-runs, accepted-surfaces}
 use Rattle.sampled_files.proofs.Tidied.{tidied-samples-alike}
-use Rattle.end_to_end.specs.Demand3.{Plain, PointsIn, PointsOf, Rounded, SampledAlike, Demand3}
+use Rattle.end_to_end.specs.Demand3.{PointsIn, PointsOf, Demand3}
 use Rattle.end_to_end.proofs.Inside.{Accepted, accepted, tidied-file}
 use Rattle.end_to_end.proofs.Samples.{curve-not-15, surface-not-15, run-not-15}
 use Rattle.end_to_end.proofs.Second.{its-answer, its-tables, read-back}
@@ -58,30 +55,14 @@ module _ (s : List ℕ) (S : Tables) (u : Used) (h : readInto s S .answer ≡ re
       shown (λ (w : Used) (x : Tables). refusalOf asked w x number ≡ 15 → ⊥) s S u (file .model) h (file .is-read)
       (sampling-never-15 (roomsOf S) s (file .model) (file .is-read) asked number)
 
-  pub a-curve : (number : ℕ) → Plain u t number → (elementOf t number .kind ≡ curveKind) ⊎ (elementOf t number .kind ≡ curve2Kind) → Curve u t number
-  a-curve number c k =
-      record { some = c .some; in-use = c .in-use; kind = k; obeyed = its-obeyed number (c .some) (c .in-use); plain = c .plain; type = c .type }
-
-  pub a-surface : (number : ℕ) → Plain u t number → elementOf t number .kind ≡ surfaceKind → Surface u t number
-  a-surface number c k =
-      record { some = c .some; in-use = c .in-use; kind = k; obeyed = its-obeyed number (c .some) (c .in-use); plain = c .plain; type = c .type }
-
--- ---- the rounding rule
-rounded : Rounded sampling
-rounded =
-    record {
-      curves = λ u t number p c f g. curve-coordinates c p f g;
-      runs = λ u t number steps at points c f g l. run-filled c steps at points f g l;
-      surfaces = λ u t number p q c f g d e. surface-coordinates c p q f g d e;
-    }
+  pub its-obeying : (number : ℕ) → Plain u t number → Obeying u t number
+  its-obeying number c = (c, its-obeyed number (c .some) (c .in-use))
 
 filled : (s : List ℕ) (S : Tables) (u : Used) → readInto s S .answer ≡ reading.Read u → PointsIn sampling u (readInto s S .tables)
 filled s S u h =
     let t = readInto s S .tables in
     record {
-      curves = λ number c k p f g. points-on-curves u t number p (a-curve s S u h number c k) f g;
-      runs = λ number c k steps at points f g l. runs-on-curves u t number steps at points (a-curve s S u h number c k) f g l;
-      surfaces = λ number c k p q f g d e. points-on-surfaces u t number p q (a-surface s S u h number c k) f g d e;
+      given = λ number c. elements-sampled u t number (its-obeying s S u h number c);
       curves-15 = λ number p. curve-not-15 u t number (never-15 s S u h false number) p;
       runs-15 = λ number steps at points. run-not-15 u t number (never-15 s S u h false number) steps at points;
       surfaces-15 = λ number p q. surface-not-15 u t number (never-15 s S u h true number) p q;
@@ -96,8 +77,8 @@ own s S u m h e =
       surfaces = λ number b o c k p q f g d i. accepted-surfaces (roomsOf S) s m e number b o c k p q f g d i;
     })
 
-sampled : (u w x y : Used) (S S' T T' : Tables) → u ≡ w → x ≡ y → S ≡ S' → T ≡ T' → joined.PromisedAlike u S x T → SampledAlike sampling w S' y T'
-sampled u w x y S S' T T' e f g h a = rw (← e, ← f, ← g, ← h) (record { curves = a .curves; surfaces = a .surfaces; runs = a .runs })
+sampled : (u w x y : Used) (S S' T T' : Tables) → u ≡ w → x ≡ y → S ≡ S' → T ≡ T' → SampledAlike sampling u S x T → SampledAlike sampling w S' y T'
+sampled u w x y S S' T T' e f g h a = rw (← e, ← f, ← g, ← h) a
 
 alike : (c : Weights) (s : List ℕ) (S : Tables) (a : List ℕ) (n : ℕ) (u : Used) → tidyInto c s S a .answer ≡ Written n u
     → (T : Tables) → roomsOf T ≡ roomsOf S → SampledAlike sampling u (tidyInto c s S a .tables) u (readInto (take n (tidyInto c s S a .out)) T .tables)
@@ -119,10 +100,7 @@ alike c s S a n u h T e =
 pub third : Demand3 readInto tidyInto sampling
 third =
     record {
-      curves = points-on-curves;
-      runs = runs-on-curves;
-      surfaces = points-on-surfaces;
-      rounded = rounded;
+      obeying = elements-sampled;
       filled = filled;
       own = own;
       alike = alike;

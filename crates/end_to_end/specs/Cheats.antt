@@ -11,12 +11,12 @@ use Rattle.tidy_form.specs.declared.Weights.{Weights}
 use Rattle.tidier.specs.declared.TidyResult.the-variants.{Written, TooLong}
 use Rattle.sampler.specs.Points.{axesOf}
 use Rattle.sampler.specs.Answers.{elementOf}
-use Rattle.sampler.specs.Demand3.{sampling}
+use Rattle.sampler.specs.Demand3.{sampling, ElementsSampled}
 use Rattle.sampler.specs.declared.PointResult.the-variants as sampled
 use Rattle.end_to_end.specs.EntryPoints.{Reader, Tidier, Sampler}
 use Rattle.end_to_end.specs.Demand1.{Outcomes}
 use Rattle.end_to_end.specs.Demand2.{Demand2}
-use Rattle.end_to_end.specs.Demand3.{Demand3, Rounded}
+use Rattle.end_to_end.specs.Demand3.{Demand3}
 
 -- "A reader that turns all files down, or gives one fixed set of tables, or touches no table": fixed for the tables lent, whatever the text
 abbrev pub TurnsAllDown : Reader → Type 0
@@ -69,4 +69,4 @@ pub record Stopped : Type 0 where
   pub refuses-all : (reads : Reader) (tidies : Tidier) (samples : Sampler) → RefusesAll samples → Outcomes reads tidies samples → Demand3 reads tidies samples → ⊥
   pub fixed-point : (reads : Reader) (tidies : Tidier) (samples : Sampler) → FixedPoint samples → Demand3 reads tidies samples → ⊥
   pub repeats-first : (reads : Reader) (tidies : Tidier) (samples : Sampler) → RepeatsFirst samples → Demand3 reads tidies samples → ⊥
-  pub off-by-one : (samples : Sampler) → OffByOne samples → Rounded samples → ⊥
+  pub off-by-one : (samples : Sampler) → OffByOne samples → ElementsSampled samples → ⊥

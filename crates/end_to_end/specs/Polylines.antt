@@ -8,27 +8,21 @@ use lib.ListN.{length}
 use lib.IntN.{ℤ, pos}
 use lib.Signed.{_≤ℤ_}
 use Rattle.tables.specs.Tables.{Tables}
-use Rattle.tables.specs.Records.{curveKind, curve2Kind}
 use Rattle.tables.specs.declared.Used.{Used}
 use Rattle.model.specs.Model.{curve, curve2, Body, Model}
 use Rattle.model.specs.Read.{read, readOf}
 use Rattle.read_lines.specs.declared.ReadResult.the-variants as reading
 use Rattle.reader.specs.Reading.{roomsOf, readInto}
-use Rattle.sampler.specs.Points.{axesOf}
-use Rattle.sampler.specs.Answers.{elementOf}
+use Rattle.sampler.specs.Demand3.{Plain, IsCurve}
 use Rattle.polyline.specs.Answers.{parametersOf, polylineInto}
-use Rattle.polyline.specs.Promises.{PolylineGiven}
+use Rattle.polyline.specs.Promises.{PolylinesGiven}
 use Rattle.sampled_files.specs.Files.{axesIn}
 use Rattle.sampled_files.specs.Joined.{HasBody, Carried}
 use Rattle.sampled_files.specs.Polylines.{PointsOfPolyline}
-use Rattle.end_to_end.specs.Demand3.{Plain}
 
--- the polylines of the tables t, u of them used
+-- the polylines of the tables t, u of them used; no answer is 15, whatever the request
 pub record PolylinesIn (u : Used) (t : Tables) : Type 0 where
-  pub given : (number : ℕ) → Plain u t number → (elementOf t number .kind ≡ curveKind) ⊎ (elementOf t number .kind ≡ curve2Kind)
-      → (tolerance : ℤ) (at : ℕ) (points : List ℤ) → pos 0 ≤ℤ tolerance → at + axesOf (elementOf t number) * length (parametersOf u t number tolerance) ≤ length points
-      → PolylineGiven u t number tolerance at points
-  -- no answer is 15, whatever the request
+  pub given : (number : ℕ) → Plain u t number → IsCurve t number → PolylinesGiven u t number
   pub never-15 : (number : ℕ) (tolerance : ℤ) (at : ℕ) (points : List ℤ) → polylineInto u t number tolerance at points .outcome .number ≡ 15 → ⊥
 
 abbrev pub FilledPolylines : Type 0

@@ -2,6 +2,7 @@
 -- A row of the one table of rules as numbers: what each case of its enums is as numbers.
 use Prim.Native.Nat.{ℕ}
 use mathlib.Core.Bool.{cond}
+use lib.Dec.{eqb}
 use lib.IntN.{ℤ, pos, negℤ}
 use Rattle.statements.specs.declared.Statement.{Statement}
 use Rattle.statements.specs.declared.Statement.the-variants as statement
@@ -55,17 +56,11 @@ abbrev pub limitsBy : ℤ → ℤ → Limits
 limitsBy low high = record { low = low; high = high }
 
 abbrev pub limitsOf : WordForm → Limits
-limitsOf form.Anything = limitsBy (pos 0) (pos 0)
-limitsOf form.Number = limitsBy (negℤ (pos 2000000000)) (pos 2000000000)
-limitsOf (form.Corner p) = limitsBy (pos 0) (pos 0)
-limitsOf form.Control = limitsBy (pos 0) (pos 0)
-limitsOf form.Curve = limitsBy (pos 0) (pos 0)
-limitsOf form.Direction = limitsBy (pos 0) (pos 0)
-limitsOf form.Type = limitsBy (pos 0) (pos 0)
-limitsOf form.Rational = limitsBy (pos 0) (pos 0)
-limitsOf form.Degree = limitsBy (pos 1) (pos 20)
-limitsOf form.Smoothing = limitsBy (pos 0) (pos 65535)
-limitsOf form.Name = limitsBy (pos 1) (pos 255)
+limitsOf f =
+    cond (eqb (formNumber f) (formNumber form.Number)) (limitsBy (negℤ (pos 2000000000)) (pos 2000000000))
+    (cond (eqb (formNumber f) (formNumber form.Degree)) (limitsBy (pos 1) (pos 20))
+    (cond (eqb (formNumber f) (formNumber form.Smoothing)) (limitsBy (pos 0) (pos 65535))
+    (cond (eqb (formNumber f) (formNumber form.Name)) (limitsBy (pos 1) (pos 255)) (limitsBy (pos 0) (pos 0)))))
 
 -- the statement whose rules a keyword's line has; a line that is refused by its keyword has the rules of one that is passed over
 abbrev pub carriedOf : Statement → Carried

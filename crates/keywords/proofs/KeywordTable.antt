@@ -1,13 +1,13 @@
 -- The keywords of 01: each claim is one computed test, carried over by a law of every table.
 use Prim.Native.Nat.{ℕ, _+_, _≤_, _<_}
-use mathlib.Core.Path.{_≡_, refl, sym}
+use mathlib.Core.Path.{_≡_, refl}
 use mathlib.Core.List.{List}
-use mathlib.Core.Bool.{Bool, true, false}
+use mathlib.Core.Bool.{true}
 use native.Mathlib.Omega.{arith}
 use lib.ListN.{length}
-use lib.Dec.{leb, eqb}
+use lib.Dec.{leb}
 use Rattle.lists.proofs.Tests.{never}
-use Rattle.spellings.specs.Rows.{Row, rowOf, spellingAt, Finds}
+use Rattle.spellings.specs.Rows.{rowOf, spellingAt, Finds}
 use Rattle.keywords.specs.Keywords.{letterOf, keywords, statementOf, keywordOf}
 use Rattle.statements.specs.declared.VertexKind.the-variants.{Geometric, Texture, Normal, Parametric}
 use Rattle.statements.specs.declared.Shape.the-variants.{Point, Line, Face}

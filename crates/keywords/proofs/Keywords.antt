@@ -1,11 +1,9 @@
 -- The table's bytes are the rows': both are computed.
-use Prim.Native.Nat.{ℕ, _+_, _*_, _≤_, _<_}
-use mathlib.Core.Path.{_≡_, refl, sym, ap, _∙_}
-use mathlib.Core.List.{List, []}
-use mathlib.Core.Bool.{Bool, true, false, cond}
-use native.Mathlib.Omega.{arith}
-use lib.ListN.{length, drop, getD}
-use lib.Dec.{eqb}
+use Prim.Native.Nat.{ℕ}
+use mathlib.Core.Path.{_≡_, refl, _∙_}
+use mathlib.Core.List.{List}
+use mathlib.Core.Bool.{true}
+use lib.ListN.{drop}
 use Rattle.text.specs.Words.{wordOf}
 use Rattle.text.specs.Rest.{endOf}
 use Rattle.spellings.specs.Rows.{rowOf, kindAt, foundBy}
@@ -13,7 +11,6 @@ use Rattle.spellings.specs.Lookup.{letteredIn}
 use Rattle.keywords.specs.Keywords.{letterOf, keywords, statementOf, keywordOf}
 use Rattle.keywords.specs.Lookup.{ofLetter, keywordTable, keywordAt}
 use Rattle.spellings.specs.declared.Found.{Found}
-use Rattle.keywords.specs.declared.Keyword.{Keyword}
 use Rattle.statements.specs.declared.VertexKind.the-variants.{Geometric, Texture, Normal, Parametric}
 use Rattle.statements.specs.declared.Shape.the-variants.{Point, Line, Face}
 use Rattle.statements.specs.declared.Free.the-variants.{Curve, Curve2, Surface}

@@ -2,13 +2,9 @@
 -- The words after a keyword that have a fixed spelling: cstype's rat and types, the directions of parm, smoothing's off, as 000 comes to them.
 use Prim.Native.Nat.{ℕ}
 use mathlib.Core.List.{List, [], _∷_}
-use mathlib.Core.Bool.{Bool, true, false, cond}
-use lib.ListN.{drop}
+use mathlib.Core.Bool.{Bool}
 use lib.Dec.{eqb}
-use Rattle.lists.specs.Lists.{flat}
-use Rattle.text.specs.Words.{wordOf}
 use Rattle.spellings.specs.Rows.{Row, spells, rowOf, kindAt, spellingOf}
-use Rattle.spellings.specs.Lookup.{kindBy, line}
 use Rattle.keywords.specs.declared.Argument.{Argument}
 use Rattle.keywords.specs.declared.Argument.the-variants.{Rational, BasisMatrix, Bezier, Bspline, Cardinal, Taylor, DirectionU, DirectionV, Off, Other}
 
@@ -24,6 +20,10 @@ signOf DirectionU = 71
 signOf DirectionV = 72
 signOf Off = 73
 signOf Other = 32
+
+-- each argument has its own sign
+abbrev pub isArgument : Argument → Argument → Bool
+isArgument a b = eqb (signOf a) (signOf b)
 
 -- the form, and the types: "bezier, bspline, cardinal, taylor" are stored, "the type bmatrix" is refused; "parm u or v"; "Smoothing: off (0)"
 unfoldable pub arguments : List (Row Argument)

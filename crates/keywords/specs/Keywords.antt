@@ -3,15 +3,7 @@
 use Prim.Native.Nat.{ℕ}
 use Prim.Native.String.{String}
 use mathlib.Core.List.{List, [], _∷_}
-use mathlib.Core.Bool.{Bool, true, false, cond}
-use lib.ListN.{drop}
-use lib.Dec.{eqb}
-use Rattle.lists.specs.Lists.{flat}
-use Rattle.text.specs.Words.{wordOf}
-use Rattle.text.specs.Rest.{endOf}
-use Rattle.spellings.specs.Rows.{Row, spells, rowOf, kindAt, spellingOf, foundBy}
-use Rattle.spellings.specs.Lookup.{kindBy, line}
-use Rattle.keywords.specs.declared.Keyword.{Keyword}
+use Rattle.spellings.specs.Rows.{Row, spells, rowOf, kindAt, spellingOf}
 use Rattle.statements.specs.declared.VertexKind.the-variants.{Geometric, Texture, Normal, Parametric}
 use Rattle.statements.specs.declared.Shape.the-variants.{Point, Line, Face}
 use Rattle.statements.specs.declared.Free.the-variants.{Curve, Curve2, Surface}

@@ -24,7 +24,7 @@ ghost use Rattle.keywords.specs.Keywords.{keywords, keywordOf, letterOf}
 ghost use Rattle.keywords.specs.Lookup.{keywordTable, keywordAt, ofLetter, argumentTable, argumentAt, ofSign};
 ghost use Rattle.keywords.specs.Arguments.{arguments, argumentBytes, signOf};
 
-const KEYWORD_ROWS: usize = 44;
+pub const KEYWORD_ROWS: usize = 44;
 
 const ARGUMENT_ROWS: usize = 9;
 

@@ -1,10 +1,9 @@
 -- Closed examples: texts read by the definition.
 use Prim.Native.Nat.{ℕ}
 use mathlib.Core.Path.{_≡_, refl}
-use mathlib.Core.List.{List, [], _∷_, _++_}
-use mathlib.Core.Bool.{Bool, true, false}
-use lib.IntN.{ℤ, pos}
-use lib.ListN.{length}
+use mathlib.Core.List.{List, [], _∷_}
+use mathlib.Core.Bool.{true, false}
+use lib.IntN.{pos}
 use Rattle.spellings.specs.Rows.{bytes}
 use Rattle.text.specs.Lines.{linesOf}
 use Rattle.decimals.specs.Number.{numberOf, decimal, numerator, denominator, nearest}

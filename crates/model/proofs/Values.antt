@@ -2,12 +2,19 @@
 use Prim.Native.Nat.{ℕ, suc, _≤_}
 use mathlib.Core.Path.{_≡_, refl, sym, ap, _∙_}
 use mathlib.Core.List.{List, [], _∷_, _++_, map}
+use mathlib.Core.Bool.{Bool, true, false, cond}
+use mathlib.Core.Option.{none, some}
 use native.Mathlib.Omega.{arith}
 use lib.ListN.{length, drop}
 use lib.IntN.{ℤ}
 use Rattle.text.specs.Words.{Word}
+use Rattle.keywords.specs.Arguments.{isArgument}
+use Rattle.keywords.specs.declared.Argument.{Argument}
+use Rattle.keywords.specs.declared.Argument.the-variants.{DirectionU, DirectionV}
 use Rattle.references.specs.Corner.{Corner}
-use Rattle.model.specs.Parse.{fine, placed, WordForm, Value, number, corner, whole, direction, basis, name, nothing, Seen, saidOf, valuesOf, numbersOf, cornersOf, wholesOf, partsOf}
+use Rattle.model.specs.Parse.{fine, placed, directionOf, WordForm, Value, number, corner, whole, direction, basis, name, nothing, Seen, saidOf, valuesOf, numbersOf, cornersOf, wholesOf, partsOf}
+use Rattle.model.specs.Model.{along-u, along-v}
+use Rattle.model.specs.Standing.{isV}
 use Rattle.model.proofs.Parsed.{then-fine, fine-is}
 
 pub values-length : (n : Seen) (f : ℕ → WordForm) (i : ℕ) (ws : List Word) (xs : List Value) → valuesOf n f i ws ≡ fine xs → length xs ≡ length ws
@@ -72,3 +79,12 @@ line-numbers (a ∷ z) cs = ap (λ (r : List ℤ). a ∷ r) (line-numbers z cs)
 pub line-corners : (z : List ℤ) (cs : List Corner) → cornersOf (map number z ++ map corner cs) ≡ cs
 line-corners [] cs = corners-of cs
 line-corners (a ∷ z) cs = line-corners z cs
+
+-- ---- the argument v, and the direction
+pub v-is : (a : Argument) → isArgument a DirectionV ≡ isV (directionOf a)
+v-is a = go (isArgument a DirectionV) (isArgument a DirectionU)
+  where
+    go : (v u : Bool) → v ≡ isV (cond v (some along-v) (cond u (some along-u) none))
+    go true u = refl
+    go false true = refl
+    go false false = refl

@@ -12,7 +12,6 @@ use Rattle.tables.specs.Tables.{Tables}
 use Rattle.tables.specs.Bodies.{basisOf}
 use Rattle.tables.specs.Records.{vWidth, vtWidth, vnWidth, vpWidth, elementAt, cornerAt, bodyAt, parametersU, parametersV, partAt, pointKind, lineKind, curveKind, curve2Kind}
 use Rattle.tables.specs.declared.parts.LoopPart.{LoopPart}
-use Rattle.tables.specs.Asking.{partOf}
 use Rattle.tables.specs.declared.Used.{Used}
 use Rattle.tables.specs.declared.Element as records-element
 use Rattle.tables.specs.declared.Corner as records-corner

@@ -2,13 +2,14 @@
 -- What a file says, as lists of records: 01, "Records" and "Bodies". No word of how the lent tables lay it out.
 use Prim.Native.Nat.{ℕ, suc}
 use mathlib.Core.List.{List, [], _∷_}
-use mathlib.Core.Bool.{Bool, true, false}
+use mathlib.Core.Bool.{Bool, false, cond}
 use mathlib.Core.Option.{Option, none}
 use lib.ListN.{length}
 use lib.IntN.{ℤ}
 use Rattle.text.specs.Words.{Word}
 use Rattle.references.specs.Corner.{Corner, Counts}
 use Rattle.tables.specs.Bodies.{Basis}
+use Rattle.statements.specs.Rules.{isPlanar}
 -- v, vt, vn, vp; p, l, f; curv, curv2, surf
 pub use Rattle.statements.specs.declared.VertexKind.{VertexKind}
 pub use Rattle.statements.specs.declared.VertexKind.the-variants.{Geometric as geometric, Texture as texture, Normal as normal, Parametric as parametric}
@@ -109,16 +110,11 @@ start =
 
 abbrev pub isCurve2 : Kind → Bool
 isCurve2 (plain k) = false
-isCurve2 (free b) = shape (b .free)
-  where
-    shape : Free → Bool
-    shape curve = false
-    shape curve2 = true
-    shape surface = false
+isCurve2 (free b) = isPlanar (b .free)
 
 abbrev pub curves : List Element → ℕ
 curves [] = 0
-curves (e ∷ es) = mathlib.Core.Bool.cond (isCurve2 (e .kind)) (suc (curves es)) (curves es)
+curves (e ∷ es) = cond (isCurve2 (e .kind)) (suc (curves es)) (curves es)
 
 abbrev pub countsOf : Vertices → Counts
 countsOf x = record { v = length (x .v); vt = length (x .vt); vn = length (x .vn) }

@@ -2,24 +2,24 @@
 -- What a line of words says: a statement, or a refusal with its number and place. Parsing does all the refusing, in the order of 01's table.
 use Prim.Native.Nat.{ℕ, _-_}
 use mathlib.Core.List.{List, [], _∷_, _++_}
-use mathlib.Core.Bool.{Bool, true, false, cond, _&&_}
+use mathlib.Core.Bool.{Bool, true, false, cond, _&&_, _||_}
 use mathlib.Core.Option.{Option, none, some}
 use lib.ListN.{length, getD, drop}
 use lib.Dec.{leb, eqb}
 use lib.IntN.{ℤ, pos, natAbs}
 use Rattle.text.specs.Words.{Word}
 use Rattle.references.specs.Corner.{Corner, alike}
-use Rattle.tables.specs.Bodies.{Basis, bezier, bspline, cardinal, taylor, low, high, inOrder, curveCount, surfaceCount}
+use Rattle.tables.specs.Bodies.{Basis, bezier, isCardinal, inOrder, curveCount, surfaceCount}
 use Rattle.model.specs.Model.{VertexKind, geometric, texture, normal, parametric, Vertices, Free, curve, curve2, surface, Part, Body, Form, Open, State, curves, countsOf}
-use Rattle.model.specs.Statements.{Statement, vertex, element, group, smoothing, material, type, degree, body, parameters, loop, end, passed}
+use Rattle.model.specs.Statements.{Statement, vertex, element, group, smoothing, material, type, degree, body, parameters, loop, end, passed, settled}
 use Rattle.statements.specs.Rules as rules
 use Rattle.statements.specs.declared.rules.Held.{Held}
 use Rattle.statements.specs.declared.rules.Held.the-variants as held
-pub use Rattle.statements.specs.Rules.{isSurface, fewest, rangeWords, fewestControls, parts, controlForm, rulesOf}
+pub use Rattle.statements.specs.Rules.{isSurface, isPlanar, fewest, rangeWords, fewestControls, parts, controlForm, rulesOf}
 -- the statements by the keywords that open them
 pub use Rattle.statements.specs.declared.Carried.{Carried as Keyword}
 pub use Rattle.statements.specs.declared.Carried.the-variants.{Vertex as a-vertex, Element as an-element, Body as a-body, Parameters as parm, Trim as trim, Hole as hole, End as ends, BodyType as cstype, Degree as deg, Group as g, Smoothing as s, Material as usemtl, PassedOver as over}
-pub use Rattle.model.specs.Words.{Parsed, fine, fault, then, must, unless, isV, directionOf, saysV, WordForm, a-number, a-corner, a-control, a-curve, a-direction, a-type, a-rational, a-degree, a-smoothing, a-name, anything, Value, number, corner, whole, direction, basis, name, nothing, onSaid, typeSaid, rationalSaid, directionSaid, Seen, saidOf, placed, valuesOf, numbersOf, cornersOf, wholesOf, namesOf, basisSaid, directionIn}
+pub use Rattle.model.specs.Words.{Parsed, fine, fault, then, must, unless, directionOf, saysV, WordForm, a-number, a-corner, a-control, a-curve, a-direction, a-type, a-rational, a-degree, a-smoothing, a-name, anything, Value, number, corner, whole, direction, basis, name, nothing, onSaid, typeSaid, rationalSaid, directionSaid, Seen, saidOf, placed, valuesOf, numbersOf, cornersOf, wholesOf, namesOf, basisSaid, directionIn}
 
 -- ---- 10, 5 and the form of each word, by the statement's row of rules
 
@@ -51,25 +51,18 @@ unlike (w ∷ ws) (c ∷ cs) = differing c ws cs
 -- ---- 11, "type, degree (curv2, curv, surf lines) or parm (end) missing"
 -- "Cardinal needs no deg; its degree is 3, and the deg in force stays for other types."
 abbrev pub degreesNeeded : Free → Form → Bool
-degreesNeeded curve f = leb 1 (f .degree-u)
-degreesNeeded curve2 f = leb 1 (f .degree-u)
-degreesNeeded surface f = leb 1 (f .degree-u) && leb 1 (f .degree-v)
+degreesNeeded k f = cond (isSurface k) (leb 1 (f .degree-u) && leb 1 (f .degree-v)) (leb 1 (f .degree-u))
 
 abbrev pub inForce : Free → Form → Option Basis → Bool
 inForce k f none = false
-inForce k f (some bezier) = degreesNeeded k f
-inForce k f (some bspline) = degreesNeeded k f
-inForce k f (some cardinal) = true
-inForce k f (some taylor) = degreesNeeded k f
+inForce k f (some t) = isCardinal t || degreesNeeded k f
 
 abbrev pub some? : {A : Type 0} → List A → Bool
 some? [] = false
 some? (a ∷ xs) = true
 
 abbrev pub complete : Free → Body → Bool
-complete curve b = some? (b .us)
-complete curve2 b = some? (b .us)
-complete surface b = some? (b .us) && some? (b .vs)
+complete k b = cond (isSurface k) (some? (b .us) && some? (b .vs)) (some? (b .us))
 
 -- ---- 12, "control counts disagree"
 -- "A curv2 control must have at least two coordinates given (else 12 at its word)": the record of a vp begins with how many were given
@@ -82,22 +75,18 @@ narrow vps (w ∷ ws) [] = none
 narrow vps (w ∷ ws) (c ∷ cs) = cond (leb 2 (given vps (c .v))) (narrow vps ws cs) (some (w .place))
 
 abbrev pub narrowIn : Free → Vertices → List Word → List Corner → Option ℕ
-narrowIn curve x ws cs = none
-narrowIn curve2 x ws cs = narrow (x .vp) ws cs
-narrowIn surface x ws cs = none
+narrowIn k x ws cs = cond (isPlanar k) (narrow (x .vp) ws cs) none
 
 abbrev pub countsAgree : Free → Body → ℕ → Bool
-countsAgree curve b k = curveCount (b .basis) (b .degree-u) (length (b .us)) k
-countsAgree curve2 b k = curveCount (b .basis) (b .degree-u) (length (b .us)) k
-countsAgree surface b k = surfaceCount (b .basis) (b .degree-u) (length (b .us)) (b .degree-v) (length (b .vs)) k
+countsAgree k b n =
+    cond (isSurface k) (surfaceCount (b .basis) (b .degree-u) (length (b .us)) (b .degree-v) (length (b .vs)) n) (curveCount (b .basis) (b .degree-u) (length (b .us)) n)
 
 -- ---- 13, "parameter order or range"; "A curv2's range is the widest allowed and may not be empty."
+abbrev pub inOrderU : Body → Bool
+inOrderU b = inOrder (b .basis) (b .degree-u) (b .us) (b .start-u) (b .end-u)
+
 abbrev pub rangeWithin : Free → Body → Bool
-rangeWithin curve b = inOrder (b .basis) (b .degree-u) (b .us) (b .start-u) (b .end-u)
-rangeWithin curve2 b =
-    inOrder (b .basis) (b .degree-u) (b .us) (low (b .basis) (b .degree-u) (b .us)) (high (b .basis) (b .degree-u) (b .us))
-rangeWithin surface b =
-    inOrder (b .basis) (b .degree-u) (b .us) (b .start-u) (b .end-u) && inOrder (b .basis) (b .degree-v) (b .vs) (b .start-v) (b .end-v)
+rangeWithin k b = cond (isSurface k) (inOrderU b && inOrder (b .basis) (b .degree-v) (b .vs) (b .start-v) (b .end-v)) (inOrderU (settled k b))
 
 -- ---- the statement of a line whose words have their forms
 
@@ -123,17 +112,14 @@ vertexRecord texture z = completed texture z
 vertexRecord normal z = completed normal z
 vertexRecord parametric z = pos (length z) ∷ completed parametric z
 
--- "Cardinal .. its degree is 3"; "a curve's v entries are 0"
-abbrev pub degreeIn : Option Basis → ℕ → ℕ
-degreeIn none n = n
-degreeIn (some bezier) n = n
-degreeIn (some bspline) n = n
-degreeIn (some cardinal) n = 3
-degreeIn (some taylor) n = n
-
+-- the type in force; bezier stands for none
 abbrev pub basisIn : Option Basis → Basis
 basisIn none = bezier
 basisIn (some t) = t
+
+-- "Cardinal .. its degree is 3"; "a curve's v entries are 0"
+abbrev pub degreeIn : Option Basis → ℕ → ℕ
+degreeIn o n = cond (isCardinal (basisIn o)) 3 n
 
 abbrev pub openedBody : Free → Form → List ℤ → Body
 openedBody curve f z =

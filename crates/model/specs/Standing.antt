@@ -1,7 +1,7 @@
 -- Where a statement may stand, asked of the open body.
-use mathlib.Core.Bool.{Bool}
-use mathlib.Core.Option.{Option}
-use Rattle.model.specs.Model.{Free, Open}
+use mathlib.Core.Bool.{Bool, true, false}
+use mathlib.Core.Option.{Option, none, some}
+use Rattle.model.specs.Model.{Free, ParmDirection, along-u, along-v, Open}
 use Rattle.statements.specs.Rules as rules
 use Rattle.model.specs.Parse.{openFree}
 
@@ -10,3 +10,9 @@ insideBody o f = rules.inBody (openFree o) f
 
 abbrev pub outsideBody : Option Open → Bool
 outsideBody o = rules.outside (openFree o)
+
+-- a parm along v
+abbrev pub isV : Option ParmDirection → Bool
+isV none = false
+isV (some along-u) = false
+isV (some along-v) = true

@@ -2,13 +2,14 @@
 -- The statements of a file, their references resolved and their defaults filled in, and what each one does. Applying never refuses.
 use Prim.Native.Nat.{ℕ}
 use mathlib.Core.List.{List, [], _∷_, _++_}
-use mathlib.Core.Bool.{Bool}
+use mathlib.Core.Bool.{Bool, cond}
 use mathlib.Core.Option.{Option, none, some}
 use lib.IntN.{ℤ}
 use Rattle.text.specs.Words.{Word}
 use Rattle.references.specs.Corner.{Corner}
 use Rattle.tables.specs.Bodies.{Basis, low, high}
-use Rattle.model.specs.Model.{VertexKind, geometric, texture, normal, parametric, Vertices, Names, Shape, Free, curve, curve2, surface, ParmDirection, along-u, along-v, Loop, Body, plain, free, Element, Model, Form, Open, State}
+use Rattle.statements.specs.Rules.{isPlanar}
+use Rattle.model.specs.Model.{VertexKind, geometric, texture, normal, parametric, Vertices, Names, Shape, Free, ParmDirection, along-u, along-v, Loop, Body, plain, free, Element, Model, Form, Open, State}
 
 pub data Statement : Type 0 where
   vertex : VertexKind → List ℤ → Statement
@@ -72,9 +73,7 @@ withRange s e b =
 
 -- "A curv2's range is the widest allowed"
 abbrev pub settled : Free → Body → Body
-settled curve b = b
-settled curve2 b = withRange (low (b .basis) (b .degree-u) (b .us)) (high (b .basis) (b .degree-u) (b .us)) b
-settled surface b = b
+settled k b = cond (isPlanar k) (withRange (low (b .basis) (b .degree-u) (b .us)) (high (b .basis) (b .degree-u) (b .us)) b) b
 
 abbrev pub closed : Open → Element
 closed o = record { kind = free (settled (o .body .free) (o .body)); corners = o .controls; names = o .names }

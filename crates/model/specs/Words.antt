@@ -2,7 +2,7 @@
 -- The words of a line: what each is by its form, or what is wrong with it; 01, "Words after the keyword" and "Numbers of refusal".
 use Prim.Native.Nat.{ℕ, suc}
 use mathlib.Core.List.{List, [], _∷_}
-use mathlib.Core.Bool.{Bool, true, false}
+use mathlib.Core.Bool.{Bool, true, false, cond}
 use mathlib.Core.Option.{Option, none, some}
 use lib.IntN.{ℤ}
 use Rattle.text.specs.Words.{Word}
@@ -12,8 +12,8 @@ use Rattle.references.specs.Reference.{referenceOf}
 use Rattle.references.specs.Corner.{Corner, Counts, cornerOf}
 use Rattle.digits.specs.Degree.{degreeOf, smoothingOf, nameOf}
 use Rattle.keywords.specs.declared.Argument.{Argument}
-use Rattle.keywords.specs.declared.Argument.the-variants.{Rational, BasisMatrix, Bezier, Bspline, Cardinal, Taylor, DirectionU, DirectionV, Off, Other}
-use Rattle.keywords.specs.Arguments.{argumentOf}
+use Rattle.keywords.specs.declared.Argument.the-variants.{Rational, BasisMatrix, Bezier, Bspline, Cardinal, Taylor, DirectionU, DirectionV}
+use Rattle.keywords.specs.Arguments.{isArgument, argumentOf}
 use Rattle.tables.specs.Bodies.{Basis, bezier, bspline, cardinal, taylor}
 use Rattle.model.specs.Model.{ParmDirection, along-u, along-v}
 pub use Rattle.statements.specs.declared.rules.WordForm.{WordForm}
@@ -39,27 +39,12 @@ unless none n r = r
 unless (some p) n r = fault n p
 
 -- ---- the fixed words
--- a parm along v
-abbrev pub isV : Option ParmDirection → Bool
-isV none = false
-isV (some along-u) = false
-isV (some along-v) = true
-
 abbrev pub directionOf : Argument → Option ParmDirection
-directionOf Rational = none
-directionOf BasisMatrix = none
-directionOf Bezier = none
-directionOf Bspline = none
-directionOf Cardinal = none
-directionOf Taylor = none
-directionOf DirectionU = some along-u
-directionOf DirectionV = some along-v
-directionOf Off = none
-directionOf Other = none
+directionOf a = cond (isArgument a DirectionV) (some along-v) (cond (isArgument a DirectionU) (some along-u) none)
 
 abbrev pub saysV : List Word → Bool
 saysV [] = false
-saysV (w ∷ ws) = isV (directionOf (argumentOf (w .bytes)))
+saysV (w ∷ ws) = isArgument (argumentOf (w .bytes)) DirectionV
 
 -- ---- 4 of a type, 6, 7, 8: the form of each word
 -- what a word is found to be
@@ -78,28 +63,14 @@ onSaid f (wrong n) = wrong n
 
 -- "So is a cstype word out of form (of two the first is rat; the last is a type)"; "the type bmatrix" is known and refused
 abbrev pub typeSaid : Argument → Said Basis
-typeSaid Rational = wrong 6
-typeSaid BasisMatrix = wrong 4
-typeSaid Bezier = says bezier
-typeSaid Bspline = says bspline
-typeSaid Cardinal = says cardinal
-typeSaid Taylor = says taylor
-typeSaid DirectionU = wrong 6
-typeSaid DirectionV = wrong 6
-typeSaid Off = wrong 6
-typeSaid Other = wrong 6
+typeSaid a =
+    cond (isArgument a Bezier) (says bezier)
+    (cond (isArgument a Bspline) (says bspline)
+    (cond (isArgument a Cardinal) (says cardinal)
+    (cond (isArgument a Taylor) (says taylor) (wrong (cond (isArgument a BasisMatrix) 4 6)))))
 
 abbrev pub rationalSaid : Argument → Said Value
-rationalSaid Rational = says nothing
-rationalSaid BasisMatrix = wrong 6
-rationalSaid Bezier = wrong 6
-rationalSaid Bspline = wrong 6
-rationalSaid Cardinal = wrong 6
-rationalSaid Taylor = wrong 6
-rationalSaid DirectionU = wrong 6
-rationalSaid DirectionV = wrong 6
-rationalSaid Off = wrong 6
-rationalSaid Other = wrong 6
+rationalSaid a = cond (isArgument a Rational) (says nothing) (wrong 6)
 
 -- "and a parm direction other than u or v"
 abbrev pub directionSaid : Option ParmDirection → Said Value

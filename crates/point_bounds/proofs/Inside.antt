@@ -19,12 +19,12 @@ use Rattle.point_runs.specs.Runs.{parameterAt}
 use Rattle.point_runs.proofs.Steps.{parameter-from, parameter-upto}
 use Rattle.sampler.specs.Points.{directionU, directionV, controlOf, gridOf, curveAt, surfaceAt}
 use Rattle.sampler.specs.Answers.{elementOf, bodyOf}
-use Rattle.sampler.specs.Demand3.{sampling, Curve, Surface}
-use Rattle.sampler.proofs.Demanded.{curve-facts, curve-rules, ordered, curve-coordinate, run-coordinate}
-use Rattle.sampler.proofs.OnSurfaces.{surface-facts, surface-rules-u, surface-rules-v, surface-coordinate}
+use Rattle.sampler.specs.Demand3.{sampling}
+use Rattle.sampler.proofs.Demanded.{Curve, curve-facts, curve-rules, ordered, curve-coordinate, run-coordinate}
+use Rattle.sampler.proofs.OnSurfaces.{Surface, surface-facts, surface-rules-u, surface-rules-v, surface-coordinate}
 use Rattle.polyline.specs.Answers.{parametersOf}
 use Rattle.polyline.proofs.Demanded.{polylines-on-curves}
-use Rattle.point_bounds.specs.Outline.{InsideCurve, CurvesInside, RunsInside, PolylinesInside, InsideSurface, SurfacesInside}
+use Rattle.point_bounds.specs.Outline.{InsideCurve, InsideSurface, ElementsInside}
 
 -- within all k controls, of a curve and of a surface's grid that has u's controls in each row
 curve-block : (d : Direction) (t : ℤ) → Rules d t → (k : ℕ) → k ≡ d .controls → (c : ℕ → ℤ) → Within (k - 1) c (curveSampled d t c)
@@ -65,23 +65,6 @@ module _ {used : Used} {t : Tables} {number : ℕ} (c : Curve used t number) whe
         exact = λ g h. curve-ends d p o g h f;
       }
 
-pub curves-inside : CurvesInside sampling
-curves-inside used t number p c a b axis h = subst (InsideCurve t number p axis) (sym (curve-coordinate c p a b axis h)) (inside-curve c p a b axis)
-
-pub runs-inside : RunsInside sampling
-runs-inside used t number steps at points c some most room j axis h k =
-    let m = bodyOf t number in
-    let p = parameterAt (m .«start_u») (m .«end_u») steps j in
-    subst (InsideCurve t number p axis) (sym (run-coordinate c steps at points some most room j axis h k))
-    (inside-curve c p (parameter-from (m .«start_u») (m .«end_u») (ordered c) steps j) (parameter-upto (m .«start_u») (m .«end_u») (ordered c) steps j h) axis)
-
-pub polylines-inside : PolylinesInside
-polylines-inside used t number tolerance at points c some room j axis h k =
-    let p = getD (parametersOf used t number tolerance) j (pos 0) in
-    let a = polylines-on-curves used t number tolerance at points c some room in
-    let r = a .ranged j h in
-    subst (InsideCurve t number p axis) (sym (a .sampled j axis h k ∙ curve-coordinate c p (r .0) (r .1) axis k)) (inside-curve c p (r .0) (r .1) axis)
-
 module _ {used : Used} {t : Tables} {number : ℕ} (c : Surface used t number) (p q : ℤ) (p-from : bodyOf t number .«start_u» ≤ℤ p) (p-upto : p ≤ℤ bodyOf t number .«end_u»)
     (q-from : bodyOf t number .«start_v» ≤ℤ q) (q-upto : q ≤ℤ bodyOf t number .«end_v») where
   inside-surface : (axis : ℕ) → InsideSurface t number p q axis (surfaceAt t (elementOf t number) (bodyOf t number) p q axis)
@@ -97,5 +80,20 @@ module _ {used : Used} {t : Tables} {number : ℕ} (c : Surface used t number) (
         exact = λ g h i j. surface-ends u v p q a b g h i j (gridOf t (elementOf t number) (bodyOf t number) axis);
       }
 
-pub surfaces-inside : SurfacesInside sampling
-surfaces-inside used t number p q c f g h k axis m = subst (InsideSurface t number p q axis) (sym (surface-coordinate c p q f g h k axis m)) (inside-surface c p q f g h k axis)
+pub elements-inside : ElementsInside sampling
+elements-inside used t number o =
+    let m = bodyOf t number in
+    record {
+      curve = λ k p a b axis h. subst (InsideCurve t number p axis) (sym (curve-coordinate (o, k) p a b axis h)) (inside-curve (o, k) p a b axis);
+      run = λ k steps at points some most room j axis h l.
+          let p = parameterAt (m .«start_u») (m .«end_u») steps j in
+          let r = ordered (o, k) in
+          subst (InsideCurve t number p axis) (sym (run-coordinate (o, k) steps at points some most room j axis h l))
+          (inside-curve (o, k) p (parameter-from (m .«start_u») (m .«end_u») r steps j) (parameter-upto (m .«start_u») (m .«end_u») r steps j h) axis);
+      polyline = λ k tolerance at points some room j axis h l.
+          let p = getD (parametersOf used t number tolerance) j (pos 0) in
+          let a = polylines-on-curves used t number o k tolerance at points some room in
+          let r = a .ranged j h in
+          subst (InsideCurve t number p axis) (sym (a .sampled j axis h l ∙ curve-coordinate (o, k) p (r .0) (r .1) axis l)) (inside-curve (o, k) p (r .0) (r .1) axis);
+      surface = λ k p q f g h l axis m. subst (InsideSurface t number p q axis) (sym (surface-coordinate (o, k) p q f g h l axis m)) (inside-surface (o, k) p q f g h l axis);
+    }

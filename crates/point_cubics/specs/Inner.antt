@@ -3,7 +3,6 @@ use mathlib.Core.Bool.{cond}
 use mathlib.Core.List.{List}
 use Prim.Native.Nat.{ℕ}
 use lib.Dec.{eqb}
-use lib.ListN.{length}
 use lib.IntN.{ℤ}
 use Rattle.tables.specs.Tables.{Tables}
 use Rattle.tables.specs.Records.{parametersU, curve2Kind}

@@ -2,7 +2,7 @@
 -- 02, Q-14: "Each coordinate is within half a millionth of the exact value at j/64", and "the two paths never differ by more than two millionths
 -- where j/64 falls on a whole millionth of the parameter".
 use mathlib.Core.Path.{_≡_}
-use Prim.Native.Nat.{ℕ, _+_, _*_, _≤_, _<_}
+use Prim.Native.Nat.{ℕ, _+_, _≤_, _<_}
 use lib.ListN.{length, getD}
 use lib.IntN.{ℤ, pos, natAbs, _-ℤ_, _*ℤ_}
 use lib.Signed.{_≤ℤ_}
@@ -13,12 +13,12 @@ use Rattle.tables.specs.declared.Used.{Used}
 use Rattle.point_exact.specs.Exact.{curveExact, segmentExact}
 use Rattle.sampler.specs.Points.{directionU, controlOf, axesOf}
 use Rattle.sampler.specs.Answers.{PointAnswer, elementOf, bodyOf}
-use Rattle.sampler.specs.Demand3.{Sampler, Curve}
+use Rattle.sampler.specs.Demand3.{Sampler, Obeying, IsCurve}
 use Rattle.point_cubics.specs.Answers.{parameter64}
 
 -- a cubic Bezier curve in tables that obey the rules, and a step of one of its segments inside the stated range: nothing refuses
 pub record Step (used : Used) (t : Tables) (number g j : ℕ) : Type 0 where
-  pub curve : Curve used t number
+  pub curve : Obeying used t number × IsCurve t number
   pub type : bodyOf t number .basis ≡ 1
   pub degree : bodyOf t number .«degree_u» ≡ 3
   pub step : j ≤ 64

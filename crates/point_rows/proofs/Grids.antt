@@ -1,25 +1,24 @@
 -- The controls by their corners: those of a direction are there, and so is a row of a surface's.
-use mathlib.Core.Path.{_≡_, refl, sym, ap, ap₂, _∙_, subst}
+use mathlib.Core.Path.{_≡_, refl, sym, ap, _∙_}
 use mathlib.Core.Bool.{Bool, true, false, cond}
 use mathlib.Core.List.{List}
 use Prim.Native.Nat.{ℕ, zero, suc, _+_, _-_, _*_, _≤_, _<_}
 use native.Mathlib.Nat.{mul-le-mul-right, mul-comm, not-suc-le-zero, zero-add}
 use native.Mathlib.Omega.{arith}
 use lib.Dec.{eqb}
-use lib.ListN.{length, getD}
+use lib.ListN.{getD}
 use lib.IntN.{ℤ, pos}
 use mir.Syntax.{w32}
 use mir.Val.{toZ, ofZ}
 use Rattle.rounding.specs.Range.{InRange}
 use Rattle.rounding.proofs.Bits.{read-back-small}
-use Rattle.point_exact.specs.Directions.{Direction, at, chosen}
-use Rattle.point_exact.specs.Rules.{Rules}
+use Rattle.point_exact.specs.Directions.{Direction}
 use Rattle.point_exact.specs.Sampled.{pyramid, offsetAt, gapAt, firstControl, curveSampled, surfaceSampled}
 use Rattle.point_exact.proofs.Samplers.{controls-there}
 use Rattle.point_exact.proofs.Pyramid.{sampled-cong}
 use Rattle.tables.specs.Records.{valueAt, vWidth}
 use Rattle.point_rows.specs.Places.{direction}
-use Rattle.point_rows.specs.Finding.{Sound, On}
+use Rattle.point_rows.specs.Finding.{On}
 use Rattle.point_rows.specs.Controls.{vertexOf, controlAt, ControlsLent, Reached}
 use Rattle.point_rows.specs.declared.BodyDirection.{BodyDirection}
 use Rattle.point_rows.proofs.Places.{deep, spline-first, bezier-first}

@@ -1,20 +1,19 @@
 -- A direction by its type number: each side of the test on it opens the definitions of that kind.
-use mathlib.Core.Path.{_≡_, refl, sym, ap, _∙_, subst}
+use mathlib.Core.Path.{_≡_, refl, _∙_, subst}
 use mathlib.Core.Bool.{Bool, true, false, cond}
 use mathlib.Core.List.{List}
-use Prim.Native.Nat.{ℕ, suc, _+_, _-_, _*_, _≤_, _<_}
+use Prim.Native.Nat.{ℕ, _+_, _-_, _*_, _≤_, _<_}
 use native.Mathlib.Numerals.{add-one}
 use native.Mathlib.Omega.{arith}
 use lib.Dec.{eqb}
 use lib.ListN.{length}
 use lib.IntN.{ℤ, natAbs, _-ℤ_}
-use Rattle.rounding.specs.Range.{InRange}
-use Rattle.point_exact.specs.Directions.{PointBasis, bezier, bspline, by, Direction, at, segment, span, chosen}
+use Rattle.point_exact.specs.Directions.{bezier, bspline, by, Direction, at, segment, span, chosen}
 use Rattle.point_exact.specs.Rules.{BezierRules, SplineRules, Rules}
 use Rattle.point_exact.specs.Sampled.{lowAt, highAt, offsetAt, gapAt, firstControl}
 use Rattle.point_exact.proofs.Chosen.{span-below, span-from, segment-below}
 use Rattle.point_rows.specs.Places.{direction}
-use Rattle.point_rows.specs.Finding.{Sound, On}
+use Rattle.point_rows.specs.Finding.{On}
 use Rattle.point_rows.specs.declared.BodyDirection.{BodyDirection}
 
 module _ (a : BodyDirection) (x : List ℤ) (t : ℤ) where

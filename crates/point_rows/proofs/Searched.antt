@@ -3,20 +3,20 @@ use mathlib.Core.Path.{_≡_, refl, sym, ap, _∙_, subst}
 use mathlib.Core.Bool.{Bool, true, false, cond, _&&_}
 use mathlib.Core.Logic.{_⊎_, inl, inr, ⊎-elim}
 use mathlib.Core.List.{List}
-use Prim.Native.Nat.{ℕ, zero, suc, _+_, _-_, _≤_, _<_}
-use native.Mathlib.Nat.{le-refl, eq-or-lt-of-le, le-of-suc-le-suc, not-suc-le-zero}
+use Prim.Native.Nat.{ℕ, zero, suc, _+_, _≤_, _<_}
+use native.Mathlib.Nat.{le-refl, eq-or-lt-of-le}
 use native.Mathlib.Numerals.{add-one}
 use native.Mathlib.Omega.{arith}
-use borrow.Author.Tests.{leb-true, le-leb, lt-leb}
+use borrow.Author.Tests.{le-leb, lt-leb}
 use lib.Dec.{leb, eqb}
 use lib.ListN.{length}
 use lib.IntN.{ℤ}
 use lib.Signed.{_≤ℤ_, _<ℤ_, leZ, ltZ, ≤ℤ-refl, clashℤ}
-use Rattle.rounding.proofs.Order.{yes-le, yes-lt, le-yes, lt-yes, lt-or-le, ≤ℤ-trans, <ℤ→≤ℤ}
-use Rattle.lists.proofs.Tests.{and-left, and-right, and-both, and-first, and-second, test, never}
+use Rattle.rounding.proofs.Order.{yes-le, le-yes, lt-yes, lt-or-le, ≤ℤ-trans, <ℤ→≤ℤ}
+use Rattle.lists.proofs.Tests.{and-left, and-right, and-both, and-first, and-second, test}
 use Rattle.point_exact.specs.Directions.{PointBasis, bezier, bspline, Direction, at, lastWhere, segment, starts, span, chosen}
 use Rattle.point_exact.specs.Rules.{Rules}
-use Rattle.point_exact.proofs.Chosen.{Holds, segment-below, segment-holds, span-last, span-below, span-from}
+use Rattle.point_exact.proofs.Chosen.{segment-below, segment-holds, span-last, span-below, span-from}
 use Rattle.point_rows.specs.Places.{direction}
 use Rattle.point_rows.specs.Finding.{passes, limit, lead, Sound, On, Hint}
 use Rattle.point_rows.specs.declared.BodyDirection.{BodyDirection}

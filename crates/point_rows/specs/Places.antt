@@ -1,16 +1,11 @@
 -- Must be believed: a promise reaches every definition of this file.
 -- What the code knows of one direction and of a parameter t in it.
-use mathlib.Core.Bool.{Bool, true, cond}
+use mathlib.Core.Bool.{cond}
 use mathlib.Core.List.{List}
-use mathlib.Core.Path.{_≡_}
-use Prim.Native.Nat.{ℕ, _+_, _-_, _≤_, _<_}
-use lib.Dec.{leb, eqb}
-use lib.ListN.{length}
+use Prim.Native.Nat.{ℕ}
+use lib.Dec.{eqb}
 use lib.IntN.{ℤ}
-use lib.Signed.{leZ}
-use Rattle.rounding.specs.Range.{InRange}
-use Rattle.point_exact.specs.Directions.{PointBasis, bezier, bspline, by, Direction, at, lastWhere, starts, chosen}
-use Rattle.point_exact.specs.Rules.{Rules}
+use Rattle.point_exact.specs.Directions.{PointBasis, bezier, bspline, Direction}
 use Rattle.point_rows.specs.declared.BodyDirection.{BodyDirection}
 
 -- type 2 is bspline; of the types that are sampled the other is bezier

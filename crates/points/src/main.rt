@@ -2,9 +2,7 @@
 use reader::ReadResult;
 use sampler::RunResult;
 use tables::Used;
-ghost use mathlib.Core.Path.{_≡_};
 ghost use Prim.Native.Nat.{_≤_};
-ghost use lib.ListN.{length};
 
 // Each of these answers whether it was written; where it was not, nothing more is.
 fn put_whole(n: u64) -> bool {

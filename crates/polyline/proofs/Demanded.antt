@@ -1,7 +1,7 @@
 -- Demand 3 on polylines: each point is the sampler's, at a parameter of the range.
 use mathlib.Core.Path.{_≡_, refl, sym, ap, _∙_, subst}
 use mathlib.Core.Bool.{Bool, true, false, cond, _&&_}
-use mathlib.Core.Logic.{_⊎_, inl, inr, ⊎-elim}
+use mathlib.Core.Logic.{⊎-elim}
 use mathlib.Core.List.{List, [], _∷_, _++_, append-assoc}
 use Prim.Native.Nat.{ℕ, zero, suc, _+_, _*_, _-_, _≤_, _<_}
 use native.Mathlib.Nat.{not-suc-le-zero, le-of-suc-le-suc, mul-le-mul-left}
@@ -19,10 +19,10 @@ use Rattle.tables.specs.declared.Used.{Used}
 use Rattle.record_rules.specs.Rules.{curvesBefore}
 use Rattle.record_rules.proofs.Element.{curve-of, obeys-facts, body-of}
 use Rattle.sampler.specs.Points.{axesOf}
-use Rattle.sampler.specs.Answers.{wanted, elementOf, bodyOf, refusalOf}
-use Rattle.sampler.specs.Demand3.{Curve, OnCurve}
+use Rattle.sampler.specs.Answers.{elementOf, bodyOf, refusalOf}
+use Rattle.sampler.specs.Demand3.{OnCurve}
 use Rattle.sampler.proofs.Obeyed.{granted, curve-kinds}
-use Rattle.sampler.proofs.Demanded.{all-passed, points-on-curves}
+use Rattle.sampler.proofs.Demanded.{Curve, curve-given, points-on-curves}
 use Rattle.point_chords.specs.Chords.{middle, chord, ends, numbers}
 use Rattle.polyline.specs.Answers.{PolylineAnswer, polylineAnswer, pointAt, parametersOf, polylineNumbers, polylineInto}
 use Rattle.polyline.specs.Promises.{Chords, PolylinesOnCurves}
@@ -73,16 +73,12 @@ numbers-at point w (p ∷ x) (suc j) k f h l =
     ∙ numbers-at point w x j k (f .1) (le-of-suc-le-suc h) l
 
 -- ---- a curve of demand 3 is not refused, and its range is one
-curve-wanted : (kind : ℕ) → (kind ≡ 4) ⊎ (kind ≡ 5) → wanted false kind ≡ true
-curve-wanted kind (inl e) = rw e
-curve-wanted kind (inr e) = rw e
-
 not-below : (z : ℤ) → pos 0 ≤ℤ z → ltZ z (pos 0) ≡ false
 not-below z h = ⊎-elim (λ e. clashℤ (yes-lt z (pos 0) e) h) (λ e. e) (test (ltZ z (pos 0)))
 
 module _ {used : Used} {t : Tables} {number : ℕ} (c : Curve used t number) where
   passed : refusalOf false used t number ≡ 0
-  passed = all-passed false used t number (c .some) (c .in-use) (curve-wanted (elementOf t number .kind) (c .kind)) (c .obeyed) (c .plain) (c .type)
+  passed = curve-given c
 
   rises : bodyOf t number .«start_u» <ℤ bodyOf t number .«end_u»
   unfolding inOrder
@@ -179,7 +175,7 @@ module _ {used : Used} {t : Tables} {number : ℕ} (c : Curve used t number) (to
   point-at j axis h k = there c tolerance at points n room (axesOf (elementOf t number) * j + axis) (within c tolerance at points n room j axis h k) ∙ number-is c tolerance j axis h k
 
 pub polylines-on-curves : PolylinesOnCurves
-polylines-on-curves used t number tolerance at points c n room = record {
+polylines-on-curves used t number o k tolerance at points n room = let c : Curve used t number = (o, k) in record {
   given = sym (ap (λ (r : PolylineAnswer). r .answer) (filled c tolerance at points n room));
   few = few-points used t number tolerance;
   start = first-parameter used t number tolerance;

@@ -1,8 +1,8 @@
 -- A curve that is not refused: its range, what is sampled in it, and the answers by the tests that lead to each.
 use mathlib.Core.Path.{_≡_, refl, sym, ap, ap₂, fun-ext, _∙_}
-use mathlib.Core.Bool.{Bool, true, false, cond, _&&_}
+use mathlib.Core.Bool.{Bool, true, false, cond}
 use mathlib.Core.List.{List, [], _∷_, _++_, append-assoc}
-use Prim.Native.Nat.{ℕ, zero, suc, _+_, _*_, _-_, _≤_, _<_}
+use Prim.Native.Nat.{ℕ, zero, suc, _+_, _*_, _≤_, _<_}
 use native.Mathlib.Omega.{arith}
 use borrow.Author.Tests.{ne-eqb, le-leb, lt-leb}
 use lib.Dec.{leb, eqb}
@@ -18,7 +18,6 @@ use Rattle.tables.specs.declared.Used.{Used}
 use Rattle.tables.specs.declared.Element.{Element}
 use Rattle.sampler.specs.Points.{axesOf, curveAt}
 use Rattle.sampler.specs.Answers.{elementOf, bodyOf, refusalOf, PointAnswer, pointOutcome, refusedPoint, planePoint, spacePoint, inside, curvePoint, pointOnCurve}
-use Rattle.sampler.specs.declared.PointResult.{PointResult}
 use Rattle.sampler.specs.Sampling.{Curved, answerOnCurve}
 use Rattle.sampler.proofs.Obeyed.{granted, curved}
 use Rattle.sampler.proofs.Refusals.{Missed, Looked}

@@ -50,16 +50,11 @@ polylineRoom used t number tolerance = axesOf (elementOf t number) * length (par
 
 -- "None changes the point table."
 abbrev pub refusedPolyline : ℕ → List ℤ → PolylineAnswer
-refusedPolyline n points = record { answer = result.Refused n; outcome = record { number = n; points = 0 }; points = points }
+refusedPolyline n points = polylineAnswer (result.Refused n) points
 
 -- "they fill the point table from a chosen place as a run's do, and their count is answered"
 abbrev pub filledPolyline : (count at : ℕ) (numbers : List ℤ) → List ℤ → PolylineAnswer
-filledPolyline count at numbers points =
-    record {
-      answer = result.Filled count;
-      outcome = record { number = 0; points = count };
-      points = take at points ++ (numbers ++ drop (at + length numbers) points);
-    }
+filledPolyline count at numbers points = polylineAnswer (result.Filled count) (take at points ++ (numbers ++ drop (at + length numbers) points))
 
 -- "Refusals: the sampler's; 19 also for a negative tolerance; 16 exactly when they lack room."
 unfoldable pub polylineInto : Used → Tables → (number : ℕ) (tolerance : ℤ) (at : ℕ) → List ℤ → PolylineAnswer

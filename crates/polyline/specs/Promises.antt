@@ -12,9 +12,9 @@ use Rattle.tables.specs.Tables.{Tables}
 use Rattle.tables.specs.declared.Used.{Used}
 use Rattle.sampler.specs.Points.{axesOf}
 use Rattle.sampler.specs.Answers.{elementOf, bodyOf, refusalOf}
-use Rattle.sampler.specs.Demand3.{Curve, OnCurve}
+use Rattle.sampler.specs.Demand3.{Obeying, IsCurve, OnCurve}
 use Rattle.point_chords.specs.Chords.{middle, straight, shortInterval, ends}
-use Rattle.polyline.specs.Answers.{pointAt, parametersOf, polylineInto}
+use Rattle.polyline.specs.Answers.{PolylineAnswer, pointAt, parametersOf, polylineRoom, polylineInto}
 use Rattle.polyline.specs.declared.PolylineResult.the-variants as result
 
 -- each number from a on and the next are so related
@@ -54,23 +54,24 @@ SamplersFifteen =
     (used : Used) (t : Tables) (number : ℕ) (tolerance : ℤ) (at : ℕ) (points : List ℤ)
     → polylineInto used t number tolerance at points .outcome .number ≡ 15 → refusalOf false used t number ≡ 15
 
--- "Demand 3 holds for every point": point j is the sampler's at parameter j, and at most n/2 from the exact value there
-pub record PolylineGiven (used : Used) (t : Tables) (number : ℕ) (tolerance : ℤ) (at : ℕ) (points : List ℤ) : Type 0 where
-  pub given : polylineInto used t number tolerance at points .answer ≡ result.Filled (length (parametersOf used t number tolerance))
-  pub few : length (parametersOf used t number tolerance) ≤ 4097
-  pub start : getD (parametersOf used t number tolerance) 0 (pos 0) ≡ bodyOf t number .«start_u»
-  pub chords : Chords (pointAt used t number) tolerance (bodyOf t number .«start_u») (bodyOf t number .«end_u») (drop 1 (parametersOf used t number tolerance))
-  pub ranged : (j : ℕ) → j < length (parametersOf used t number tolerance)
-      → (bodyOf t number .«start_u» ≤ℤ getD (parametersOf used t number tolerance) j (pos 0)) × (getD (parametersOf used t number tolerance) j (pos 0) ≤ℤ bodyOf t number .«end_u»)
-  pub sampled : (j axis : ℕ) → j < length (parametersOf used t number tolerance) → axis < axesOf (elementOf t number)
-      → getD (polylineInto used t number tolerance at points .points) (at + (axesOf (elementOf t number) * j + axis)) (pos 0)
-      ≡ getD (pointAt used t number (getD (parametersOf used t number tolerance) j (pos 0))) axis (pos 0)
-  pub near : (j axis : ℕ) → j < length (parametersOf used t number tolerance) → axis < axesOf (elementOf t number)
-      → OnCurve t number (getD (parametersOf used t number tolerance) j (pos 0)) axis
-      (getD (polylineInto used t number tolerance at points .points) (at + (axesOf (elementOf t number) * j + axis)) (pos 0))
+-- "Demand 3 holds for every point": of r, the answer to the polyline with the parameters x, point j is the sampler's at parameter j, and at most n/2 from the exact
+-- value there
+pub record PolylineClaim (used : Used) (t : Tables) (number : ℕ) (tolerance : ℤ) (at : ℕ) (x : List ℤ) (r : PolylineAnswer) : Type 0 where
+  pub given : r .answer ≡ result.Filled (length x)
+  pub few : length x ≤ 4097
+  pub start : getD x 0 (pos 0) ≡ bodyOf t number .«start_u»
+  pub chords : Chords (pointAt used t number) tolerance (bodyOf t number .«start_u») (bodyOf t number .«end_u») (drop 1 x)
+  pub ranged : (j : ℕ) → j < length x → (bodyOf t number .«start_u» ≤ℤ getD x j (pos 0)) × (getD x j (pos 0) ≤ℤ bodyOf t number .«end_u»)
+  pub sampled : (j axis : ℕ) → j < length x → axis < axesOf (elementOf t number)
+      → getD (r .points) (at + (axesOf (elementOf t number) * j + axis)) (pos 0) ≡ getD (pointAt used t number (getD x j (pos 0))) axis (pos 0)
+  pub near : (j axis : ℕ) → j < length x → axis < axesOf (elementOf t number)
+      → OnCurve t number (getD x j (pos 0)) axis (getD (r .points) (at + (axesOf (elementOf t number) * j + axis)) (pos 0))
+
+-- of one curve
+abbrev pub PolylinesGiven : Used → Tables → (number : ℕ) → Type 0
+PolylinesGiven used t number =
+    (tolerance : ℤ) (at : ℕ) (points : List ℤ) → pos 0 ≤ℤ tolerance → at + polylineRoom used t number tolerance ≤ length points
+    → PolylineClaim used t number tolerance at (parametersOf used t number tolerance) (polylineInto used t number tolerance at points)
 
 abbrev pub PolylinesOnCurves : Type 0
-PolylinesOnCurves =
-    (used : Used) (t : Tables) (number : ℕ) (tolerance : ℤ) (at : ℕ) (points : List ℤ) → Curve used t number → pos 0 ≤ℤ tolerance
-    → at + axesOf (elementOf t number) * length (parametersOf used t number tolerance) ≤ length points
-    → PolylineGiven used t number tolerance at points
+PolylinesOnCurves = (used : Used) (t : Tables) (number : ℕ) → Obeying used t number → IsCurve t number → PolylinesGiven used t number

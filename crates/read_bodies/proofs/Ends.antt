@@ -12,7 +12,7 @@ use lib.Seq.{sets}
 use lib.Dec.{eqb}
 use lib.IntN.{ℤ, pos}
 use Rattle.lists.proofs.Tests.{test}
-use Rattle.tables.specs.Bodies.{Basis, bezier, bspline, cardinal, taylor, basisNumber, basisOf}
+use Rattle.tables.specs.Bodies.{basisNumber, basisOf}
 use Rattle.tables.specs.declared.Used.{Used}
 use Rattle.model.specs.Model.{Free, curve, curve2, surface, Body}
 use Rattle.model.specs.Model as model
@@ -25,7 +25,8 @@ use Rattle.read_state.specs.declared.Form.{Form}
 use Rattle.read_state.specs.declared.Open.{Open}
 use Rattle.read_state.specs.State.{ParmAt}
 use Rattle.statements.specs.Numbered.{freeOf}
-use Rattle.read_bodies.specs.Closing.{parmOf, openBodyIn, closingRefusal, bodyRecordOf, Stored, NotStored}
+use Rattle.tables.specs.Rows.{bodyNumbers}
+use Rattle.read_bodies.specs.Closing.{parmOf, openBodyIn, closingRefusal, storedBodyOf, Stored, NotStored}
 use Rattle.read_bodies.proofs.Closings.{parm-none, parm-some}
 use Rattle.read_bodies.proofs.Parms.{kept-is}
 use Rattle.tables.proofs.Types.{basis-back}
@@ -141,7 +142,7 @@ module _ (s t : List ℕ) (f : Form) (c : Open) (used : Used) (r : List ℤ) (o 
       pub kept-body : m ≡ sets l (9 * (used .bodies - 1)) (bodyRow (used .parameters) (used .loops - partCount (o .body)) (o .body))
       kept-body = k .body ∙ ap (sets l (9 * (used .bodies - 1))) row
         where
-          row : bodyRecordOf f c used u v ≡ bodyRow (used .parameters) (used .loops - partCount (o .body)) (o .body)
+          row : bodyNumbers (storedBodyOf f c used u v (o .body)) ≡ bodyRow (used .parameters) (used .loops - partCount (o .body)) (o .body)
           row = let n = kept-counts in rw (w .basis, w .rational, w .degree-u, w .degree-v, n .0, n .1, w .parts) refl
 
       pub kept-range : q ≡ sets r (4 * (used .bodies - 1)) (rangeRow (settled (o .body .free) (o .body)))

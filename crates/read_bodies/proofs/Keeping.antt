@@ -1,22 +1,26 @@
 -- A body that passed is stored: its parameters one after the other, its record, and its range as it is settled.
 use Prim.Native.Nat.{ℕ, _+_, _*_, _-_, _≤_, _<_}
+use native.Mathlib.Nat.{add-zero}
 use native.Mathlib.Omega.{arith}
 use mathlib.Core.Path.{_≡_, refl, sym, ap, _∙_}
 use mathlib.Core.List.{List, [], _∷_, _++_}
 use mathlib.Core.Bool.{Bool, true, false, cond}
 use mathlib.Core.Logic.{⊎-elim}
 use borrow.Author.Tests.{ne-eqb, eqb-true, eqb-false, le-leb}
-use lib.ListN.{length, take}
+use lib.ListN.{length, getD, take}
 use lib.Seq.{sets, take-length, length-sets}
 use lib.Dec.{eqb, leb}
-use lib.IntN.{ℤ}
+use lib.IntN.{ℤ, pos}
 use Rattle.lists.proofs.Tests.{test}
+use Rattle.tables.specs.Records.{bodyIn}
 use Rattle.tables.specs.declared.Used.{Used}
+use Rattle.tables.specs.declared.Body as Record
 use Rattle.model.specs.Model.{Body}
 use Rattle.read_state.specs.declared.Form.{Form}
 use Rattle.read_state.specs.declared.Open.{Open}
 use Rattle.read_bodies.specs.Numbers.{numbersAt}
-use Rattle.read_bodies.specs.Closing.{parmOf, bodyFor, closingRefusal, Passed, bodyCheckIs, storedIs, bodyRecordOf, Stored, NotStored}
+use Rattle.tables.specs.Rows.{bodyNumbers, rangeNumbers}
+use Rattle.read_bodies.specs.Closing.{parmOf, bodyFor, closingRefusal, Passed, bodyCheckIs, storedIs, storedBody, Stored, NotStored}
 use Rattle.read_bodies.specs.declared.closing.BodyCheck.{BodyCheck}
 use Rattle.read_bodies.specs.declared.closing.BodyCheck.the-variants as judged
 use Rattle.read_bodies.proofs.Closings.{parm-none, parm-some, settled-rest}
@@ -47,6 +51,16 @@ pub row4 : {a b c d a₂ b₂ c₂ d₂ : ℤ} → a ≡ a₂ → b ≡ b₂ →
 row4 p q r s = cc
 
 -- ---- `close_body`
+-- the range of the open body, as it stands
+pub range-of : (bodies : List ℕ) (ranges : List ℤ) (i : ℕ) {b : Record.Body} → b ≡ bodyIn bodies ranges i
+    → (b .«start_u» ≡ getD ranges (4 * i) (pos 0)) × (b .«end_u» ≡ getD ranges (4 * i + 1) (pos 0)) × (b .«start_v» ≡ getD ranges (4 * i + 2) (pos 0)) × (b .«end_v» ≡ getD ranges (4 * i + 3) (pos 0))
+range-of bodies ranges i e = (
+  ap (λ (b : Record.Body). b .«start_u») e ∙ ap (λ (n : ℕ). getD ranges n (pos 0)) (add-zero (4 * i)),
+  ap (λ (b : Record.Body). b .«end_u») e,
+  ap (λ (b : Record.Body). b .«start_v») e,
+  ap (λ (b : Record.Body). b .«end_v») e,
+)
+
 pub judged-to :
     (f : Form) (kind : ℕ) (us vs : List ℤ) {a b c d a₂ b₂ c₂ d₂ : ℤ} (k : ℕ) (r : BodyCheck) → a₂ ≡ a → b₂ ≡ b → c₂ ≡ c → d₂ ≡ d →
     bodyCheckIs (bodyFor f kind us vs a₂ b₂ c₂ d₂) k r → bodyCheckIs (bodyFor f kind us vs a b c d) k r
@@ -98,8 +112,8 @@ module _ (f : Form) (o : Open) (used : Used) (b : Body) (l : List ℕ) (r p : Li
         }
 
     pub kept :
-        used .parameters + u + v ≤ length x → {m : List ℕ} {q : List ℤ} {s₂ e₂ c d : ℤ} → m ≡ sets l (9 * (used .bodies - 1)) (bodyRecordOf f o used u v) →
-        q ≡ sets r (4 * (used .bodies - 1)) (s₂ ∷ e₂ ∷ c ∷ d ∷ []) → s₂ ≡ s → e₂ ≡ e → c ≡ b .start-v → d ≡ b .end-v →
+        used .parameters + u + v ≤ length x → {m : List ℕ} {q : List ℤ} {s₂ e₂ c d : ℤ} → m ≡ sets l (9 * (used .bodies - 1)) (bodyNumbers (storedBody f o used u v s₂ e₂ c d)) →
+        q ≡ sets r (4 * (used .bodies - 1)) (rangeNumbers (storedBody f o used u v s₂ e₂ c d)) → s₂ ≡ s → e₂ ≡ e → c ≡ b .start-v → d ≡ b .end-v →
         Stored f o used b l m r q p x u v
     kept h {m} {q} a₁ a₂ i₁ i₂ i₃ i₄ =
         let z = same-length in

@@ -1,6 +1,5 @@
 -- The loop that stores a line's parts keeps those done, and what is left of the line.
 use Prim.Native.Nat.{ℕ, zero, suc, _+_, _*_, _%_, _≤_, _<_}
-use native.Mathlib.Nat.{add-zero}
 use native.Mathlib.Omega.{arith}
 use mathlib.Core.Path.{_≡_, refl, sym, ap, ap₂, _∙_}
 use mathlib.Core.List.{List, [], _∷_, _++_, append-nil, append-assoc}
@@ -11,7 +10,7 @@ use borrow.Author.Tests.{leb-true, leb-false, ltb-true, lt-ltb, eq-eqb}
 use Rattle.lists.proofs.Tests.{and-left, and-both, never}
 use Rattle.statements.specs.declared.Carried.the-variants.{Trim}
 use Rattle.statements.specs.Rules.{rulesOf, countedBy}
-use lib.ListN.{length, set, length-append}
+use lib.ListN.{length, length-append}
 use lib.Seq.{sets, length-sets}
 use lib.Dec.{leb, ltb, eqb, eqb·suc-zero}
 use lib.IntN.{ℤ}

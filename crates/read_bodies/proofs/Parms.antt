@@ -20,7 +20,8 @@ use Rattle.keywords.specs.Lookup.{argumentAt}
 use Rattle.statements.specs.declared.Carried.the-variants.{Parameters}
 use Rattle.statements.specs.Rules.{rulesOf, countedBy}
 use Rattle.model.specs.Model.{ParmDirection, along-u, along-v}
-use Rattle.model.specs.Parse.{directionOf, isV}
+use Rattle.model.specs.Parse.{directionOf}
+use Rattle.model.specs.Standing.{isV}
 use Rattle.read_state.specs.Numbers.{Walk, ended, full, stuck, ontoWalk, onNumber, numbersFrom}
 use Rattle.read_state.specs.State.{ParmAt}
 use Rattle.read_bodies.specs.Numbers.{numberBefore, leading, numbersAt, AllNumbers, NotAll}

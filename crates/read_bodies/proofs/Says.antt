@@ -18,8 +18,9 @@ use Rattle.references.specs.Reference.{referenceOf}
 use Rattle.keywords.specs.Arguments.{argumentOf}
 use Rattle.model.specs.Model.{ParmDirection, Part, Open, State, curves}
 use Rattle.model.specs.Statements.{Statement, parameters, loop}
-use Rattle.model.specs.Parse.{Parsed, fine, fault, then, must, Keyword, parm, trim, hole, isSurface, isV, directionOf, saysV, allowed, counted, WordForm, a-number, a-curve, formOf, Value, number, whole, direction, onSaid, directionSaid, Seen, placed, valuesOf, numbersOf, wholesOf, partsOf, checked, seenIn, parse}
-use Rattle.model.specs.Standing.{insideBody}
+use Rattle.model.specs.Parse.{Parsed, fine, fault, then, must, parm, trim, hole, isSurface, directionOf, saysV, allowed, counted, WordForm, a-number, a-curve, formOf, Value, number, whole, direction, onSaid, directionSaid, Seen, placed, valuesOf, numbersOf, wholesOf, partsOf, checked, seenIn, parse}
+use Rattle.model.specs.Standing.{insideBody, isV}
+use Rattle.model.proofs.Values.{v-is}
 use Rattle.read_bodies.specs.Numbers.{numberBefore, leading}
 use Rattle.read_bodies.specs.Parm.{ParmLine}
 use Rattle.read_bodies.specs.Loops.{loopWord, onPart, loopParts, LoopLine}
@@ -90,7 +91,7 @@ module _ (x : State) (o : Open) (is : x .open-body ≡ some o) (key : ℕ) (r : 
     may : allowed parm (x .open-body) (l .first ∷ l .others) ≡ true
     may =
         ap (λ (b : Option Open). insideBody b (λ k. isSurface k || not (saysV (l .first ∷ l .others)))) is
-        ∙ ap (λ (e : Option ParmDirection). isSurface (o .body .free) || not (isV e)) (l .direction) ∙ l .belongs
+        ∙ ap (λ (v : Bool). isSurface (o .body .free) || not v) (v-is (argumentOf (l .first .bytes)) ∙ ap isV (l .direction)) ∙ l .belongs
 
     enough : counted parm (length (l .first ∷ l .others)) ≡ true
     enough = let a = l .all in let b = l .two in le-leb 3 (suc (length (l .others))) (omega arith)
@@ -140,7 +141,7 @@ module _ (x : State) (o : Open) (is : x .open-body ≡ some o) (key : ℕ) (r : 
                 words = e;
                 direction = s;
                 belongs =
-                    sym (ap (λ (b : Option Open). insideBody b (λ k. isSurface k || not (saysV (w ∷ ws)))) is ∙ ap (λ (e : Option ParmDirection). isSurface (o .body .free) || not (isV e)) s) ∙ p .first;
+                    sym (ap (λ (b : Option Open). insideBody b (λ k. isSurface k || not (saysV (w ∷ ws)))) is ∙ ap (λ (v : Bool). isSurface (o .body .free) || not v) (v-is (argumentOf (w .bytes)) ∙ ap isV s)) ∙ p .first;
                 numbers = refl;
                 all = a;
                 two = omega arith;

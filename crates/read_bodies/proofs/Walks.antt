@@ -14,7 +14,7 @@ use Rattle.decimals.specs.Number.{numberOf}
 use Rattle.read_state.specs.Numbers.{Walk, ended, full, stuck, ontoWalk, onNumber, numbersFrom}
 use Rattle.read_vertices.specs.Into.{EndedAfter, FullAfter, numbersIs}
 use Rattle.read_vertices.specs.declared.Numbers.{Numbers}
-use Rattle.read_vertices.specs.declared.Numbers.the-variants.{Ended, Full, Stopped}
+use Rattle.read_vertices.specs.declared.Numbers.the-variants.{Ended, Full}
 use Rattle.read_bodies.specs.Numbers.{numberBefore, leading, numbersAt, AllNumbers}
 use Rattle.read_bodies.proofs.Steps.{Counting, counting-small}
 use Rattle.read_bodies.proofs.Parms.{walk-ended}

@@ -1,7 +1,7 @@
 -- 01, "Bodies": what `end` holds a body against, from the numbers that the code has of it.
 use Prim.Native.Nat.{ℕ, _+_, _*_, _-_, _≤_, _<_}
 use mathlib.Core.Path.{_≡_}
-use mathlib.Core.List.{List, [], _∷_, _++_}
+use mathlib.Core.List.{List, [], _++_}
 use mathlib.Core.Bool.{Bool, true, false, cond, _&&_, not}
 use lib.ListN.{length, getD}
 use lib.Dec.{eqb}
@@ -11,11 +11,13 @@ use Rattle.tables.specs.Bodies.{curveCount, surfaceCount, basisOf}
 use Rattle.parameter_order.specs.declared.Order.{Order}
 use Rattle.parameter_order.specs.Stepping.{holdsIn}
 use Rattle.tables.specs.Records.{curve2Kind, surfaceKind}
+use Rattle.tables.specs.Rows.{bodyNumbers, rangeNumbers}
 use Rattle.tables.specs.declared.Used.{Used}
+use Rattle.tables.specs.declared.Body as Record
 use Rattle.model.specs.Model.{Body}
 use Rattle.model.specs.Statements.{settled}
 use Rattle.model.specs.Parse.{complete, countsAgree, rangeWithin}
-use Rattle.model.specs.Layout.{firstPart, rangeRow}
+use Rattle.model.specs.Layout.{firstPart}
 use Rattle.read_state.specs.declared.Form.{Form}
 use Rattle.read_state.specs.declared.Open.{Open}
 use Rattle.statements.specs.Numbered.{freeOf}
@@ -95,10 +97,27 @@ bodyCheckIs b k (judged.Refused n) = (closingRefusal b k ≡ n) × (0 < n)
 bodyCheckIs b k (judged.Valid u v s e) = Passed b k u v s e
 
 -- ---- the tables of bodies l, of ranges r and of parameters p at the body's end; m, q, o after it
-abbrev pub bodyRecordOf : Form → Open → Used → ℕ → ℕ → List ℕ
-bodyRecordOf f o used u v =
-    f .basis ∷ f .rational ∷ f .«degree_u» ∷ f .«degree_v» ∷ used .parameters ∷ u ∷ v
-    ∷ firstPart (used .loops - o .parts) (o .parts) ∷ o .parts ∷ []
+abbrev pub storedBody : Form → Open → Used → ℕ → ℕ → ℤ → ℤ → ℤ → ℤ → Record.Body
+storedBody f o used u v start-u end-u start-v end-v =
+    record {
+      basis = f .basis;
+      rational = f .rational;
+      «degree_u» = f .«degree_u»;
+      «degree_v» = f .«degree_v»;
+      «first_parameter» = used .parameters;
+      «count_u» = u;
+      «count_v» = v;
+      «first_loop» = firstPart (used .loops - o .parts) (o .parts);
+      loops = o .parts;
+      «start_u» = start-u;
+      «end_u» = end-u;
+      «start_v» = start-v;
+      «end_v» = end-v;
+    }
+
+-- with the range of the body b
+abbrev pub storedBodyOf : Form → Open → Used → ℕ → ℕ → Body → Record.Body
+storedBodyOf f o used u v b = storedBody f o used u v (b .start-u) (b .end-u) (b .start-v) (b .end-v)
 
 -- what the range's record holds for it so far
 abbrev pub openBodyIn : Form → Open → Used → List ℕ → List ℕ → List ℤ → Body
@@ -112,8 +131,8 @@ pub record Stored (f : Form) (o : Open) (used : Used) (b : Body) (l m : List ℕ
   pub count-v : v ≡ length (b .vs)
   pub room : used .parameters + (length (b .us) + length (b .vs)) ≤ length p
   pub parameters : x ≡ sets p (used .parameters) (b .us ++ b .vs)
-  pub body : m ≡ sets l (9 * (used .bodies - 1)) (bodyRecordOf f o used u v)
-  pub range : q ≡ sets r (4 * (used .bodies - 1)) (rangeRow (settled (b .free) b))
+  pub body : m ≡ sets l (9 * (used .bodies - 1)) (bodyNumbers (storedBodyOf f o used u v (settled (b .free) b)))
+  pub range : q ≡ sets r (4 * (used .bodies - 1)) (rangeNumbers (storedBodyOf f o used u v (settled (b .free) b)))
 
 -- 14 where nothing else is wrong and the parameters pass the lent entries
 pub record NotStored (o : Open) (used : Used) (b : Body) (l m : List ℕ) (r q p x : List ℤ) (n : ℕ) : Type 0 where

@@ -12,7 +12,8 @@ use Rattle.keywords.specs.declared.Argument.{Argument}
 use Rattle.keywords.specs.declared.Argument.the-variants.{Rational, BasisMatrix, Bezier, Bspline, Cardinal, Taylor, DirectionU, DirectionV, Off, Other}
 use Rattle.keywords.specs.Arguments.{argumentOf}
 use Rattle.model.specs.Model.{ParmDirection, along-u, along-v}
-use Rattle.model.specs.Parse.{directionOf, isV}
+use Rattle.model.specs.Parse.{directionOf}
+use Rattle.model.specs.Standing.{isV}
 use Rattle.read_state.specs.State.{ParmAt}
 use Rattle.read_bodies.specs.Numbers.{leading, numbersAt, AllNumbers}
 use Rattle.read_bodies.specs.declared.parm.Parm.{Parm}

@@ -14,23 +14,24 @@ use parameter_order::step;
 use read_state::Form;
 use read_state::Open;
 use table_store::put_i32;
-use table_store::put4_i32;
-use table_store::put9_u32;
+use table_store::put_u32;
+use tables::Body;
 use tables::Used;
 use tables::kinds;
+use tables::widths;
 ghost use mathlib.Core.Path.{_≡_};
-ghost use mathlib.Core.List.{[], _∷_, _++_};
+ghost use mathlib.Core.List.{_++_};
 ghost use mathlib.Core.Bool.{true, cond};
 ghost use Prim.Native.Nat.{_+_, _*_, _-_, _≤_, _<_};
-ghost use lib.ListN.{length, take, getD};
+ghost use lib.ListN.{length, take};
 ghost use lib.Dec.{eqb};
-ghost use lib.IntN.{pos};
 ghost use lib.Seq.{sets};
 ghost use Rattle.parameter_order.specs.Stepping.{walked};
 ghost use Rattle.tables.specs.Records.{curve2Kind};
+ghost use Rattle.tables.specs.Rows.{bodyNumbers, rangeNumbers};
 ghost use Rattle.model.specs.Layout.{firstPart};
 ghost use Rattle.read_bodies.specs.Numbers.{numbersAt};
-ghost use Rattle.read_bodies.specs.Closing.{parmOf, completeOf, agreeOf, bodyFor, openBodyIn, settledIs, bodyCheckIs, storedIs, bodyRecordOf, closedIs};
+ghost use Rattle.read_bodies.specs.Closing.{parmOf, completeOf, agreeOf, bodyFor, openBodyIn, settledIs, bodyCheckIs, storedIs, storedBody, closedIs};
 
 pub enum BodyCheck {
     Refused(u32),
@@ -111,7 +112,7 @@ fn store(
             }
             Step::Number { value, end } => {
                 order = step(asked, done as usize, order, value);
-                put_i32(parameters, first + done as usize, value);
+                put_i32(parameters, first + done as usize, &[value]);
                 done += 1;
                 i = end;
             }
@@ -219,34 +220,54 @@ fn first_part(used: u32, parts: u32) -> u32
     used - parts
 }
 
-fn store_record(form: Form, body: Open, used: Used, u: u32, v: u32, bodies: &mut [u32])
-    requires { ⌜ (1 ≤ used .bodies) × (9 * used .bodies ≤ length (now bodies)) × (body .parts ≤ used .loops) ⌝ }
-    ensures { λ r. ⌜ now (bodies .exit) ≡ sets (now (bodies .entry)) (9 * (used .bodies - 1)) (bodyRecordOf form body used u v) ⌝ }
+// The record of a body at its end: a curv2's range was not known before.
+fn stored_body(
+    form: Form,
+    body: Open,
+    used: Used,
+    u: u32,
+    v: u32,
+    start_u: i32,
+    end_u: i32,
+    start_v: i32,
+    end_v: i32,
+) -> Body
+    requires { ⌜ body .parts ≤ used .loops ⌝ }
+    ensures { λ r. ⌜ r ≡ storedBody form body used u v «start_u» «end_u» «start_v» «end_v» ⌝ }
 {
-    put9_u32(
-        bodies,
-        9 * (used.bodies as usize - 1),
-        form.basis,
-        form.rational,
-        form.degree_u,
-        form.degree_v,
-        used.parameters,
-        u,
-        v,
-        first_part(used.loops, body.parts),
-        body.parts,
-    );
+    Body {
+        basis: form.basis,
+        rational: form.rational,
+        degree_u: form.degree_u,
+        degree_v: form.degree_v,
+        first_parameter: used.parameters,
+        count_u: u,
+        count_v: v,
+        first_loop: first_part(used.loops, body.parts),
+        loops: body.parts,
+        start_u: start_u,
+        end_u: end_u,
+        start_v: start_v,
+        end_v: end_v,
+    }
 }
 
-// The range's record anew: a curv2's was not known before.
-fn store_range(bodies: u32, start: i32, end: i32, ranges: &mut [i32])
-    requires { ⌜ (1 ≤ bodies) × (4 * bodies ≤ length (now ranges)) ⌝ }
-    ensures { λ r. ⌜ now (ranges .exit) ≡ sets (now (ranges .entry)) (4 * (bodies - 1)) (start ∷ end ∷ getD (now (ranges .entry)) (4 * (bodies - 1) + 2) (pos 0) ∷ getD (now (ranges .entry)) (4 * (bodies - 1) + 3) (pos 0) ∷ []) ⌝ }
+// The record of the last of so many bodies.
+fn store_record(used: u32, body: Body, bodies: &mut [u32])
+    requires { ⌜ (1 ≤ used) × (9 * used ≤ length (now bodies)) ⌝ }
+    ensures { λ r. ⌜ now (bodies .exit) ≡ sets (now (bodies .entry)) (9 * (used - 1)) (bodyNumbers body) ⌝ }
 {
-    let at = 4 * (bodies as usize - 1);
-    let start_v = ranges[at + 2];
-    let end_v = ranges[at + 3];
-    put4_i32(ranges, at, start, end, start_v, end_v);
+    let row = tables::body_row(body);
+    put_u32(bodies, widths::BODY * (used as usize - 1), &row);
+}
+
+// Its range.
+fn store_range(used: u32, body: Body, ranges: &mut [i32])
+    requires { ⌜ (1 ≤ used) × (4 * used ≤ length (now ranges)) ⌝ }
+    ensures { λ r. ⌜ now (ranges .exit) ≡ sets (now (ranges .entry)) (4 * (used - 1)) (rangeNumbers body) ⌝ }
+{
+    let row = tables::range_row(body);
+    put_i32(ranges, widths::RANGE * (used as usize - 1), &row);
 }
 
 // The `end` of an open body: the form is the one in force at its element's line, the degrees those that the body has. The texts hold the last parm line of
@@ -266,16 +287,16 @@ pub fn close_body(
     requires { ⌜ (1 ≤ used .bodies) × (9 * used .bodies ≤ length (now bodies)) × (4 * used .bodies ≤ length (now ranges)) × (body .parts ≤ used .loops) ⌝ }
     ensures { λ r. ⌜ closedIs form body used (openBodyIn form body used (now («u_text» .entry)) (now («v_text» .entry)) (now (ranges .entry))) (now (bodies .entry)) (now (bodies .exit)) (now (ranges .entry)) (now (ranges .exit)) (now (parameters .entry)) (now (parameters .exit)) r ⌝ }
 {
-    let at = 4 * (used.bodies as usize - 1);
+    let opened = tables::lent_body(bodies, ranges, used.bodies - 1);
     match judge(
         u_text,
         v_text,
         form,
         body,
-        ranges[at],
-        ranges[at + 1],
-        ranges[at + 2],
-        ranges[at + 3],
+        opened.start_u,
+        opened.end_u,
+        opened.start_v,
+        opened.end_v,
         parameters,
         used.parameters,
     ) {
@@ -284,8 +305,19 @@ pub fn close_body(
             if parameters.len() < used.parameters as usize + u as usize + v as usize {
                 return Closed::Refused(14);
             }
-            store_record(form, body, used, u, v, bodies);
-            store_range(used.bodies, start, end, ranges);
+            let closed = stored_body(
+                form,
+                body,
+                used,
+                u,
+                v,
+                start,
+                end,
+                opened.start_v,
+                opened.end_v,
+            );
+            store_record(used.bodies, closed, bodies);
+            store_range(used.bodies, closed, ranges);
             Closed::Closed { u: u, v: v }
         }
     }

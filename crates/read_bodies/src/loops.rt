@@ -5,13 +5,15 @@ use references::reference::Reference;
 use references::reference::reference_at;
 use statements::rows::loop_rules;
 use statements::rules::counted;
-use table_store::put2_i32;
-use table_store::put2_u32;
+use table_store::put_i32;
+use table_store::put_u32;
 use tables::parts;
+use tables::parts::LoopPart;
+use tables::widths;
 use text::AfterBlanks;
 use text::skip_blanks;
 ghost use mathlib.Core.Path.{_≡_};
-ghost use Prim.Native.Nat.{_+_, _*_, _≤_, _<_};
+ghost use Prim.Native.Nat.{_*_, _≤_};
 ghost use lib.ListN.{length};
 ghost use Rattle.statements.specs.declared.Carried.the-variants.{Trim};
 ghost use Rattle.statements.specs.Rules.{rulesOf, countedBy};
@@ -120,7 +122,7 @@ pub fn take_loop(
     ensures { λ r. ⌜ loopIs (now (text .entry)) at hole curves used (now (loops .entry)) (now (loops .exit)) (now (spans .entry)) (now (spans .exit)) r ⌝ }
 {
     let mut i = at;
-    let mut place: usize = 2 * (used as usize);
+    let mut place: usize = widths::LOOP * (used as usize);
     let mut count: u32 = 0;
     loop {
         match next_part(text, i, curves) {
@@ -142,13 +144,21 @@ pub fn take_loop(
                 curve,
                 end,
             } => {
-                if !put2_u32(loops, place, begins_with(hole, count), curve) {
+                let part = LoopPart {
+                    begins: begins_with(hole, count),
+                    curve: curve,
+                    from: from,
+                    to: to,
+                };
+                let row = parts::loop_row(part);
+                if !put_u32(loops, place, &row) {
                     return Loop::Rejected;
                 }
-                if !put2_i32(spans, place, from, to) {
+                let span = parts::span_row(part);
+                if !put_i32(spans, place, &span) {
                     return Loop::Rejected;
                 }
-                place += 2;
+                place += widths::LOOP;
                 count += 1;
                 i = end;
             }

@@ -5,7 +5,6 @@ use text::AfterBlanks;
 use text::skip_blanks;
 use word_numbers::Number;
 use word_numbers::number_at;
-ghost use mathlib.Core.Path.{_≡_};
 ghost use Prim.Native.Nat.{_≤_};
 ghost use lib.ListN.{length};
 ghost use Rattle.read_bodies.specs.Numbers.{numberStepIs, countedIs};

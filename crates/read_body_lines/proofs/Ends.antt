@@ -1,10 +1,10 @@
 -- An `end` line: what `close_body` kept is the image of the state after it, and what it refused is refused by 01's order, 14 last.
-use Prim.Native.Nat.{ℕ, zero, suc, _+_, _*_, _-_, _≤_, _<_}
+use Prim.Native.Nat.{ℕ, _+_, _*_, _-_, _≤_, _<_}
 use mathlib.Core.Path.{_≡_, refl, sym, ap, ap₂, _∙_, subst}
 use mathlib.Core.List.{List, [], _∷_, _++_}
 use mathlib.Core.Bool.{Bool, true, false, cond}
-use mathlib.Core.Option.{Option, none, some}
-use mathlib.Core.Logic.{_⊎_, ⊎-elim}
+use mathlib.Core.Option.{none, some}
+use mathlib.Core.Logic.{⊎-elim}
 use native.Mathlib.Omega.{arith}
 use lib.ListN.{length, getD, length-append}
 use lib.Seq.{sets, getD-append-add}
@@ -22,8 +22,8 @@ use Rattle.tables.proofs.Flat.{getD-table}
 use Rattle.keywords.specs.Keywords.{statementOf}
 use Rattle.model.specs.Model as model
 use Rattle.model.specs.Model.{Body, Model, Open}
-use Rattle.model.specs.Statements.{Statement, end, apply, settled, closed}
-use Rattle.model.specs.Parse.{Parsed, fine, fault, ends, parse}
+use Rattle.model.specs.Statements.{end, apply, settled, closed}
+use Rattle.model.specs.Parse.{fine, fault, ends, parse}
 use Rattle.model.proofs.Pieces.{finished}
 use Rattle.model.specs.Room.{Rooms, summed, ofKind, partCount, fits}
 use Rattle.model.specs.Layout.{flag, freeNumber, bodyRow, bodyRows, bodiesOf, rangeRow, parameterRow}
@@ -40,8 +40,8 @@ use Rattle.model.proofs.Rooms.{fits-parts, parts-fit}
 use Rattle.read_bodies.specs.Closing.{openBodyIn, closingRefusal, Stored, NotStored}
 use Rattle.read_bodies.proofs.Ends.{Stands, finished-is, refusal-is, kept-says, kept-counts, kept-room, kept-parameters, kept-body, kept-range, left-room}
 use Rattle.read_body_lines.specs.OpenBody.{formFor, curvesWith, closedWith}
-use Rattle.read_body_lines.proofs.Settled.{range-anew, FormIs, form-is, row-settled, parameters-settled, curves-after}
-use Rattle.read_vertex_lines.specs.Holding.{Opened, Holds, NextLine, lineSays}
+use Rattle.read_body_lines.proofs.Settled.{range-anew, form-is, row-settled, parameters-settled, curves-after}
+use Rattle.read_vertex_lines.specs.Holding.{Holds, NextLine, lineSays}
 use Rattle.read_vertex_lines.proofs.Steps.{line-fine, line-fault, line-roomless, line-bounded, next-is}
 use Rattle.read_body_lines.proofs.Loops.{used-loops}
 

@@ -1,18 +1,18 @@
 -- A trim or hole line: its parts follow those before them, and what has no room for them is 14.
-use Prim.Native.Nat.{ℕ, _+_, _*_, _-_, _≤_, _<_}
+use Prim.Native.Nat.{ℕ, _+_, _*_, _-_, _≤_}
 use mathlib.Core.Path.{_≡_, refl, sym, ap, ap₂, _∙_, subst}
 use mathlib.Core.List.{List, [], _∷_, _++_}
 use mathlib.Core.Bool.{Bool, true, false}
-use mathlib.Core.Option.{Option, none, some}
-use mathlib.Core.Logic.{_⊎_, ⊎-elim}
+use mathlib.Core.Option.{none, some}
+use mathlib.Core.Logic.{⊎-elim}
 use native.Mathlib.Omega.{arith}
-use lib.ListN.{length, length-append}
+use lib.ListN.{length}
 use lib.Seq.{sets}
 use lib.IntN.{ℤ, pos}
 use Rattle.lists.specs.Lists.{flat, filled}
 use Rattle.lists.proofs.Tests.{test}
 use Rattle.text.specs.Words.{Word}
-use Rattle.text.specs.Rest.{Rest, restAt, push}
+use Rattle.text.specs.Rest.{restAt, push}
 use Rattle.tables.specs.Tables.{Tables}
 use Rattle.tables.specs.declared.Used.{Used}
 use Rattle.tables.proofs.Filled.{length-filled}
@@ -21,7 +21,7 @@ use Rattle.model.specs.Model as model
 use Rattle.model.specs.Model.{Part, Loop, Model, Open}
 use Rattle.model.specs.Statements.{Statement, loop, withLoop, apply}
 use Rattle.model.specs.Parse.{fine, fault, isSurface, parse}
-use Rattle.model.specs.Room.{Rooms, summed, ofKind, partCount, loopPartCount, needed, fits}
+use Rattle.model.specs.Room.{Rooms, summed, partCount, loopPartCount, fits}
 use Rattle.model.specs.Layout.{loopRow, loopRows, spanRow, spanRows, bodiesOf}
 use Rattle.model.specs.Read.{carriedIn}
 use Rattle.read_state.specs.declared.State.{State}
@@ -31,13 +31,13 @@ use Rattle.model.proofs.Rows.{summed-append, loopRows-length, spanRows-length, 
 use Rattle.read_state.specs.Bounds.{Bounded}
 use Rattle.read_state.specs.Changed.{state, loopsStored}
 use Rattle.read_state.proofs.Images.{loop-image}
-use Rattle.model.proofs.Rooms.{Within, fits-parts, parts-fit}
+use Rattle.model.proofs.Rooms.{fits-parts, parts-fit}
 use Rattle.model.proofs.Parsed.{fine-is}
 use Rattle.read_bodies.specs.Loops.{loopParts, partsAt, LoopLine, LoopTaken, LoopLeft}
 use Rattle.read_bodies.specs.Loops.{loopWord}
 use Rattle.read_bodies.proofs.Says.{loop-says, loop-only}
 use Rattle.read_body_lines.specs.OpenBody.{looped}
-use Rattle.read_vertex_lines.specs.Holding.{Opened, Holds, NextLine, lineSays}
+use Rattle.read_vertex_lines.specs.Holding.{Holds, NextLine, lineSays}
 use Rattle.read_vertex_lines.proofs.Steps.{line-fine, line-roomless, line-bounded, next-is}
 
 module _ (R : Rooms) (s : List ℕ) (p at : ℕ) {read : ℕ} (m : Model) (n : model.Names) (f : model.Form) (o : Open) (c : State) (t : Tables) (h : Holds R s (state m n f (some o)) c t read) where

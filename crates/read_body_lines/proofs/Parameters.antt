@@ -1,12 +1,12 @@
 -- A parm line: the body that has no end yet keeps where its numbers stand, and no table changes.
 use Prim.Native.Nat.{ℕ, _+_, _-_}
-use mathlib.Core.Path.{_≡_, refl, sym, ap, _∙_, subst}
-use mathlib.Core.List.{List, [], _∷_}
+use mathlib.Core.Path.{_≡_, refl, sym, _∙_, subst}
+use mathlib.Core.List.{List}
 use mathlib.Core.Bool.{Bool, true, false}
-use mathlib.Core.Option.{Option, none, some}
+use mathlib.Core.Option.{some}
 use lib.IntN.{ℤ}
 use Rattle.text.specs.Words.{Word}
-use Rattle.text.specs.Rest.{Rest, restAt, push}
+use Rattle.text.specs.Rest.{restAt, push}
 use Rattle.tables.specs.Tables.{Tables}
 use Rattle.keywords.specs.Keywords.{statementOf}
 use Rattle.model.specs.Model as model
@@ -16,8 +16,7 @@ use Rattle.model.specs.Parse.{fine, parm, isSurface}
 use Rattle.model.specs.Room.{Rooms, fits}
 use Rattle.model.specs.Read.{carriedIn}
 use Rattle.read_state.specs.declared.State.{State}
-use Rattle.read_state.specs.State.{StateIs, ParmAt, OpenIs, usedIn}
-use Rattle.read_state.specs.Image.{imageOf}
+use Rattle.read_state.specs.State.{StateIs, ParmAt}
 use Rattle.read_state.specs.Bounds.{Bounded}
 use Rattle.read_state.specs.Changed.{state}
 use Rattle.read_state.proofs.Images.{parameters-image}

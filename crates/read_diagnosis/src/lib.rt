@@ -20,8 +20,10 @@ ghost use mathlib.Core.Path.{_≡_};
 ghost use Prim.Native.Nat.{_≤_};
 ghost use lib.ListN.{length};
 ghost use Rattle.text.specs.Rest.{restAt};
+ghost use Rattle.keywords.specs.declared.Argument.the-variants.{DirectionV};
+ghost use Rattle.keywords.specs.Arguments.{isArgument};
 ghost use Rattle.keywords.specs.Lookup.{keywordTable, argumentTable};
-ghost use Rattle.model.specs.Parse.{isV, directionOf, saysV};
+ghost use Rattle.model.specs.Parse.{saysV};
 ghost use Rattle.read_word_checks.specs.Faults.{seenBy};
 ghost use Rattle.read_diagnosis.specs.Lines.{wordsFault, lineFault, statementFault};
 ghost use Rattle.read_diagnosis.specs.Diagnosis.{DiagnosisIs};
@@ -61,7 +63,7 @@ fn words_fault(
 }
 
 fn is_v(argument: Argument) -> bool
-    ensures { λ r. ⌜ r ≡ isV (directionOf argument) ⌝ }
+    ensures { λ r. ⌜ r ≡ isArgument argument DirectionV ⌝ }
 {
     match argument {
         Argument::Rational => false,

@@ -12,7 +12,7 @@ use Rattle.text.specs.Words.{Word, wordOf}
 use Rattle.text.specs.Rest.{Rest, restAt, wordAt, endOf, WordMet, EndMet, BadMet}
 use Rattle.tables.specs.Tables.{Tables}
 use Rattle.keywords.specs.Keywords.{statementOf, letterOf}
-use Rattle.keywords.specs.Lookup.{keywordAt}
+use Rattle.keywords.specs.Lookup.{ofLetter, keywordAt}
 use Rattle.keywords.specs.declared.Keyword as spelled
 use Rattle.statements.specs.declared.VertexKind.the-variants.{Geometric, Texture, Normal, Parametric}
 use Rattle.statements.specs.declared.Shape.the-variants.{Point, Line, Face}
@@ -109,8 +109,8 @@ module _ (s : List ℕ) (at : ℕ) (c : State) (r : Step) where
 
 -- ---- what a line's key says, by its case
 module _ (s : List ℕ) (at : ℕ) (k : keys.Key) (is : keyIs s at k) where
-  pub key-word : {p : ℕ} {w : spelled.Keyword} → k ≡ found.Word p w → WordMet s at p × (w ≡ keywordAt s p)
-  key-word e = subst (keyIs s at) e is
+  pub key-word : {p l e : ℕ} → k ≡ found.Word p l e → WordMet s at p × (record { statement = ofLetter l; end = e } ≡ keywordAt s p)
+  key-word q = subst (keyIs s at) q is
 
   pub key-end : {q : ℕ} → k ≡ found.End q → EndMet s at q
   key-end e = subst (keyIs s at) e is

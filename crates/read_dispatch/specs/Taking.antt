@@ -9,7 +9,7 @@ use Rattle.statements.specs.declared.Statement.{Statement}
 use Rattle.statements.specs.declared.Statement.the-variants.{Carried, Refused, Unknown}
 use Rattle.statements.specs.declared.Carried as carried
 use Rattle.statements.specs.declared.Carried.the-variants as carrying
-use Rattle.keywords.specs.Lookup.{keywordAt}
+use Rattle.keywords.specs.Lookup.{ofLetter, keywordAt}
 use Rattle.model.specs.Parse.{fault, a-vertex, an-element, a-body, parm, ends}
 use Rattle.model.specs.Model as model
 use Rattle.model.specs.Room.{Rooms}
@@ -65,7 +65,7 @@ familyIs Other s at c t u r = (r ≡ Rejected) × (u ≡ t)
 
 -- ---- what stands first in the line at `at`
 abbrev pub keyIs : List ℕ → ℕ → keys.Key → Type 0
-keyIs s at (key.Word p k) = WordMet s at p × (k ≡ keywordAt s p)
+keyIs s at (key.Word p l e) = WordMet s at p × (record { statement = ofLetter l; end = e } ≡ keywordAt s p)
 keyIs s at (key.End q) = EndMet s at q
 keyIs s at (key.Bad p) = BadMet s at p
 

@@ -1,13 +1,12 @@
 // Statements by the function that takes their line: settings together, trim and hole together, so that each function is called at one place alone and is
 // compiled into it.
 use read_element_lines::setting_lines::Setting;
-use statements::Carried;
 use statements::Free;
 use statements::Shape;
-use statements::Statement;
 use statements::VertexKind;
 ghost use mathlib.Core.Path.{_≡_};
-ghost use Rattle.read_dispatch.specs.Taking.{familyIn, familyOf};
+ghost use Rattle.keywords.specs.Lookup.{ofLetter};
+ghost use Rattle.read_dispatch.specs.Taking.{familyOf};
 
 pub enum Family {
     Vertex(VertexKind),
@@ -20,32 +19,32 @@ pub enum Family {
     Other,
 }
 
-fn family_in(carried: Carried) -> Family
-    ensures { λ r. ⌜ r ≡ familyIn carried ⌝ }
+// By the letter of its keyword's row.
+pub fn family_of(letter: u8) -> Family
+    ensures { λ r. ⌜ r ≡ familyOf (ofLetter letter) ⌝ }
 {
-    match carried {
-        Carried::Vertex(kind) => Family::Vertex(kind),
-        Carried::Element(shape) => Family::Element(shape),
-        Carried::Body(free) => Family::Body(free),
-        Carried::Parameters => Family::Parameters,
-        Carried::Trim => Family::Loop { hole: false },
-        Carried::Hole => Family::Loop { hole: true },
-        Carried::End => Family::End,
-        Carried::BodyType => Family::Set(Setting::BodyType),
-        Carried::Degree => Family::Set(Setting::Degree),
-        Carried::Group => Family::Set(Setting::Group),
-        Carried::Smoothing => Family::Set(Setting::Smoothing),
-        Carried::Material => Family::Set(Setting::Material),
-        Carried::PassedOver => Family::Set(Setting::PassedOver),
-    }
-}
-
-pub fn family_of(statement: Statement) -> Family
-    ensures { λ r. ⌜ r ≡ familyOf statement ⌝ }
-{
-    match statement {
-        Statement::Carried(carried) => family_in(carried),
-        Statement::Refused => Family::Other,
-        Statement::Unknown => Family::Other,
+    match letter {
+        b'A' => Family::Vertex(VertexKind::Geometric),
+        b'B' => Family::Vertex(VertexKind::Texture),
+        b'C' => Family::Vertex(VertexKind::Normal),
+        b'D' => Family::Vertex(VertexKind::Parametric),
+        b'E' => Family::Set(Setting::BodyType),
+        b'F' => Family::Set(Setting::Degree),
+        b'G' => Family::Element(Shape::Point),
+        b'H' => Family::Element(Shape::Line),
+        b'I' => Family::Element(Shape::Face),
+        b'J' => Family::Body(Free::Curve),
+        b'K' => Family::Body(Free::Curve2),
+        b'L' => Family::Body(Free::Surface),
+        b'M' => Family::Parameters,
+        b'N' => Family::Loop { hole: false },
+        b'O' => Family::Loop { hole: true },
+        b'P' => Family::End,
+        b'Q' => Family::Set(Setting::Group),
+        b'R' => Family::Set(Setting::Smoothing),
+        b'S' => Family::Set(Setting::Material),
+        b'-' => Family::Set(Setting::PassedOver),
+        b'!' => Family::Other,
+        _ => Family::Other,
     }
 }

@@ -74,13 +74,12 @@ pub fn line_with(
             number: 2,
             place: p,
         },
-        Key::Word { place, keyword } => {
-            let statement = keyword.statement;
-            let family = family_of(statement);
+        Key::Word { place, letter, end } => {
+            let family = family_of(letter);
             match take_line(
                 family,
                 text,
-                keyword.end,
+                end,
                 state,
                 v,
                 vt,

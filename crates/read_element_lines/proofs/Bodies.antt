@@ -37,7 +37,8 @@ use Rattle.read_state.proofs.Images.{body-image}
 use Rattle.read_state.specs.Bounds.{Bounded}
 use Rattle.read_state.proofs.Lines.{line-of, line-small}
 use Rattle.model.proofs.Rooms.{fits-parts, parts-fit}
-use Rattle.read_elements.specs.Elements.{elementNumbers}
+use Rattle.tables.specs.Rows.{elementNumbers}
+use Rattle.read_elements.specs.Elements.{storedElement}
 use Rattle.read_elements.specs.Bodies.{formInForce, controlsSaid, TakenBody, NoBody}
 use Rattle.read_elements.proofs.BodyLines.{full-count, of-body}
 use Rattle.read_elements.proofs.ParseBody.{taken-parse, parse-said}
@@ -158,10 +159,10 @@ module _ (R : Rooms) (s : List ℕ) (p at : ℕ) {read : ℕ} (m : Model) (n : m
         let fit : fits R (apply (body b cs) x) ≡ true = roomy b cs (fresh .3) cr er br rr in
         let place : c .used .bodies ≡ length bs = bu ∙ sym (bodies-length (m .elements)) in
         let kind : freeNumber k ≡ freeNumber (b .free) = ap freeNumber (sym (free-is k f (v .range))) in
-        let row : elementNumbers (freeNumber k) (c .used .corners) count (c .used .bodies + 1) (c .names) ≡ elementRow (3 * cornersIn m) (bodiesBefore m) e =
-        ap₂ (λ (i j : ℕ). elementNumbers i j count (c .used .bodies + 1) (c .names)) kind cu
-        ∙ ap₂ (λ (i j : ℕ). elementNumbers (freeNumber (b .free)) (3 * cornersIn m) i j (c .names)) (v .counted) (let d : c .used .bodies + 1 ≡ suc (bodiesBefore m) = omega arith in d)
-        ∙ ap (λ (a : Names). elementNumbers (freeNumber (b .free)) (3 * cornersIn m) (length cs) (suc (bodiesBefore m)) a) (h .state .names) in
+        let row : elementNumbers (storedElement (freeNumber k) (c .used .corners) count (c .used .bodies + 1) (c .names)) ≡ elementRow (3 * cornersIn m) (bodiesBefore m) e =
+        ap₂ (λ (i j : ℕ). elementNumbers (storedElement i j count (c .used .bodies + 1) (c .names))) kind cu
+        ∙ ap₂ (λ (i j : ℕ). elementNumbers (storedElement (freeNumber (b .free)) (3 * cornersIn m) i j (c .names))) (v .counted) (let d : c .used .bodies + 1 ≡ suc (bodiesBefore m) = omega arith in d)
+        ∙ ap (λ (a : Names). elementNumbers (storedElement (freeNumber (b .free)) (3 * cornersIn m) (length cs) (suc (bodiesBefore m)) a)) (h .state .names) in
         let l′ : l ≡ sets (imageOf R x .elements .corners) (3 * cornersIn m) (flat cornerRow cs) =
         v .corners-stored ∙ ap₂ (λ (a : List ℕ) (i : ℕ). sets a i (flat cornerRow cs)) (ap (λ (a : Tables). a .elements .corners) (h .image)) cu in
         let g′ : g ≡ sets (imageOf R x .elements .elements) (9 * length (m .elements)) (elementRow (3 * cornersIn m) (bodiesBefore m) e) =

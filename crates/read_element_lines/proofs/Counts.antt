@@ -18,7 +18,7 @@ use Rattle.read_elements.specs.Corners.{cornerSaid, cornersWalk}
 use Rattle.read_elements.specs.Elements.{elementSaid}
 use Rattle.read_elements.specs.Bodies.{ruleFor, formInForce, controlsSaid, bodySaid}
 use Rattle.read_elements.specs.declared.Rule.{Rule}
-use Rattle.read_elements.proofs.Taking.{of-enough}
+use Rattle.read_vertices.proofs.Closed.{at-least}
 use Rattle.read_elements.proofs.Controls.{some-wide}
 use Rattle.read_elements.proofs.BodyLines.{of-body}
 use Rattle.read_elements.proofs.Values.{walked}
@@ -32,7 +32,7 @@ use Rattle.read_element_lines.specs.Counting.{oneElement, oneBody}
 pub element-few : (u : Rule) (n : Used) (r : Rest) (cs : List Corner) (q : ℕ) → elementSaid u n r ≡ some (cs, q) → (r .next ≡ q) × (length cs ≤ length (r .words))
 element-few u n r cs q e =
     let h = cornerSaid n (u .form) in
-    let w = walked h 0 (r .words) (r .bad) (r .next) cs q (of-enough (u .fewest) (cornersWalk h 0 r) cs q e .0) in
+    let w = walked h 0 (r .words) (r .bad) (r .next) cs q (at-least (u .fewest) (cornersWalk h 0 r) cs q e .0) in
     let same = w .counted in
     (w .next, omega arith)
 

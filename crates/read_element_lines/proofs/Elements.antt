@@ -33,10 +33,11 @@ use Rattle.read_state.specs.Changed.{state, elementStored}
 use Rattle.read_state.proofs.Images.{element-image}
 use Rattle.read_state.specs.Bounds.{Bounded}
 use Rattle.model.proofs.Rooms.{fits-parts, parts-fit}
-use Rattle.read_elements.specs.Elements.{ruleOf, elementNumbers, TakenElement, NoElement}
+use Rattle.tables.specs.Rows.{elementNumbers}
+use Rattle.read_elements.specs.Elements.{ruleOf, storedElement, TakenElement, NoElement}
 use Rattle.read_elements.specs.Corners.{cornerSaid, cornersWalk}
 use Rattle.read_elements.proofs.Parse.{taken-parse, parse-said}
-use Rattle.read_elements.proofs.Taking.{of-enough}
+use Rattle.read_vertices.proofs.Closed.{at-least}
 use Rattle.read_element_lines.specs.Counting.{oneElement}
 use Rattle.read_vertex_lines.specs.Stepping.{withUsed}
 use Rattle.read_vertex_lines.specs.Holding.{Holds, NextLine, lineSays}
@@ -142,12 +143,12 @@ module _ (R : Rooms) (s : List ℕ) (p at : ℕ) (m : Model) (n : model.Names) (
     element-next l g count q v =
         let cs : List Corner = v .found in
         let pv = taken-parse k x (c .used) (restAt s at) cs q (h .state .used) refl (v .said) in
-        let some-corners : 0 < count = (let a = of-enough (fewest k) (cornersWalk (cornerSaid (c .used) (ruleOf k .form)) 0 (restAt s at)) cs q (v .said) .1 in let b = v .counted in let d = one-or-more k in omega arith) in
+        let some-corners : 0 < count = (let a = at-least (fewest k) (cornersWalk (cornerSaid (c .used) (ruleOf k .form)) 0 (restAt s at)) cs q (v .said) .1 in let b = v .counted in let d = one-or-more k in omega arith) in
         let cr : 3 * cornersIn m + 3 * length cs ≤ R .elements .corners = (let a = v .corners-room some-corners in let b = v .counted in let d = corners-used R s m n f c t h in let i = corners-lent R s m n f c t h in omega arith) in
         let er : 9 * length (m .elements) + 9 ≤ R .elements .elements = (let a = v .elements-room in let d = elements-used R s m n f c t h in let i = elements-lent R s m n f c t h in omega arith) in
         let fit : fits R (apply (element k cs) x) ≡ true = roomy cs cr er in
-        let row : elementNumbers (shapeNumber k) (c .used .corners) count 0 (c .names) ≡ elementRow (3 * cornersIn m) (bodiesBefore m) (record { kind = plain k; corners = cs; names = n }) =
-        ap₂ (λ (i j : ℕ). elementNumbers (shapeNumber k) i j 0 (c .names)) (corners-used R s m n f c t h) (v .counted) ∙ ap (λ (a : Names). elementNumbers (shapeNumber k) (3 * cornersIn m) (length cs) 0 a) (h .state .names) in
+        let row : elementNumbers (storedElement (shapeNumber k) (c .used .corners) count 0 (c .names)) ≡ elementRow (3 * cornersIn m) (bodiesBefore m) (record { kind = plain k; corners = cs; names = n }) =
+        ap₂ (λ (i j : ℕ). elementNumbers (storedElement (shapeNumber k) i j 0 (c .names))) (corners-used R s m n f c t h) (v .counted) ∙ ap (λ (a : Names). elementNumbers (storedElement (shapeNumber k) (3 * cornersIn m) (length cs) 0 a)) (h .state .names) in
         let l′ : l ≡ sets (imageOf R x .elements .corners) (3 * cornersIn m) (flat cornerRow cs) =
         v .corners-stored ∙ ap₂ (λ (a : List ℕ) (i : ℕ). sets a i (flat cornerRow cs)) (ap (λ (a : Tables). a .elements .corners) (h .image)) (corners-used R s m n f c t h) in
         let g′ : g ≡ sets (imageOf R x .elements .elements) (9 * length (m .elements)) (elementRow (3 * cornersIn m) (bodiesBefore m) (record { kind = plain k; corners = cs; names = n })) =

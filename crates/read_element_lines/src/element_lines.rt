@@ -7,6 +7,7 @@ use statements::Shape;
 use statements::rows::element_rules;
 use statements::rules::allowed;
 use tables::Used;
+use tables::widths;
 ghost use mathlib.Core.Path.{_≡_};
 ghost use Prim.Native.Nat.{_≤_};
 ghost use Rattle.read_element_lines.specs.Counting.{oneElement};
@@ -19,7 +20,7 @@ pub fn one_element(count: u32, used: Used) -> Used
     ensures { λ r. ⌜ r ≡ oneElement count used ⌝ }
 {
     let mut after = used;
-    after.corners = used.corners + 3 * count;
+    after.corners = used.corners + widths::CORNER as u32 * count;
     after.elements = used.elements + 1;
     after
 }

@@ -1,19 +1,17 @@
 -- The tests of a body's line on lists: the degrees, and the controls of a curv2 one after the other.
 use Prim.Native.Nat.{ℕ, zero, suc, _+_, _*_, _-_, _<_, _≤_}
-use mathlib.Core.Path.{_≡_, refl, sym, ap, ap₂, subst, _∙_}
-use mathlib.Core.Logic.{_⊎_, inl, inr}
-use mathlib.Core.Bool.{Bool, true, false, cond, _&&_, not}
+use mathlib.Core.Path.{_≡_, refl, sym, ap, ap₂, _∙_}
+use mathlib.Core.Bool.{Bool, true, false, _&&_, not}
 use mathlib.Core.List.{List, [], _∷_, _++_, append-assoc}
-use mathlib.Core.Option.{Option, none, some}
 use lib.ListN.{length, getD, drop}
-use lib.Seq.{sets, sets-eq, length-sets, getD-drop, drop-drop, drop-at, length-take-le}
+use lib.Seq.{sets, sets-eq, getD-drop, drop-drop, drop-at, length-take-le}
 use lib.Dec.{leb, eqb}
-use lib.IntN.{ℤ, pos}
-use borrow.Author.Tests.{leb-true, leb-false, le-leb, lt-leb, ne-eqb, eq-eqb}
+use lib.IntN.{ℤ}
+use borrow.Author.Tests.{le-leb, ne-eqb}
 use native.Mathlib.Nat.{add-zero}
 use native.Mathlib.Omega.{arith}
 use Rattle.lists.specs.Lists.{all, flat}
-use Rattle.lists.proofs.Tests.{and-first, and-both}
+use Rattle.lists.proofs.Tests.{and-first}
 use Rattle.references.specs.Corner.{Corner}
 use Rattle.model.specs.Model as model
 use Rattle.model.specs.Layout.{cornerRow}

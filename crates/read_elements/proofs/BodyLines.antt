@@ -1,11 +1,11 @@
 -- A body's line: the type and degrees in force, room for its records, then the range and the controls.
-use Prim.Native.Nat.{ℕ, zero, suc, _+_, _*_, _-_, _<_, _≤_}
-use mathlib.Core.Path.{_≡_, refl, sym, ap, ap₂, subst, _∙_}
+use Prim.Native.Nat.{ℕ, zero, suc, _+_, _*_, _≤_}
+use mathlib.Core.Path.{_≡_, refl, sym, ap, _∙_}
 use mathlib.Core.Logic.{_⊎_, inl, inr, ⊎-elim}
 use mathlib.Core.Bool.{Bool, true, false, cond, _&&_}
-use mathlib.Core.List.{List, [], _∷_, _++_}
+use mathlib.Core.List.{List, [], _∷_}
 use mathlib.Core.Option.{Option, none, some}
-use lib.ListN.{length, drop}
+use lib.ListN.{length}
 use lib.Seq.{sets, length-sets}
 use lib.Dec.{leb}
 use lib.IntN.{ℤ}
@@ -28,7 +28,7 @@ use Rattle.read_vertices.specs.declared.Numbers.{Numbers}
 use Rattle.read_vertices.specs.declared.Numbers.the-variants.{Ended, Full, Stopped}
 use Rattle.read_vertices.proofs.Closed.{nothing}
 use Rattle.read_elements.specs.Corners.{CornersFound}
-use Rattle.read_elements.specs.Bodies.{formInForce, controlsSaid, BodyLine, onRange, afterRange, bodySaid, TakenControls, NoControls, controlsAre, TakenBody, NoBody, bodyIs}
+use Rattle.read_elements.specs.Bodies.{formInForce, controlsSaid, onRange, afterRange, bodySaid, controlsAre, NoBody, bodyIs}
 use Rattle.read_elements.specs.declared.Element.{Element}
 use Rattle.read_elements.specs.declared.Element.the-variants.{Accepted, Rejected}
 

@@ -1,28 +1,28 @@
 -- A body's controls: those that an element's line has, where each is wide.
-use Prim.Native.Nat.{ℕ, zero, suc, _+_, _*_, _-_, _<_, _≤_}
+use Prim.Native.Nat.{ℕ, _+_, _*_, _≤_}
 use mathlib.Core.Path.{_≡_, refl, sym, ap, ap₂, subst, _∙_}
 use mathlib.Core.Bool.{Bool, true, false, cond}
-use mathlib.Core.List.{List, [], _∷_, _++_}
-use mathlib.Core.Option.{Option, none, some}
+use mathlib.Core.List.{List}
+use mathlib.Core.Option.{none, some}
 use lib.ListN.{length, drop}
 use lib.Seq.{sets, length-sets}
 use lib.IntN.{ℤ}
 use native.Mathlib.Omega.{arith}
 use Rattle.lists.specs.Lists.{flat}
-use Rattle.text.specs.Rest.{Rest, restAt}
+use Rattle.text.specs.Rest.{restAt}
 use Rattle.references.specs.Corner.{Corner}
 use Rattle.model.specs.Model as model
 use Rattle.model.specs.Parse.{fewestControls}
 use Rattle.model.specs.Layout.{cornerRow, freeNumber}
 use Rattle.tables.specs.declared.Used.{Used}
 use Rattle.read_state.specs.declared.Names.{Names}
-use Rattle.read_vertices.proofs.Closed.{nothing}
+use Rattle.read_vertices.proofs.Closed.{nothing, at-least}
 use Rattle.read_elements.specs.Corners.{CornersFound, cornerSaid, cornersWalk}
-use Rattle.read_elements.specs.Elements.{elementSaid, elementNumbers, TakenElement, NoElement, elementIs}
-use Rattle.read_elements.specs.Bodies.{controlsOf, ruleFor, widesFor, wideIn, wideOnly, controlsSaid, TakenControls, NoControls}
+use Rattle.tables.specs.Rows.{elementNumbers}
+use Rattle.read_elements.specs.Elements.{elementSaid, storedElement, TakenElement, NoElement, elementIs}
+use Rattle.read_elements.specs.Bodies.{controlsOf, ruleFor, widesFor, wideIn, wideOnly, TakenControls, NoControls}
 use Rattle.read_elements.specs.declared.Element.{Element}
 use Rattle.read_elements.specs.declared.Element.the-variants.{Accepted, Rejected}
-use Rattle.read_elements.proofs.Taking.{of-enough}
 use Rattle.read_elements.proofs.Bodies.{wides-for}
 
 pub wide-some : (k : model.Free) (vp : List ℤ) (o : CornersFound) (cs : List Corner) (q : ℕ) → o ≡ some (cs, q) → wideIn k vp cs ≡ true → wideOnly k vp o ≡ some (cs, q)
@@ -58,7 +58,7 @@ module _ (k : model.Free) (n : Used) (a : Names) (vp : List ℤ) (s : List ℕ) 
   module _ {c q : ℕ} (w : TakenElement (ruleFor k) (n .bodies + 1) n a s at l m e f c q) where
     room : n .corners + 3 * c ≤ length l
     room =
-        let z = of-enough (fewestControls k) (cornersWalk (cornerSaid n (controlsOf k)) 0 (restAt s at)) (w .found) q (w .said) in
+        let z = at-least (fewestControls k) (cornersWalk (cornerSaid n (controlsOf k)) 0 (restAt s at)) (w .found) q (w .said) in
         let y = few k in
         let x = w .counted in
         let v = z .1 in
@@ -93,7 +93,7 @@ module _ (k : model.Free) (n : Used) (a : Names) (vp : List ℤ) (s : List ℕ) 
     narrow h =
         record {
           same-corners = same;
-          same-elements = ap length (w .elements-stored) ∙ length-sets e (9 * n .elements) (elementNumbers (freeNumber k) (n .corners) c (n .bodies + 1) a);
+          same-elements = ap length (w .elements-stored) ∙ length-sets e (9 * n .elements) (elementNumbers (storedElement (freeNumber k) (n .corners) c (n .bodies + 1) a));
           short = λ cs p j.
               let z = some-wide k vp (elementSaid (ruleFor k) n (restAt s at)) cs p j in
               let y : _≡_ {A = CornersFound} (some (w .found, q)) (some (cs, p)) = sym (w .said) ∙ z .0 in

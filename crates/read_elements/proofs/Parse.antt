@@ -1,26 +1,25 @@
 -- A line says an element exactly where `parse` reads one: the walk's corners are the words' values, and both count them alike.
-use Prim.Native.Nat.{ℕ, zero, suc, _+_, _-_, _<_, _≤_}
-use mathlib.Core.Path.{_≡_, refl, sym, ap, subst, _∙_}
-use mathlib.Core.Bool.{Bool, true, false, _&&_}
-use mathlib.Core.List.{List, [], _∷_, _++_, map}
-use mathlib.Core.Option.{Option, none, some}
+use Prim.Native.Nat.{ℕ}
+use mathlib.Core.Path.{_≡_, refl, sym, ap, _∙_}
+use mathlib.Core.Bool.{true}
+use mathlib.Core.List.{List, map}
+use mathlib.Core.Option.{none, some}
 use lib.ListN.{length}
 use lib.Dec.{leb}
 use borrow.Author.Tests.{leb-true, le-leb}
 use native.Mathlib.Omega.{arith}
-use Rattle.text.specs.Words.{Word}
 use Rattle.text.specs.Rest.{Rest}
 use Rattle.references.specs.Corner.{Corner}
 use Rattle.tables.specs.declared.Used.{Used}
 use Rattle.read_state.specs.State.{usedIn}
 use Rattle.model.specs.Model.{Shape, point, line, face, State}
 use Rattle.model.specs.Statements.{Statement, element}
-use Rattle.model.specs.Parse.{Parsed, fine, fault, then, must, unless, an-element, a-corner, parts, fewest, Value, corner, formOf, valuesOf, cornersOf, unlike, seenIn, parse}
+use Rattle.model.specs.Parse.{Parsed, fine, then, must, unless, an-element, a-corner, parts, fewest, Value, corner, valuesOf, cornersOf, unlike, seenIn, parse}
 use Rattle.model.specs.Standing.{outsideBody}
 use Rattle.model.proofs.Parsed.{fine-is, must-fine, unless-fine, then-fine}
 use Rattle.read_elements.specs.Corners.{cornerSaid, cornersWalk}
 use Rattle.read_elements.specs.Elements.{ruleOf, elementSaid}
-use Rattle.read_elements.proofs.Taking.{enough, of-enough}
+use Rattle.read_vertices.proofs.Closed.{at-least, has-least}
 use Rattle.read_elements.proofs.Values as W
 use Rattle.model.proofs.Values.{corners-of}
 
@@ -42,7 +41,7 @@ unfolding parse
 taken-parse k x n r cs q u out e =
     let h = cornerSaid (usedIn x) (ruleOf k .form) in
     let f : elementSaid (ruleOf k) (usedIn x) r ≡ some (cs, q) = ap (λ (m : Used). elementSaid (ruleOf k) m r) (sym u) ∙ e in
-    let s = of-enough (fewest k) (cornersWalk h 0 r) cs q f in
+    let s = at-least (fewest k) (cornersWalk h 0 r) cs q f in
     let w = W.walked h 0 (r .words) (r .bad) (r .next) cs q (s .0) in
     let many = s .1 in
     let same = w .counted in
@@ -84,5 +83,5 @@ parse-said k x n r key t u good e =
     record {
       corners = cs;
       is = sym (fine-is (d .1)) ∙ ap (element k) these;
-      said = ap (λ (m : Used). elementSaid (ruleOf k) m r) u ∙ enough (fewest k) (cornersWalk h 0 r) cs (r .next) walk (omega arith);
+      said = ap (λ (m : Used). elementSaid (ruleOf k) m r) u ∙ has-least (fewest k) (cornersWalk h 0 r) cs (r .next) walk (omega arith);
     }

@@ -1,8 +1,8 @@
 -- A line says a body's element exactly where `parse` reads one: the range's numbers and then the walk's controls are the words' values.
-use Prim.Native.Nat.{ℕ, zero, suc, _+_, _-_, _<_, _≤_}
-use mathlib.Core.Path.{_≡_, refl, sym, ap, ap₂, subst, _∙_}
-use mathlib.Core.Bool.{Bool, true, false, cond, _&&_}
-use mathlib.Core.List.{List, [], _∷_, _++_, map}
+use Prim.Native.Nat.{ℕ, _+_}
+use mathlib.Core.Path.{_≡_, refl, sym, ap, ap₂, _∙_}
+use mathlib.Core.Bool.{Bool, true, cond}
+use mathlib.Core.List.{List, _++_, map}
 use mathlib.Core.Option.{Option, none, some}
 use lib.ListN.{length, drop, length-drop}
 use lib.Dec.{leb, ltb}
@@ -20,13 +20,13 @@ use Rattle.read_state.specs.State.{usedIn, formIn}
 use Rattle.read_state.specs.Numbers.{numbersWalk}
 use Rattle.model.specs.Model.{Free, curve, curve2, surface, State}
 use Rattle.model.specs.Statements.{Statement, body}
-use Rattle.model.specs.Parse.{Parsed, fine, fault, then, must, unless, a-body, WordForm, a-number, controlForm, rangeWords, fewestControls, Value, number, corner, onSaid, saidOf, valuesOf, cornersOf, numbersOf, unlike, inForce, narrowIn, openedBody, seenIn, parse}
+use Rattle.model.specs.Parse.{Parsed, fine, then, must, unless, a-body, WordForm, a-number, controlForm, rangeWords, fewestControls, Value, number, corner, onSaid, saidOf, valuesOf, cornersOf, numbersOf, unlike, inForce, narrowIn, openedBody, seenIn, parse}
 use Rattle.model.specs.Standing.{outsideBody}
 use Rattle.model.proofs.Pieces.{opened}
 use Rattle.read_elements.specs.Corners.{control, cornerSaid, cornersFrom, cornersWalk}
 use Rattle.read_elements.specs.Elements.{elementSaid}
 use Rattle.read_elements.specs.Bodies.{controlsOf, ruleFor, formInForce, controlsSaid, bodySaid}
-use Rattle.read_elements.proofs.Taking.{enough, of-enough}
+use Rattle.read_vertices.proofs.Closed.{at-least, has-least}
 use Rattle.read_elements.proofs.Controls.{wide-some, some-wide}
 use Rattle.read_elements.proofs.BodyLines.{of-body, to-body}
 use Rattle.model.proofs.Parsed.{fine-is, must-fine, unless-fine, then-fine}
@@ -75,7 +75,7 @@ module _ (k : Free) (x : State) (n : Used) (g : Form) (vp : List ℤ) (u : n ≡
       let f : bodySaid k (usedIn x) (formIn (x .form)) vp r ≡ some (zs, (cs, q)) = ap₂ (λ (a : Used) (b : Form). bodySaid k a b vp r) (sym u) (sym v) ∙ e in
       let o = of-body (formInForce k (formIn (x .form))) (numbersWalk m r) (controlsSaid k (usedIn x) vp) zs cs q f in
       let d = some-wide k vp (elementSaid (ruleFor k) (usedIn x) (o .rest)) cs q (o .controls) in
-      let s = of-enough (fewestControls k) (cornersWalk h 0 (o .rest)) cs q (d .0) in
+      let s = at-least (fewestControls k) (cornersWalk h 0 (o .rest)) cs q (d .0) in
       let range = R.ranged (seenIn x) (formIs k) m 0 (numbers k x) ws (r .bad) (r .next) zs (o .rest) (o .walked) in
       let w = W.walked h 0 after (r .bad) (r .next) cs q (ap (cornersWalk h 0) (sym (range .rest)) ∙ s .0) in
       let many = s .1 in
@@ -134,7 +134,7 @@ module _ (k : Free) (x : State) (n : Used) (g : Form) (vp : List ℤ) (u : n ≡
       let walk : cornersWalk h 0 (R.whole after (r .bad) (r .next)) ≡ some (cs, r .next) = ap (λ (b : Option ℕ). cornersFrom h 0 after b (r .next)) good ∙ alone in
       let same = w .counted in
       let left = length-drop m ws in
-      let there = enough (fewestControls k) (cornersWalk h 0 (R.whole after (r .bad) (r .next))) cs (r .next) walk (omega arith) in
+      let there = has-least (fewestControls k) (cornersWalk h 0 (R.whole after (r .bad) (r .next))) cs (r .next) walk (omega arith) in
       let wider = narrow-wide (x .model .vertices) vp t after cs k (usedIn x) (w .counted) (w .each) (d3 .0) in
       record {
         range = zs;

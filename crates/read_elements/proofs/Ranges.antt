@@ -11,9 +11,8 @@ use Rattle.text.specs.Words.{Word}
 use Rattle.text.specs.Rest.{Rest}
 use Rattle.digits.specs.Said.{Said, says, wrong}
 use Rattle.decimals.specs.Number.{numberOf}
-use Rattle.references.specs.Corner.{Corner}
 use Rattle.read_state.specs.Numbers.{Walk, ended, full, stuck, ontoWalk, onNumber, numbersFrom}
-use Rattle.model.specs.Parse.{Parsed, fine, fault, then, WordForm, a-number, Value, number, corner, onSaid, Seen, saidOf, placed, valuesOf, numbersOf, cornersOf}
+use Rattle.model.specs.Parse.{Parsed, fine, fault, then, WordForm, a-number, Value, number, onSaid, Seen, saidOf, placed, valuesOf}
 use Rattle.read_elements.proofs.Values.{headed}
 
 abbrev pub whole : List Word → Option ℕ → ℕ → Rest

@@ -1,45 +1,28 @@
 -- An element's corners and then its record: by what storing each of them answered.
-use Prim.Native.Nat.{ℕ, zero, suc, _+_, _*_, _-_, _<_, _≤_}
-use mathlib.Core.Path.{_≡_, refl, sym, ap, subst, _∙_}
-use mathlib.Core.Logic.{_⊎_, inl, inr}
+use Prim.Native.Nat.{ℕ, _+_, _*_, _<_, _≤_}
+use mathlib.Core.Path.{_≡_, refl, sym, ap, _∙_}
+use mathlib.Core.Logic.{inl, inr}
 use mathlib.Core.Bool.{Bool, true, false, cond}
-use mathlib.Core.List.{List, [], _∷_, _++_}
-use mathlib.Core.Option.{Option, none, some}
+use mathlib.Core.List.{List}
+use mathlib.Core.Option.{some}
 use lib.ListN.{length}
 use lib.Seq.{sets, length-sets}
 use lib.Dec.{leb}
-use borrow.Author.Tests.{leb-true, leb-false, le-leb}
+use borrow.Author.Tests.{leb-true, leb-false}
 use native.Mathlib.Omega.{arith}
 use Rattle.lists.specs.Lists.{flat}
-use Rattle.lists.proofs.Tests.{test}
-use Rattle.text.specs.Rest.{Rest, restAt}
+use Rattle.text.specs.Rest.{restAt}
 use Rattle.references.specs.Corner.{Corner}
 use Rattle.model.specs.Layout.{cornerRow}
 use Rattle.tables.specs.declared.Used.{Used}
 use Rattle.read_state.specs.declared.Names.{Names}
+use Rattle.read_vertices.proofs.Closed.{at-least, has-least}
 use Rattle.read_elements.specs.Corners.{CornersFound, cornerSaid, cornersWalk, TookCorners, StoppedCorners, cornersIs}
-use Rattle.read_elements.specs.Elements.{atLeast, elementSaid, elementNumbers, TakenElement, NoElement}
+use Rattle.tables.specs.Rows.{elementNumbers}
+use Rattle.read_elements.specs.Elements.{storedElement, TakenElement, NoElement}
 use Rattle.read_elements.specs.declared.Rule.{Rule}
 use Rattle.read_elements.specs.declared.Corners.{Corners}
 use Rattle.read_elements.specs.declared.Corners.the-variants.{Complete, Stopped}
-
-pub enough : (k : ℕ) (o : CornersFound) (cs : List Corner) (q : ℕ) → o ≡ some (cs, q) → k ≤ length cs → atLeast k o ≡ some (cs, q)
-enough k o cs q e h = ap (atLeast k) e ∙ ap (λ (t : Bool). cond t (some (cs, q)) none) (le-leb k (length cs) h)
-
-pub of-enough : (k : ℕ) (o : CornersFound) (cs : List Corner) (q : ℕ) → atLeast k o ≡ some (cs, q) → (o ≡ some (cs, q)) × (k ≤ length cs)
-of-enough k none cs q e = absurd (let z : _≡_ {A = ℕ} 0 1 = cc in omega arith)
-of-enough k (some p) cs q e = go (leb k (length (p .0))) refl
-  where
-    go : (t : Bool) → leb k (length (p .0)) ≡ t → (_≡_ {A = CornersFound} (some p) (some (cs, q))) × (k ≤ length cs)
-    go true h =
-        let z : _≡_ {A = CornersFound} (some p) (some (cs, q)) = sym (ap (λ (t : Bool). cond t (some p) none) h) ∙ e in
-        let y : p ≡ (cs, q) = cc in
-        let x = leb-true k (length (p .0)) h in
-        let v : length (p .0) ≡ length cs = ap (λ (x : List Corner × ℕ). length (x .0)) y in
-        (z, omega arith)
-    go false h =
-        let z : _≡_ {A = CornersFound} none (some (cs, q)) = sym (ap (λ (t : Bool). cond t (some p) none) h) ∙ e in
-        absurd (let y : _≡_ {A = ℕ} 0 1 = cc in omega arith)
 
 -- two answers for one line have as many corners
 one-count : (o : CornersFound) (cs ds : List Corner) (p q : ℕ) → o ≡ some (cs, p) → o ≡ some (ds, q) → length cs ≡ length ds
@@ -55,7 +38,7 @@ module _ (u : Rule) (n : Used) (s : List ℕ) (at : ℕ) (l m : List ℕ) {r : C
       record {
         same-corners = w .same;
         same-elements = refl;
-        short = λ cs q j. inl (w .short cs q (of-enough (u .fewest) (cornersWalk (cornerSaid n (u .form)) 0 (restAt s at)) cs q j .0));
+        short = λ cs q j. inl (w .short cs q (at-least (u .fewest) (cornersWalk (cornerSaid n (u .form)) 0 (restAt s at)) cs q j .0));
       }
 
 module _ (u : Rule) (n : Used) (s : List ℕ) (at : ℕ) (l m : List ℕ) {q c : ℕ} (w : TookCorners (cornerSaid n (u .form)) s at (n .corners) l m q c) where
@@ -71,7 +54,7 @@ module _ (u : Rule) (n : Used) (s : List ℕ) (at : ℕ) (l m : List ℕ) {q c :
         same-corners = same;
         same-elements = refl;
         short = λ cs p j.
-            let z = of-enough (u .fewest) (cornersWalk (cornerSaid n (u .form)) 0 (restAt s at)) cs p j in
+            let z = at-least (u .fewest) (cornersWalk (cornerSaid n (u .form)) 0 (restAt s at)) cs p j in
             let y = one-count (cornersWalk (cornerSaid n (u .form)) 0 (restAt s at)) cs (w .found) p q (z .0) (w .walked) in
             let x = w .counted in
             let v = z .1 in
@@ -80,10 +63,10 @@ module _ (u : Rule) (n : Used) (s : List ℕ) (at : ℕ) (l m : List ℕ) {q c :
 
   -- by what storing the record answered
   module _ (body : ℕ) (a : Names) (e f : List ℕ) {t : Bool} (k : t ≡ leb (9 * n .elements + 9) (length e))
-      (z : f ≡ cond t (sets e (9 * n .elements) (elementNumbers (u .kind) (n .corners) c body a)) e) where
+      (z : f ≡ cond t (sets e (9 * n .elements) (elementNumbers (storedElement (u .kind) (n .corners) c body a))) e) where
     pub no-record : t ≡ false → NoElement u n s at l m e f
     no-record h =
-        let x : f ≡ e = z ∙ ap (λ (b : Bool). cond b (sets e (9 * n .elements) (elementNumbers (u .kind) (n .corners) c body a)) e) h in
+        let x : f ≡ e = z ∙ ap (λ (b : Bool). cond b (sets e (9 * n .elements) (elementNumbers (storedElement (u .kind) (n .corners) c body a))) e) h in
         let y = leb-false (9 * n .elements + 9) (length e) (sym k ∙ h) in
         record { same-corners = same; same-elements = ap length x; short = λ cs p j. inr y }
 
@@ -92,10 +75,10 @@ module _ (u : Rule) (n : Used) (s : List ℕ) (at : ℕ) (l m : List ℕ) {q c :
         let x = w .counted in
         record {
           found = w .found;
-          said = enough (u .fewest) (cornersWalk (cornerSaid n (u .form)) 0 (restAt s at)) (w .found) q (w .walked) (omega arith);
+          said = has-least (u .fewest) (cornersWalk (cornerSaid n (u .form)) 0 (restAt s at)) (w .found) q (w .walked) (omega arith);
           counted = w .counted;
           corners-room = w .room;
           corners-stored = w .stored;
           elements-room = leb-true (9 * n .elements + 9) (length e) (sym k ∙ h);
-          elements-stored = z ∙ ap (λ (b : Bool). cond b (sets e (9 * n .elements) (elementNumbers (u .kind) (n .corners) c body a)) e) h;
+          elements-stored = z ∙ ap (λ (b : Bool). cond b (sets e (9 * n .elements) (elementNumbers (storedElement (u .kind) (n .corners) c body a))) e) h;
         }

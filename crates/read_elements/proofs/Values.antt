@@ -1,8 +1,8 @@
 -- The corners of a line as the code walks through them are the values of its words, all of one pattern; and back. By the words.
-use Prim.Native.Nat.{ℕ, zero, suc, _+_, _<_, _≤_}
+use Prim.Native.Nat.{ℕ, suc, _≤_}
 use mathlib.Core.Path.{_≡_, refl, sym, ap, _∙_}
-use mathlib.Core.Bool.{Bool, true, false, cond, _&&_}
-use mathlib.Core.List.{List, [], _∷_, _++_, map}
+use mathlib.Core.Bool.{Bool, true, false, cond}
+use mathlib.Core.List.{List, [], _∷_, map}
 use mathlib.Core.Option.{Option, none, some}
 use lib.ListN.{length}
 use native.Mathlib.Omega.{arith}
@@ -11,7 +11,7 @@ use Rattle.lists.proofs.Tests.{and-both}
 use Rattle.text.specs.Words.{Word}
 use Rattle.digits.specs.Said.{Said, says, wrong}
 use Rattle.references.specs.Corner.{Corner, alike}
-use Rattle.model.specs.Parse.{Parsed, fine, fault, then, WordForm, Value, number, corner, onSaid, Seen, saidOf, placed, valuesOf, differing, unlike}
+use Rattle.model.specs.Parse.{Parsed, fine, fault, then, WordForm, Value, corner, onSaid, Seen, saidOf, placed, valuesOf, differing, unlike}
 use Rattle.read_vertices.proofs.Closed.{nothing}
 use Rattle.read_elements.specs.Corners.{patternOf, follows, CornersFound, ahead, onCorner, cornersFrom}
 use Rattle.read_elements.proofs.Patterns.{follows-alike, same-pattern}

@@ -1,17 +1,17 @@
 -- The loop over a line's corners: what is left of the line, after the corners stored, comes to what all of it comes to.
-use Prim.Native.Nat.{ℕ, zero, suc, _+_, _*_, _-_, _<_, _≤_}
-use mathlib.Core.Path.{_≡_, refl, sym, ap, subst, _∙_}
+use Prim.Native.Nat.{ℕ, _+_, _*_, _<_, _≤_}
+use mathlib.Core.Path.{_≡_, refl, sym, ap, _∙_}
 use mathlib.Core.Bool.{Bool, true, false, cond}
 use mathlib.Core.List.{List, [], _∷_, _++_, append-assoc, append-nil}
-use mathlib.Core.Option.{Option, none, some}
+use mathlib.Core.Option.{none, some}
 use lib.ListN.{length, drop, length-append}
 use lib.Seq.{sets, length-sets}
 use lib.Dec.{leb}
 use borrow.Author.Tests.{leb-true, leb-false}
 use native.Mathlib.Omega.{arith}
 use Rattle.lists.specs.Lists.{flat}
-use Rattle.text.specs.Words.{Word, wordOf}
-use Rattle.text.specs.Rest.{Rest, restAt, push, wordAt, endOf, WordMet, EndMet, BadMet}
+use Rattle.text.specs.Words.{wordOf}
+use Rattle.text.specs.Rest.{Rest, restAt, endOf, WordMet, EndMet, BadMet}
 use Rattle.digits.specs.Said.{Said, says, wrong}
 use Rattle.digits.specs.Answers.{endsAt}
 use Rattle.references.specs.Corner.{Corner}
@@ -25,7 +25,7 @@ use Rattle.digits.proofs.Saids.{ended-says, ended-wrong}
 use Rattle.tables.proofs.Flat.{flat-append}
 use Rattle.model.specs.Layout.{cornerRow}
 use Rattle.lists.proofs.Laws.{sets-append}
-use Rattle.read_elements.specs.Corners.{control, patternOf, follows, CornersFound, ahead, onCorner, cornersWalk, TookCorners, StoppedCorners}
+use Rattle.read_elements.specs.Corners.{control, patternOf, follows, CornersFound, ahead, cornersWalk, TookCorners, StoppedCorners}
 use Rattle.model.proofs.Rows.{corners-length}
 
 -- corners already stored, before those to come

@@ -1,19 +1,19 @@
 -- The controls of a curv2 are wide in the table exactly where none of them is narrow in the model, and the type and degrees stand in the numbers as in the model.
-use Prim.Native.Nat.{ℕ, zero, suc, _+_, _*_, _-_, _<_, _≤_}
-use mathlib.Core.Path.{_≡_, refl, sym, ap, ap₂, _∙_}
-use mathlib.Core.Bool.{Bool, true, false, cond, _&&_, not}
+use Prim.Native.Nat.{ℕ, zero, suc, _*_, _-_}
+use mathlib.Core.Path.{_≡_, refl, sym, ap, _∙_}
+use mathlib.Core.Bool.{Bool, true, false, cond, not}
 use mathlib.Core.List.{List, [], _∷_}
 use mathlib.Core.Option.{Option, none, some}
 use lib.ListN.{length, getD}
 use lib.Dec.{leb, ltb, eqb}
 use lib.IntN.{ℤ, pos}
 use lib.Signed.{ltZ}
-use borrow.Author.Tests.{ltb-true, ltb-false, leb-true, le-leb, lt-leb, ne-eqb}
+use borrow.Author.Tests.{ltb-true, le-leb, ne-eqb}
 use native.Mathlib.Omega.{arith}
 use Rattle.lists.specs.Lists.{all}
 use Rattle.lists.proofs.Tests.{and-left, and-right, and-both, never}
 use Rattle.text.specs.Words.{Word}
-use Rattle.digits.specs.Said.{Said, says, wrong}
+use Rattle.digits.specs.Said.{says, wrong}
 use Rattle.references.specs.Reference.{isReference, refer, referenceOf}
 use Rattle.references.specs.Corner.{Corner}
 use Rattle.tables.specs.Bodies.{Basis, bezier, bspline, cardinal, taylor}

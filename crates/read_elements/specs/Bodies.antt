@@ -3,7 +3,7 @@ use Prim.Native.Nat.{ℕ, zero, suc, _+_, _*_, _-_, _≤_, _<_}
 use mathlib.Core.Path.{_≡_}
 use mathlib.Core.Logic.{_⊎_}
 use mathlib.Core.Bool.{Bool, true, false, cond, _&&_, not}
-use mathlib.Core.List.{List, [], _∷_}
+use mathlib.Core.List.{List}
 use mathlib.Core.Option.{Option, none, some}
 use lib.ListN.{length, getD, drop}
 use lib.Dec.{leb, eqb}
@@ -24,7 +24,8 @@ use Rattle.tables.specs.Bodies.{basisNumber, cardinal}
 use Rattle.model.specs.Parse.{rangeWords, fewestControls, controlForm}
 use Rattle.model.specs.Layout.{cornerRow, freeNumber}
 use Rattle.read_elements.specs.Corners.{CornersFound}
-use Rattle.read_elements.specs.Elements.{elementSaid, elementNumbers}
+use Rattle.tables.specs.Rows.{elementNumbers}
+use Rattle.read_elements.specs.Elements.{elementSaid, storedElement}
 use Rattle.read_elements.specs.declared.CornerForm.{CornerForm}
 use Rattle.read_elements.specs.declared.CornerForm.the-variants.{Vertex, Parameter}
 use Rattle.read_elements.specs.declared.Rule.{Rule}
@@ -111,7 +112,7 @@ pub record TakenControls (k : model.Free) (n : Used) (a : Names) (vp : List ℤ)
   pub corners-room : n .corners + 3 * count ≤ length l
   pub corners-stored : m ≡ sets l (n .corners) (flat cornerRow found)
   pub elements-room : 9 * n .elements + 9 ≤ length e
-  pub elements-stored : f ≡ sets e (9 * n .elements) (elementNumbers (freeNumber k) (n .corners) count (n .bodies + 1) a)
+  pub elements-stored : f ≡ sets e (9 * n .elements) (elementNumbers (storedElement (freeNumber k) (n .corners) count (n .bodies + 1) a))
 
 pub record NoControls (k : model.Free) (n : Used) (vp : List ℤ) (s : List ℕ) (at : ℕ) (l m e f : List ℕ) : Type 0 where
   pub same-corners : length m ≡ length l
@@ -131,7 +132,7 @@ pub record TakenBody (k : model.Free) (n : Used) (a : Names) (g : Form) (vp : Li
   pub corners-room : n .corners + 3 * count ≤ length l
   pub corners-stored : m ≡ sets l (n .corners) (flat cornerRow found)
   pub elements-room : 9 * n .elements + 9 ≤ length e
-  pub elements-stored : f ≡ sets e (9 * n .elements) (elementNumbers (freeNumber k) (n .corners) count (n .bodies + 1) a)
+  pub elements-stored : f ≡ sets e (9 * n .elements) (elementNumbers (storedElement (freeNumber k) (n .corners) count (n .bodies + 1) a))
   pub bodies-room : 9 * n .bodies + 9 ≤ bodies
   pub ranges-room : 4 * n .bodies + 4 ≤ length y
   pub ranges-stored : z ≡ sets y (4 * n .bodies) range

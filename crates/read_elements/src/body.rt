@@ -15,6 +15,7 @@ use tables::Used;
 use tables::bases;
 use tables::kinds;
 use tables::vertices::given_at;
+use tables::widths;
 ghost use mathlib.Core.Path.{_≡_};
 ghost use mathlib.Core.Bool.{_&&_};
 ghost use Prim.Native.Nat.{_+_, _*_, _≤_, _<_};
@@ -111,7 +112,7 @@ fn all_wide(vp: &[i32], corners: &[u32], first: usize, count: u32) -> bool
         if !is_wide(vp, corners[at]) {
             return false;
         }
-        at += 3;
+        at += widths::CORNER;
         left -= 1;
     }
     true
@@ -171,10 +172,10 @@ fn body_room(used: u32, bodies: usize, ranges: usize) -> bool
     ensures { λ r. ⌜ r ≡ (leb (9 * used + 9) bodies && leb (4 * used + 4) ranges) ⌝ }
 {
     let n = used as usize;
-    if bodies < 9 * n + 9 {
+    if bodies < widths::BODY * n + widths::BODY {
         return false;
     }
-    4 * n + 4 <= ranges
+    widths::RANGE * n + widths::RANGE <= ranges
 }
 
 // A curv, curv2 or surf line, `at` just after its keyword; `bodies` is the length of the bodies' table.
@@ -200,7 +201,7 @@ pub fn take_body_line(
     if !body_room(used.bodies, bodies, ranges.len()) {
         return Element::Rejected;
     }
-    let first = 4 * (used.bodies as usize);
+    let first = widths::RANGE * (used.bodies as usize);
     match read_vertices::numbers_into(text, at, range_words(free), ranges, first) {
         Numbers::Full { end } => {
             take_controls(text, end, free, used, names, vp, corners, elements)

@@ -7,8 +7,11 @@ use references::reference::Reference;
 use statements::Shape;
 use statements::rules::corner_parts;
 use statements::rules::fewest_corners;
+use tables::Corner;
+use tables::CornerRun;
 use tables::Used;
 use tables::kinds;
+use tables::widths;
 use text::AfterBlanks;
 ghost use mathlib.Core.Path.{_≡_};
 ghost use mathlib.Core.Bool.{cond};
@@ -24,7 +27,8 @@ ghost use Rattle.references.specs.Answers.{saidCorner};
 ghost use Rattle.model.specs.Parse.{onSaid};
 ghost use Rattle.model.specs.Layout.{shapeNumber};
 ghost use Rattle.read_elements.specs.Corners.{control, cornerSaid, pattern, follows, cornersIs};
-ghost use Rattle.read_elements.specs.Elements.{ruleOf, elementNumbers, elementIs};
+ghost use Rattle.tables.specs.Rows.{elementNumbers};
+ghost use Rattle.read_elements.specs.Elements.{ruleOf, storedElement, elementIs};
 
 // What a line's corner words are: corners of v and the parts allowed besides it, or numbers of parameter vertices.
 pub enum CornerForm {
@@ -129,11 +133,16 @@ pub fn corners_into(
                     if !may_follow(line_pattern, here) {
                         return Corners::Stopped;
                     }
-                    if !table_store::put3_u32(corners, n, v, vt, vn) {
+                    let row = tables::corner_row(Corner {
+                        v: v,
+                        vt: vt,
+                        vn: vn,
+                    });
+                    if !table_store::put_u32(corners, n, &row) {
                         return Corners::Stopped;
                     }
                     line_pattern = here;
-                    n += 3;
+                    n += widths::CORNER;
                     count += 1;
                     i = end;
                 }
@@ -173,31 +182,30 @@ fn rule_of(shape: Shape) -> Rule
     }
 }
 
-fn put_element(
-    elements: &mut [u32],
-    used: u32,
-    kind: u32,
-    first: u32,
-    count: u32,
-    body: u32,
-    names: Names,
-) -> bool
-    ensures { λ r. ⌜ r ≡ leb (9 * used + 9) (length (now (elements .entry))) ⌝ }
-    ensures { λ r. ⌜ now (elements .exit) ≡ cond r (sets (now (elements .entry)) (9 * used) (elementNumbers kind first count body names)) (now (elements .entry)) ⌝ }
+fn stored_element(kind: u32, first: u32, count: u32, body: u32, names: Names) -> tables::Element
+    ensures { λ r. ⌜ r ≡ storedElement kind first count body names ⌝ }
 {
-    table_store::put9_u32(
-        elements,
-        9 * (used as usize),
-        kind,
-        first,
-        count,
-        body,
-        names.smoothing,
-        names.group.place,
-        names.group.length,
-        names.material.place,
-        names.material.length,
-    )
+    let group = names.group;
+    let material = names.material;
+    tables::Element {
+        kind: kind,
+        corners: CornerRun {
+            first: first,
+            count: count,
+        },
+        body: body,
+        smoothing: names.smoothing,
+        group: group,
+        material: material,
+    }
+}
+
+fn put_element(elements: &mut [u32], used: u32, element: tables::Element) -> bool
+    ensures { λ r. ⌜ r ≡ leb (9 * used + 9) (length (now (elements .entry))) ⌝ }
+    ensures { λ r. ⌜ now (elements .exit) ≡ cond r (sets (now (elements .entry)) (9 * used) (elementNumbers element)) (now (elements .entry)) ⌝ }
+{
+    let row = tables::element_row(element);
+    table_store::put_u32(elements, widths::ELEMENT * (used as usize), &row)
 }
 
 pub enum Element {
@@ -227,15 +235,8 @@ pub fn take_corners(
                 return Element::Rejected;
             }
             let n = count as u32;
-            if put_element(
-                elements,
-                used.elements,
-                rule.kind,
-                used.corners,
-                n,
-                body,
-                names,
-            ) {
+            let element = stored_element(rule.kind, used.corners, n, body, names);
+            if put_element(elements, used.elements, element) {
                 return Element::Accepted {
                     count: n,
                     next: next,

@@ -5,7 +5,6 @@ use mathlib.Core.List.{List}
 use native.Mathlib.Omega.{arith}
 use lib.ListN.{length}
 use Rattle.tables.specs.Tables.{Tables}
-use Rattle.model.specs.Room.{Rooms}
 use Rattle.read_state.specs.declared.State.{State}
 use Rattle.read_dispatch.specs.declared.LineResult as lines
 use Rattle.read_dispatch.specs.declared.LineResult.the-variants.{Next, Stopped}

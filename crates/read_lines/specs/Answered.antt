@@ -38,5 +38,5 @@ readAnswer r t = record { answer = r; outcome = readOutcome r; tables = t }
 
 -- "Then the tables hold what those rules say"; "A refusal zeroes every lent table and every count."
 abbrev pub answered : Tables → Answer → ReadAnswer
-answered t (read m) = record { answer = Read (usedOf m); outcome = record { number = 0; place = 0; used = usedOf m }; tables = tablesOf (roomsOf t) m }
-answered t (refused n p) = record { answer = Refused n p; outcome = record { number = n; place = p; used = noneUsed }; tables = zeros t }
+answered t (read m) = readAnswer (Read (usedOf m)) (tablesOf (roomsOf t) m)
+answered t (refused n p) = readAnswer (Refused n p) (zeros t)

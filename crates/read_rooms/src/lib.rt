@@ -3,6 +3,7 @@ use statements::Carried;
 use statements::Statement;
 use statements::VertexKind;
 use statements::rules::range_words;
+use tables::widths;
 use text::AfterBlanks;
 use text::Scan;
 ghost use mathlib.Core.Path.{_≡_};
@@ -95,10 +96,10 @@ fn element_room(bodies: usize, corners: usize) -> Rooms
         vt: 0,
         vn: 0,
         vp: 0,
-        corners: 3 * corners,
-        elements: 9,
-        bodies: 9 * bodies,
-        ranges: 4 * bodies,
+        corners: widths::CORNER * corners,
+        elements: widths::ELEMENT,
+        bodies: widths::BODY * bodies,
+        ranges: widths::RANGE * bodies,
         parameters: 0,
         loops: 0,
         spans: 0,
@@ -119,8 +120,8 @@ fn body_room(parameters: usize, parts: usize) -> Rooms
         bodies: 0,
         ranges: 0,
         parameters: parameters,
-        loops: 2 * parts,
-        spans: 2 * parts,
+        loops: widths::LOOP * parts,
+        spans: widths::SPAN * parts,
     }
 }
 
@@ -138,10 +139,10 @@ fn kind_room(kind: VertexKind) -> Rooms
     ensures { λ r. ⌜ r ≡ kindRoom kind ⌝ }
 {
     match kind {
-        VertexKind::Geometric => vertex_room(4, 0, 0, 0),
-        VertexKind::Texture => vertex_room(0, 3, 0, 0),
-        VertexKind::Normal => vertex_room(0, 0, 3, 0),
-        VertexKind::Parametric => vertex_room(0, 0, 0, 4),
+        VertexKind::Geometric => vertex_room(widths::V, 0, 0, 0),
+        VertexKind::Texture => vertex_room(0, widths::VT, 0, 0),
+        VertexKind::Normal => vertex_room(0, 0, widths::VN, 0),
+        VertexKind::Parametric => vertex_room(0, 0, 0, widths::VP),
     }
 }
 

@@ -2,7 +2,7 @@
 use Prim.Native.Nat.{ℕ, suc, _+_, _-_, _≤_, _<_}
 use mathlib.Core.Path.{_≡_, refl, sym, ap, _∙_}
 use mathlib.Core.List.{List, [], _∷_}
-use mathlib.Core.Bool.{Bool, true, false, cond}
+use mathlib.Core.Bool.{true, false, cond}
 use mathlib.Core.Option.{none, some}
 use lib.ListN.{length, drop}
 use native.Mathlib.Omega.{arith}
@@ -18,7 +18,6 @@ use Rattle.model.specs.Layout.{lastEnd}
 use Rattle.read_state.specs.declared.Names.{Names}
 use Rattle.read_settings.specs.declared.words.NamesRead.{NamesRead}
 use Rattle.read_settings.specs.declared.words.NamesRead.the-variants as read
-use Rattle.read_settings.specs.declared.TakenNames.{TakenNames}
 use Rattle.read_settings.specs.declared.TakenNames.the-variants as names
 use Rattle.read_settings.specs.Words.{onFine, isName, namesRead}
 use Rattle.read_settings.specs.Steps.{namedBy}

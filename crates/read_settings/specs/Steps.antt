@@ -1,7 +1,7 @@
 -- What the code finds in the rest of a cstype, deg, s, usemtl or g line, in its own order; proofs/ say that it is what the parser finds.
 use Prim.Native.Nat.{ℕ}
 use mathlib.Core.List.{List, [], _∷_}
-use mathlib.Core.Bool.{Bool, true, false, cond}
+use mathlib.Core.Bool.{Bool, cond}
 use mathlib.Core.Option.{Option, none, some}
 use lib.ListN.{length, drop}
 use lib.Dec.{eqb}
@@ -10,8 +10,8 @@ use Rattle.text.specs.Rest.{Rest, endOf}
 use Rattle.digits.specs.Said.{Said, says, wrong}
 use Rattle.digits.specs.Degree.{degreeOf, smoothingOf}
 use Rattle.keywords.specs.declared.Argument.{Argument}
-use Rattle.keywords.specs.declared.Argument.the-variants.{Rational, BasisMatrix, Bezier, Bspline, Cardinal, Taylor, DirectionU, DirectionV, Off, Other}
-use Rattle.keywords.specs.Arguments.{argumentOf}
+use Rattle.keywords.specs.declared.Argument.the-variants.{Rational}
+use Rattle.keywords.specs.Arguments.{isArgument, argumentOf}
 use Rattle.statements.specs.declared.Carried.{Carried}
 use Rattle.statements.specs.declared.Carried.the-variants.{BodyType, Degree, Group, Smoothing, Material}
 use Rattle.statements.specs.Rules.{rulesOf, countedBy}
@@ -52,16 +52,7 @@ basisOr (says t) = basisNumber t
 basisOr (wrong n) = 0
 
 abbrev pub isRational : Argument → Bool
-isRational Rational = true
-isRational BasisMatrix = false
-isRational Bezier = false
-isRational Bspline = false
-isRational Cardinal = false
-isRational Taylor = false
-isRational DirectionU = false
-isRational DirectionV = false
-isRational Off = false
-isRational Other = false
+isRational a = isArgument a Rational
 
 abbrev pub typed : ℕ → Form → ℕ → ℕ → TakenForm
 typed r f b q = cond (eqb b 0) form.Rejected (form.Accepted (record { basis = b; rational = r; «degree_u» = f .«degree_u»; «degree_v» = f .«degree_v» }) q)

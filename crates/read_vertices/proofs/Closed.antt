@@ -151,16 +151,19 @@ pub record RowSome (least most : ℕ) (r : Rest) (zs : List ℤ) (q : ℕ) : Typ
   pub closes : lineEnded (numbersWalk most r) ≡ some (zs, q)
   pub many : least ≤ length zs
 
-at-least : (n : ℕ) (o : Option (List ℤ × ℕ)) (zs : List ℤ) (q : ℕ) → atLeast n o ≡ some (zs, q) → (o ≡ some (zs, q)) × (n ≤ length zs)
+pub at-least : {A : Type 0} (n : ℕ) (o : Option (List A × ℕ)) (zs : List A) (q : ℕ) → atLeast n o ≡ some (zs, q) → (o ≡ some (zs, q)) × (n ≤ length zs)
 at-least n none zs q e = nothing e
-at-least n (some p) zs q e = enough (leb n (length (p .0))) refl e
+at-least {A} n (some p) zs q e = enough (leb n (length (p .0))) refl e
   where
     enough : (t : Bool) → leb n (length (p .0)) ≡ t → cond t (some p) none ≡ some (zs, q) → (some p ≡ some (zs, q)) × (n ≤ length zs)
     enough false h f = nothing f
-    enough true h f = let g : p ≡ (zs, q) = cc in (f, subst (λ (y : List ℤ × ℕ). n ≤ length (y .0)) g (leb-true n (length (p .0)) h))
+    enough true h f = let g : p ≡ (zs, q) = cc in (f, subst (λ (y : List A × ℕ). n ≤ length (y .0)) g (leb-true n (length (p .0)) h))
+
+pub has-least : {A : Type 0} (n : ℕ) (o : Option (List A × ℕ)) (zs : List A) (q : ℕ) → o ≡ some (zs, q) → n ≤ length zs → atLeast n o ≡ some (zs, q)
+has-least n o zs q e h = ap (atLeast n) e ∙ ap (λ (t : Bool). cond t (some (zs, q)) none) (le-leb n (length zs) h)
 
 pub row-some : (least most : ℕ) (r : Rest) (zs : List ℤ) (q : ℕ) → rowSaid least most r ≡ some (zs, q) → RowSome least most r zs q
 row-some least most r zs q e = let h = at-least least (lineEnded (numbersWalk most r)) zs q e in record { closes = h .0; many = h .1 }
 
 pub some-row : (least most : ℕ) (r : Rest) (zs : List ℤ) (q : ℕ) → lineEnded (numbersWalk most r) ≡ some (zs, q) → least ≤ length zs → rowSaid least most r ≡ some (zs, q)
-some-row least most r zs q e h = let t = le-leb least (length zs) h in ap (atLeast least) e ∙ rw t refl
+some-row least most r zs q e h = has-least least (lineEnded (numbersWalk most r)) zs q e h

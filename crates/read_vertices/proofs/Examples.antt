@@ -2,7 +2,7 @@
 use mathlib.Core.Path.{_≡_, refl}
 use mathlib.Core.List.{[], _∷_}
 use mathlib.Core.Option.{none, some}
-use lib.IntN.{ℤ, pos, negsuc}
+use lib.IntN.{pos, negsuc}
 use Rattle.spellings.specs.Rows.{bytes}
 use Rattle.text.specs.Rest.{restAt}
 use Rattle.decimals.specs.Number.{numberOf, decimal, numerator, denominator, nearest}

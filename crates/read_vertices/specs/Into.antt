@@ -57,7 +57,8 @@ lineEnded (ended zs q) = some (zs, q)
 lineEnded (full zs r) = closing zs (r .words) (r .bad) (r .next)
 lineEnded stuck = none
 
-abbrev pub atLeast : ℕ → Option (List ℤ × ℕ) → Option (List ℤ × ℕ)
+-- what was found, where there is enough of it
+abbrev pub atLeast : {A : Type 0} → ℕ → Option (List A × ℕ) → Option (List A × ℕ)
 atLeast n none = none
 atLeast n (some p) = cond (leb n (length (p .0))) (some p) none
 

@@ -3,6 +3,8 @@ use statements::VertexKind;
 use statements::rules::fewest_words;
 use statements::rules::most_words;
 use statements::rules::vertex_count;
+use tables::vertices;
+use tables::widths;
 use text::AfterBlanks;
 use word_numbers::Number;
 ghost use mathlib.Core.Path.{_≡_};
@@ -33,7 +35,7 @@ pub fn numbers_into(text: &[u8], at: usize, most: usize, table: &mut [i32], firs
         match text::skip_blanks(text, i) {
             AfterBlanks::Start(p) => match word_numbers::quick_number_at(text, p) {
                 Number::Value { value, end } => {
-                    if !table_store::put_i32(table, first + count, value) {
+                    if !table_store::put_i32(table, first + count, &[value]) {
                         return Numbers::Stopped;
                     }
                     count += 1;
@@ -123,26 +125,26 @@ fn layout_of(kind: VertexKind) -> Layout
         VertexKind::Geometric => Layout {
             least: least,
             most: most,
-            width: 4,
-            lead: 0,
+            width: widths::V,
+            lead: vertices::V_START,
         },
         VertexKind::Texture => Layout {
             least: least,
             most: most,
-            width: 3,
+            width: widths::VT,
             lead: 0,
         },
         VertexKind::Normal => Layout {
             least: least,
             most: most,
-            width: 3,
+            width: widths::VN,
             lead: 0,
         },
         VertexKind::Parametric => Layout {
             least: least,
             most: most,
-            width: 4,
-            lead: 1,
+            width: widths::VP,
+            lead: vertices::VP_START,
         },
     }
 }
@@ -152,10 +154,10 @@ fn put_blank(table: &mut [i32], at: usize, width: usize) -> bool
     ensures { λ r. ⌜ r ≡ leb (at + length (blank width)) (length (now (table .entry))) ⌝ }
     ensures { λ r. ⌜ now (table .exit) ≡ cond r (sets (now (table .entry)) at (blank width)) (now (table .entry)) ⌝ }
 {
-    if width == 4 {
-        return table_store::put4_i32(table, at, 0, 0, 0, 1_000_000);
+    if width == widths::V {
+        return table_store::put_i32(table, at, &[0, 0, 0, vertices::WEIGHT]);
     }
-    table_store::put3_i32(table, at, 0, 0, 0)
+    table_store::put_i32(table, at, &[0, 0, 0])
 }
 
 pub enum Vertex {

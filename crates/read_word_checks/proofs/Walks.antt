@@ -12,6 +12,8 @@ use Rattle.text.specs.Rest.{Rest, restAt, wordAt, endOf, WordMet, EndMet, BadMe
 use Rattle.text.specs.declared.AfterBlanks.{AfterBlanks}
 use Rattle.text.specs.declared.AfterBlanks.the-variants.{Start, End, Bad}
 use Rattle.text.proofs.Found.{word-found, end-found, bad-found}
+use Rattle.keywords.specs.declared.Argument.the-variants.{DirectionV}
+use Rattle.keywords.specs.Arguments.{isArgument}
 use Rattle.keywords.specs.Lookup.{argumentAt}
 use Rattle.model.specs.Parse as parse
 use Rattle.read_word_checks.specs.declared.word.WordCheck.{WordCheck}
@@ -103,6 +105,6 @@ module _ (n : parse.Seen) (t : List ℤ) (f : Tests) (m : ℕ) where
     fault-none e = sym (ap (faultIn n t f m index) e) ∙ k .rest
 
 -- ---- the first word
-pub v-first : (s : List ℕ) (at p : ℕ) {b : Bool} → (restAt s at) .words ≡ wordAt s p ∷ (restAt s (endOf s p)) .words → b ≡ parse.isV (parse.directionOf (argumentAt s p)) → b ≡ parse.saysV ((restAt s at) .words)
+pub v-first : (s : List ℕ) (at p : ℕ) {b : Bool} → (restAt s at) .words ≡ wordAt s p ∷ (restAt s (endOf s p)) .words → b ≡ isArgument (argumentAt s p) DirectionV → b ≡ parse.saysV ((restAt s at) .words)
 unfolding argumentAt
 v-first s at p e h = h ∙ sym (ap parse.saysV e)

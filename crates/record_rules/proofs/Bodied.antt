@@ -1,20 +1,17 @@
 -- The body of an element as it is asked for: one that is not held is all zeros, and no type is 0. And the tests of an element but for its body.
-use Prim.Native.Nat.{ℕ, _+_, _*_, _-_, _≤_}
-use mathlib.Core.Path.{_≡_, refl, _∙_}
+use Prim.Native.Nat.{ℕ, _-_}
+use mathlib.Core.Path.{_≡_, refl}
 use mathlib.Core.Bool.{Bool, true, false, _&&_}
-use borrow.Author.Tests.{le-leb, lt-leb}
 use lib.Dec.{leb}
-use lib.ListN.{length}
 use Rattle.lists.proofs.Tests.{never}
 use Rattle.tables.specs.Tables.{Tables}
-use Rattle.tables.specs.Records.{elementAt, bodyAt}
+use Rattle.tables.specs.Records.{bodyAt}
 use Rattle.tables.specs.Asking.{bodyHeld, askedBody}
 use Rattle.tables.specs.declared.Used.{Used}
 use Rattle.tables.specs.declared.Element.{Element}
 use Rattle.record_rules.specs.Corners.{cornersObey}
 use Rattle.record_rules.specs.Directions.{typeObeys}
 use Rattle.record_rules.specs.Bodies.{recordObeys, bodyObeys}
-use Rattle.record_rules.specs.Rules.{elementObeys, obeys}
 
 abbrev pub outline : Used → Tables → Element → Bool
 outline used t e = leb 1 (e .kind) && leb (e .kind) 6 && leb (e .smoothing) 65535 && cornersObey used t (e .kind) (e .corners)

@@ -1,5 +1,5 @@
 -- What an element that obeys the rules gives, fact by fact: each test taken out of its `&&`.
-use Prim.Native.Nat.{ℕ, _+_, _*_, _-_, _<_, _≤_}
+use Prim.Native.Nat.{ℕ, _+_, _*_, _<_, _≤_}
 use mathlib.Core.Path.{_≡_}
 use mathlib.Core.List.{List}
 use mathlib.Core.Bool.{Bool, true, cond, _&&_}
@@ -7,10 +7,9 @@ use borrow.Author.Tests.{leb-true, eq-eqb, ne-eqb, eqb-true}
 use lib.Dec.{leb, eqb}
 use lib.ListN.{length}
 use lib.IntN.{ℤ, pos}
-use lib.Signed.{leZ}
 use Rattle.lists.proofs.Tests.{and-left, and-right}
 use Rattle.tables.specs.Tables.{Tables}
-use Rattle.tables.specs.Records.{cornerAt, valueAt}
+use Rattle.tables.specs.Records.{cornerAt}
 use Rattle.tables.specs.declared.Body.{Body}
 use Rattle.tables.specs.Bodies.{inOrder, curveCount, surfaceCount, basisOf}
 use Rattle.tables.specs.declared.CornerRun.{CornerRun}

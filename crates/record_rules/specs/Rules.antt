@@ -13,14 +13,17 @@ use Rattle.tables.specs.declared.Used.{Used}
 use Rattle.record_rules.specs.Corners.{cornersObey}
 use Rattle.record_rules.specs.Bodies.{bodyObeys, recordObeys}
 
--- "Smoothing: off (0) or 1 to 5 digits, at most 65,535"; p, l and f have no body
-unfoldable pub elementObeys : Used → Tables → ℕ → Element → Bool
-elementObeys used t curves e =
+-- "Smoothing: off (0) or 1 to 5 digits, at most 65,535"; p, l and f have no body; `bodied` is what is asked of the body of a curv, curv2 or surf
+abbrev pub elementWith : (bodied : Bool) → Used → Tables → Element → Bool
+elementWith bodied used t e =
     leb 1 (e .kind)
     && leb (e .kind) surfaceKind
     && leb (e .smoothing) 65535
     && cornersObey used t (e .kind) (e .corners)
-    && cond (leb (e .kind) faceKind) (eqb (e .body) 0) (bodyObeys used t curves (e .kind) (e .corners .count) (e .body))
+    && cond (leb (e .kind) faceKind) (eqb (e .body) 0) bodied
+
+unfoldable pub elementObeys : Used → Tables → ℕ → Element → Bool
+elementObeys used t curves e = elementWith (bodyObeys used t curves (e .kind) (e .corners .count) (e .body)) used t e
 
 -- the element at index i obeys every rule; `curves` is the number of curv2 elements before it. That i is used is 17's to ask.
 unfoldable pub obeys : Used → Tables → ℕ → ℕ → Bool
@@ -36,9 +39,4 @@ curvesBefore t i = curvesAmong (t .elements .elements) i
 
 -- an element with its body at hand, after `curves` curv2 elements
 unfoldable pub recordsObey : Used → Tables → ℕ → Element → Body → Bool
-recordsObey used t curves e b =
-    leb 1 (e .kind)
-    && leb (e .kind) surfaceKind
-    && leb (e .smoothing) 65535
-    && cornersObey used t (e .kind) (e .corners)
-    && cond (leb (e .kind) faceKind) (eqb (e .body) 0) (recordObeys used t curves (e .kind) (e .corners .count) b)
+recordsObey used t curves e b = elementWith (recordObeys used t curves (e .kind) (e .corners .count) b) used t e

@@ -12,7 +12,7 @@ use Rattle.lists.proofs.Tests.{and-left}
 use Rattle.digits.specs.Said.{says}
 use Rattle.digits.specs.Digits.{isDigit, digits, natOf, negative}
 use Rattle.lists.specs.Signs.{withSign}
-use Rattle.decimals.specs.Number.{mantissa, exponent, isExponent, decimal, numerator, denominator, nearest, unsigned, limited, valueOf, numberOf}
+use Rattle.decimals.specs.Number.{mantissa, exponent, isExponent, decimal, numerator, denominator, nearest, unsigned, valueOf, numberOf}
 use Rattle.references.specs.Written.{short, full, writtenWhole, writtenMillionths, writtenNumber}
 use Rattle.references.specs.Fits.{numberFits}
 use Rattle.digits.proofs.Rows.{natOf-append}

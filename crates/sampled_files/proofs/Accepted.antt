@@ -21,9 +21,10 @@ use Rattle.model.specs.Room.{Rooms, summed, partCount}
 use Rattle.model.specs.Read.{read, readOf}
 use Rattle.model.specs.Layout.{freeNumber, bodiesOf, flag, tablesOf, usedOf}
 use Rattle.point_runs.specs.Runs.{parameterAt}
-use Rattle.sampler.specs.Points.{directionU, directionV, controlOf, gridOf, axesOf}
-use Rattle.sampler.specs.Answers.{elementOf, bodyOf, pointOnCurve, pointOnSurface, runInto}
-use Rattle.sampler.specs.Demand3.{Curve, OnCurve, RunClaim, Surface, OnSurface}
+use Rattle.point_runs.proofs.Written.{listed-length}
+use Rattle.sampler.specs.Points.{directionU, directionV, controlOf, gridOf, axesOf, surfaceAt}
+use Rattle.sampler.specs.Answers.{RunAnswer, elementOf, bodyOf, pointOnCurve, pointOnSurface, runInto}
+use Rattle.sampler.specs.Demand3.{Obeying, IsCurve, OnCurve, RunClaim, OnSurface}
 use Rattle.sampler.proofs.Demanded.{points-on-curves, runs-on-curves}
 use Rattle.sampler.proofs.OnSurfaces.{points-on-surfaces}
 use Rattle.sampled_files.specs.Files.{alongU, alongV, controlIn, axesIn, gridIn}
@@ -59,6 +60,10 @@ module _ (R : Rooms) (s : List ℕ) (m : Model) (h : readOf R s ≡ read m) (num
   used : number ≤ usedOf m .elements
   used = let e = used-elements m in let f = in-file R s m h number b o in omega arith
 
+  pub its-obeying : Obeying (usedOf m) t number
+  its-obeying =
+      (record { some = some R s m h number b o; in-use = used; plain = plain; type = types (c .type) }, obeyed R s m h number (some R s m h number b o) (in-file R s m h number b o))
+
   its-start : (p : ℤ) → b .start-u ≤ℤ p → bodyOf t number .«start_u» ≤ℤ p
   its-start p = subst (λ (z : ℤ). z ≤ℤ p) (sym (ap (λ (q : records.Body). q .«start_u») body-is))
 
@@ -67,18 +72,10 @@ module _ (R : Rooms) (s : List ℕ) (m : Model) (h : readOf R s ≡ read m) (num
 
   -- ---- curves
   module _ (k : (b .free ≡ curve) ⊎ (b .free ≡ curve2)) where
-    pub its-curve : Curve (usedOf m) t number
-    its-curve =
-        record {
-          some = some R s m h number b o;
-          in-use = used;
-          kind = kinds k;
-          obeyed = obeyed R s m h number (some R s m h number b o) (in-file R s m h number b o);
-          plain = plain;
-          type = types (c .type);
-        }
+    pub is-curve : IsCurve t number
+    is-curve = kinds k
       where
-        kinds : (b .free ≡ curve) ⊎ (b .free ≡ curve2) → (elementOf t number .kind ≡ 4) ⊎ (elementOf t number .kind ≡ 5)
+        kinds : (b .free ≡ curve) ⊎ (b .free ≡ curve2) → IsCurve t number
         kinds (inl e) = inl (its-kind R s m h number b o ∙ ap freeNumber e)
         kinds (inr e) = inr (its-kind R s m h number b o ∙ ap freeNumber e)
 
@@ -109,24 +106,24 @@ module _ (R : Rooms) (s : List ℕ) (m : Model) (h : readOf R s ≡ read m) (num
 
     curve-point : (p : ℤ) → b .start-u ≤ℤ p → p ≤ℤ b .end-u → PointOnCurve m b cs p (pointOnCurve (usedOf m) t number p)
     curve-point p f g =
-        let a = points-on-curves (usedOf m) t number p its-curve (its-start p f) (its-end p g) in
+        let a = points-on-curves (usedOf m) t number p (its-obeying, is-curve) (its-start p f) (its-end p g) in
         record {
           given = a .given;
-          axes = a .axes ∙ axes-are;
+          axes = ap length (a .rounded) ∙ listed-length (axesOf (elementOf t number)) _ ∙ axes-are;
           near = λ axis l. close p axis _ l (a .near axis (let e = axes-are in omega arith));
         }
 
     run-points : (steps at : ℕ) (points : List ℤ) → 1 ≤ steps → steps ≤ 65536 → at + axesIn (b .free) * (steps + 1) ≤ length points → PointsOfRun m b cs steps at (runInto (usedOf m) t number steps at points)
     run-points steps at points f g l =
         let room : at + axesOf (elementOf t number) * (steps + 1) ≤ length points = subst (λ (n : ℕ). at + n * (steps + 1) ≤ length points) (sym axes-are) l in
-        let a = runs-on-curves (usedOf m) t number steps at points its-curve f g room in
+        let a = runs-on-curves (usedOf m) t number steps at points (its-obeying, is-curve) f g room in
         record {
-          given = a .given;
-          count = a .count ∙ ap (λ (n : ℕ). n * (steps + 1)) axes-are;
+          given = ap (λ (r : RunAnswer). r .outcome .number) (a .rounded);
+          count = ap (λ (r : RunAnswer). r .outcome .count) (a .rounded) ∙ ap (λ (n : ℕ). n * (steps + 1)) axes-are;
           near = λ j axis d e. point a j axis d e;
         }
       where
-        point : RunClaim t number steps at (runInto (usedOf m) t number steps at points) → (j axis : ℕ) → j ≤ steps → axis < axesIn (b .free)
+        point : RunClaim t number steps at points (runInto (usedOf m) t number steps at points) → (j axis : ℕ) → j ≤ steps → axis < axesIn (b .free)
             → Close (getD (runInto (usedOf m) t number steps at points .points) (at + (axesIn (b .free) * j + axis)) (pos 0))
             (curveExact (alongU b) (parameterAt (b .start-u) (b .end-u) steps j) (controlIn x (b .free) cs axis)) (b .degree-u)
         point a j axis d e =
@@ -140,17 +137,6 @@ module _ (R : Rooms) (s : List ℕ) (m : Model) (h : readOf R s ≡ read m) (num
 
   -- ---- surfaces
   module _ (k : b .free ≡ surface) where
-    its-surface : Surface (usedOf m) t number
-    its-surface =
-        record {
-          some = some R s m h number b o;
-          in-use = used;
-          kind = its-kind R s m h number b o ∙ ap freeNumber k;
-          obeyed = obeyed R s m h number (some R s m h number b o) (in-file R s m h number b o);
-          plain = plain;
-          type = types (c .type);
-        }
-
     grid-many : length cs ≡ alongU b .controls * alongV b .controls
     grid-many =
         counts-are (b .basis) (b .degree-u) (length (b .us)) (b .degree-v) (length (b .vs)) (length cs) (surface-kept x _ b cs (its-good R s m h number b o) k .counts)
@@ -167,11 +153,11 @@ module _ (R : Rooms) (s : List ℕ) (m : Model) (h : readOf R s ≡ read m) (num
     surface-point : (p q : ℤ) → b .start-u ≤ℤ p → p ≤ℤ b .end-u → b .start-v ≤ℤ q → q ≤ℤ b .end-v → PointOnSurface m b cs p q (pointOnSurface (usedOf m) t number p q)
     surface-point p q f g d e =
         let a =
-        points-on-surfaces (usedOf m) t number p q its-surface (its-start p f) (its-end p g) (subst (λ (z : ℤ). z ≤ℤ q) (sym (ap (λ (y : records.Body). y .«start_v») body-is)) d)
+        points-on-surfaces (usedOf m) t number p q (its-obeying, its-kind R s m h number b o ∙ ap freeNumber k) (its-start p f) (its-end p g) (subst (λ (z : ℤ). z ≤ℤ q) (sym (ap (λ (y : records.Body). y .«start_v») body-is)) d)
         (subst (λ (z : ℤ). q ≤ℤ z) (sym (ap (λ (y : records.Body). y .«end_v») body-is)) e) in
         record {
           given = a .given;
-          axes = a .axes;
+          axes = ap length (a .rounded) ∙ listed-length 3 (surfaceAt t (elementOf t number) (bodyOf t number) p q);
           near = λ axis l. near axis (getD (pointOnSurface (usedOf m) t number p q .outcome .coordinates) axis (pos 0)) l (a .near axis l);
         }
       where

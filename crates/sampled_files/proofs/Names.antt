@@ -19,8 +19,9 @@ use Rattle.record_rules.specs.Bodies.{surfaceObeys, recordObeys, bodyObeys}
 use Rattle.record_rules.specs.Rules.{elementObeys, obeys, curvesAmong}
 use Rattle.sampler.specs.Points.{axesOf, controlOf, curveAt, surfaceAt, runNumbers}
 use Rattle.sampler.specs.Answers.{PointAnswer, wanted, carried, elementOf, bodyOf, refusalOf, inside, refusedPoint, curvePoint, pointOnCurve, surfacePoint, pointOnSurface, runInto}
-use Rattle.tidy_form.proofs.Layouts.{withElements}
-use Rattle.sampled_files.specs.Joined.{PromisedAlike}
+use Rattle.sampler.specs.Demand3.{sampling}
+use Rattle.tidy_form.proofs.Layouts.{withElementTable}
+use Rattle.sampled_files.specs.Joined.{SampledAlike}
 
 -- an element of these numbers, without names
 abbrev unnamed : (kind : ℕ) → CornerRun → (body smoothing : ℕ) → Element
@@ -31,29 +32,29 @@ abbrev bared : Element → Element
 bared e = unnamed (e .kind) (e .corners) (e .body) (e .smoothing)
 
 -- ---- what each definition reads: other tables than the elements, and an element without its names
-element-reads : (u : Used) (t : Tables) (l : List ℕ) (n : ℕ) (e : Element) → elementObeys u (withElements l t) n e ≡ elementObeys u t n (bared e)
+element-reads : (u : Used) (t : Tables) (l : List ℕ) (n : ℕ) (e : Element) → elementObeys u (withElementTable l t) n e ≡ elementObeys u t n (bared e)
 unfolding elementObeys cornersObey eachCorner cornerObeys bodyObeys recordObeys surfaceObeys loopsObey eachPart
 element-reads u t l n e = refl
 
-curve-reads : (t : Tables) (l : List ℕ) (e : Element) (b : Body) (p : ℤ) → curvePoint (withElements l t) e b p ≡ curvePoint t (bared e) b p
+curve-reads : (t : Tables) (l : List ℕ) (e : Element) (b : Body) (p : ℤ) → curvePoint (withElementTable l t) e b p ≡ curvePoint t (bared e) b p
 unfolding curvePoint curveAt controlOf
 curve-reads t l e b p = refl
 
-surface-reads : (t : Tables) (l : List ℕ) (e : Element) (b : Body) (p q : ℤ) → surfacePoint (withElements l t) e b p q ≡ surfacePoint t (bared e) b p q
+surface-reads : (t : Tables) (l : List ℕ) (e : Element) (b : Body) (p q : ℤ) → surfacePoint (withElementTable l t) e b p q ≡ surfacePoint t (bared e) b p q
 unfolding surfacePoint surfaceAt controlOf
 surface-reads t l e b p q = refl
 
-run-reads : (t : Tables) (l : List ℕ) (e : Element) (b : Body) (steps : ℕ) → runNumbers (withElements l t) e b steps ≡ runNumbers t (bared e) b steps
+run-reads : (t : Tables) (l : List ℕ) (e : Element) (b : Body) (steps : ℕ) → runNumbers (withElementTable l t) e b steps ≡ runNumbers t (bared e) b steps
 unfolding runNumbers curveAt controlOf
 run-reads t l e b steps = refl
 
 -- ---- two tables of elements
 module _ (u : Used) (t : Tables) (k l : List ℕ) (same : (i j : ℕ) → j < 5 → numberAt elementWidth k i j ≡ numberAt elementWidth l i j) (long : length k ≡ length l) where
   abbrev T : Tables
-  T = withElements k t
+  T = withElementTable k t
 
   abbrev W : Tables
-  W = withElements l t
+  W = withElementTable l t
 
   bared-same : (i : ℕ) → bared (elementAt T i) ≡ bared (elementAt W i)
   bared-same i = rw (same i 0 (omega arith), same i 1 (omega arith), same i 2 (omega arith), same i 3 (omega arith), same i 4 (omega arith)) refl
@@ -127,7 +128,7 @@ module _ (u : Used) (t : Tables) (k l : List ℕ) (same : (i j : ℕ) → j < 5 
     unfolding runInto
     answer-run steps at points = rw (refusal-same false, run-same steps, axes-same) refl
 
-  pub names-aside : PromisedAlike u T u W
+  pub names-aside : SampledAlike sampling u T u W
   names-aside =
       record {
         curves = λ number p. answer-curve number p;

@@ -13,7 +13,7 @@ use Rattle.polyline.proofs.Granted.{agreed-polyline}
 use Rattle.polyline.proofs.Demanded.{polylines-on-curves}
 use Rattle.sampled_files.specs.Accepted.{AcceptedPolylines}
 use Rattle.sampled_files.specs.Files.{axesIn}
-use Rattle.sampled_files.proofs.Accepted.{its-curve, axes-are, close}
+use Rattle.sampled_files.proofs.Accepted.{its-obeying, is-curve, axes-are, close}
 
 pub accepted-polylines : AcceptedPolylines
 accepted-polylines R s m h number b o c k tolerance at points n l =
@@ -21,7 +21,7 @@ accepted-polylines R s m h number b o c k tolerance at points n l =
     let x = parametersOf (usedOf m) t number tolerance in
     let w = axes-are R s m h number b o c k in
     let room : at + axesOf (elementOf t number) * length x ≤ length points = subst (λ (j : ℕ). at + j * length x ≤ length points) (sym w) l in
-    let a = polylines-on-curves (usedOf m) t number tolerance at points (its-curve R s m h number b o c k) n room in
+    let a = polylines-on-curves (usedOf m) t number (its-obeying R s m h number b o c) (is-curve R s m h number b o c k) tolerance at points n room in
     let told = sym (agreed-polyline (usedOf m) t number tolerance at points) ∙ ap polylineOutcome (a .given) in
     record {
       given = ap (λ q. q .number) told;

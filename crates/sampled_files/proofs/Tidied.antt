@@ -24,7 +24,8 @@ use Rattle.tidy_form.specs.Bare.{Agree}
 use Rattle.tidy_form.proofs.Placed.{read-placed}
 use Rattle.tidy_form.proofs.TablesAgree.{placed-agree, others-same, counts-same, number-same}
 use Rattle.tidy_form.proofs.TidyRead.{tidy-read}
-use Rattle.sampled_files.specs.Joined.{PromisedAlike}
+use Rattle.sampler.specs.Demand3.{sampling}
+use Rattle.sampled_files.specs.Joined.{SampledAlike}
 use Rattle.sampled_files.specs.Accepted.{TidiedSamplesAlike}
 use Rattle.sampled_files.proofs.Names.{names-aside}
 
@@ -63,10 +64,10 @@ module _ (R : Rooms) (s t : List ℕ) (m k : Model) (p : Placed s m) (q : Placed
       long : (xs : List ℕ) → length (filled (R .elements .elements) 0 xs) ≡ length xs + (R .elements .elements - length xs)
       long xs = length-append xs (replicate (R .elements .elements - length xs) 0) ∙ ap (λ (n : ℕ). length xs + n) (length-replicate (R .elements .elements - length xs) 0)
 
-  pub agree-samples : PromisedAlike (usedOf m) (tablesOf R m) (usedOf k) (tablesOf R k)
+  pub agree-samples : SampledAlike sampling (usedOf m) (tablesOf R m) (usedOf k) (tablesOf R k)
   agree-samples =
-      subst (λ (v : Used). PromisedAlike (usedOf m) (tablesOf R m) v (tablesOf R k)) (agreeing .used)
-      (subst (PromisedAlike (usedOf m) (tablesOf R m) (usedOf m)) (others-same R R s t m k p q agreeing)
+      subst (λ (v : Used). SampledAlike sampling (usedOf m) (tablesOf R m) v (tablesOf R k)) (agreeing .used)
+      (subst (SampledAlike sampling (usedOf m) (tablesOf R m) (usedOf m)) (others-same R R s t m k p q agreeing)
       (names-aside (usedOf m) (tablesOf R m) (tablesOf R m .elements .elements) (tablesOf R k .elements .elements) numbers-same long-same))
 
 agree-back : (m k : Model) → Agree k m → Agree m k

@@ -15,9 +15,10 @@ use Rattle.tidy_form.specs.declared.Weights.{Weights}
 use Rattle.tidy_form.specs.Printed.{tidyText}
 use Rattle.record_rules.specs.Rules.{obeys, curvesBefore}
 use Rattle.sampler.specs.Answers.{refusalOf, pointOnCurve, pointOnSurface, runInto}
+use Rattle.sampler.specs.Demand3.{sampling}
 use Rattle.polyline.specs.Answers.{parametersOf, polylineInto}
 use Rattle.sampled_files.specs.Files.{axesIn}
-use Rattle.sampled_files.specs.Joined.{HasBody, Carried, PointOnCurve, PointsOfRun, PointOnSurface, PromisedAlike}
+use Rattle.sampled_files.specs.Joined.{HasBody, Carried, PointOnCurve, PointsOfRun, PointOnSurface, SampledAlike}
 use Rattle.sampled_files.specs.Polylines.{PointsOfPolyline}
 
 -- every element of the tables of an accepted text obeys the rules that 15 names
@@ -63,4 +64,4 @@ AcceptedPolylines =
 abbrev pub TidiedSamplesAlike : Type 0
 TidiedSamplesAlike =
     (c : Weights) (R : Rooms) (s : List ℕ) (m : Model) → readOf R s ≡ read m → length (tidyText c m) ≤ 16777216
-    → (k : Model) × (readOf R (tidyText c m) ≡ read k) × PromisedAlike (usedOf m) (tablesOf R m) (usedOf k) (tablesOf R k)
+    → (k : Model) × (readOf R (tidyText c m) ≡ read k) × SampledAlike sampling (usedOf m) (tablesOf R m) (usedOf k) (tablesOf R k)

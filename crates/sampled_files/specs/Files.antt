@@ -2,20 +2,19 @@
 -- 01, "How a point is made", of what a file says, with no table between: a body's directions and an element's controls.
 use Prim.Native.Nat.{ℕ, _+_, _*_, _-_}
 use mathlib.Core.List.{List, []}
+use mathlib.Core.Bool.{cond}
 use lib.ListN.{length, getD}
 use lib.IntN.{ℤ, pos}
 use Rattle.references.specs.Corner.{Corner}
-use Rattle.tables.specs.Bodies.{Basis, bezier, bspline, cardinal, taylor, controls}
+use Rattle.tables.specs.Bodies.{Basis, isBspline, controls}
 use Rattle.point_exact.specs.Directions.{Direction}
 use Rattle.point_exact.specs.Directions as curves
-use Rattle.model.specs.Model.{Vertices, Free, curve, curve2, surface, Body}
+use Rattle.model.specs.Model.{Vertices, Free, surface, Body}
+use Rattle.model.specs.Parse.{isPlanar}
 
 -- of the types that are sampled; the others are refused with 18
 abbrev pub sampledBasis : Basis → curves.PointBasis
-sampledBasis bezier = curves.bezier
-sampledBasis bspline = curves.bspline
-sampledBasis cardinal = curves.bezier
-sampledBasis taylor = curves.bezier
+sampledBasis t = cond (isBspline t) curves.bspline curves.bezier
 
 -- "Controls k along one direction, from p parameters and degree n"
 abbrev pub sampledDirection : Basis → ℕ → List ℤ → Direction
@@ -36,14 +35,10 @@ vertexOfCorner cs i = getD cs i (record { v = 0; vt = 0; vn = 0 }) .v
 
 -- "the control's number on that axis": "surf and curv give x y z, curv2 u v"; a vp record holds u and v after the count given
 abbrev pub controlIn : Vertices → Free → List Corner → (axis i : ℕ) → ℤ
-controlIn x curve cs axis i = coordinateIn (x .v) (vertexOfCorner cs i) axis
-controlIn x curve2 cs axis i = coordinateIn (x .vp) (vertexOfCorner cs i) (1 + axis)
-controlIn x surface cs axis i = coordinateIn (x .v) (vertexOfCorner cs i) axis
+controlIn x k cs axis i = cond (isPlanar k) (coordinateIn (x .vp) (vertexOfCorner cs i) (1 + axis)) (coordinateIn (x .v) (vertexOfCorner cs i) axis)
 
 abbrev pub axesIn : Free → ℕ
-axesIn curve = 3
-axesIn curve2 = 2
-axesIn surface = 3
+axesIn k = cond (isPlanar k) 2 3
 
 -- "A surface has k_u times k_v controls, u varying fastest"
 abbrev pub gridIn : Vertices → Body → List Corner → (axis i j : ℕ) → ℤ

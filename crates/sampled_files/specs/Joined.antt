@@ -15,7 +15,8 @@ use Rattle.tables.specs.declared.Used.{Used}
 use Rattle.point_exact.specs.Exact.{curveExact, surfaceExact}
 use Rattle.model.specs.Model.{Body, free, Element, Model}
 use Rattle.point_runs.specs.Runs.{parameterAt}
-use Rattle.sampler.specs.Answers.{PointAnswer, RunAnswer, pointOnCurve, pointOnSurface, runInto}
+use Rattle.sampler.specs.Answers.{PointAnswer, RunAnswer}
+use Rattle.sampler.specs.Demand3.{Sampler}
 use Rattle.sampled_files.specs.Files.{alongU, alongV, controlIn, axesIn, gridIn}
 
 -- ---- demand 3, from the text on
@@ -61,7 +62,7 @@ pub record PointOnSurface (m : Model) (b : Body) (cs : List Corner) (p q : ℤ) 
 -- ---- a text and its tidy text are sampled alike
 
 -- two sets of tables give the same answer to every request
-pub record PromisedAlike (u : Used) (t : Tables) (v : Used) (w : Tables) : Type 0 where
-  pub curves : (number : ℕ) (p : ℤ) → pointOnCurve u t number p ≡ pointOnCurve v w number p
-  pub surfaces : (number : ℕ) (p q : ℤ) → pointOnSurface u t number p q ≡ pointOnSurface v w number p q
-  pub runs : (number steps at : ℕ) (points : List ℤ) → runInto u t number steps at points ≡ runInto v w number steps at points
+pub record SampledAlike (samples : Sampler) (u : Used) (t : Tables) (v : Used) (w : Tables) : Type 0 where
+  pub curves : (number : ℕ) (p : ℤ) → samples .curve u t number p ≡ samples .curve v w number p
+  pub surfaces : (number : ℕ) (p q : ℤ) → samples .surface u t number p q ≡ samples .surface v w number p q
+  pub runs : (number steps at : ℕ) (points : List ℤ) → samples .run u t number steps at points ≡ samples .run v w number steps at points

@@ -1,33 +1,29 @@
 -- Demand 3 on curves: the refusals are passed one by one, and what is handed out is the rounded rule at rules that hold.
 use mathlib.Core.Path.{_≡_, refl, sym, ap, _∙_, subst}
-use mathlib.Core.Bool.{Bool, true, false, cond, _&&_, _||_}
-use mathlib.Core.Logic.{_⊎_, inl, inr, ⊎-elim}
+use mathlib.Core.Bool.{Bool, true, false}
+use mathlib.Core.Logic.{_⊎_, inl, inr}
 use mathlib.Core.List.{List, [], _∷_, _++_}
 use Prim.Native.Nat.{ℕ, zero, suc, _+_, _*_, _-_, _≤_, _<_}
 use native.Mathlib.Nat.{not-suc-le-zero, eq-or-lt-of-le, le-of-suc-le-suc, mul-le-mul-left}
 use native.Mathlib.Omega.{arith}
-use borrow.Author.Tests.{le-leb}
-use lib.Dec.{leb, eqb}
+use lib.Dec.{eqb}
 use lib.ListN.{length, getD, take, drop, List·getD-append}
 use lib.Seq.{length-take-le, getD-append-add}
 use lib.IntN.{ℤ, pos}
-use lib.Signed.{_≤ℤ_, leZ}
-use Rattle.lists.proofs.Tests.{test}
+use lib.Signed.{_≤ℤ_}
 use Rattle.rounding.proofs.Order.{le-yes}
-use Rattle.rounding.specs.Fractions.{Close}
 use Rattle.tables.specs.Tables.{Tables}
 use Rattle.tables.specs.declared.Body.{Body}
 use Rattle.tables.specs.declared.Used.{Used}
 use Rattle.tables.specs.declared.Element.{Element}
-use Rattle.record_rules.specs.Rules.{obeys, curvesBefore}
+use Rattle.record_rules.specs.Rules.{curvesBefore}
 use Rattle.record_rules.proofs.Element.{obeys-facts}
 use Rattle.point_exact.specs.Rules.{Rules}
-use Rattle.point_exact.specs.Exact.{curveExact}
 use Rattle.point_exact.proofs.CurveNear.{curve-near}
 use Rattle.point_runs.specs.Runs.{joined, tabulated, parameterAt}
 use Rattle.sampler.specs.Points.{directionU, controlOf, axesOf, curveAt, runNumbers}
 use Rattle.sampler.specs.Answers.{PointAnswer, RunAnswer, wanted, carried, elementOf, bodyOf, refusalOf, filledRun, curvePoint, pointOnCurve, runInto}
-use Rattle.sampler.specs.Demand3.{sampling, Curve, OnCurve, CurveClaim, PointsOnCurves, RunClaim, RunsOnCurves}
+use Rattle.sampler.specs.Demand3.{Obeying, IsCurve, PointClaim, OnCurve, RunClaim}
 use Rattle.sampler.specs.Sampling.{Curved}
 use Rattle.sampler.proofs.Obeyed.{granted, curved}
 use Rattle.sampler.proofs.Refusals.{none-given}
@@ -44,17 +40,19 @@ plain-carried rational type e (inl h) = rw (e, h)
 plain-carried rational type e (inr h) = rw (e, h)
 
 -- nothing up to 18 is given for an element of the kind wanted that obeys and is carried
-pub all-passed : (surface : Bool) (used : Used) (t : Tables) (number : ℕ) → 1 ≤ number → number ≤ used .elements → wanted surface (elementOf t number .kind) ≡ true
-    → obeys used t (curvesBefore t (number - 1)) (number - 1) ≡ true → bodyOf t number .rational ≡ 0 → (bodyOf t number .basis ≡ 1) ⊎ (bodyOf t number .basis ≡ 2)
-    → refusalOf surface used t number ≡ 0
-all-passed surface used t number some in-use kind obeyed plain type =
+pub all-passed : (surface : Bool) (used : Used) (t : Tables) (number : ℕ) → Obeying used t number → wanted surface (elementOf t number .kind) ≡ true → refusalOf surface used t number ≡ 0
+all-passed surface used t number (c, obeyed) kind =
     let o = obeys-facts used t (curvesBefore t (number - 1)) (number - 1) obeyed in
-    let l : 9 * number ≤ length (t .elements .elements) = omega (arith, o .lent-one, some) in
-    sym (none-given surface used t number some in-use l kind obeyed (plain-carried (bodyOf t number .rational) (bodyOf t number .basis) plain type))
+    let l : 9 * number ≤ length (t .elements .elements) = omega (arith, o .lent-one, c .some) in
+    sym (none-given surface used t number (c .some) (c .in-use) l kind obeyed (plain-carried (bodyOf t number .rational) (bodyOf t number .basis) (c .plain) (c .type)))
+
+-- a curve in tables that obey the rules
+abbrev pub Curve : Used → Tables → (number : ℕ) → Type 0
+Curve used t number = Obeying used t number × IsCurve t number
 
 module _ {used : Used} {t : Tables} {number : ℕ} (c : Curve used t number) where
   pub curve-given : refusalOf false used t number ≡ 0
-  curve-given = all-passed false used t number (c .some) (c .in-use) (curve-wanted (elementOf t number .kind) (c .kind)) (c .obeyed) (c .plain) (c .type)
+  curve-given = all-passed false used t number (c .0) (curve-wanted (elementOf t number .kind) (c .1))
 
   pub curve-facts : Curved t (elementOf t number) (bodyOf t number)
   curve-facts = curved used t number (granted false used t number curve-given)
@@ -116,14 +114,15 @@ pub curve-coordinate : {used : Used} {t : Tables} {number : ℕ} → Curve used 
 curve-coordinate {used} {t} {number} c p a b axis h =
     ap (λ (q : List ℤ). getD q axis (pos 0)) (curve-coordinates c p a b) ∙ listed-at (axesOf (elementOf t number)) axis (curveAt t (elementOf t number) (bodyOf t number) p) h
 
-pub points-on-curves : PointsOnCurves sampling
+pub points-on-curves : (used : Used) (t : Tables) (number : ℕ) (p : ℤ) → Curve used t number → bodyOf t number .«start_u» ≤ℤ p → p ≤ℤ bodyOf t number .«end_u»
+    → PointClaim (axesOf (elementOf t number)) (curveAt t (elementOf t number) (bodyOf t number) p) (OnCurve t number p) (pointOnCurve used t number p)
 points-on-curves used t number p c a b =
     let e = elementOf t number in
     let m = bodyOf t number in
     let s = answer-is c p a b in
     record {
       given = ap (λ (r : PointAnswer). r .outcome .number) s ∙ coordinates-are t e m p (eqb (e .kind) 5) refl .1;
-      axes = ap length (curve-coordinates c p a b) ∙ listed-length (axesOf e) (curveAt t e m p);
+      rounded = curve-coordinates c p a b;
       near = λ axis h. subst (OnCurve t number p axis) (sym (curve-coordinate c p a b axis h)) (curve-close c p a b axis);
     }
 
@@ -166,12 +165,12 @@ module _ {used : Used} {t : Tables} {number : ℕ} (c : Curve used t number) (st
       ∙ List·getD-append (runNumbers t e m steps) rest (pos 0) i l
       ∙ number-is j axis h k
 
-pub runs-on-curves : RunsOnCurves sampling
+pub runs-on-curves : (used : Used) (t : Tables) (number steps at : ℕ) (points : List ℤ) → Curve used t number → 1 ≤ steps → steps ≤ 65536
+    → at + axesOf (elementOf t number) * (steps + 1) ≤ length points → RunClaim t number steps at points (runInto used t number steps at points)
 runs-on-curves used t number steps at points c some most room =
     let m = bodyOf t number in
     record {
-      given = ap (λ (r : RunAnswer). r .outcome .number) (filled c steps at points some most room);
-      count = ap (λ (r : RunAnswer). r .outcome .count) (filled c steps at points some most room);
+      rounded = filled c steps at points some most room;
       near = λ j axis h k. subst (OnCurve t number (parameterAt (m .«start_u») (m .«end_u») steps j) axis) (sym (run-coordinate c steps at points some most room j axis h k))
           (curve-close c (parameterAt (m .«start_u») (m .«end_u») steps j) (parameter-from (m .«start_u») (m .«end_u») (ordered c) steps j)
           (parameter-upto (m .«start_u») (m .«end_u») (ordered c) steps j h) axis);

@@ -1,11 +1,11 @@
 -- What an element that obeys gives the sampler: its records are lent, its controls held, its ranges those of a curve or a surface.
-use mathlib.Core.Path.{_≡_, refl, sym, ap, ap₂, _∙_, subst}
+use mathlib.Core.Path.{_≡_, refl, sym, ap₂, _∙_, subst}
 use mathlib.Core.Bool.{Bool, true, false, cond, _&&_, _||_}
 use mathlib.Core.Logic.{_⊎_, inl, inr, ⊎-elim}
 use mathlib.Core.List.{List}
-use Prim.Native.Nat.{ℕ, zero, suc, _+_, _*_, _-_, _≤_, _<_}
+use Prim.Native.Nat.{ℕ, _+_, _*_, _-_, _≤_, _<_}
 use native.Mathlib.Omega.{arith}
-use borrow.Author.Tests.{leb-true, eqb-true, ne-eqb, eq-eqb}
+use borrow.Author.Tests.{leb-true, eqb-true, eq-eqb}
 use lib.Dec.{leb, eqb}
 use lib.ListN.{length, getD, take, drop, length-drop}
 use lib.Seq.{length-take-le, getD-take, getD-drop}
@@ -13,24 +13,17 @@ use lib.IntN.{ℤ, pos}
 use Rattle.lists.proofs.Tests.{and-left, and-right, test, never}
 use Rattle.rounding.specs.Range.{InRange}
 use Rattle.tables.specs.Tables.{Tables}
-use Rattle.tables.specs.Records.{bodyAt, elementAt, cornerAt, parametersU, parametersV}
-use Rattle.tables.specs.declared.Body.{Body}
 use Rattle.tables.specs.Bodies.{enough, controls, inOrder, curveCount, surfaceCount, basisOf}
 use Rattle.tables.specs.declared.CornerRun.{CornerRun}
 use Rattle.tables.specs.declared.Used.{Used}
-use Rattle.tables.specs.declared.Element.{Element}
 use Rattle.record_rules.specs.Numbers.{inRange}
 use Rattle.record_rules.specs.Rules.{obeys, curvesBefore}
-use Rattle.record_rules.specs.Bodies.{bodyObeys}
 use Rattle.record_rules.proofs.OneVertex.{Vertex}
-use Rattle.record_rules.proofs.OneBody.{Run, run-v}
-use Rattle.record_rules.proofs.Facts.{Corners, corner-vertex, corner-control, Curve, Surface, degree-facts}
-use Rattle.record_rules.proofs.Element.{Recorded, recorded, curve-of, surface-of, Obeys, obeys-facts, body-of}
+use Rattle.record_rules.proofs.Facts.{Corners, corner-vertex, corner-control, degree-facts}
+use Rattle.record_rules.proofs.Element.{recorded, curve-of, surface-of, obeys-facts, body-of}
 use Rattle.basis.proofs.Basis.{curve-enough, surface-enough-u, surface-enough-v}
 use Rattle.point_exact.specs.Directions.{at}
-use Rattle.point_rows.specs.Finding.{Sized}
 use Rattle.point_rows.specs.Controls.{controlAt, ControlsLent}
-use Rattle.point_runs.specs.Inner.{Ranged}
 use Rattle.sampler.specs.Points.{bodyDirection}
 use Rattle.sampler.specs.Answers.{wanted, carried, elementOf, bodyOf, refusalOf}
 use Rattle.sampler.specs.Sampling.{Directed, Curved, Surfaced}

@@ -4,11 +4,12 @@ use mathlib.Core.Bool.{true}
 use mathlib.Core.List.{List}
 use Prim.Native.Nat.{ℕ, _<_}
 use borrow.Author.Tests.{eq-eqb}
-use lib.ListN.{length, getD}
+use lib.ListN.{getD}
 use lib.IntN.{ℤ, pos}
 use lib.Signed.{_≤ℤ_}
 use Rattle.rounding.proofs.Order.{le-yes}
 use Rattle.tables.specs.Tables.{Tables}
+use Rattle.tables.specs.Records.{surfaceKind}
 use Rattle.tables.specs.declared.Body.{Body}
 use Rattle.tables.specs.declared.Used.{Used}
 use Rattle.tables.specs.declared.Element.{Element}
@@ -17,11 +18,14 @@ use Rattle.point_exact.proofs.SurfaceNear.{surface-near}
 use Rattle.point_runs.specs.Runs.{tabulated}
 use Rattle.sampler.specs.Points.{directionU, directionV, gridOf, surfaceAt}
 use Rattle.sampler.specs.Answers.{PointAnswer, elementOf, bodyOf, refusalOf, surfacePoint, pointOnSurface}
-use Rattle.sampler.specs.Demand3.{sampling, Surface, OnSurface, SurfaceClaim, PointsOnSurfaces}
+use Rattle.sampler.specs.Demand3.{sampling, Obeying, PointClaim, OnSurface, ElementsSampled}
 use Rattle.sampler.specs.Sampling.{Surfaced}
 use Rattle.sampler.proofs.Obeyed.{granted, surfaced}
-use Rattle.point_runs.proofs.Written.{listed-length}
-use Rattle.sampler.proofs.Demanded.{all-passed, listed-at}
+use Rattle.sampler.proofs.Demanded.{all-passed, listed-at, points-on-curves, runs-on-curves}
+
+-- a surface in tables that obey the rules
+abbrev pub Surface : Used → Tables → (number : ℕ) → Type 0
+Surface used t number = Obeying used t number × (elementOf t number .kind ≡ surfaceKind)
 
 module _ {used : Used} {t : Tables} {number : ℕ} (c : Surface used t number) where
   abbrev e : Element
@@ -31,7 +35,7 @@ module _ {used : Used} {t : Tables} {number : ℕ} (c : Surface used t number) w
   b = bodyOf t number
 
   surface-given : refusalOf true used t number ≡ 0
-  surface-given = all-passed true used t number (c .some) (c .in-use) (eq-eqb (e .kind) 6 (c .kind)) (c .obeyed) (c .plain) (c .type)
+  surface-given = all-passed true used t number (c .0) (eq-eqb (e .kind) 6 (c .1))
 
   pub surface-facts : Surfaced t e b
   surface-facts = surfaced used t number (granted true used t number surface-given)
@@ -74,11 +78,21 @@ pub surface-coordinate : {used : Used} {t : Tables} {number : ℕ} → Surface u
 surface-coordinate {used} {t} {number} c p q f g h k axis m =
     ap (λ (i : List ℤ). getD i axis (pos 0)) (surface-coordinates c p q f g h k) ∙ listed-at 3 axis (surfaceAt t (elementOf t number) (bodyOf t number) p q) m
 
-pub points-on-surfaces : PointsOnSurfaces sampling
+pub points-on-surfaces : (used : Used) (t : Tables) (number : ℕ) (p q : ℤ) → Surface used t number
+    → bodyOf t number .«start_u» ≤ℤ p → p ≤ℤ bodyOf t number .«end_u» → bodyOf t number .«start_v» ≤ℤ q → q ≤ℤ bodyOf t number .«end_v»
+    → PointClaim 3 (surfaceAt t (elementOf t number) (bodyOf t number) p q) (OnSurface t number p q) (pointOnSurface used t number p q)
 points-on-surfaces used t number p q c f g h k =
     let s = answer-is c p q f g h k in
     record {
       given = ap (λ (r : PointAnswer). r .outcome .number) s ∙ not-refused t (elementOf t number) (bodyOf t number) p q;
-      axes = ap length (surface-coordinates c p q f g h k) ∙ listed-length 3 (surfaceAt t (elementOf t number) (bodyOf t number) p q);
+      rounded = surface-coordinates c p q f g h k;
       near = λ axis m. subst (OnSurface t number p q axis) (sym (surface-coordinate c p q f g h k axis m)) (surface-close c p q f g h k axis);
+    }
+
+pub elements-sampled : ElementsSampled sampling
+elements-sampled used t number o =
+    record {
+      curve = λ k p a b. points-on-curves used t number p (o, k) a b;
+      run = λ k steps at points some most room. runs-on-curves used t number steps at points (o, k) some most room;
+      surface = λ k p q f g h l. points-on-surfaces used t number p q (o, k) f g h l;
     }

@@ -1,7 +1,7 @@
 -- A direction that obeys 12 and 13 obeys the rules of curves at every parameter of its range, for the two types that are sampled.
-use mathlib.Core.Path.{_≡_, refl, sym, ap, _∙_, subst}
-use mathlib.Core.Bool.{Bool, true, false, cond, _&&_}
-use mathlib.Core.Logic.{_⊎_, inl, inr, ⊎-elim}
+use mathlib.Core.Path.{_≡_, refl, sym, subst}
+use mathlib.Core.Bool.{true, _&&_}
+use mathlib.Core.Logic.{_⊎_, ⊎-elim}
 use mathlib.Core.List.{List, [], _∷_}
 use Prim.Native.Nat.{ℕ, zero, suc, _+_, _*_, _-_, _≤_, _<_}
 use native.Mathlib.Nat.{not-suc-le-zero, le-of-suc-le-suc}
@@ -17,8 +17,6 @@ use Rattle.rounding.proofs.Order.{yes-le, yes-lt, ≤ℤ-trans, ≤ℤ-<ℤ-tra
 use Rattle.tables.specs.Bodies.{Basis, bezier, bspline, enough, rising, steady, ordered, continuous, low, high, ranged, inOrder, basisOf}
 use Rattle.point_exact.specs.Directions.{at}
 use Rattle.point_exact.specs.Rules.{BezierRules, SplineRules, Rules}
-use Rattle.point_rows.specs.Places.{direction}
-use Rattle.point_rows.specs.Finding.{Sound}
 use Rattle.point_runs.specs.Inner.{Ranged}
 use Rattle.sampler.specs.Points.{bodyDirection}
 use Rattle.point_runs.proofs.Steps.{small-between}

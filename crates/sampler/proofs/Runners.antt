@@ -16,14 +16,12 @@ use Rattle.tables.specs.Records.{parametersU}
 use Rattle.tables.specs.declared.Body.{Body}
 use Rattle.tables.specs.declared.Used.{Used}
 use Rattle.tables.specs.declared.Element.{Element}
-use Rattle.point_exact.specs.Sampled.{curveSampled}
-use Rattle.point_rows.specs.Places.{direction}
-use Rattle.point_rows.specs.Controls.{controlAt, ControlsLent}
+use Rattle.point_rows.specs.Controls.{ControlsLent}
 use Rattle.point_runs.specs.Runs.{joined, tabulated, parameterAt}
 use Rattle.point_runs.specs.Inner.{curvePointAt, pointsUpto, Ranged}
 use Rattle.sampler.specs.Points.{bodyDirection, axesOf, controlOf, curveAt, runNumbers}
 use Rattle.sampler.specs.Answers.{runAnswer, elementOf, bodyOf, refusalOf, filledRun, runInto}
-use Rattle.point_runs.specs.Inner.{runBy, axesBy}
+use Rattle.point_runs.specs.Inner.{runBy}
 use Rattle.point_rows.specs.declared.BodyDirection.{BodyDirection}
 use Rattle.sampler.specs.declared.RunResult.{RunResult}
 use Rattle.sampler.specs.declared.RunResult.the-variants as ran

@@ -18,8 +18,6 @@ use Rattle.sampler.specs.declared.PointResult.{PointResult}
 use Rattle.sampler.specs.declared.PointResult.the-variants as sampled
 use Rattle.sampler.specs.declared.RunResult.{RunResult}
 use Rattle.sampler.specs.declared.RunResult.the-variants as ran
-use Rattle.sampler.specs.declared.Lookup.{Lookup}
-use Rattle.sampler.specs.declared.Lookup.the-variants as lookup
 
 -- "Any answer that is an enum has a definition that gives this paper's number and values for each of the enum's cases".
 -- A point: the number of refusal, 0 where it is handed out, and its coordinates, "surf and curv give x y z, curv2 u v".
@@ -91,13 +89,13 @@ abbrev pub inside : (start end p : ℤ) → Bool
 inside start end p = leZ start p && leZ p end
 
 abbrev pub refusedPoint : ℕ → PointAnswer
-refusedPoint n = record { answer = sampled.Refused n; outcome = record { number = n; coordinates = [] } }
+refusedPoint n = pointAnswer (sampled.Refused n)
 
 abbrev pub spacePoint : (x y z : ℤ) → PointAnswer
-spacePoint x y z = record { answer = sampled.Space x y z; outcome = record { number = 0; coordinates = x ∷ y ∷ z ∷ [] } }
+spacePoint x y z = pointAnswer (sampled.Space x y z)
 
 abbrev pub planePoint : (u v : ℤ) → PointAnswer
-planePoint u v = record { answer = sampled.Plane u v; outcome = record { number = 0; coordinates = u ∷ v ∷ [] } }
+planePoint u v = pointAnswer (sampled.Plane u v)
 
 -- "surf and curv give x y z, curv2 u v"
 unfoldable pub curvePoint : Tables → Element → Body → (p : ℤ) → PointAnswer
@@ -129,15 +127,10 @@ pointOnSurface used t number p q =
 
 -- "A refused .. sampling leaves the output as it was; success writes only .. the named part"
 abbrev pub refusedRun : ℕ → List ℤ → RunAnswer
-refusedRun n points = record { answer = ran.Refused n; outcome = record { number = n; count = 0 }; points = points }
+refusedRun n points = runAnswer (ran.Refused n) points
 
 abbrev pub filledRun : (count at : ℕ) → List ℤ → List ℤ → RunAnswer
-filledRun count at numbers points =
-    record {
-      answer = ran.Filled count;
-      outcome = record { number = 0; count = count };
-      points = take at points ++ (numbers ++ drop count (drop at points));
-    }
+filledRun count at numbers points = runAnswer (ran.Filled count) (take at points ++ (numbers ++ drop count (drop at points)))
 
 -- "or a run of 0 or over 65,536 steps; 16 no room for the run"; it "fills the caller's point table from a chosen place onward, counted in numbers"
 unfoldable pub runInto : Used → Tables → (number steps at : ℕ) → List ℤ → RunAnswer

@@ -1,10 +1,9 @@
 -- Must be believed: a promise reaches every definition of this file.
 -- 01, "How a point is made", over the tables: an element's directions, its controls and its points.
-use mathlib.Core.Bool.{Bool, cond, _&&_, _||_}
-use mathlib.Core.List.{List, [], _∷_}
+use mathlib.Core.Bool.{cond}
+use mathlib.Core.List.{List}
 use Prim.Native.Nat.{ℕ, _+_, _*_, _-_}
-use lib.Dec.{leb, eqb}
-use lib.ListN.{length}
+use lib.Dec.{eqb}
 use lib.IntN.{ℤ}
 use Rattle.tables.specs.Tables.{Tables}
 use Rattle.tables.specs.Records.{cornerAt, valueAt, vWidth, vpWidth, parametersU, parametersV, curve2Kind}

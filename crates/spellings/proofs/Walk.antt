@@ -1,9 +1,9 @@
 -- A table walked row by row: the rows that are left find what all of them find.
 use Prim.Native.Nat.{ℕ, zero, suc, _+_, _*_, _-_, _≤_, _<_}
-use mathlib.Core.Path.{_≡_, refl, sym, ap, _∙_}
+use mathlib.Core.Path.{_≡_, refl, ap, _∙_}
 use mathlib.Core.Logic.{⊎-elim}
-use mathlib.Core.List.{List, [], _∷_}
-use mathlib.Core.Bool.{Bool, true, false, cond, _&&_}
+use mathlib.Core.List.{List}
+use mathlib.Core.Bool.{Bool, true, false}
 use native.Mathlib.Omega.{arith}
 use borrow.Author.Tests.{lt-ltb, le-ltb}
 use lib.ListN.{length, drop, getD}
@@ -14,7 +14,6 @@ use Rattle.lists.proofs.Tests.{test, and-left, and-right}
 use Rattle.text.specs.Words.{wordOf}
 use Rattle.text.specs.Rest.{endOf}
 use Rattle.spellings.specs.Lookup.{rowIn, foundIn, wordAhead, aheadIn}
-use Rattle.spellings.specs.declared.Found.{Found}
 use Rattle.spellings.proofs.Compare.{compareOf, word-some, front-differs}
 
 abbrev pub sameAt : List ℕ → ℕ → List ℕ → ℕ → Bool

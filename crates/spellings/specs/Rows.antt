@@ -1,17 +1,15 @@
 -- Must be believed: a promise reaches every definition of this file.
 -- Tables of spellings: what a word finds in one, and how the code lays one out.
-use Prim.Native.Nat.{ℕ, zero, suc, _+_, _-_, _≤_, _<_}
+use Prim.Native.Nat.{ℕ, zero, suc, _+_, _≤_, _<_}
 use mathlib.Core.Path.{_≡_}
 use mathlib.Core.Logic.{_↔_}
 use Prim.Native.Char.{code}
 use Prim.Native.String.{String, [] as empty, _∷_ as _then_}
-use mathlib.Core.List.{List, [], _∷_, _++_}
-use mathlib.Core.Bool.{Bool, true, false, cond, _&&_}
-use lib.ListN.{length, drop, getD, replicate}
+use mathlib.Core.List.{List, [], _∷_}
+use mathlib.Core.Bool.{cond}
+use lib.ListN.{length}
 use lib.Dec.{eqb, leb, ltb}
 use Rattle.lists.specs.Lists.{same}
-use Rattle.text.specs.Bytes.{isWord}
-use Rattle.text.specs.Words.{wordOf}
 use Rattle.spellings.specs.declared.Found.{Found}
 
 -- a spelling's bytes

@@ -31,6 +31,12 @@ isSurface free.Curve = false
 isSurface free.Curve2 = false
 isSurface free.Surface = true
 
+-- a curv2 lies in the plane of a surface's parameters
+abbrev pub isPlanar : Free → Bool
+isPlanar free.Curve = false
+isPlanar free.Curve2 = true
+isPlanar free.Surface = false
+
 -- in a body of an element of a kind that f lets in
 abbrev pub inBody : Option Free → (Free → Bool) → Bool
 inBody none f = false
@@ -90,9 +96,7 @@ rangeWords free.Curve2 = 0
 rangeWords free.Surface = 4
 
 abbrev pub fewestControls : Free → ℕ
-fewestControls free.Curve = 2
-fewestControls free.Curve2 = 2
-fewestControls free.Surface = 1
+fewestControls k = cond (isSurface k) 1 2
 
 -- ---- 4 of a type, 6, 7, 8: the form of word i, from 0, of n words
 abbrev pub formBy : Forms → ℕ → ℕ → WordForm

@@ -19,7 +19,8 @@ use Rattle.tables.specs.declared.Used.{Used}
 use Rattle.tables.specs.declared.Corner.{Corner}
 use Rattle.model.specs.Model.{VertexKind, geometric, texture, normal, parametric}
 use Rattle.table_rules.specs.Whole.{wholeObeys}
-use Rattle.sweep_marks.specs.Marks.{numberListed, cornerBy, cornerNumbers, markedRun, runsBy, cornersUpto}
+use Rattle.tables.specs.Rows.{cornerNumbers}
+use Rattle.sweep_marks.specs.Marks.{numberListed, cornerBy, markedRun, runsBy, cornersUpto}
 use Rattle.sweep_marks.proofs.Counting.{kept-dropped, kept-most}
 use Rattle.sweep_marks.proofs.FlatBelow.{flatBelow-same}
 use Rattle.sweep_marks.proofs.Numbering.{length-numbers, numbers-at}

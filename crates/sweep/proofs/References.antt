@@ -18,7 +18,7 @@ use Rattle.record_rules.specs.Vertices.{vertexObeys, parameterVertexObeys, cont
 use Rattle.record_rules.specs.Corners.{withTexture, withNormal, attributeObeys, pointObeys, cornerObeys}
 use Rattle.record_rules.proofs.OneVertex.{Vertex, vertex-facts, parameter-facts}
 use Rattle.record_rules.proofs.Element.{obeys-facts}
-use Rattle.table_rules.specs.Whole.{endsBefore, elementFollows, wholeObeys}
+use Rattle.table_rules.specs.Whole.{endsBefore, wholeObeys}
 use Rattle.sweep_marks.specs.Marks.{cornersUpto}
 use Rattle.sweep.specs.Named.{usedOfKind, reference}
 use Rattle.sweep.proofs.Whole.{Whole, whole-parts, elements-facts, runs-at, runs-end}

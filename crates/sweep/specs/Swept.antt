@@ -107,18 +107,12 @@ numbersNeeded used = used .v + used .vt + used .vn + used .vp
 
 -- "both leave all tables and the list as they were"
 abbrev pub refusedSweep : ℕ → Tables → List ℕ → SweepAnswer
-refusedSweep n t numbers =
-    record { answer = result.Refused n; outcome = record { number = n; used = noneUsed; dropped = noneDropped }; tables = t; numbers = numbers }
+refusedSweep n t numbers = sweepAnswer (result.Refused n) t numbers
 
 -- "in a lent list whose rest stays as it was"
 abbrev pub sweptAnswer : Used → Tables → List ℕ → SweepAnswer
 sweptAnswer used t numbers =
-    record {
-      answer = result.Swept (sweptUsed used t) (droppedOf used t);
-      outcome = record { number = 0; used = sweptUsed used t; dropped = droppedOf used t };
-      tables = sweptTables used t;
-      numbers = sweptNumbers used t ++ drop (numbersNeeded used) numbers;
-    }
+    sweepAnswer (result.Swept (sweptUsed used t) (droppedOf used t)) (sweptTables used t) (sweptNumbers used t ++ drop (numbersNeeded used) numbers)
 
 -- "15 if any record .. breaks a rule ..; 16 if the list of new numbers lacks room"
 unfoldable pub sweepInto : Used → Tables → List ℕ → SweepAnswer

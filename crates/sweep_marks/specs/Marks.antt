@@ -1,9 +1,10 @@
 -- What the passes over one kind of record leave, each as a definition over lists: marks, numbers, rows, corners. Only inner contracts cite these.
-use Prim.Native.Nat.{ℕ, zero, suc, _+_, _*_}
-use mathlib.Core.List.{List, [], _∷_}
+use Prim.Native.Nat.{ℕ, zero, suc, _+_}
+use mathlib.Core.List.{List}
 use mathlib.Core.Bool.{Bool, false, cond, not}
 use lib.ListN.{getD, set}
 use lib.Dec.{eqb}
+use Rattle.tables.specs.Rows.{cornerNumbers}
 use Rattle.tables.specs.Records.{elementIn, cornerIn, cornerPlace, cornersLength, curve2Kind}
 use Rattle.tables.specs.declared.Used.{Used}
 use Rattle.tables.specs.declared.Element.{Element}
@@ -79,9 +80,6 @@ cornerBy used numbers e c =
       vt = numberListed numbers (used .v) (c .vt);
       vn = numberListed numbers (used .v + used .vt) (c .vn);
     }
-
-abbrev pub cornerNumbers : Corner → List ℕ
-cornerNumbers c = c .v ∷ c .vt ∷ c .vn ∷ []
 
 -- those of the first n corners of a run, and of the first n elements
 unfoldable pub markedRun : Used → List ℕ → List ℕ → (e : ℕ) → CornerRun → (n : ℕ) → List ℕ

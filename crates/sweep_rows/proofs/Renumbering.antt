@@ -16,7 +16,8 @@ use Rattle.tables.specs.declared.Used.{Used}
 use Rattle.tables.specs.declared.Corner.{Corner}
 use Rattle.tables.specs.declared.CornerRun.{CornerRun}
 use Rattle.sweep_marks.specs.Counting.{flatBelow}
-use Rattle.sweep_marks.specs.Marks.{numberListed, cornerBy, cornerNumbers, markedRun, runsBy, cornersUpto}
+use Rattle.tables.specs.Rows.{cornerNumbers}
+use Rattle.sweep_marks.specs.Marks.{numberListed, cornerBy, markedRun, runsBy, cornersUpto}
 use Rattle.sweep_marks.proofs.FlatBelow.{flatBelow-same, flatBelow-length}
 use Rattle.sweep_rows.proofs.Stored.{getD-sets-past}
 

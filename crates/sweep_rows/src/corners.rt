@@ -1,6 +1,6 @@
 // The corners' references renumbered.
 ghost use mathlib.Core.Path.{_≡_};
-ghost use Prim.Native.Nat.{ℕ, _+_, _*_, _≤_, _<_};
+ghost use Prim.Native.Nat.{ℕ, _+_, _≤_, _<_};
 ghost use mathlib.Core.Bool.{cond};
 ghost use lib.Dec.{eqb};
 ghost use lib.ListN.{length};
@@ -53,7 +53,8 @@ fn renumber_run(used: Used, numbers: &[u32], corners: &mut [u32], kind: u32, run
         let k = j as usize;
         let old = tables::lent_corner(corners, run, k);
         let new = corner_by(used, numbers, kind, old);
-        table_store::put3_u32(corners, tables::corner_place(run, k), new.v, new.vt, new.vn);
+        let row = tables::corner_row(new);
+        table_store::put_u32(corners, tables::corner_place(run, k), &row);
         j += 1;
     }
 }

@@ -1,13 +1,14 @@
 -- Tables in which every record is named: a sweep of them keeps every record where it is, and every number.
 use Prim.Native.Nat.{ℕ, _*_, _≤_, _<_}
 use mathlib.Core.Path.{_≡_, refl, ap, ap₂, _∙_}
-use mathlib.Core.List.{List, [], _∷_}
+use mathlib.Core.List.{[], _∷_}
 use mathlib.Core.Bool.{Bool, true, false, cond}
 use native.Mathlib.Omega.{arith}
 use lib.ListN.{take}
 use lib.Dec.{eqb}
 use Rattle.tables.specs.Tables.{Tables}
 use Rattle.tables.specs.Records.{elementAt, cornerAt}
+use Rattle.tables.specs.Rows.{cornerNumbers}
 use Rattle.tables.specs.declared.Used.{Used}
 use Rattle.tables.specs.declared.Corner.{Corner}
 use Rattle.model.specs.Model.{VertexKind, geometric, texture, normal, parametric}
@@ -19,10 +20,6 @@ use Rattle.sweep_marks.proofs.Counting.{kept-dropped}
 use Rattle.swept_files.proofs.Counting.{kept-all, new-named}
 use Rattle.swept_files.proofs.Rows.{rows-all}
 use Rattle.swept_files.proofs.Standing.{Standing, reference-in}
-
--- the numbers of a corner
-abbrev pub cornerNumbers : Corner → List ℕ
-cornerNumbers c = c .v ∷ c .vt ∷ c .vn ∷ []
 
 module _ (used : Used) (t : Tables) (all : (kind : VertexKind) (k : ℕ) → 1 ≤ k → k ≤ usedOfKind kind used → named used t kind k ≡ true) where
   kept-same : (kind : VertexKind) → keptIn used t kind ≡ usedOfKind kind used

@@ -133,7 +133,7 @@ module _ (used : Used) (t : Tables) (s : Standing used t) (numbers : List ℕ) (
       let u = used-in used t kind in
       (omega arith, omega arith)
 
-  all-renumbered : Renumbered used t (sweptAnswer used t numbers) kind
+  all-renumbered : Renumbered used t (sweptAnswer used t numbers) kind after
   all-renumbered =
       record {
         zeros = λ k a b e. after-is k b ∙ rw e;
@@ -146,7 +146,7 @@ module _ (used : Used) (t : Tables) (s : Standing used t) (numbers : List ℕ) (
       }
 
 pub renumbered : (used : Used) (t : Tables) → wholeObeys used t ≡ true → (numbers : List ℕ) → numbersNeeded used ≤ length numbers
-    → (kind : VertexKind) → Renumbered used t (sweptAnswer used t numbers) kind
+    → (kind : VertexKind) → Renumbered used t (sweptAnswer used t numbers) kind (numberAfter kind used (sweptAnswer used t numbers .numbers))
 renumbered used t h numbers room kind = all-renumbered used t (standing used t h) numbers kind
 
 pub rest-kept : (used : Used) (t : Tables) (numbers : List ℕ) → numbersNeeded used ≤ length numbers → RestKept used numbers (sweptAnswer used t numbers .numbers)

@@ -1,6 +1,6 @@
 -- "A second sweep changes no table": every record that is left is named, since the corner that named it still does.
 use Prim.Native.Nat.{ℕ, zero, suc, _*_, _≤_, _<_}
-use mathlib.Core.Path.{_≡_, refl, sym, ap, ap₂, _∙_, subst}
+use mathlib.Core.Path.{_≡_, sym, ap, ap₂, _∙_, subst}
 use mathlib.Core.List.{List}
 use mathlib.Core.Bool.{true}
 use native.Mathlib.Omega.{arith}
@@ -32,7 +32,8 @@ use Rattle.swept_files.proofs.Standing.{Standing, standing, reference-i
 use Rattle.swept_files.proofs.ElementAfter.{corners-lent}
 use Rattle.swept_files.proofs.SweptObeys.{swept-obeys}
 use Rattle.swept_files.proofs.Given.{sweep-is}
-use Rattle.swept_files.proofs.AllNamed.{cornerNumbers, used-same, dropped-none, rows-same, corner-same}
+use Rattle.tables.specs.Rows.{cornerNumbers}
+use Rattle.swept_files.proofs.AllNamed.{used-same, dropped-none, rows-same, corner-same}
 
 module _ (used : Used) (t : Tables) (h : wholeObeys used t ≡ true) where
   abbrev U : Used

@@ -16,7 +16,7 @@ use Rattle.references.specs.Corner.{Corner, alike, Parts}
 use Rattle.references.specs.Fits.{referenceFits, partFits, cornerFits}
 use Rattle.model.specs.Model.{VertexKind, geometric, texture, normal, parametric, Vertices, Shape, Free, curve, curve2, surface, Loop, Body, Kind, plain, free, Element, Model, isCurve2, countsOf}
 use Rattle.model.specs.Statements.{element, body, loop}
-use Rattle.model.specs.Parse.{WordForm, a-number, a-corner, a-control, a-curve, Value, number, corner, Seen, counted, formOf, rangeWords, controlForm, an-element, a-body, parts}
+use Rattle.model.specs.Parse.{isPlanar, WordForm, a-number, a-corner, a-control, a-curve, Value, number, corner, Seen, counted, formOf, rangeWords, controlForm, an-element, a-body, parts}
 use Rattle.tidy_form.specs.declared.Weights.the-variants as weights
 use Rattle.tidy_form.specs.Printed.{rangeOf}
 use Rattle.tidy_form.specs.Tidied.{unsettled, atLine}
@@ -33,16 +33,10 @@ use Rattle.swept_files.proofs.Counting.{new-zero}
 use Rattle.swept_files.proofs.NewNumbers.{new-none, new-record, reference-new, part-new}
 use Rattle.model.proofs.ElementRows.{noCorner}
 
--- a curv2's controls are vp
-abbrev planar : Free → Bool
-planar curve = false
-planar curve2 = true
-planar surface = false
-
-line-planar : (b : Body) → planar (atLine b .free) ≡ isCurve2 (free b)
+line-planar : (b : Body) → isPlanar (atLine b .free) ≡ isCurve2 (free b)
 line-planar b = go (b .free) refl
   where
-    go : (k : Free) → b .free ≡ k → planar (atLine b .free) ≡ isCurve2 (free b)
+    go : (k : Free) → b .free ≡ k → isPlanar (atLine b .free) ≡ isCurve2 (free b)
     go curve e = rw e
     go curve2 e = rw e
     go surface e = rw e
@@ -118,8 +112,8 @@ module _ (m : Model) where
           reference-new (namedIn m parametric) (x .vp) (c .v) (N parametric) (ap (referenceFits (length (x .vp))) v ∙ f .2),
         )
 
-    line-new : (k : Free) (q : Bool) (c : Corner) → CornerNamed (planar k) c → Fits before (cond q a-number (controlForm k)) (corner c)
-        → Fits after (cond q a-number (controlForm k)) (corner (sweptCorner m (planar k) c))
+    line-new : (k : Free) (q : Bool) (c : Corner) → CornerNamed (isPlanar k) c → Fits before (cond q a-number (controlForm k)) (corner c)
+        → Fits after (cond q a-number (controlForm k)) (corner (sweptCorner m (isPlanar k) c))
     line-new k true c N f = absurd (let s = f .1 in let z : _≡_ {A = ℕ} 0 1 = cc in omega arith)
     line-new curve false c N f = corner-new (record { vt = false; vn = false }) c N f
     line-new curve2 false c N f = control-new c N f
@@ -169,23 +163,23 @@ module _ (m : Model) where
         and-both (ap (λ (z : List ℤ). leb 2 (natAbs (getD z 0 (pos 0)))) (new-record (namedIn m parametric) (x .vp) [] (c .v) (N .0 parametric) (p .0)) ∙ and-left (wide x c) _ h)
         (all-wide cs (N .1) (p .1) (and-right (wide x c) _ h))
 
-    wide-new : (b : Body) (k : Free) (cs : List Corner) → Each (CornerNamed (planar k)) cs → Fitting before (λ i. cond (ltb i (rangeWords k)) a-number (controlForm k)) 0 (map number (rangeOf k b) ++ map corner cs)
-        → wideIn k x cs ≡ true → wideIn k y (map (sweptCorner m (planar k)) cs) ≡ true
+    wide-new : (b : Body) (k : Free) (cs : List Corner) → Each (CornerNamed (isPlanar k)) cs → Fitting before (λ i. cond (ltb i (rangeWords k)) a-number (controlForm k)) 0 (map number (rangeOf k b) ++ map corner cs)
+        → wideIn k x cs ≡ true → wideIn k y (map (sweptCorner m (isPlanar k)) cs) ≡ true
     wide-new b curve cs N f h = refl
     wide-new b curve2 cs N f h = all-wide cs N (positive 0 cs f) h
     wide-new b surface cs N f h = refl
 
-    body-new : (b : Body) (cs : List Corner) → Each (CornerNamed (planar (b .free))) cs → Fine x n (body b cs) → Fine y n (body b (map (sweptCorner m (planar (b .free))) cs))
+    body-new : (b : Body) (cs : List Corner) → Each (CornerNamed (isPlanar (b .free))) cs → Fine x n (body b cs) → Fine y n (body b (map (sweptCorner m (isPlanar (b .free))) cs))
     body-new b cs N f =
         let k = b .free in
-        let g = sweptCorner m (planar k) in
+        let g = sweptCorner m (isPlanar k) in
         let r = map number (rangeOf k b) in
         let l : length (r ++ map corner (map g cs)) ≡ length (r ++ map corner cs) =
         length-append r (map corner (map g cs)) ∙ ap (λ (j : ℕ). length r + j) (length-map (map g cs) corner ∙ length-map cs g ∙ sym (length-map cs corner)) ∙ sym (length-append r (map corner cs)) in
         record {
           many = λ c. ap (counted (a-body k)) l ∙ f .many c;
-          fits = λ w. values-new (planar k) (λ i. cond (ltb i (rangeWords k)) a-number (controlForm k)) (λ i c. line-new k (ltb i (rangeWords k)) c) (λ i z. number-new k (ltb i (rangeWords k)) z) 0 (rangeOf k b) cs N (f .fits w);
-          whole = (uniform-new (planar k) cs N (f .whole .0), wide-new b k cs N (f .fits weights.Always) (f .whole .1));
+          fits = λ w. values-new (isPlanar k) (λ i. cond (ltb i (rangeWords k)) a-number (controlForm k)) (λ i c. line-new k (ltb i (rangeWords k)) c) (λ i z. number-new k (ltb i (rangeWords k)) z) 0 (rangeOf k b) cs N (f .fits w);
+          whole = (uniform-new (isPlanar k) cs N (f .whole .0), wide-new b k cs N (f .fits weights.Always) (f .whole .1));
         }
 
     -- ---- a loop refers to curv2 elements alone

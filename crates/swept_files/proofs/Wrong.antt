@@ -12,7 +12,7 @@ use Rattle.model.specs.Model.{geometric, texture, parametric}
 use Rattle.sweep.specs.Named.{named}
 use Rattle.sweep.specs.Swept.{SweepAnswer, sweepAnswer}
 use Rattle.sweep.specs.declared.SweepResult.the-variants as result
-use Rattle.swept_files.specs.Promises.{AllNamed, SameShown, SameCounts, SweepCounted, Renumbered}
+use Rattle.swept_files.specs.Promises.{AllNamed, SameShown, SameCounts, SweepCounted, numberAfter, Renumbered}
 use Rattle.swept_files.proofs.CornersAfter.{named-held}
 use Rattle.swept_files.proofs.Examples.{m, z, with, counts, before}
 
@@ -60,8 +60,9 @@ pub control-by-vertices : SameShown used before (answer (counts 2 1 2) 1 (rows 2
 control-by-vertices s = let e = ap length (s .coordinates parametric 1 0 (omega arith) (omega arith)) in omega arith
 
 -- the two v that are kept change places, in rows, corners and list alike
-pub changes-order : Renumbered used before (answer (counts 2 1 2) 1 (rows 3 2) (2 ∷ 1 ∷ 1 ∷ 1 ∷ 1 ∷ 1 ∷ 2 ∷ 1 ∷ 1 ∷ 1 ∷ 0 ∷ 0 ∷ 2 ∷ 0 ∷ 0 ∷ 0 ∷ [])
-    (0 ∷ 2 ∷ 1 ∷ 1 ∷ 0 ∷ 1 ∷ 1 ∷ 0 ∷ 2 ∷ 7 ∷ [])) geometric → ⊥
+pub changes-order : (let list : List ℕ = 0 ∷ 2 ∷ 1 ∷ 1 ∷ 0 ∷ 1 ∷ 1 ∷ 0 ∷ 2 ∷ 7 ∷ [] in
+    Renumbered used before (answer (counts 2 1 2) 1 (rows 3 2) (2 ∷ 1 ∷ 1 ∷ 1 ∷ 1 ∷ 1 ∷ 2 ∷ 1 ∷ 1 ∷ 1 ∷ 0 ∷ 0 ∷ 2 ∷ 0 ∷ 0 ∷ 0 ∷ []) list) geometric
+    (numberAfter geometric used list)) → ⊥
 unfolding named
 changes-order r = let e = r .order 2 3 (omega arith) (omega arith) (omega arith) refl refl in omega arith
 

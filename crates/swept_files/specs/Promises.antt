@@ -80,17 +80,13 @@ numberAfter kind used numbers zero = 0
 numberAfter kind used numbers (suc k) = getD numbers (listedFrom kind used + k) 0
 
 -- "its new number, or 0 if dropped"; "Kept records keep their order": a kept record is the record of its new number, as it was, and a corner that named it
--- holds that number
-pub record Renumbered (used : Used) (t : Tables) (a : SweepAnswer) (kind : VertexKind) : Type 0 where
-  pub zeros : (k : ℕ) → 1 ≤ k → k ≤ usedOfKind kind used → named used t kind k ≡ false → numberAfter kind used (a .numbers) k ≡ 0
-  pub within : (k : ℕ) → 1 ≤ k → k ≤ usedOfKind kind used → named used t kind k ≡ true
-      → (1 ≤ numberAfter kind used (a .numbers) k) × (numberAfter kind used (a .numbers) k ≤ usedOfKind kind (a .outcome .used))
-  pub order : (j k : ℕ) → 1 ≤ j → j < k → k ≤ usedOfKind kind used → named used t kind j ≡ true → named used t kind k ≡ true
-      → numberAfter kind used (a .numbers) j < numberAfter kind used (a .numbers) k
-  pub contents : (k : ℕ) → 1 ≤ k → k ≤ usedOfKind kind used → named used t kind k ≡ true
-      → rowNumbered kind (a .tables) (numberAfter kind used (a .numbers) k) ≡ rowNumbered kind t k
-  pub references : (i j : ℕ) → i < used .elements → j < elementAt t i .corners .count
-      → referenceIn kind (a .tables) i j ≡ numberAfter kind used (a .numbers) (referenceIn kind t i j)
+-- holds that number; `new` is the new number of each record
+pub record Renumbered (used : Used) (t : Tables) (a : SweepAnswer) (kind : VertexKind) (new : ℕ → ℕ) : Type 0 where
+  pub zeros : (k : ℕ) → 1 ≤ k → k ≤ usedOfKind kind used → named used t kind k ≡ false → new k ≡ 0
+  pub within : (k : ℕ) → 1 ≤ k → k ≤ usedOfKind kind used → named used t kind k ≡ true → (1 ≤ new k) × (new k ≤ usedOfKind kind (a .outcome .used))
+  pub order : (j k : ℕ) → 1 ≤ j → j < k → k ≤ usedOfKind kind used → named used t kind j ≡ true → named used t kind k ≡ true → new j < new k
+  pub contents : (k : ℕ) → 1 ≤ k → k ≤ usedOfKind kind used → named used t kind k ≡ true → rowNumbered kind (a .tables) (new k) ≡ rowNumbered kind t k
+  pub references : (i j : ℕ) → i < used .elements → j < elementAt t i .corners .count → referenceIn kind (a .tables) i j ≡ new (referenceIn kind t i j)
 
 -- "in a lent list whose rest stays as it was"
 pub record RestKept (used : Used) (before after : List ℕ) : Type 0 where

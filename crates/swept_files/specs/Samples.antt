@@ -11,13 +11,14 @@ use Rattle.tables.specs.declared.Used.{Used}
 use Rattle.model.specs.Model.{VertexKind}
 use Rattle.table_rules.specs.Whole.{wholeObeys}
 use Rattle.sweep.specs.Swept.{SweepAnswer, numbersNeeded, sweepInto}
-use Rattle.sampled_files.specs.Joined.{PromisedAlike}
+use Rattle.sampled_files.specs.Joined.{SampledAlike}
 use Rattle.polyline.specs.Answers.{polylineInto}
-use Rattle.swept_files.specs.Promises.{AllNamed, SameShown, SameCounts, SweepCounted, Renumbered, RestKept, Unchanged}
+use Rattle.sampler.specs.Demand3.{sampling}
+use Rattle.swept_files.specs.Promises.{AllNamed, SameShown, SameCounts, SweepCounted, numberAfter, Renumbered, RestKept, Unchanged}
 
 -- every point, run and polyline of an element is the same before and after
 pub record SampledSame (u : Used) (t : Tables) (v : Used) (w : Tables) : Type 0 where
-  pub samples : PromisedAlike u t v w
+  pub samples : SampledAlike sampling u t v w
   pub polylines : (number : ℕ) (tolerance : ℤ) (at : ℕ) (points : List ℤ)
       → polylineInto u t number tolerance at points ≡ polylineInto v w number tolerance at points
 
@@ -26,7 +27,7 @@ pub record SweepHolds (used : Used) (t : Tables) (numbers : List ℕ) (a : Sweep
   pub shown : SameShown used t (a .tables)
   pub counts : SameCounts used (a .outcome .used)
   pub counted : (kind : VertexKind) → SweepCounted used t a kind
-  pub renumbered : (kind : VertexKind) → Renumbered used t a kind
+  pub renumbered : (kind : VertexKind) → Renumbered used t a kind (numberAfter kind used (a .numbers))
   pub rest : RestKept used numbers (a .numbers)
   pub named : AllNamed (a .outcome .used) (a .tables)
   pub obeys : wholeObeys (a .outcome .used) (a .tables) ≡ true

@@ -8,7 +8,6 @@ ghost use Rattle.tables.specs.Records.{bodyWidth, rangeWidth, elementIn, bodyIn
 ghost use Rattle.tables.specs.Asking.{held, askedElement, bodyHeld, askedBody, cornerWith, askedCorner, partOf, askedGroup, askedMaterial};
 use tables::Body;
 use tables::Corner;
-use tables::CornerRun;
 use tables::Element;
 use tables::NameRun;
 use tables::Used;
@@ -35,24 +34,9 @@ pub fn element_in(elements: &[u32], index: u32) -> Element
     if tables::element_fits(elements, index) {
         return tables::lent_element(elements, index);
     }
-    let at = widths::ELEMENT * index as usize;
-    Element {
-        kind: tables::number_in(elements, at),
-        corners: CornerRun {
-            first: tables::number_in(elements, at + 1),
-            count: tables::number_in(elements, at + 2),
-        },
-        body: tables::number_in(elements, at + 3),
-        smoothing: tables::number_in(elements, at + 4),
-        group: NameRun {
-            place: tables::number_in(elements, at + 5),
-            length: tables::number_in(elements, at + 6),
-        },
-        material: NameRun {
-            place: tables::number_in(elements, at + 7),
-            length: tables::number_in(elements, at + 8),
-        },
-    }
+    let mut row = [0; widths::ELEMENT];
+    tables::numbers_from(elements, widths::ELEMENT * index as usize, &mut row);
+    tables::lent_element(&row, 0)
 }
 
 // The element of that number, counted from 1; all zeros for no such element.
@@ -62,20 +46,7 @@ pub fn element_of(used: Used, elements: &[u32], element: u32) -> Element
     if is_held(element, used.elements, widths::ELEMENT, elements.len()) {
         return tables::lent_element(elements, element - 1);
     }
-    Element {
-        kind: 0,
-        corners: CornerRun { first: 0, count: 0 },
-        body: 0,
-        smoothing: 0,
-        group: NameRun {
-            place: 0,
-            length: 0,
-        },
-        material: NameRun {
-            place: 0,
-            length: 0,
-        },
-    }
+    tables::lent_element(&[0; widths::ELEMENT], 0)
 }
 
 // Whether the body at that index, counted from 0, and its range stand whole within the lent entries.
@@ -95,23 +66,11 @@ pub fn body_in(bodies: &[u32], ranges: &[i32], index: u32) -> Body
     if body_fits(bodies, ranges, index) {
         return tables::lent_body(bodies, ranges, index);
     }
-    let at = widths::BODY * index as usize;
-    let from = widths::RANGE * index as usize;
-    Body {
-        basis: tables::number_in(bodies, at),
-        rational: tables::number_in(bodies, at + 1),
-        degree_u: tables::number_in(bodies, at + 2),
-        degree_v: tables::number_in(bodies, at + 3),
-        first_parameter: tables::number_in(bodies, at + 4),
-        count_u: tables::number_in(bodies, at + 5),
-        count_v: tables::number_in(bodies, at + 6),
-        first_loop: tables::number_in(bodies, at + 7),
-        loops: tables::number_in(bodies, at + 8),
-        start_u: tables::value_in(ranges, from),
-        end_u: tables::value_in(ranges, from + 1),
-        start_v: tables::value_in(ranges, from + 2),
-        end_v: tables::value_in(ranges, from + 3),
-    }
+    let mut row = [0; widths::BODY];
+    tables::numbers_from(bodies, widths::BODY * index as usize, &mut row);
+    let mut range = [0; widths::RANGE];
+    tables::values_from(ranges, widths::RANGE * index as usize, &mut range);
+    tables::lent_body(&row, &range, 0)
 }
 
 // Whether the body of that number, counted from 1, is used and stands whole within the lent entries, its range too.
@@ -131,28 +90,14 @@ pub fn body_of(used: Used, bodies: &[u32], ranges: &[i32], body: u32) -> Body
     if has_body(used, bodies, ranges, body) {
         return tables::lent_body(bodies, ranges, body - 1);
     }
-    Body {
-        basis: 0,
-        rational: 0,
-        degree_u: 0,
-        degree_v: 0,
-        first_parameter: 0,
-        count_u: 0,
-        count_v: 0,
-        first_loop: 0,
-        loops: 0,
-        start_u: 0,
-        end_u: 0,
-        start_v: 0,
-        end_v: 0,
-    }
+    tables::lent_body(&[0; widths::BODY], &[0; widths::RANGE], 0)
 }
 
 // Corner `k` of an element, counted from 0.
 pub fn corner_with(used: Used, corners: &[u32], element: Element, k: u32) -> Corner
     ensures { λ r. ⌜ r ≡ cornerWith used (now (corners .entry)) element k ⌝ }
 {
-    let none = Corner { v: 0, vt: 0, vn: 0 };
+    let none = tables::lent_corner_from(&[0; widths::CORNER], 0, 0);
     let run = element.corners;
     if run.count <= k {
         return none;

@@ -1,7 +1,7 @@
 -- Must be believed: a promise reaches every definition of this file.
 -- Q-6, refusal 15 of whole tables: "15 if any record (names aside) breaks a rule or passes the used or lent entries, or the corner, parameter or loop runs
 -- don't follow on to the last used entry as reading lays them".
-use Prim.Native.Nat.{ℕ, zero, suc, _+_, _*_}
+use Prim.Native.Nat.{ℕ, zero, suc, _+_}
 use mathlib.Core.Bool.{Bool, true, cond, _&&_}
 use lib.Dec.{leb, eqb}
 use Rattle.tables.specs.VertexTables.{vertexLengths, vertexWithin}

@@ -1,6 +1,5 @@
 // Clearing the lent tables, and storing a record's numbers.
 ghost use mathlib.Core.Path.{_≡_};
-ghost use mathlib.Core.List.{[], _∷_};
 ghost use mathlib.Core.Bool.{cond};
 ghost use Prim.Native.Nat.{_+_};
 ghost use lib.Dec.{leb};
@@ -86,126 +85,38 @@ pub fn clear(
 
 // Each put stores a record's numbers from entry `at` on and answers true, or answers false and stores nothing where they
 // pass the lent length.
-pub fn put_i32(t: &mut [i32], at: usize, a: i32) -> bool
-    ensures { λ r. ⌜ r ≡ leb (at + 1) (length (now (t .entry))) ⌝ }
-    ensures { λ r. ⌜ now (t .exit) ≡ cond r (sets (now (t .entry)) at (a ∷ [])) (now (t .entry)) ⌝ }
+pub fn put_i32(values: &mut [i32], at: usize, row: &[i32]) -> bool
+    ensures { λ r. ⌜ r ≡ leb (at + length (now (row .entry))) (length (now (values .entry))) ⌝ }
+    ensures { λ r. ⌜ now (values .exit) ≡ cond r (sets (now (values .entry)) at (now (row .entry))) (now (values .entry)) ⌝ }
 {
-    if t.len() <= at {
+    if values.len() < at {
         return false;
     }
-    t[at] = a;
+    if values.len() - at < row.len() {
+        return false;
+    }
+    let mut i: usize = 0;
+    while i < row.len() {
+        values[at + i] = row[i];
+        i += 1;
+    }
     true
 }
 
-pub fn put2_i32(t: &mut [i32], at: usize, a: i32, b: i32) -> bool
-    ensures { λ r. ⌜ r ≡ leb (at + 2) (length (now (t .entry))) ⌝ }
-    ensures { λ r. ⌜ now (t .exit) ≡ cond r (sets (now (t .entry)) at (a ∷ b ∷ [])) (now (t .entry)) ⌝ }
+pub fn put_u32(numbers: &mut [u32], at: usize, row: &[u32]) -> bool
+    ensures { λ r. ⌜ r ≡ leb (at + length (now (row .entry))) (length (now (numbers .entry))) ⌝ }
+    ensures { λ r. ⌜ now (numbers .exit) ≡ cond r (sets (now (numbers .entry)) at (now (row .entry))) (now (numbers .entry)) ⌝ }
 {
-    if t.len() < 2 {
+    if numbers.len() < at {
         return false;
     }
-    if t.len() - 2 < at {
+    if numbers.len() - at < row.len() {
         return false;
     }
-    t[at] = a;
-    t[at + 1] = b;
-    true
-}
-
-pub fn put3_i32(t: &mut [i32], at: usize, a: i32, b: i32, c: i32) -> bool
-    ensures { λ r. ⌜ r ≡ leb (at + 3) (length (now (t .entry))) ⌝ }
-    ensures { λ r. ⌜ now (t .exit) ≡ cond r (sets (now (t .entry)) at (a ∷ b ∷ c ∷ [])) (now (t .entry)) ⌝ }
-{
-    if t.len() < 3 {
-        return false;
+    let mut i: usize = 0;
+    while i < row.len() {
+        numbers[at + i] = row[i];
+        i += 1;
     }
-    if t.len() - 3 < at {
-        return false;
-    }
-    t[at] = a;
-    t[at + 1] = b;
-    t[at + 2] = c;
-    true
-}
-
-pub fn put4_i32(t: &mut [i32], at: usize, a: i32, b: i32, c: i32, d: i32) -> bool
-    ensures { λ r. ⌜ r ≡ leb (at + 4) (length (now (t .entry))) ⌝ }
-    ensures { λ r. ⌜ now (t .exit) ≡ cond r (sets (now (t .entry)) at (a ∷ b ∷ c ∷ d ∷ [])) (now (t .entry)) ⌝ }
-{
-    if t.len() < 4 {
-        return false;
-    }
-    if t.len() - 4 < at {
-        return false;
-    }
-    t[at] = a;
-    t[at + 1] = b;
-    t[at + 2] = c;
-    t[at + 3] = d;
-    true
-}
-
-pub fn put2_u32(t: &mut [u32], at: usize, a: u32, b: u32) -> bool
-    ensures { λ r. ⌜ r ≡ leb (at + 2) (length (now (t .entry))) ⌝ }
-    ensures { λ r. ⌜ now (t .exit) ≡ cond r (sets (now (t .entry)) at (a ∷ b ∷ [])) (now (t .entry)) ⌝ }
-{
-    if t.len() < 2 {
-        return false;
-    }
-    if t.len() - 2 < at {
-        return false;
-    }
-    t[at] = a;
-    t[at + 1] = b;
-    true
-}
-
-pub fn put3_u32(t: &mut [u32], at: usize, a: u32, b: u32, c: u32) -> bool
-    ensures { λ r. ⌜ r ≡ leb (at + 3) (length (now (t .entry))) ⌝ }
-    ensures { λ r. ⌜ now (t .exit) ≡ cond r (sets (now (t .entry)) at (a ∷ b ∷ c ∷ [])) (now (t .entry)) ⌝ }
-{
-    if t.len() < 3 {
-        return false;
-    }
-    if t.len() - 3 < at {
-        return false;
-    }
-    t[at] = a;
-    t[at + 1] = b;
-    t[at + 2] = c;
-    true
-}
-
-pub fn put9_u32(
-    t: &mut [u32],
-    at: usize,
-    a: u32,
-    b: u32,
-    c: u32,
-    d: u32,
-    e: u32,
-    f: u32,
-    g: u32,
-    h: u32,
-    i: u32,
-) -> bool
-    ensures { λ r. ⌜ r ≡ leb (at + 9) (length (now (t .entry))) ⌝ }
-    ensures { λ r. ⌜ now (t .exit) ≡ cond r (sets (now (t .entry)) at (a ∷ b ∷ c ∷ d ∷ e ∷ f ∷ g ∷ h ∷ i ∷ [])) (now (t .entry)) ⌝ }
-{
-    if t.len() < 9 {
-        return false;
-    }
-    if t.len() - 9 < at {
-        return false;
-    }
-    t[at] = a;
-    t[at + 1] = b;
-    t[at + 2] = c;
-    t[at + 3] = d;
-    t[at + 4] = e;
-    t[at + 5] = f;
-    t[at + 6] = g;
-    t[at + 7] = h;
-    t[at + 8] = i;
     true
 }

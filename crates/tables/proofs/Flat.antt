@@ -1,11 +1,11 @@
 -- Records laid one after the other, each of the same width: number w * i + k is number k of record i. By the records.
-use Prim.Native.Nat.{ℕ, zero, suc, _+_, _*_, _≤_, _<_}
+use Prim.Native.Nat.{ℕ, zero, suc, _+_, _*_, _<_}
 use mathlib.Core.Path.{_≡_, refl, sym, ap, _∙_}
 use mathlib.Core.List.{List, [], _∷_, _++_, append-assoc}
-use native.Mathlib.Nat.{mul-zero, mul-suc, mul-le-mul-left, zero-add}
+use native.Mathlib.Nat.{mul-zero, mul-suc, zero-add}
 use native.Mathlib.Omega.{arith}
 use lib.ListN.{length, getD, take, drop, length-append, List·getD-append}
-use lib.Seq.{take-at, drop-at, getD-append-add, take-append-add, drop-append-add, take-nil, drop-nil}
+use lib.Seq.{take-at, getD-append-add, take-append-add, drop-append-add, take-nil, drop-nil}
 use Rattle.lists.specs.Lists.{flat, filled}
 use Rattle.tables.proofs.Filled.{getD-filled}
 

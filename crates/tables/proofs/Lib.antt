@@ -1,4 +1,5 @@
 pub mod Bits
+pub mod Rows
 pub mod Asked
 pub mod Filled
 pub mod Flat

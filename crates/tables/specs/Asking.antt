@@ -5,7 +5,7 @@ use mathlib.Core.List.{List, []}
 use mathlib.Core.Bool.{Bool, cond, _&&_}
 use lib.ListN.{length, take, drop}
 use lib.Dec.{ltb, leb}
-use lib.IntN.{ℤ, pos}
+use lib.IntN.{ℤ}
 use Rattle.tables.specs.Records.{elementWidth, bodyWidth, rangeWidth, cornerWidth, elementIn, bodyIn, cornerPlace, cornerIn}
 use Rattle.tables.specs.declared.Used.{Used}
 use Rattle.tables.specs.declared.NameRun.{NameRun}
@@ -17,16 +17,9 @@ use Rattle.tables.specs.declared.Corner.{Corner}
 unfoldable pub held : ℕ → ℕ → ℕ → ℕ → Bool
 held number used w lent = leb 1 number && leb number used && leb (w * number) lent
 
+-- all zeros, as every number past a table's end is
 abbrev pub noElement : Element
-noElement =
-    record {
-      kind = 0;
-      corners = record { first = 0; count = 0 };
-      body = 0;
-      smoothing = 0;
-      group = record { place = 0; length = 0 };
-      material = record { place = 0; length = 0 };
-    }
+noElement = elementIn [] 0
 
 -- the element of that number, all zeros for no such element
 unfoldable pub askedElement : Used → List ℕ → ℕ → Element
@@ -38,29 +31,14 @@ unfoldable pub bodyHeld : Used → List ℕ → List ℤ → ℕ → Bool
 bodyHeld used bodies ranges number = held number (used .bodies) bodyWidth (length bodies) && leb (rangeWidth * number) (length ranges)
 
 abbrev pub noBody : Body
-noBody =
-    record {
-      basis = 0;
-      rational = 0;
-      «degree_u» = 0;
-      «degree_v» = 0;
-      «first_parameter» = 0;
-      «count_u» = 0;
-      «count_v» = 0;
-      «first_loop» = 0;
-      loops = 0;
-      «start_u» = pos 0;
-      «end_u» = pos 0;
-      «start_v» = pos 0;
-      «end_v» = pos 0;
-    }
+noBody = bodyIn [] [] 0
 
 -- the body of that number, all zeros for no such body
 unfoldable pub askedBody : Used → List ℕ → List ℤ → ℕ → Body
 askedBody used bodies ranges number = cond (bodyHeld used bodies ranges number) (bodyIn bodies ranges (number - 1)) noBody
 
 abbrev pub noCorner : Corner
-noCorner = record { v = 0; vt = 0; vn = 0 }
+noCorner = cornerIn [] 0
 
 -- corner k of an element, three zeros for one that it lacks or that passes the used or the lent entries; the used corners are counted in numbers
 unfoldable pub cornerWith : Used → List ℕ → Element → ℕ → Corner

@@ -2,8 +2,7 @@
 -- 01, "Bodies": the rules of controls, parameters and ranges along one direction of a body. The reader and the test of records both use them.
 use Prim.Native.Nat.{ℕ, suc, _+_, _*_, _-_}
 use mathlib.Core.List.{List, [], _∷_}
-use mathlib.Core.Bool.{Bool, true, false, cond, _&&_}
-use mathlib.Core.Option.{Option, none, some}
+use mathlib.Core.Bool.{Bool, true, cond, _&&_}
 use lib.ListN.{length, getD}
 use lib.Dec.{leb, eqb}
 use lib.IntN.{ℤ, pos}
@@ -23,6 +22,12 @@ basisNumber taylor = 4
 abbrev pub basisOf : ℕ → Basis
 basisOf type = cond (eqb type 1) bezier (cond (eqb type 2) bspline (cond (eqb type 3) cardinal taylor))
 
+abbrev pub isBspline : Basis → Bool
+isBspline t = eqb (basisNumber t) 2
+
+abbrev pub isCardinal : Basis → Bool
+isCardinal t = eqb (basisNumber t) 3
+
 -- "Controls k along one direction, from p parameters and degree n"
 abbrev pub controls : Basis → ℕ → ℕ → ℕ
 controls bezier n p = n * (p - 1) + 1
@@ -32,10 +37,7 @@ controls taylor n p = (n + 1) * (p - 1)
 
 -- bspline: "p-n-1, at least n+1"
 abbrev pub enough : Basis → ℕ → ℕ → Bool
-enough bezier n p = true
-enough bspline n p = leb (n + 1) (p - n - 1)
-enough cardinal n p = true
-enough taylor n p = true
+enough t n p = cond (isBspline t) (leb (n + 1) (p - n - 1)) true
 
 -- "Parameters strictly increase"
 abbrev pub rising : List ℤ → Bool
@@ -50,23 +52,14 @@ steady (a ∷ []) = true
 steady (a ∷ b ∷ x) = leZ a b && steady (b ∷ x)
 
 abbrev pub ordered : Basis → List ℤ → Bool
-ordered bezier x = rising x
-ordered bspline x = steady x
-ordered cardinal x = rising x
-ordered taylor x = rising x
+ordered t x = cond (isBspline t) (steady x) (rising x)
 
 -- "first ≤ start < end ≤ last"; "x_n ≤ start < end ≤ x_k": the widest range that the n and the parameters x allow
 abbrev pub low : Basis → ℕ → List ℤ → ℤ
-low bezier n x = getD x 0 (pos 0)
-low bspline n x = getD x n (pos 0)
-low cardinal n x = getD x 0 (pos 0)
-low taylor n x = getD x 0 (pos 0)
+low t n x = getD x (cond (isBspline t) n 0) (pos 0)
 
 abbrev pub high : Basis → ℕ → List ℤ → ℤ
-high bezier n x = getD x (length x - 1) (pos 0)
-high bspline n x = getD x (length x - n - 1) (pos 0)
-high cardinal n x = getD x (length x - 1) (pos 0)
-high taylor n x = getD x (length x - 1) (pos 0)
+high t n x = getD x (cond (isBspline t) (length x - n - 1) (length x - 1)) (pos 0)
 
 abbrev pub ranged : Basis → ℕ → List ℤ → ℤ → ℤ → Bool
 ranged t n x start end = leZ (low t n x) start && ltZ start end && leZ end (high t n x)
@@ -87,10 +80,7 @@ eachSeldom n lo hi (a ∷ x) = seldom n lo hi a (multiplicity a (a ∷ x)) && ea
 
 -- 02, Q-5: "a knot value strictly between x_n and x_k stands at most n times. Multiplicities at the two ends stay free."
 abbrev pub continuous : Basis → ℕ → List ℤ → Bool
-continuous bezier n x = true
-continuous bspline n x = eachSeldom n (low bspline n x) (high bspline n x) x
-continuous cardinal n x = true
-continuous taylor n x = true
+continuous t n x = cond (isBspline t) (eachSeldom n (low t n x) (high t n x) x) true
 
 -- 13 along one direction
 unfoldable pub inOrder : Basis → ℕ → List ℤ → ℤ → ℤ → Bool

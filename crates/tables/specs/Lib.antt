@@ -3,6 +3,7 @@ pub mod ElementTables
 pub mod BodyTables
 pub mod Tables
 pub mod Records
+pub mod Rows
 pub mod UsedRooms
 pub mod Bodies
 pub mod Asking

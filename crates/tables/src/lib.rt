@@ -5,6 +5,7 @@ ghost use lib.IntN.{pos};
 ghost use lib.Dec.{leb};
 ghost use lib.ListN.{length, getD};
 ghost use Rattle.tables.specs.Records.{elementWidth, bodyWidth, rangeWidth, cornerWidth, numberAt, elementIn, bodyIn, cornerStart, cornerPlace, cornersLength, cornersEnd, cornerIn};
+ghost use Rattle.tables.specs.Rows.{cornerNumbers, elementNumbers, bodyNumbers, rangeNumbers, HoldsFrom};
 
 pub mod bases;
 pub mod kinds;
@@ -93,6 +94,29 @@ pub fn value_in(values: &[i32], at: usize) -> i32
     0
 }
 
+// The numbers from `at` on into a row, zeros past the table's end.
+pub fn numbers_from(numbers: &[u32], at: usize, row: &mut [u32])
+    requires { ⌜ at ≤ 2 ^ 63 ⌝ }
+    ensures { λ r. ⌜ HoldsFrom 0 (now (numbers .entry)) at (now (row .exit)) ⌝ }
+{
+    let mut i: usize = 0;
+    while i < row.len() {
+        row[i] = number_in(numbers, at + i);
+        i += 1;
+    }
+}
+
+pub fn values_from(values: &[i32], at: usize, row: &mut [i32])
+    requires { ⌜ at ≤ 2 ^ 63 ⌝ }
+    ensures { λ r. ⌜ HoldsFrom (pos 0) (now (values .entry)) at (now (row .exit)) ⌝ }
+{
+    let mut i: usize = 0;
+    while i < row.len() {
+        row[i] = value_in(values, at + i);
+        i += 1;
+    }
+}
+
 // Whether the element at that index, counted from 0, stands whole within the lent entries.
 pub fn element_fits(elements: &[u32], index: u32) -> bool
     ensures { λ r. ⌜ r ≡ leb (elementWidth * index + elementWidth) (length (now (elements .entry))) ⌝ }
@@ -132,6 +156,23 @@ pub fn lent_element(elements: &[u32], index: u32) -> Element
     }
 }
 
+// The numbers of an element's record, in their order.
+pub fn element_row(element: Element) -> [u32; widths::ELEMENT]
+    ensures { λ r. ⌜ r ≡ elementNumbers element ⌝ }
+{
+    [
+        element.kind,
+        element.corners.first,
+        element.corners.count,
+        element.body,
+        element.smoothing,
+        element.group.place,
+        element.group.length,
+        element.material.place,
+        element.material.length,
+    ]
+}
+
 // The body at that index, counted from 0, with its range; both stand whole within the lent entries.
 pub fn lent_body(bodies: &[u32], ranges: &[i32], index: u32) -> Body
     requires { ⌜ (bodyWidth * index + bodyWidth ≤ length (now bodies)) × (rangeWidth * index + rangeWidth ≤ length (now ranges)) ⌝ }
@@ -154,6 +195,30 @@ pub fn lent_body(bodies: &[u32], ranges: &[i32], index: u32) -> Body
         start_v: ranges[from + 2],
         end_v: ranges[from + 3],
     }
+}
+
+// The numbers of a body's record, in their order.
+pub fn body_row(body: Body) -> [u32; widths::BODY]
+    ensures { λ r. ⌜ r ≡ bodyNumbers body ⌝ }
+{
+    [
+        body.basis,
+        body.rational,
+        body.degree_u,
+        body.degree_v,
+        body.first_parameter,
+        body.count_u,
+        body.count_v,
+        body.first_loop,
+        body.loops,
+    ]
+}
+
+// Those of its range.
+pub fn range_row(body: Body) -> [i32; widths::RANGE]
+    ensures { λ r. ⌜ r ≡ rangeNumbers body ⌝ }
+{
+    [body.start_u, body.end_u, body.start_v, body.end_v]
 }
 
 // The number that corner `k`, counted from 0, begins at, of those from the number `first` on.
@@ -212,17 +277,22 @@ pub fn corner_at(corners: &[u32], run: CornerRun, k: usize) -> Corner
     ensures { λ r. ⌜ r ≡ cornerIn (now (corners .entry)) (cornerPlace run k) ⌝ }
 {
     if corners.len() <= k {
-        return Corner { v: 0, vt: 0, vn: 0 };
+        return lent_corner_from(&[0; widths::CORNER], 0, 0);
     }
     let at = corner_place(run, k);
     if at + 2 < corners.len() {
         return lent_corner(corners, run, k);
     }
-    Corner {
-        v: number_in(corners, at),
-        vt: number_in(corners, at + 1),
-        vn: number_in(corners, at + 2),
-    }
+    let mut row = [0; widths::CORNER];
+    numbers_from(corners, at, &mut row);
+    lent_corner_from(&row, 0, 0)
+}
+
+// The numbers of a corner, in their order.
+pub fn corner_row(corner: Corner) -> [u32; widths::CORNER]
+    ensures { λ r. ⌜ r ≡ cornerNumbers corner ⌝ }
+{
+    [corner.v, corner.vt, corner.vn]
 }
 
 // Which number of a corner names a v (of a curv2 a vp), a vt and a vn.

@@ -3,6 +3,7 @@ ghost use mathlib.Core.Path.{_≡_};
 ghost use Prim.Native.Nat.{_+_, _*_, _≤_};
 ghost use lib.ListN.{length};
 ghost use Rattle.tables.specs.Records.{loopWidth, spanWidth, partIn};
+ghost use Rattle.tables.specs.Rows.{loopNumbers, spanNumbers};
 use crate::number_in;
 use crate::value_in;
 use crate::widths;
@@ -33,6 +34,20 @@ pub fn lent_part(loops: &[u32], spans: &[i32], index: usize) -> LoopPart
         from: spans[from],
         to: spans[from + 1],
     }
+}
+
+// The numbers of a part's record, in their order.
+pub fn loop_row(part: LoopPart) -> [u32; widths::LOOP]
+    ensures { λ r. ⌜ r ≡ loopNumbers part ⌝ }
+{
+    [part.begins, part.curve]
+}
+
+// Those of its span.
+pub fn span_row(part: LoopPart) -> [i32; widths::SPAN]
+    ensures { λ r. ⌜ r ≡ spanNumbers part ⌝ }
+{
+    [part.from, part.to]
 }
 
 // The part at that index; a number past a table's end is 0.

@@ -121,7 +121,7 @@ fn bodies(bodies: &[u32], ranges: &[i32]) {
 }
 
 fn ask_stored(t: &mut [u32], at: usize) {
-    if table_store::put3_u32(t, at, 7, 8, 4294967295) {
+    if table_store::put_u32(t, at, &[7, 8, 4294967295]) {
         put(b"stored\n");
     } else {
         put(b"no room\n");

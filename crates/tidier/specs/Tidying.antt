@@ -50,14 +50,12 @@ neededFor w = min (length w) 16777217
 -- "16 at place 0, the tables then filled"; "A refused tidying or sampling leaves the output as it was; success writes only the text"
 abbrev pub written : List ℕ → Used → Tables → List ℕ → TidyAnswer
 written w used t out =
-    cond (hasRoom w out)
-    (record { answer = Written (length w) used; outcome = record { number = 0; place = 0; length = length w; needed = 0; used = used }; tables = t; out = w ++ drop (length w) out })
-    (record { answer = TooLong (neededFor w) used; outcome = record { number = 16; place = 0; length = 0; needed = neededFor w; used = used }; tables = t; out = out })
+    cond (hasRoom w out) (tidyAnswer (Written (length w) used) t (w ++ drop (length w) out)) (tidyAnswer (TooLong (neededFor w) used) t out)
 
 -- "A refusal zeroes every lent table and every count."
 abbrev pub answered : Weights → Tables → Answer → List ℕ → TidyAnswer
 answered c t (read m) out = written (tidyText c m) (usedOf m) (tablesOf (roomsOf t) m) out
-answered c t (refused n p) out = record { answer = Refused n p; outcome = record { number = n; place = p; length = 0; needed = 0; used = noneUsed }; tables = zeros t; out = out }
+answered c t (refused n p) out = tidyAnswer (Refused n p) (zeros t) out
 
 -- what tidying the text s comes to by a choice of weights, with the tables t and the buffer out lent
 unfoldable pub tidyInto : Weights → List ℕ → Tables → List ℕ → TidyAnswer

@@ -12,6 +12,7 @@ use lib.IntN.{ℤ, pos}
 use Rattle.lists.specs.Lists.{flat}
 use Rattle.references.specs.Corner.{Corner}
 use Rattle.references.specs.Written.{writtenNumber, writtenWhole}
+use Rattle.statements.specs.declared.Carried.the-variants.{Vertex}
 use Rattle.keywords.specs.Keywords.{keywordOf}
 use Rattle.tables.specs.declared.CornerRun.{CornerRun}
 use Rattle.tables.specs.Tables.{Tables}
@@ -21,7 +22,7 @@ use Rattle.model.specs.Statements.{vertex, loop}
 use Rattle.model.specs.In.{each, rowAt, cornerFrom, partFrom, Begun, goesOn, begins, begunIn}
 use Rattle.tidy_form.specs.declared.Weights.{Weights}
 use Rattle.tidy_form.specs.Printed as printing
-use Rattle.tidy_form.specs.Printed.{vertexKeyword, loopKeyword, coordinates, printed}
+use Rattle.tidy_form.specs.Printed.{loopKeyword, coordinates, printed}
 use Rattle.tidy_writer.specs.Rows.{rowNumbers, vertexRows, storedCorners, partWords, goingOn, loopLines}
 
 -- ---- reading on from an entry
@@ -33,11 +34,11 @@ onward {A} w i l = drop-drop w (w * i) l ∙ ap (λ (k : ℕ). drop k l) (let e 
 
 -- ---- vertices; those other than v are written alike by each choice of weights
 pub vertices-are : (W X : Weights) (k : VertexKind) (counted : Bool) → ((z : List ℤ) → rowNumbers counted X z ≡ coordinates W k z) → (w : ℕ) (l : List ℤ) (n i : ℕ)
-    → vertexRows (vertexKeyword k) counted X w n (drop (w * i) l) ≡ map (printed W) (map (vertex k) (each (rowAt w l) n i))
+    → vertexRows (Vertex k) counted X w n (drop (w * i) l) ≡ map (printed W) (map (vertex k) (each (rowAt w l) n i))
 vertices-are W X k counted c w l zero i = refl
 vertices-are W X k counted c w l (suc n) i =
-    ap₂ (λ (x : List ℤ) (y : List ℤ). (keywordOf (vertexKeyword k) ∷ map writtenNumber x) ∷ vertexRows (vertexKeyword k) counted X w n y) (c (rowAt w l i)) (onward w i l)
-    ∙ ap (λ (y : List (List (List ℕ))). (keywordOf (vertexKeyword k) ∷ map writtenNumber (coordinates W k (rowAt w l i))) ∷ y) (vertices-are W X k counted c w l n (suc i))
+    ap₂ (λ (x : List ℤ) (y : List ℤ). (keywordOf (Vertex k) ∷ map writtenNumber x) ∷ vertexRows (Vertex k) counted X w n y) (c (rowAt w l i)) (onward w i l)
+    ∙ ap (λ (y : List (List (List ℕ))). (keywordOf (Vertex k) ∷ map writtenNumber (coordinates W k (rowAt w l i))) ∷ y) (vertices-are W X k counted c w l n (suc i))
 
 -- ---- corners
 pub corners-are : (t : Tables) (run : CornerRun) (n k : ℕ) → storedCorners n (drop (cornerPlace run k) (t .elements .corners)) ≡ each (λ j. cornerFrom (cornerAt t run j)) n k

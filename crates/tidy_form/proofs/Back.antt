@@ -13,7 +13,7 @@ use Rattle.lists.proofs.Laws.{all-append}
 use Rattle.text.specs.Words.{Word}
 use Rattle.text.specs.Written.{bytesOf}
 use Rattle.references.specs.Corner.{Corner, alike}
-use Rattle.keywords.specs.Arguments.{argumentBytes}
+use Rattle.keywords.specs.Arguments.{argumentOf, argumentBytes}
 use Rattle.model.specs.Model.{Vertices, Free, curve, curve2, surface, Part, Body, Open, State, curves}
 use Rattle.model.specs.Statements.{Statement, vertex, element, group, smoothing, material, type, degree, body, parameters, loop, end, passed}
 use Rattle.model.specs.Parse.{fine, Value, number, corner, whole, direction, basis, name, nothing, formOf, allowed, numbersOf, wholesOf, namesOf, partsOf, differing, unlike, narrow, narrowIn, checked, seenIn, parse, isSurface, saysV, rangeWords}
@@ -24,7 +24,7 @@ use Rattle.tidy_form.specs.Printed.{coordinates, rangeOf, wordsAfter, di
 use Rattle.tidy_form.proofs.Values.{keyOf, loopKey, valuesIn, partValues, typeValues, degreeValues, written, words-written}
 use Rattle.tidy_form.proofs.Words.{Small, stand, stands, values-back, direction-is}
 use Rattle.tidy_form.proofs.Standing.{uniform, wide, wideIn, Whole, Fine, Ends, Opens, Here}
-use Rattle.model.proofs.Values.{numbers-of, corners-of, line-numbers, line-corners}
+use Rattle.model.proofs.Values.{numbers-of, corners-of, line-numbers, line-corners, v-is}
 
 -- the statement with the line's words for its names
 abbrev pub firstOr : Word → List Word → Word
@@ -181,7 +181,7 @@ module _ (c : Weights) (x : State) (p : ℕ) (ws : List Word) where
       go [] e = absurd (let y : _≡_ {A = ℕ} 0 1 = cc in omega arith)
       go (w ∷ ws) e =
           let q : w .bytes ≡ argumentBytes (directionArgument d) = cc in
-          rw (q, direction-is d) h
+          rw (q, v-is (argumentOf (argumentBytes (directionArgument d))), direction-is d) h
   allowed-back (loop l) e h = go (l .hole)
     where
       go : (b : Bool) → allowed (loopKey b) (x .open-body) ws ≡ true

@@ -9,7 +9,8 @@ use lib.IntN.{ℤ}
 use Rattle.lists.proofs.Tests.{and-left, and-right, never}
 use Rattle.model.specs.Model.{Vertices, Names, Free, curve, curve2, surface, ParmDirection, along-u, along-v, Loop, Body, Form, Open}
 use Rattle.model.specs.Statements.{degree, body, parameters, loop, settled, withBody, withParameters, withLoop}
-use Rattle.model.specs.Parse.{isSurface, isV, some?, complete}
+use Rattle.model.specs.Parse.{isSurface, some?, complete}
+use Rattle.model.specs.Standing.{isV}
 use Rattle.tidy_form.specs.Tidied.{unsettled, unfilled, atLine}
 use Rattle.tidy_form.proofs.Standing.{Fine, Sound, Opens}
 use Rattle.tidy_form.proofs.Good.{Always, formIn, GoodLoops, LoopsIn, SecondIn, GoodBody, Given, GivenIn, GoodOpen}

@@ -12,8 +12,8 @@ use Rattle.lists.proofs.Tests.{and-right, never}
 use Rattle.text.specs.Words.{Word}
 use Rattle.model.specs.Model.{VertexKind, geometric, texture, normal, parametric, Vertices, Names, plain, Element, Model, Open, State, isCurve2, curves}
 use Rattle.model.specs.Statements.{Statement, vertex, element, group, smoothing, material, type, degree, body, parameters, loop, end, passed, apply, closed, ended, onOpen, withBody, withParameters, withLoop}
-use Rattle.model.specs.Parse.{whole, isSurface, isV}
-use Rattle.model.specs.Standing.{outsideBody, insideBody}
+use Rattle.model.specs.Parse.{whole, isSurface}
+use Rattle.model.specs.Standing.{outsideBody, insideBody, isV}
 use Rattle.statements.specs.declared.rules.Count.the-variants.{Within}
 use Rattle.statements.specs.Rules.{countedBy}
 use Rattle.tidy_form.specs.declared.Weights.the-variants as weights

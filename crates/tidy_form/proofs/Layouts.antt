@@ -39,8 +39,8 @@ names-in t c b (e ∷ es) z h =
     ∙ ap (λ (r : List (List (List ℕ))). bytesOf (e .names .group) ∷ bytesOf (listed (e .names .material)) ∷ r) (names-in t (c + cornerWidth * length (e .corners)) (b + ofKind (λ x. 1) (e .kind)) es z (h .1))
 
 -- ---- the same tables with another table of elements
-abbrev pub withElements : List ℕ → Tables → Tables
-withElements l t = record { vertices = t .vertices; elements = record { corners = t .elements .corners; elements = l }; bodies = t .bodies }
+abbrev pub withElementTable : List ℕ → Tables → Tables
+withElementTable l t = record { vertices = t .vertices; elements = record { corners = t .elements .corners; elements = l }; bodies = t .bodies }
 
 -- ---- read by index
 next-record : (l : List ℕ) (i k : ℕ) → numberAt elementWidth (drop elementWidth l) i k ≡ numberAt elementWidth l (suc i) k

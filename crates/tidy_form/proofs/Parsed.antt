@@ -17,7 +17,9 @@ use Rattle.digits.specs.Said.{says}
 use Rattle.keywords.specs.Arguments.{argumentOf}
 use Rattle.model.specs.Model.{Vertices, ParmDirection, Open, State, curves}
 use Rattle.model.specs.Statements.{Statement, smoothing, material, type, degree, end, passed}
-use Rattle.model.specs.Parse.{fine, Keyword, a-vertex, an-element, a-body, parm, trim, hole, ends, cstype, deg, g, s, usemtl, over, Value, direction, whole, basis, name, nothing, counted, formOf, allowed, valuesOf, saidOf, placed, directionOf, directionSaid, checked, seenIn, parse, isV, saysV, complete, countsAgree, rangeWithin}
+use Rattle.model.specs.Parse.{fine, Keyword, a-vertex, an-element, a-body, parm, trim, hole, ends, cstype, deg, g, s, usemtl, over, Value, direction, whole, basis, name, nothing, counted, formOf, allowed, valuesOf, saidOf, placed, directionOf, directionSaid, checked, seenIn, parse, saysV, complete, countsAgree, rangeWithin}
+use Rattle.model.specs.Standing.{isV}
+use Rattle.model.proofs.Values.{v-is}
 use Rattle.statements.specs.declared.rules.Count.the-variants.{Within}
 use Rattle.statements.specs.Rules.{countedBy}
 use Rattle.model.proofs.Pieces.{finished}
@@ -101,11 +103,11 @@ module _ (x : State) (p : ℕ) (ws : List Word) (t : Statement) where
       go (directionOf (argumentOf (w .bytes))) refl (q .0) (r .0) z (placed-fine (directionSaid (directionOf (argumentOf (w .bytes)))) (w .place) (q .0) (q .1))
     where
       go : (o : Option ParmDirection) → directionOf (argumentOf (w .bytes)) ≡ o → (y : Value) (ys : List Value) → xs ≡ y ∷ ys → directionSaid o ≡ says y
-          → (d : ParmDirection) × (isV (directionOf (argumentOf (w .bytes))) ≡ isV (some d)) × (xs ≡ direction d ∷ drop 1 xs)
+          → (d : ParmDirection) × (saysV (w ∷ us) ≡ isV (some d)) × (xs ≡ direction d ∷ drop 1 xs)
       go none q y ys z h = absurd (let z : _≡_ {A = ℕ} 0 1 = cc in omega arith)
       go (some d) q y ys z h =
           let e : y ≡ direction d = cc in
-          (d, ap isV q, z ∙ ap₂ (λ (a : Value) (b : List Value). a ∷ b) e (sym (ap (drop 1) z)))
+          (d, v-is (argumentOf (w .bytes)) ∙ ap isV q, z ∙ ap₂ (λ (a : Value) (b : List Value). a ∷ b) e (sym (ap (drop 1) z)))
 
   -- what parsing finds on the way
   pub record Way (k : Keyword) (xs : List Value) : Type 0 where

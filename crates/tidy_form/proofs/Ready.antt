@@ -15,8 +15,8 @@ use Rattle.text.specs.Words.{Word}
 use Rattle.references.specs.Corner.{Corner, alike}
 use Rattle.model.specs.Model.{VertexKind, Vertices, Shape, Free, curve, curve2, surface, ParmDirection, Part, Loop, Form, State, curves}
 use Rattle.model.specs.Statements.{Statement, vertex, element, group, body, parameters, loop}
-use Rattle.model.specs.Parse.{Parsed, fine, must, unless, a-vertex, an-element, a-body, parm, trim, hole, g, a-number, Value, number, corner, whole, direction, name, counted, formOf, allowed, numbersOf, cornersOf, namesOf, differing, unlike, narrow, narrowIn, vertexRecord, openedBody, inForce, checked, isSurface, isV, saysV, rangeWords, fewestControls}
-use Rattle.model.specs.Standing.{outsideBody, insideBody}
+use Rattle.model.specs.Parse.{Parsed, fine, must, unless, a-vertex, an-element, a-body, parm, trim, hole, g, a-number, Value, number, corner, whole, direction, name, counted, formOf, allowed, numbersOf, cornersOf, namesOf, differing, unlike, narrow, narrowIn, vertexRecord, openedBody, inForce, checked, isSurface, saysV, rangeWords, fewestControls}
+use Rattle.model.specs.Standing.{outsideBody, insideBody, isV}
 use Rattle.model.proofs.Pieces.{opened}
 use Rattle.tidy_form.specs.declared.Weights.{Weights}
 use Rattle.tidy_form.specs.Printed.{rangeOf}

@@ -10,8 +10,8 @@ use Rattle.lists.specs.Lists.{all}
 use Rattle.references.specs.Corner.{Corner, alike}
 use Rattle.model.specs.Model.{Vertices, Free, curve, curve2, surface, Body, Form, Open, curves, countsOf}
 use Rattle.model.specs.Statements.{Statement, vertex, element, group, smoothing, material, type, degree, body, parameters, loop, end, passed}
-use Rattle.model.specs.Parse.{Seen, counted, formOf, vertexRecord, openedBody, inForce, given, isSurface, isV, complete, countsAgree, rangeWithin}
-use Rattle.model.specs.Standing.{outsideBody, insideBody}
+use Rattle.model.specs.Parse.{Seen, counted, formOf, vertexRecord, openedBody, inForce, given, isSurface, complete, countsAgree, rangeWithin}
+use Rattle.model.specs.Standing.{outsideBody, insideBody, isV}
 use Rattle.tidy_form.specs.declared.Weights.{Weights}
 use Rattle.tidy_form.specs.Printed.{coordinates, rangeOf}
 use Rattle.tidy_form.proofs.Values.{keyOf, valuesIn}

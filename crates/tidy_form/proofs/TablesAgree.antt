@@ -30,7 +30,7 @@ use Rattle.tidy_form.specs.Agree.{wordsAt, unnamed, namesShown, TablesAg
 use Rattle.tidy_form.specs.Bare.{bareOption, bareElement, bareElements, bare, Agree}
 use Rattle.tidy_form.proofs.Bare.{bare-words, summed-bare, length-bare}
 use Rattle.tidy_form.proofs.SameTidy.{bytes-bare}
-use Rattle.tidy_form.proofs.Layouts.{fives, unnamed-is, namesOf, names-in, withElements, unnamed-at, group-at, material-at}
+use Rattle.tidy_form.proofs.Layouts.{fives, unnamed-is, namesOf, names-in, withElementTable, unnamed-at, group-at, material-at}
 use Rattle.tidy_form.proofs.Placed.{read-placed}
 
 -- ---- the layout looks at places in the elements' last four numbers alone
@@ -173,7 +173,7 @@ module _ (R S : Rooms) (t u : List ℕ) (m n : Model) (h : Placed t m) (k : Plac
     abbrev U : Tables
     U = tablesOf R n
 
-    pub others-same : withElements (U .elements .elements) T ≡ U
+    pub others-same : withElementTable (U .elements .elements) T ≡ U
     unfolding tablesOf usedOf
     others-same =
         tables-eq (ap (vertexFilled (R .vertices)) (sym (M .vertices) ∙ a .vertices ∙ N .vertices))

@@ -15,9 +15,9 @@ use Rattle.keywords.specs.declared.Argument.the-variants.{Rational}
 use Rattle.tables.specs.Bodies.{Basis, bezier, bspline, cardinal, taylor}
 use Rattle.model.specs.Model.{geometric, texture, normal, parametric, Vertices, point, line, face, Free, curve, curve2, surface, ParmDirection, along-u, along-v}
 use Rattle.model.specs.Statements.{Statement, vertex, element, group, smoothing, material, type, degree, body, parameters, loop, end, passed}
-use Rattle.model.specs.Parse.{WordForm, a-number, a-corner, a-control, a-curve, a-direction, a-type, a-rational, a-degree, a-smoothing, a-name, anything, Value, Seen, formOf}
+use Rattle.model.specs.Parse.{a-body, WordForm, a-number, a-corner, a-control, a-curve, a-direction, a-type, a-rational, a-degree, a-smoothing, a-name, anything, Value, Seen, formOf}
 use Rattle.tidy_form.specs.declared.Weights.{Weights}
-use Rattle.tidy_form.specs.Printed.{keywordIn, freeKeyword, loopKeyword, basisArgument, directionArgument, printed}
+use Rattle.tidy_form.specs.Printed.{keywordIn, loopKeyword, basisArgument, directionArgument, printed}
 use Rattle.tidy_form.proofs.Values.{keyOf, valuesIn, written, words-written}
 use Rattle.tidy_form.proofs.Words.{isName, Fits, Fitting}
 use Rattle.tidy_form.proofs.Standing.{seenOf, Fine}
@@ -38,7 +38,7 @@ keyword-token (type r t) = refl
 keyword-token (degree m n) = refl
 keyword-token (body b cs) = go (b .free)
   where
-    go : (k : Free) → isToken (keywordOf (freeKeyword k)) ≡ true
+    go : (k : Free) → isToken (keywordOf (a-body k)) ≡ true
     go curve = refl
     go curve2 = refl
     go surface = refl

@@ -56,7 +56,7 @@ key-back (type r t) p = refl
 key-back (degree m n) p = refl
 key-back (body b cs) p = go (b .free)
   where
-    go : (k : Free) → reading.carriedIn (statementOf (keywordOf (Rattle.tidy_form.specs.Printed.freeKeyword k))) p ≡ fine (a-body k)
+    go : (k : Free) → reading.carriedIn (statementOf (keywordOf (a-body k))) p ≡ fine (a-body k)
     go curve = refl
     go curve2 = refl
     go surface = refl

@@ -16,35 +16,26 @@ use Rattle.keywords.specs.declared.Argument.the-variants.{Rational, Bezier, Bsp
 use Rattle.statements.specs.declared.Carried.{Carried as Keyword}
 use Rattle.statements.specs.declared.Carried.the-variants.{Vertex, Element, Body as BodyOf, Parameters, Trim, Hole, End, BodyType, Degree, Group, Smoothing, Material, PassedOver}
 use Rattle.tables.specs.Bodies.{Basis, bezier, bspline, cardinal, taylor}
-use Rattle.model.specs.Model.{VertexKind, geometric, texture, normal, parametric, Shape, Free, curve, curve2, surface, ParmDirection, along-u, along-v, Part, Body, Model}
+use Rattle.model.specs.Model.{VertexKind, geometric, texture, normal, parametric, Free, curve, curve2, surface, ParmDirection, along-u, along-v, Part, Body, Model}
 use Rattle.model.specs.Statements.{Statement, vertex, element, group, smoothing, material, type, degree, body, parameters, loop, end, passed}
 use Rattle.tidy_form.specs.declared.Weights.{Weights}
 use Rattle.tidy_form.specs.declared.Weights.the-variants.{WhenNeeded, Always}
 use Rattle.tidy_form.specs.Tidied.{tidied}
 
 -- ---- the keyword
-abbrev pub vertexKeyword : VertexKind → Keyword
-vertexKeyword k = Vertex k
-
-abbrev pub shapeKeyword : Shape → Keyword
-shapeKeyword k = Element k
-
-abbrev pub freeKeyword : Free → Keyword
-freeKeyword k = BodyOf k
-
 abbrev pub loopKeyword : Bool → Keyword
 loopKeyword false = Trim
 loopKeyword true = Hole
 
 abbrev pub keywordIn : Statement → Keyword
-keywordIn (vertex k z) = vertexKeyword k
-keywordIn (element k cs) = shapeKeyword k
+keywordIn (vertex k z) = Vertex k
+keywordIn (element k cs) = Element k
 keywordIn (group ws) = Group
 keywordIn (smoothing n) = Smoothing
 keywordIn (material w) = Material
 keywordIn (type r t) = BodyType
 keywordIn (degree m n) = Degree
-keywordIn (body b cs) = freeKeyword (b .free)
+keywordIn (body b cs) = BodyOf (b .free)
 keywordIn (parameters d z) = Parameters
 keywordIn (loop l) = loopKeyword (l .hole)
 keywordIn end = End

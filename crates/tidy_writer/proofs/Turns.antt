@@ -1,19 +1,14 @@
 -- One turn of each loop that emits rows: the first row left, and then the others. By the rows' definitions, a read behind `drop` being a read further on.
-use Prim.Native.Nat.{ℕ, zero, suc, _+_, _*_, _-_, _^_, _≤_, _<_, min}
+use Prim.Native.Nat.{ℕ, zero, suc, _+_, _*_, _-_, _≤_, _<_, min}
 use mathlib.Core.Path.{_≡_, refl, sym, ap, ap₂, _∙_}
 use mathlib.Core.List.{List, [], _∷_, _++_, map, append-nil}
 use mathlib.Core.Bool.{Bool, true, false, cond}
-use mathlib.Core.Logic.{⊎-elim}
 use native.Mathlib.Omega.{arith}
 use borrow.Author.Tests.{ne-eqb, eq-eqb}
 use lib.ListN.{length, getD, take, drop}
 use lib.Seq.{take-nil, drop-nil, drop-cons, drop-drop, getD-drop}
 use lib.Dec.{eqb}
 use lib.IntN.{ℤ, pos, natAbs}
-use lib.Signed.{mag}
-use mir.Syntax.{w32}
-use mir.Val.{toZ, ofZ}
-use mir.Facts.{toZ-ofZ}
 use Rattle.tables.specs.Records.{partIn, loopWidth, spanWidth, cornerIn, cornerPlace}
 use Rattle.tables.specs.declared.parts.LoopPart.{LoopPart}
 use Rattle.tables.specs.declared.Corner.{Corner}

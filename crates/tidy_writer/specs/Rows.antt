@@ -16,6 +16,7 @@ use Rattle.statements.specs.declared.Carried.the-variants.{BodyType, Degree, Pa
 use Rattle.statements.specs.declared.Carried.the-variants as carried
 use Rattle.statements.specs.declared.Shape.the-variants.{Point, Line, Face}
 use Rattle.statements.specs.declared.Free.the-variants.{Curve, Curve2, Surface}
+use Rattle.tables.specs.Rows.{rangeNumbers}
 use Rattle.tables.specs.Records.{cornerWidth, loopWidth, spanWidth, bodyIn, pointKind, lineKind, faceKind, curveKind, curve2Kind, surfaceKind}
 use Rattle.tables.specs.declared.Element.{Element}
 use Rattle.tables.specs.declared.Body.{Body}
@@ -48,9 +49,6 @@ bodyIndex number = number - 1
 abbrev pub storedCorners : ℕ → List ℕ → List Corner
 storedCorners zero l = []
 storedCorners (suc n) l = record { v = getD l 0 0; vt = getD l 1 0; vn = getD l 2 0 } ∷ storedCorners n (drop cornerWidth l)
-
-abbrev pub rangeNumbers : Body → List ℤ
-rangeNumbers b = b .«start_u» ∷ b .«end_u» ∷ b .«start_v» ∷ b .«end_v» ∷ []
 
 abbrev pub elementWords : List ℕ → Body → Element → List (List ℕ)
 elementWords corners b e =

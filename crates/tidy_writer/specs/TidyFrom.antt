@@ -1,7 +1,7 @@
 -- The tidy text of what the tables hold: 01, "The tidy text". Elements count from 1; number 0 is none, whose record is zeros.
 use Prim.Native.Nat.{ℕ, zero, suc, _+_}
 use mathlib.Core.List.{List, [], _∷_, _++_}
-use mathlib.Core.Bool.{Bool, true, false, cond}
+use mathlib.Core.Bool.{true, false, cond}
 use lib.Dec.{eqb}
 use lib.IntN.{ℤ}
 use Rattle.text.specs.Written.{writtenLines}

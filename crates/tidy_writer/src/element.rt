@@ -1,7 +1,7 @@
 // An element's own line: its keyword, its range and its corners.
 ghost use mathlib.Core.Path.{_≡_};
-ghost use mathlib.Core.List.{_∷_, map};
-ghost use Prim.Native.Nat.{_+_, _*_, _≤_};
+ghost use mathlib.Core.List.{map};
+ghost use Prim.Native.Nat.{_≤_};
 ghost use lib.ListN.{drop};
 ghost use Rattle.text.specs.Written.{writtenLine};
 ghost use Rattle.references.specs.Written.{writtenCorner};

@@ -7,7 +7,6 @@ ghost use Rattle.tidy_form.specs.Agree.{wordsAt};
 ghost use Rattle.tidy_words.specs.Emitting.{Emitted};
 ghost use Rattle.tidy_writer.specs.TidyFrom.{changed, smoothed, namesLines, elementLines, elementsFrom};
 use crate::body;
-use crate::vertices;
 use tables::NameRun;
 use tidy_words::names;
 

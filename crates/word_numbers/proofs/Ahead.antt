@@ -1,14 +1,13 @@
 -- Digits that were read straight ahead are all there are, so that a number's ten-millionths are ten times its millionths.
 use Prim.Native.Nat.{ℕ, suc, _+_, _-_, _*_, _/_, _^_, _≤_, _<_}
 use mathlib.Core.Path.{_≡_, refl, sym, ap, _∙_}
-use mathlib.Core.List.{List, [], _∷_}
+use mathlib.Core.List.{List}
 use mathlib.Core.Bool.{Bool, true, false}
 use lib.ListN.{length, take, drop}
 use lib.Seq.{take-all}
 use lib.IntN.{ℤ}
 use native.Mathlib.Omega.{arith}
 use native.Mathlib.Nat.{pow-suc}
-use Rattle.lists.proofs.Tests.{never}
 use Rattle.text.specs.Words.{wordOf}
 use Rattle.text.specs.Rest.{endOf}
 use Rattle.digits.specs.Said.{Said, says}
@@ -17,7 +16,7 @@ use Rattle.digits.specs.Digits.{isDigit, natOf}
 use Rattle.decimals.specs.Number.{isE}
 use Rattle.lists.specs.Signs.{withSign}
 use Rattle.decimals.specs.Straight.{pointed, magnitudeOf, settleOf, DecimalsAhead}
-use Rattle.digits.specs.Straight.{first, isEmpty, run, WholeRead, UptoRead}
+use Rattle.digits.specs.Straight.{first, run, WholeRead, UptoRead}
 use Rattle.word_numbers.specs.Answers.{exactIs}
 use Rattle.word_numbers.specs.declared.Exact.{Exact}
 use Rattle.word_numbers.specs.declared.Exact.the-variants.{Of, Scaled, Other}

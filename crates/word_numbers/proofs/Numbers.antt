@@ -1,17 +1,13 @@
 -- The ways out of `fraction`, `measure` and `number_at`: each is a case of where the digits of the word at a place stop.
-use Prim.Native.Nat.{ℕ, zero, suc, _+_, _-_, _*_, _^_, _≤_, _<_}
-use mathlib.Core.Path.{_≡_, refl, sym, ap, ap₂, _∙_, subst}
-use mathlib.Core.List.{List, [], _∷_, _++_}
-use mathlib.Core.Bool.{Bool, true, false, cond, _||_}
-use mathlib.Core.Logic.{⊎-elim}
-use lib.ListN.{length, take, drop, length-append, length-take, length-drop}
+use Prim.Native.Nat.{ℕ, _+_, _-_, _*_, _^_, _≤_, _<_}
+use mathlib.Core.Path.{_≡_, refl, sym, ap, ap₂, _∙_}
+use mathlib.Core.List.{List, _∷_, _++_}
+use mathlib.Core.Bool.{Bool, true, false, cond}
+use lib.ListN.{length, take, drop, length-append, length-take}
 use lib.Seq.{drop-drop}
 use lib.IntN.{ℤ}
-use lib.Dec.{leb, eqb}
-use borrow.Author.Tests.{le-leb, lt-leb, leb-true, ne-eqb, eqb-true, eq-eqb}
+use lib.Dec.{eqb}
 use native.Mathlib.Omega.{arith}
-use Rattle.lists.proofs.Tests.{test, never}
-use Rattle.text.specs.Bytes.{isWord}
 use Rattle.text.specs.Words.{wordOf}
 use Rattle.text.specs.Rest.{endOf}
 use Rattle.digits.specs.Said.{Said, says, wrong}
@@ -19,9 +15,9 @@ use Rattle.digits.specs.Answers.{endsAt}
 use Rattle.digits.specs.Digits.{natOf, negative}
 use Rattle.decimals.specs.Number.{isSign, unsigned, numberOf}
 use Rattle.decimals.specs.Straight.{pointed, magnitudeOf, sizeOf, settleOf}
-use Rattle.digits.specs.Straight.{first, isEmpty, run, past, cap, WholeRead, UptoRead}
+use Rattle.digits.specs.Straight.{first, isEmpty, run, past, WholeRead, UptoRead}
 use Rattle.digits.proofs.Rows.{run-rest, scaled-small}
-use Rattle.digits.proofs.Fronts.{past-at, next-at, byte-in, word-all, word-run, past-word, byte-word}
+use Rattle.digits.proofs.Fronts.{past-at, next-at, byte-in, word-all, word-run, past-word}
 use Rattle.decimals.proofs.Signed as sign
 use Rattle.word_numbers.proofs.Decimals.{point-at, bare-at, other-at, none-at, pointed-not, pointed-none, pointed-of, number-long, number-bad, number-of}
 use Rattle.digits.proofs.Saids.{said, unsaid, ended-says, ended-wrong}

@@ -1,16 +1,16 @@
 -- The code's way to the rounded value: seven decimals decide, since ten-millionths rounded down round to the same millionth.
-use Prim.Native.Nat.{ℕ, zero, suc, _+_, _-_, _*_, _/_, _%_, _^_, _≤_, _<_, min}
+use Prim.Native.Nat.{ℕ, _+_, _-_, _*_, _/_, _%_, _^_, _≤_, _<_}
 use mathlib.Core.Path.{_≡_, refl, sym, ap, _∙_}
-use mathlib.Core.List.{List, [], _∷_, _++_}
+use mathlib.Core.List.{List}
 use mathlib.Core.Bool.{Bool, true, false}
 use mathlib.Core.Logic.{⊎-elim}
 use lib.ListN.{length, take, drop, take-append-drop, length-drop}
 use lib.Seq.{take-all}
 use lib.Dec.{leb}
 use lib.Pow.{pow-add}
-use borrow.Author.Tests.{leb-true, leb-false, lt-leb, le-leb}
+use borrow.Author.Tests.{leb-true, leb-false, lt-leb}
 use native.Mathlib.Omega.{arith}
-use native.Mathlib.Nat.{mul-le-mul-right, mul-le-mul-left, mul-assoc, mul-comm, add-mul, one-mul, mul-one, div-add-mod', mod-lt, div-eq-of-lt-le, div-eq-of-eq-mul-left, mul-div-mul-left, mul-div-cancel}
+use native.Mathlib.Nat.{mul-le-mul-right, mul-le-mul-left, mul-assoc, mul-comm, add-mul, mul-one, div-add-mod', mod-lt, div-eq-of-lt-le, div-eq-of-eq-mul-left, mul-div-mul-left}
 use Rattle.lists.proofs.Tests.{test}
 use Rattle.digits.specs.Digits.{digits, natOf}
 use Rattle.decimals.specs.Number.{nearest, limited}

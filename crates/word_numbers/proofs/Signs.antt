@@ -1,7 +1,7 @@
 -- A number up to 2,000,000,000 as a signed 32-bit integer, and its negative: both fit.
 use Prim.Native.Nat.{ℕ, zero, suc, _≤_, _<_, _^_, _+_, _/_}
 use mathlib.Core.Path.{_≡_, refl, sym, ap, _∙_, subst}
-use lib.IntN.{ℤ, pos, negsuc, negℤ, _-ℤ_, +ℤ-idl}
+use lib.IntN.{ℤ, pos, negℤ, _-ℤ_, +ℤ-idl}
 use mir.Syntax.{w32}
 use mir.Val.{SFits, toZ, ofZ}
 use mir.Facts.{toZ-ofZ}

@@ -1,5 +1,5 @@
 -- The place stays between the start and the end, and each byte takes one off what is left.
-use Prim.Native.Nat.{_-_, _≤_, _<_}
+use Prim.Native.Nat.{_-_, _≤_}
 use mathlib.Core.Path.{_≡_, refl}
 use lib.ListN.{length, drop}
 use denote.Ref.{now}
@@ -8,8 +8,6 @@ use Rattle.case_files.proofs.Turns.{line-ends, line-found, line-turn}
 use borrow.Author.Needs.{needs}
 use Rattle.case_files.proofs.line_end.Statement.{statement}
 use Rattle.case_files.proofs.line_end.Tie as tie
-use Rattle.case_files.proofs.line_end.Reads as reads
-use Rattle.case_files.proofs.line_end.Lts as lts
 
 abbrev Inv-loop : tie.InvT-loop
 Inv-loop cases at i₀ i = (endFrom i (drop i cases) ≡ caseLineEnd cases at) × (at ≤ i) × (i ≤ length cases)

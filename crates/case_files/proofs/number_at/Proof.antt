@@ -1,5 +1,5 @@
 -- The value stays small enough for one more digit, the place within the bytes.
-use Prim.Native.Nat.{_-_, _≤_, _<_}
+use Prim.Native.Nat.{_-_, _≤_}
 use mathlib.Core.Path.{_≡_, refl}
 use lib.ListN.{length, drop}
 use denote.Ref.{now}
@@ -8,8 +8,6 @@ use Rattle.case_files.proofs.Turns.{number-ends, number-low, number-hig
 use borrow.Author.Needs.{needs}
 use Rattle.case_files.proofs.number_at.Statement.{statement}
 use Rattle.case_files.proofs.number_at.Tie as tie
-use Rattle.case_files.proofs.number_at.Reads as reads
-use Rattle.case_files.proofs.number_at.Lts as lts
 
 abbrev Inv-loop : tie.InvT-loop
 Inv-loop cases at value₀ i₀ value i = (numberFrom value i (drop i cases) ≡ caseNumberAt cases at) × (value ≤ 50000000000) × (i ≤ length cases)

@@ -1,5 +1,6 @@
 -- By the arm.
 use borrow.Author.Needs.{needs}
+use Rattle.keyword_rules.proofs.FormLimits.{corner-limits}
 use Rattle.keyword_rules.proofs.limits_of.Statement.{statement}
 use Rattle.keyword_rules.proofs.limits_of.Tie as tie
 
@@ -76,7 +77,7 @@ returns-2 : tie.Need-returns-2
 returns-2 c = rw (c .before .enum-told2 .given .1) (c .limits-from2 .ensures)
 
 returns-3 : tie.Need-returns-3
-returns-3 c = rw (c .before .enum-told3 .given .1) (c .limits-from3 .ensures)
+returns-3 c = corner-limits (c .before .enum-told3 .given .1) (c .limits-from3 .ensures)
 
 returns-4 : tie.Need-returns-4
 returns-4 c = rw (c .before .enum-told4 .given .1) (c .limits-from4 .ensures)

@@ -9,12 +9,6 @@ use Rattle.keyword_rules.proofs.Rows.{statement-at}
 use borrow.Author.Needs.{needs}
 use Rattle.keyword_rules.proofs.words_of_range.Statement.{statement}
 use Rattle.keyword_rules.proofs.words_of_range.Tie as tie
-use Rattle.keyword_rules.proofs.words_of_range.Reads as reads
-use Rattle.keyword_rules.proofs.words_of_range.Lts as lts
-use Rattle.keyword_rules.proofs.carried_of.Reads as carried-of-reads
-use Rattle.keyword_rules.proofs.range_in.Reads as range-in-reads
-use Rattle.keywords.proofs.keyword_at.Reads as keyword-at-reads
-use Rattle.statements.proofs.rows.rules_of.Reads as rules-of-reads
 
 keyword-at-requires : tie.Need-keyword-at-requires
 keyword-at-requires c κs = search needs

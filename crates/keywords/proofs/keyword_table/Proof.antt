@@ -1,5 +1,5 @@
 -- The bytes of the table are those of the rows: both are computed.
-use mathlib.Core.Path.{_≡_, refl}
+use mathlib.Core.Path.{refl}
 use Rattle.keywords.specs.Keywords.{keywords}
 use Rattle.keywords.specs.Lookup.{keywordTable}
 use Rattle.keywords.proofs.keyword_table.Statement.{statement}

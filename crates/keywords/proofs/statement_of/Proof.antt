@@ -1,5 +1,5 @@
 -- Each arm's letter is computed through the rows; the last arm's is none of them.
-use mathlib.Core.Path.{_≡_, refl}
+use mathlib.Core.Path.{refl}
 use borrow.Author.Tests.{ne-eqb}
 use Rattle.keywords.specs.Keywords.{keywords}
 use Rattle.keywords.specs.Lookup.{ofLetter}

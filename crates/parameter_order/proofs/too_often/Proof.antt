@@ -6,6 +6,10 @@ use native.Mathlib.Omega.{arith}
 use Rattle.parameter_order.proofs.too_often.Statement.{statement}
 use Rattle.parameter_order.proofs.too_often.Tie as tie
 
+-- the points of the code that the proof looks back to
+abbrev at-start : tie.Then4 → tie.Start
+at-start c = c .before .before .before .before .before .before .before
+
 returns : tie.Need-returns
 returns c =
     let s = c .before .before .args in
@@ -32,7 +36,7 @@ returns-3 c =
 
 returns-4 : tie.Need-returns-4
 returns-4 c =
-    let s = c .before .before .before .before .before .before .before .args in
+    let s = at-start c .args in
     past-end (s .asked) (s .i) (s .since) (s .low) (s .previous) (c .if4 .taken)
 
 returns-5 : tie.Need-returns-5

@@ -11,6 +11,10 @@ use Rattle.point_cubics.proofs.Answers.{refused, answered}
 use Rattle.point_cubics.proofs.cubic_at.Statement.{statement}
 use Rattle.point_cubics.proofs.cubic_at.Tie as tie
 
+-- the points of the code that the proof looks back to
+abbrev at-start : tie.After-look-up → tie.Start
+at-start c = c .before .before .before .before .before
+
 abbrev lent-tables : tie.Start → Tables
 lent-tables s =
     tables (s .args .v .now) (s .args .vt .now) (s .args .vn .now) (s .args .vp .now) (s .args .corners .now) (s .args .elements .now)
@@ -19,7 +23,7 @@ lent-tables s =
 -- the element and its body
 module _ (c : tie.After-known-told2) where
   abbrev s : tie.Start
-  s = c .before .before .before .before .before .before .before .before
+  s = at-start (c .before .before .before)
 
   abbrev el : Element
   el = c .before .found2 .given .0 .0
@@ -44,7 +48,7 @@ step-at-requires c κs = curve-lent (curve-found (there c))
 
 returns : tie.Need-returns
 returns c =
-    let s = c .before .before .before .before .before .before .before .before in
+    let s = at-start (c .before .before .before) in
     refused (s .args .segment) (s .args .j) (missed false (s .args .used) (lent-tables s) (s .args .element) (sym (c .before .before .before .look-up .ensures) ∙ c .before .found .given .1))
 
 returns-2 : tie.Need-returns-2

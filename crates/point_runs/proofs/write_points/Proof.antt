@@ -84,6 +84,16 @@ Inv-loop points₀ values corners first axis axes x along start end steps chosen
 abbrev μ-loop : tie.MeasureT-loop
 μ-loop points₀ values corners first axis axes x along start end steps chosen₀ row₀ zero trusted n rest₀ j₀ points chosen row rest j = steps + 1 - j
 
+-- the points of the code that the proof looks back to
+abbrev at-start : tie.At-loop Inv-loop2 μ-loop2 Inv-loop4 μ-loop4 Inv-loop3 μ-loop3 Inv-loop μ-loop → tie.Start Inv-loop2 μ-loop2 Inv-loop4 μ-loop4 Inv-loop3 μ-loop3 Inv-loop μ-loop
+at-start c = c .before .before .before .before .before .before
+
+abbrev at-joined3 : tie.After-points Inv-loop2 μ-loop2 Inv-loop4 μ-loop4 Inv-loop3 μ-loop3 Inv-loop μ-loop → tie.Joined3 Inv-loop2 μ-loop2 Inv-loop4 μ-loop4 Inv-loop3 μ-loop3 Inv-loop μ-loop
+at-joined3 c = c .before .before .before .before .before .before .before
+
+abbrev at-joined1 : tie.At-loop3 Inv-loop2 μ-loop2 Inv-loop4 μ-loop4 Inv-loop3 μ-loop3 Inv-loop μ-loop → tie.Joined1 Inv-loop2 μ-loop2 Inv-loop4 μ-loop4 Inv-loop3 μ-loop3 Inv-loop μ-loop
+at-joined1 c = c .before .before .before .before .before .before .before
+
 find-requires : tie.Need-find-requires Inv-loop2 μ-loop2 Inv-loop4 μ-loop4 Inv-loop3 μ-loop3 Inv-loop μ-loop
 find-requires c κs =
     let s = c .before in
@@ -112,7 +122,7 @@ loop-holds c =
 
 parameter-at-requires : tie.Need-parameter-at-requires Inv-loop2 μ-loop2 Inv-loop4 μ-loop4 Inv-loop3 μ-loop3 Inv-loop μ-loop
 parameter-at-requires c κs =
-    let s = c .before .before .before .before .before .before .before in
+    let s = at-start (c .before) in
     let r = s .pre .4 in
     rw (toZ-ofZ (s .fits .start), toZ-ofZ (s .fits .end)) (r .ordered, r .start-small, r .end-small, s .pre .5, s .pre .6, omega arith)
 
@@ -122,7 +132,7 @@ module _ (c : tie.After-parameter-at Inv-loop2 μ-loop2 Inv-loop4 μ-loop4 Inv-l
   l = c .before .before
 
   abbrev s : tie.Start Inv-loop2 μ-loop2 Inv-loop4 μ-loop4 Inv-loop3 μ-loop3 Inv-loop μ-loop
-  s = l .before .before .before .before .before .before
+  s = at-start l
 
   abbrev a : ℕ → ℤ
   a j = parameterAt (s .args .start) (s .args .end) (s .args .steps) j
@@ -324,7 +334,7 @@ module _ (c : tie.In-loop4 Inv-loop2 μ-loop2 Inv-loop4 μ-loop4 Inv-loop3 μ-lo
   level = c .before .before .before .before
 
   abbrev begun : tie.Joined1 Inv-loop2 μ-loop2 Inv-loop4 μ-loop4 Inv-loop3 μ-loop3 Inv-loop μ-loop
-  begun = level .before .before .before .before .before .before .before
+  begun = at-joined1 level
 
   abbrev places : List Place
   places = level .loop3 .rest .places
@@ -437,7 +447,7 @@ loop3-again : tie.Need-loop3-again Inv-loop2 μ-loop2 Inv-loop4 μ-loop4 Inv-loo
 loop3-again c =
     let m = c .before .loop4 in
     let u = c .before .before .before .before in
-    let f = u .before .before .before .before .before .before .before in
+    let f = at-joined1 u in
     let v = s (p f) .args in
     let t = toZ w32 (ofZ w32 (p f .parameter-at .result)) in
     let last = u .loop3 .rest .count - 1 in
@@ -536,10 +546,10 @@ write-point-requires c κs =
     (s q .pre .2, s q .pre .3, simp (length-take, length-drop) (omega (arith, fits q)))
 
 add-j : tie.Need-add-j Inv-loop2 μ-loop2 Inv-loop4 μ-loop4 Inv-loop3 μ-loop3 Inv-loop μ-loop
-add-j c = omega (arith, early (p (start (c .before .before .before .before .before .before .before))))
+add-j c = omega (arith, early (p (start (at-joined3 c))))
 
 loop-less : tie.Need-loop-less Inv-loop2 μ-loop2 Inv-loop4 μ-loop4 Inv-loop3 μ-loop3 Inv-loop μ-loop
-loop-less c = omega (arith, early (p (start (c .before .before .before .before .before .before .before))))
+loop-less c = omega (arith, early (p (start (at-joined3 c))))
 
 -- the point that is made
 made : (c : tie.After-point-at Inv-loop2 μ-loop2 Inv-loop4 μ-loop4 Inv-loop3 μ-loop3 Inv-loop μ-loop) → let q = p (start (c .before)) in let v = s q .args in let r = c .point-at .result in
@@ -581,7 +591,7 @@ same-length c = search needs
 returns : tie.Need-returns Inv-loop2 μ-loop2 Inv-loop4 μ-loop4 Inv-loop3 μ-loop3 Inv-loop μ-loop
 returns c =
     let l = c .before .loop in
-    let s = c .before .before .before .before .before .before .before in
+    let s = at-start (c .before) in
     let e : l .j ≡ s .args .steps + 1 = omega arith in
     rw (toZ-ofZ (s .fits .start), toZ-ofZ (s .fits .end), e) at (l .inv .3)
 

@@ -4,9 +4,6 @@ use lib.ListN.{length}
 use borrow.Author.Needs.{needs}
 use Rattle.points.proofs.whole_of.Statement.{statement}
 use Rattle.points.proofs.whole_of.Tie as tie
-use Rattle.points.proofs.whole_of.Reads as reads
-use Rattle.points.proofs.whole_of.Lts as lts
-use Rattle.points.proofs.least.Reads as least-reads
 
 abbrev Inv-loop : tie.InvT-loop
 Inv-loop word value₀ i₀ value i = value ≤ 4294967295

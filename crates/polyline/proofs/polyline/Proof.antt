@@ -1,6 +1,6 @@
 -- What was looked up is the definition's element and body, or its refusal.
 use borrow.Author.Needs.{needs}
-use mathlib.Core.Path.{_≡_, sym, ap, _∙_}
+use mathlib.Core.Path.{sym, ap, _∙_}
 use mathlib.Core.Bool.{false}
 use lib.IntN.{ℤ}
 use mir.Facts.{toZ-ofZ}
@@ -14,6 +14,10 @@ use Rattle.polyline.proofs.Granted.{is-refused, answered}
 use Rattle.polyline.proofs.polyline.Statement.{statement}
 use Rattle.polyline.proofs.polyline.Tie as tie
 
+-- the points of the code that the proof looks back to
+abbrev at-start : tie.After-look-up → tie.Start
+at-start c = c .before .before .before .before .before
+
 abbrev lent-tables : tie.Start → Tables
 lent-tables s =
     tables (s .args .v .now) (s .args .vt .now) (s .args .vn .now) (s .args .vp .now) (s .args .corners .now) (s .args .elements .now)
@@ -22,7 +26,7 @@ lent-tables s =
 -- the element and its body
 module _ (c : tie.After-known-told2) where
   abbrev s : tie.Start
-  s = c .before .before .before .before .before .before .before .before
+  s = at-start (c .before .before .before)
 
   abbrev el : Element
   el = c .before .found2 .given .0 .0
@@ -47,7 +51,7 @@ polyline-at-requires c κs = curve-lent (curve-found (there (c .before)))
 
 returns : tie.Need-returns
 returns c =
-    let s = c .before .before .before .before .before .before .before .before in
+    let s = at-start (c .before .before .before) in
     let a = s .args in
     is-refused (a .used) (lent-tables s) (a .element) (a .tolerance) (a .at) (a .points .now)
     (missed false (a .used) (lent-tables s) (a .element) (sym (c .before .before .before .look-up .ensures) ∙ c .before .found .given .1))

@@ -2,8 +2,8 @@
 use borrow.Author.Needs.{needs}
 use mathlib.Core.Path.{_≡_, refl, sym, ap, ap₂, _∙_}
 use mathlib.Core.Bool.{false}
-use mathlib.Core.List.{List, [], _∷_, _++_}
-use Prim.Native.Nat.{ℕ, _+_, _*_, _-_, _≤_}
+use mathlib.Core.List.{List, [], _++_}
+use Prim.Native.Nat.{ℕ, _+_, _*_, _≤_}
 use native.Mathlib.Omega.{arith}
 use native.Mathlib.Nat.{mul-le-mul}
 use lib.IntN.{ℤ, pos}
@@ -19,7 +19,7 @@ use Rattle.tables.specs.declared.Element.{Element}
 use Rattle.tables.proofs.Bits.{fitted}
 use Rattle.sampler.specs.Points.{axesOf}
 use Rattle.sampler.specs.Answers.{PointAnswer, pointAnswer, pointOutcome}
-use Rattle.sampler.specs.Sampling.{Curved, answerOnCurve}
+use Rattle.sampler.specs.Sampling.{answerOnCurve}
 use Rattle.point_chords.specs.Chords.{ends, numbers, parameters}
 use Rattle.polyline.specs.Inner.{PieceEnds, coordinatesOf}
 use Rattle.polyline.proofs.Halves.{counted, ends-few, interval-read, room-first, room-second, both-written, room-read, written}

@@ -5,6 +5,10 @@ use borrow.Author.Needs.{needs}
 use Rattle.read_advice.proofs.explain.Statement.{statement}
 use Rattle.read_advice.proofs.explain.Tie as tie
 
+-- the points of the code that the proof looks back to
+abbrev at-said-before : tie.After-along-direction2 → tie.After-said-before
+at-said-before c = c .before .before .before .before .before .before .before .before .before .before .before .before .before .before
+
 no-advice-requires : tie.Need-no-advice-requires
 no-advice-requires c κs = search needs
 
@@ -36,7 +40,7 @@ along-direction-requires-2 : tie.Need-along-direction-requires-2
 along-direction-requires-2 c κs = search needs
 
 returns-2 : tie.Need-returns-2
-returns-2 c = (c .before .before .before .before .before .before .before .before .before .before .before .before .before .before .said-before .ensures .0, (c .before .before .before .along-direction .ensures, c .along-direction2 .ensures))
+returns-2 c = (at-said-before c .said-before .ensures .0, (c .before .before .before .along-direction .ensures, c .along-direction2 .ensures))
 
 pub explain-spec : {M : Type 1} → statement M
 explain-spec =

@@ -3,9 +3,6 @@ use mathlib.Core.Path.{refl}
 use borrow.Author.Needs.{needs}
 use Rattle.read_body_lines.proofs.closed_with.Statement.{statement}
 use Rattle.read_body_lines.proofs.closed_with.Tie as tie
-use Rattle.read_body_lines.proofs.closed_with.Reads as reads
-use Rattle.read_body_lines.proofs.closed_with.Lts as lts
-use Rattle.read_body_lines.proofs.curves_after.Reads as curves-after-reads
 
 add-used : tie.Need-add-used
 add-used c = search needs

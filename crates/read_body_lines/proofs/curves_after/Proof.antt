@@ -4,8 +4,6 @@ use borrow.Author.Tests.{eq-eqb, ne-eqb}
 use borrow.Author.Needs.{needs}
 use Rattle.read_body_lines.proofs.curves_after.Statement.{statement}
 use Rattle.read_body_lines.proofs.curves_after.Tie as tie
-use Rattle.read_body_lines.proofs.curves_after.Reads as reads
-use Rattle.read_body_lines.proofs.curves_after.Lts as lts
 
 add-result : tie.Need-add-result
 add-result c = search needs

@@ -12,10 +12,23 @@ use borrow.Author.Needs.{needs}
 use Rattle.read_body_lines.proofs.end_line.Statement.{statement}
 use Rattle.read_body_lines.proofs.end_line.Tie as tie
 
+-- the points of the code that the proof looks back to
+abbrev at-close-body : tie.After-parameters → tie.After-close-body
+at-close-body c = c .before .before .before .before
+
+abbrev at-start : tie.After-body-lent → tie.Start
+at-start c = c .before .before .before .before .before .before .before .before
+
+abbrev at-else2 : tie.After-close-body-arg3 → tie.Else2
+at-else2 c = c .before .before .before .before .before .before .before .before .before .before
+
+abbrev at-end-rules : tie.Then3 → tie.After-end-rules
+at-end-rules c = c .before .before .before .before .before .before .before .before .before .before
+
 -- the body is open, and its records are lent
 module _ (c : tie.Else2) where
   abbrev start : tie.Start
-  start = c .before .before .before .before .before .before .before .before .before
+  start = at-start (c .before)
 
   inside : start .args .state .«open» .kind ≡ 0 → ⊥
   inside =
@@ -43,7 +56,7 @@ body-lent-requires c κs = search needs
 
 returns-2 : tie.Need-returns-2
 returns-2 c =
-    let a = c .before .before .before .before .before .before .before .before .before .args in
+    let a = at-start (c .before) .args in
     end-unlent (now (a .text)) (a .at) (a .state) (now (a .bodies)) (now (a .bodies)) (now (a .ranges)) (now (a .ranges)) (now (a .parameters)) (now (a .parameters)) (sym (c .before .body-lent .ensures) ∙ not-true _ (c .if2 .taken))
 
 skip-blanks-requires : tie.Need-skip-blanks-requires
@@ -63,7 +76,7 @@ counted-requires c κs = search needs
 
 returns-3 : tie.Need-returns-3
 returns-3 c =
-    let row = c .before .before .before .before .before .before .before .before .before .before in
+    let row = at-end-rules c in
     let a = row .before .before .before .before .before .args in
     end-uncounted (now (a .text)) (a .at) (a .state) (now (a .bodies)) (now (a .bodies)) (now (a .ranges)) (now (a .ranges)) (now (a .parameters)) (now (a .parameters)) (row .end-rules .ensures) (c .before .counted .ensures) (not-true _ (c .if3 .taken))
 
@@ -72,7 +85,7 @@ form-of-requires c κs = search needs
 
 close-body-requires : tie.Need-close-body-requires
 close-body-requires c κs =
-    let e = c .before .before .before .before .before .before .before .before .before .before in
+    let e = at-else2 c in
     let s = start e in
     let a = s .args in
     end-asks (now (a .text)) (a .at) (a .state) (now (a .bodies)) (now (a .ranges)) (s .pre) (inside e) (lent e)
@@ -85,7 +98,7 @@ enum-known-u c = search needs
 
 closed-with-requires : tie.Need-closed-with-requires
 closed-with-requires c κs =
-    let called = c .before .before .before .before .before .before .before in
+    let called = at-close-body (c .before .before .before) in
     let form = called .before .before .before .before in
     let met = form .before .before .before .before .before .before in
     let e = met .before in
@@ -116,7 +129,7 @@ same-length-3 c = search needs
 
 returns-6 : tie.Need-returns-6
 returns-6 c =
-    let called = c .before .before .before .before .before .before .before in
+    let called = at-close-body (c .before .before .before) in
     let form = called .before .before .before .before in
     let met = form .before .before .before .before .before .before in
     let e = met .before in
@@ -134,7 +147,7 @@ same-length-6 c = search needs
 
 returns-7 : tie.Need-returns-7
 returns-7 c =
-    let called = c .before .before .before .before .before .before .before .before in
+    let called = at-close-body (c .before .before .before .before) in
     let form = called .before .before .before .before in
     let met = form .before .before .before .before .before .before in
     let e = met .before in

@@ -3,10 +3,6 @@ use Rattle.read_body_lines.proofs.Ended.{form-surface, form-curve}
 use borrow.Author.Needs.{needs}
 use Rattle.read_body_lines.proofs.form_of.Statement.{statement}
 use Rattle.read_body_lines.proofs.form_of.Tie as tie
-use Rattle.read_body_lines.proofs.form_of.Reads as reads
-use Rattle.read_body_lines.proofs.form_of.Lts as lts
-use Rattle.read_body_lines.proofs.degree_for.Reads as degree-for-reads
-use Rattle.read_body_lines.proofs.type_for.Reads as type-for-reads
 
 type-for-requires : tie.Need-type-for-requires
 type-for-requires c κs = search needs

@@ -2,8 +2,6 @@
 use mathlib.Core.Path.{refl}
 use Rattle.read_body_lines.proofs.keeping.Statement.{statement}
 use Rattle.read_body_lines.proofs.keeping.Tie as tie
-use Rattle.read_body_lines.proofs.keeping.Reads as reads
-use Rattle.read_body_lines.proofs.keeping.Lts as lts
 
 returns : tie.Need-returns
 returns c = rw (c .if1 .taken) refl

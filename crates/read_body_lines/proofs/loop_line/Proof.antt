@@ -12,6 +12,10 @@ use borrow.Author.Needs.{needs}
 use Rattle.read_body_lines.proofs.loop_line.Statement.{statement}
 use Rattle.read_body_lines.proofs.loop_line.Tie as tie
 
+-- the points of the code that the proof looks back to
+abbrev at-take-loop : tie.After-looped → tie.After-take-loop
+at-take-loop c = c .before .before .before .before .before .before .before
+
 module _ (c : tie.Else1) where
   abbrev start : tie.Start
   start = c .before .before .before .before .before .before
@@ -68,7 +72,7 @@ same-length-4 c = search needs
 
 returns-3 : tie.Need-returns-3
 returns-3 c =
-    let called = c .before .before .before .before .before .before .before in
+    let called = at-take-loop c in
     let left = called .before .before .before .before in
     let s = start left in
     let a = s .args in

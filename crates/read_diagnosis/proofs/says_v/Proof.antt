@@ -1,7 +1,9 @@
 -- By what the line goes on with.
 use mathlib.Core.Path.{sym, ap, _∙_}
 use denote.Ref.{now}
-use Rattle.model.specs.Parse.{isV, directionOf, saysV}
+use Rattle.keywords.specs.declared.Argument.the-variants.{DirectionV}
+use Rattle.keywords.specs.Arguments.{isArgument}
+use Rattle.model.specs.Parse.{saysV}
 use Rattle.read_word_checks.proofs.Walks as W
 use borrow.Author.Needs.{needs}
 use Rattle.read_diagnosis.proofs.says_v.Statement.{statement}
@@ -30,7 +32,7 @@ enum-told-2 : tie.Need-enum-told-2
 enum-told-2 c = search needs
 
 returns : tie.Need-returns
-returns c = let a = at-start c .args in W.v-first (now (a .text)) (a .at) (c .before .before .before .p .given .0 .0) (W.start-words (now (a .text)) (a .at) _ (c .before .before .before .before .before .skip-blanks .ensures) (c .before .before .before .p .given .1)) (c .is-v .ensures ∙ ap (λ y. isV (directionOf y)) (c .before .argument-at .ensures))
+returns c = let a = at-start c .args in W.v-first (now (a .text)) (a .at) (c .before .before .before .p .given .0 .0) (W.start-words (now (a .text)) (a .at) _ (c .before .before .before .before .before .skip-blanks .ensures) (c .before .before .before .p .given .1)) (c .is-v .ensures ∙ ap (λ y. isArgument y DirectionV) (c .before .argument-at .ensures))
 
 returns-2 : tie.Need-returns-2
 returns-2 c = let a = c .before .before .before .before .args in sym (ap saysV (W.end-words (now (a .text)) (a .at) _ (c .before .before .skip-blanks .ensures) (c .enum-told .given .1)))

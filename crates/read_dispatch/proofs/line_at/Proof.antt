@@ -2,17 +2,17 @@
 use borrow.Author.Needs.{needs}
 use Rattle.read_dispatch.proofs.line_at.Statement.{statement}
 use Rattle.read_dispatch.proofs.line_at.Tie as tie
-use Rattle.read_dispatch.proofs.line_at.Reads as reads
-use Rattle.read_dispatch.proofs.line_at.Lts as lts
-use Rattle.read_dispatch.proofs.keys.key_at.Reads as key-at-reads
-use Rattle.read_dispatch.proofs.line_with.Reads as line-with-reads
+
+-- the points of the code that the proof looks back to
+abbrev at-key-at : tie.After-line-with-arg11 → tie.After-key-at
+at-key-at c = c .before .before .before .before .before .before .before .before .before .before .before
 
 key-at-requires : tie.Need-key-at-requires
 key-at-requires c κs = search needs
 
 line-with-requires : tie.Need-line-with-requires
 line-with-requires c κs =
-    let keyed = c .before .before .before .before .before .before .before .before .before .before .before in
+    let keyed = at-key-at c in
     let start = keyed .before .before .before .before .before .before in
     (start .pre .0, (keyed .key-at .ensures, start .pre .1))
 

@@ -1,11 +1,9 @@
 -- By the answers of `reference_at`: the control is the reference, in the first place.
-use mathlib.Core.Path.{sym, ap, _∙_}
 use denote.Ref.{now}
 use borrow.Author.Needs.{needs}
 use Rattle.read_elements.proofs.control_at.Statement.{statement}
 use Rattle.read_elements.proofs.control_at.Tie as tie
 use Rattle.read_elements.proofs.Walking.{control-ended}
-use Rattle.references.specs.Answers.{saidReference}
 use Rattle.references.specs.Reference.{referenceOf}
 use Rattle.text.specs.Words.{wordOf}
 use Rattle.text.specs.Rest.{endOf}

@@ -1,6 +1,6 @@
 -- The loop keeps the corners found so far with the rest of the line (`Walking`); each word takes bytes off what is left.
-use Prim.Native.Nat.{ℕ, _+_, _-_, _≤_}
-use mathlib.Core.Path.{_≡_, sym, ap, _∙_}
+use Prim.Native.Nat.{_+_, _-_}
+use mathlib.Core.Path.{sym, ap, _∙_}
 use mathlib.Core.Bool.{Bool, cond}
 use native.Mathlib.Omega.{arith}
 use borrow.Author.Needs.{needs}
@@ -8,6 +8,7 @@ use borrow.Author.Tests.{leb-true, not-true, not-false}
 use lib.ListN.{length, drop}
 use lib.Seq.{sets}
 use denote.Ref.{now}
+use Rattle.table_store.proofs.Stores.{put-of}
 use Rattle.text.specs.Words.{wordOf}
 use Rattle.text.specs.Rest.{endOf}
 use Rattle.text.proofs.Found as F
@@ -149,8 +150,14 @@ returns-5 c =
     let c0 : Corner = record { v = said .v .given .0 .0; vt = said .v .given .0 .1 .0; vn = said .v .given .0 .1 .1 .0 } in
     W.stop-pattern (cornerSaid (a .used) (a .form)) s (a .at) (a .first) (now (a .corners)) w found c0 r (follow .before .pattern-of .ensures) (sym (follow .may-follow .ensures) ∙ not-true _ (c .if1 .taken))
 
-put3-u32-requires : tie.Need-put3-u32-requires Inv-loop μ-loop
-put3-u32-requires c κs = search needs
+corner-row-requires : tie.Need-corner-row-requires Inv-loop μ-loop
+corner-row-requires c κs = search needs
+
+slice-aggregate-put-u32 : tie.Need-slice-aggregate-put-u32 Inv-loop μ-loop
+slice-aggregate-put-u32 c = search needs
+
+put-u32-requires : tie.Need-put-u32-requires Inv-loop μ-loop
+put-u32-requires c κs = search needs
 
 same-length-6 : tie.Need-same-length-6 Inv-loop μ-loop
 same-length-6 c = search needs
@@ -158,7 +165,7 @@ same-length-6 c = search needs
 returns-6 : tie.Need-returns-6 Inv-loop μ-loop
 returns-6 c =
     let put = c .before .before .before in
-    let follow = put .before .before .before in
+    let follow = put .before .before .before .before .before in
     let said = follow .before .before .before in
     let read = said .before .before in
     let word = read .before .before in
@@ -168,16 +175,17 @@ returns-6 c =
     let a = start .args in
     let s = now (a .text) in
     let w = turn .loop .inv in
+    let answer = put-of (turn .loop .corners) (turn .loop .n) (put .before .before .before .corner-row .ensures) (put .put-u32 .ensures) in
     let found = F.word-found s (turn .loop .i) _ (met .skip-blanks .ensures) (word .p .given .1) in
     let r = W.is-corner (cornerSaid (a .used) (a .form) (wordOf (drop (word .p .given .0 .0) s))) (endOf s (word .p .given .0 .0)) (read .corner-from .ensures) (said .v .given .1) in
     let c0 : Corner = record { v = said .v .given .0 .0; vt = said .v .given .0 .1 .0; vn = said .v .given .0 .1 .1 .0 } in
-    let f = sym (follow .may-follow .ensures) ∙ not-false _ (put .before .before .if1 .left) in
-    W.stop-room (cornerSaid (a .used) (a .form)) s (a .at) (a .first) (now (a .corners)) w found c0 r (follow .before .pattern-of .ensures) f _ (put .put3-u32 .ensures .1 ∙ ap (λ (b : Bool). cond b (sets (turn .loop .corners) (turn .loop .n) (cornerRow c0)) (turn .loop .corners)) (put .put3-u32 .ensures .0)) (sym (put .put3-u32 .ensures .0) ∙ not-true _ (c .if2 .taken))
+    let f = sym (follow .may-follow .ensures) ∙ not-false _ (put .before .before .before .before .if1 .left) in
+    W.stop-room (cornerSaid (a .used) (a .form)) s (a .at) (a .first) (now (a .corners)) w found c0 r (follow .before .pattern-of .ensures) f _ (answer .1 ∙ ap (λ (b : Bool). cond b (sets (turn .loop .corners) (turn .loop .n) (cornerRow c0)) (turn .loop .corners)) (answer .0)) (sym (answer .0) ∙ not-true _ (c .if2 .taken))
 
 add-n : tie.Need-add-n Inv-loop μ-loop
 add-n c =
     let put = c .before .before .before in
-    let follow = put .before .before .before in
+    let follow = put .before .before .before .before .before in
     let said = follow .before .before .before in
     let read = said .before .before in
     let word = read .before .before in
@@ -187,7 +195,8 @@ add-n c =
     let a = start .args in
     let s = now (a .text) in
     let w = turn .loop .inv in
-    let k = sym (put .put3-u32 .ensures .0) ∙ not-false _ (c .if2 .left) in
+    let answer = put-of (turn .loop .corners) (turn .loop .n) (put .before .before .before .corner-row .ensures) (put .put-u32 .ensures) in
+    let k = sym (answer .0) ∙ not-false _ (c .if2 .left) in
     let h = leb-true (turn .loop .n + 3) (length (turn .loop .corners)) k in
     let same = w .same in
     omega (arith, start .good)
@@ -195,7 +204,7 @@ add-n c =
 add-count : tie.Need-add-count Inv-loop μ-loop
 add-count c =
     let put = c .before .before .before in
-    let follow = put .before .before .before in
+    let follow = put .before .before .before .before .before in
     let said = follow .before .before .before in
     let read = said .before .before in
     let word = read .before .before in
@@ -212,7 +221,7 @@ add-count c =
 loop-less : tie.Need-loop-less Inv-loop μ-loop
 loop-less c =
     let put = c .before .before .before in
-    let follow = put .before .before .before in
+    let follow = put .before .before .before .before .before in
     let said = follow .before .before .before in
     let read = said .before .before in
     let word = read .before .before in
@@ -231,7 +240,7 @@ loop-less c =
 loop-again : tie.Need-loop-again Inv-loop μ-loop
 loop-again c =
     let put = c .before .before .before in
-    let follow = put .before .before .before in
+    let follow = put .before .before .before .before .before in
     let said = follow .before .before .before in
     let read = said .before .before in
     let word = read .before .before in
@@ -241,12 +250,13 @@ loop-again c =
     let a = start .args in
     let s = now (a .text) in
     let w = turn .loop .inv in
+    let answer = put-of (turn .loop .corners) (turn .loop .n) (put .before .before .before .corner-row .ensures) (put .put-u32 .ensures) in
     let found = F.word-found s (turn .loop .i) _ (met .skip-blanks .ensures) (word .p .given .1) in
     let r = W.is-corner (cornerSaid (a .used) (a .form) (wordOf (drop (word .p .given .0 .0) s))) (endOf s (word .p .given .0 .0)) (read .corner-from .ensures) (said .v .given .1) in
     let c0 : Corner = record { v = said .v .given .0 .0; vt = said .v .given .0 .1 .0; vn = said .v .given .0 .1 .1 .0 } in
-    let f = sym (follow .may-follow .ensures) ∙ not-false _ (put .before .before .if1 .left) in
-    let k = sym (put .put3-u32 .ensures .0) ∙ not-false _ (c .if2 .left) in
-    W.turn (cornerSaid (a .used) (a .form)) s (a .at) (a .first) (now (a .corners)) w found c0 r (follow .before .pattern-of .ensures) f _ (put .put3-u32 .ensures .1 ∙ ap (λ (b : Bool). cond b (sets (turn .loop .corners) (turn .loop .n) (cornerRow c0)) (turn .loop .corners)) (put .put3-u32 .ensures .0)) k
+    let f = sym (follow .may-follow .ensures) ∙ not-false _ (put .before .before .before .before .if1 .left) in
+    let k = sym (answer .0) ∙ not-false _ (c .if2 .left) in
+    W.turn (cornerSaid (a .used) (a .form)) s (a .at) (a .first) (now (a .corners)) w found c0 r (follow .before .pattern-of .ensures) f _ (answer .1 ∙ ap (λ (b : Bool). cond b (sets (turn .loop .corners) (turn .loop .n) (cornerRow c0)) (turn .loop .corners)) (answer .0)) k
 
 pub corners-into-spec : {M : Type 1} → statement M
 corners-into-spec =
@@ -275,7 +285,9 @@ corners-into-spec =
     may-follow-requires
     same-length-5
     returns-5
-    put3-u32-requires
+    corner-row-requires
+    slice-aggregate-put-u32
+    put-u32-requires
     same-length-6
     returns-6
     add-n

@@ -1,5 +1,11 @@
 -- By what storing the corners answered, how many there are, and what storing the record answered.
+use Prim.Native.Nat.{_*_}
+use mathlib.Core.Path.{ap, _∙_}
+use mathlib.Core.Bool.{cond}
 use native.Mathlib.Omega.{arith}
+use lib.Seq.{sets}
+use Rattle.tables.specs.Rows.{elementNumbers}
+use Rattle.tables.specs.declared.Element as Record
 use borrow.Author.Needs.{needs}
 use denote.Ref.{now}
 use Rattle.read_elements.proofs.Taking as T
@@ -48,6 +54,9 @@ cast-n c =
     let small = T.fits-number (a .rule) (a .used) s (a .at) l m w (start .pre .1) in
     omega arith
 
+stored-element-requires : tie.Need-stored-element-requires
+stored-element-requires c κs = search needs
+
 put-element-requires : tie.Need-put-element-requires
 put-element-requires c κs = search needs
 
@@ -60,7 +69,7 @@ same-length-3 c = search needs
 returns-2 : tie.Need-returns-2
 returns-2 c =
     let put = c .before .before .before in
-    let known = put .before .before .before .before .before in
+    let known = put .before .before .before .before .before .before in
     let matched = known .before in
     let called = matched .before .before .before in
     let start = called .before .before .before .before .before .before in
@@ -69,7 +78,7 @@ returns-2 c =
     let l = now (a .corners) in
     let m = called .corners-into .last .1 .1 .1 .1 .0 in
     let w = T.took (a .rule) (a .used) s (a .at) l m (called .corners-into .ensures) (known .next .given .1) in
-    T.stored (a .rule) (a .used) s (a .at) l m w (a .body) (a .names) (now (a .elements)) _ (put .put-element .ensures .0) (put .put-element .ensures .1) (put .before .before .if1 .left) (c .if2 .taken)
+    T.stored (a .rule) (a .used) s (a .at) l m w (a .body) (a .names) (now (a .elements)) _ (put .put-element .ensures .0) (put .put-element .ensures .1 ∙ ap (λ (e : Record.Element). cond (put .put-element .result) (sets (now (a .elements)) (9 * a .used .elements) (elementNumbers e)) (now (a .elements))) (put .before .before .stored-element .ensures)) (put .before .before .before .if1 .left) (c .if2 .taken)
 
 same-length-4 : tie.Need-same-length-4
 same-length-4 c = search needs
@@ -94,7 +103,7 @@ same-length-6 c = search needs
 returns-4 : tie.Need-returns-4
 returns-4 c =
     let put = c .before .before .before in
-    let known = put .before .before .before .before .before in
+    let known = put .before .before .before .before .before .before in
     let matched = known .before in
     let called = matched .before .before .before in
     let start = called .before .before .before .before .before .before in
@@ -103,7 +112,7 @@ returns-4 c =
     let l = now (a .corners) in
     let m = called .corners-into .last .1 .1 .1 .1 .0 in
     let w = T.took (a .rule) (a .used) s (a .at) l m (called .corners-into .ensures) (known .next .given .1) in
-    T.no-record (a .rule) (a .used) s (a .at) l m w (a .body) (a .names) (now (a .elements)) _ (put .put-element .ensures .0) (put .put-element .ensures .1) (c .if2 .left)
+    T.no-record (a .rule) (a .used) s (a .at) l m w (a .body) (a .names) (now (a .elements)) _ (put .put-element .ensures .0) (put .put-element .ensures .1 ∙ ap (λ (e : Record.Element). cond (put .put-element .result) (sets (now (a .elements)) (9 * a .used .elements) (elementNumbers e)) (now (a .elements))) (put .before .before .stored-element .ensures)) (c .if2 .left)
 
 pub take-corners-spec : {M : Type 1} → statement M
 take-corners-spec =
@@ -116,6 +125,7 @@ take-corners-spec =
     same-length
     returns
     cast-n
+    stored-element-requires
     put-element-requires
     same-length-2
     same-length-3

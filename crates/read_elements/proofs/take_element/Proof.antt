@@ -1,6 +1,4 @@
 -- By the rule of its shape.
-use Prim.Native.Nat.{ℕ}
-use mathlib.Core.Path.{ap}
 use borrow.Author.Needs.{needs}
 use Rattle.read_elements.proofs.take_element.Statement.{statement}
 use Rattle.read_elements.proofs.take_element.Tie as tie

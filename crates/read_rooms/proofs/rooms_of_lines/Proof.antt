@@ -13,6 +13,10 @@ Inv-loop text table rooms₀ at₀ rooms at = G.Going text rooms at
 abbrev μ-loop : tie.MeasureT-loop
 μ-loop text table rooms₀ at₀ rooms at = length text - at
 
+-- the points of the code that the proof looks back to
+abbrev at-start : tie.After-line-at Inv-loop μ-loop → tie.Start Inv-loop μ-loop
+at-start c = c .before .before .before .before .before
+
 no-room-requires : tie.Need-no-room-requires Inv-loop μ-loop
 no-room-requires c κs = search needs
 
@@ -34,21 +38,21 @@ both-requires : tie.Need-both-requires Inv-loop μ-loop
 both-requires c κs =
     let line = c .before .before .before in
     let test = line .before in
-    let start = c .before .before .before .before .before .before .before .before in
+    let start = at-start (c .before .before .before) in
     G.going-fits (now (start .args .text)) (start .pre .0) (test .before .loop .rooms) (test .before .loop .at) (test .before .loop .inv) (test .loop-test .taken) (line .line-at .result) (line .line-at .ensures) _ _ (c .before .room .given .1)
 
 loop-less : tie.Need-loop-less Inv-loop μ-loop
 loop-less c =
     let line = c .before .before .before .before in
     let test = line .before in
-    let start = c .before .before .before .before .before .before .before .before .before in
+    let start = at-start (c .before .before .before .before) in
     G.going-on (now (start .args .text)) (start .pre .0) (test .before .loop .rooms) (test .before .loop .at) (test .before .loop .inv) (test .loop-test .taken) (line .line-at .result) (line .line-at .ensures) _ _ (c .before .before .room .given .1) _ (c .both .ensures) .1
 
 loop-again : tie.Need-loop-again Inv-loop μ-loop
 loop-again c =
     let line = c .before .before .before .before in
     let test = line .before in
-    let start = c .before .before .before .before .before .before .before .before .before in
+    let start = at-start (c .before .before .before .before) in
     G.going-on (now (start .args .text)) (start .pre .0) (test .before .loop .rooms) (test .before .loop .at) (test .before .loop .inv) (test .loop-test .taken) (line .line-at .result) (line .line-at .ensures) _ _ (c .before .before .room .given .1) _ (c .both .ensures) .0
 
 enum-told : tie.Need-enum-told Inv-loop μ-loop
@@ -58,7 +62,7 @@ returns : tie.Need-returns Inv-loop μ-loop
 returns c =
     let line = c .before .before in
     let test = line .before in
-    let start = c .before .before .before .before .before .before .before in
+    let start = at-start (c .before .before) in
     G.going-stops (now (start .args .text)) (start .pre .0) (test .before .loop .rooms) (test .before .loop .at) (test .before .loop .inv) (test .loop-test .taken) (line .line-at .result) (line .line-at .ensures) (c .enum-told .given .1)
 
 returns-2 : tie.Need-returns-2 Inv-loop μ-loop

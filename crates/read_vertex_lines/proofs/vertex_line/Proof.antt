@@ -14,6 +14,16 @@ use borrow.Author.Needs.{needs}
 use Rattle.read_vertex_lines.proofs.vertex_line.Statement.{statement}
 use Rattle.read_vertex_lines.proofs.vertex_line.Tie as tie
 
+-- the points of the code that the proof looks back to
+abbrev at-start : tie.After-count-of → tie.Start
+at-start c = c .before .before .before .before .before .before .before
+
+abbrev at-vertex-into : tie.After-with-used → tie.After-vertex-into
+at-vertex-into c = c .before .before .before .before .before .before .before .before .before
+
+abbrev at-count-of : tie.After-vp → tie.After-count-of
+at-count-of c = c .before .before .before .before .before .before .before .before .before
+
 vertex-rules-requires : tie.Need-vertex-rules-requires
 vertex-rules-requires c κs = search needs
 
@@ -41,8 +51,8 @@ enum-known-next c = search needs
 
 add-counted : tie.Need-add-counted
 add-counted c =
-    let counts = c .before .before .before .before .before .before .before .before .before .before .before .before in
-    let start = counts .before .before .before .before .before .before .before in
+    let counts = at-count-of (c .before .before .before) in
+    let start = at-start counts in
     let small = count-small (start .pre) (start .args .kind) in
     let is = counts .count-of .ensures in
     record { fits = omega (arith, small, is) }
@@ -68,8 +78,8 @@ same-length-4 c = search needs
 returns-2 : tie.Need-returns-2
 returns-2 c =
     let f = c .before .before .before .before .before .before .vertex-into in
-    let counts = c .before .before .before .before .before .before .before .before .before .before .before in
-    let a = counts .before .before .before .before .before .before .before .args in
+    let counts = at-count-of (c .before .before) in
+    let a = at-start counts .args in
     let l = kindIn (a .kind) (vertexTables (now (a .v)) (now (a .vt)) (now (a .vn)) (now (a .vp))) in
     let m = kindIn (a .kind) (vertexTables (f .last .1 .1 .1 .1 .0) (f .last .1 .1 .1 .1 .1 .0) (f .last .1 .1 .1 .1 .1 .1 .0) (f .last .1 .1 .1 .1 .1 .1 .1 .0)) in
     lent (a .kind) (now (a .text)) (a .at) (a .state) (vertexTables (now (a .v)) (now (a .vt)) (now (a .vn)) (now (a .vp))) (vertexTables (f .last .1 .1 .1 .1 .0) (f .last .1 .1 .1 .1 .1 .0) (f .last .1 .1 .1 .1 .1 .1 .0) (f .last .1 .1 .1 .1 .1 .1 .1 .0)) Rejected (f .ensures .1) (vertex-gave (a .kind) (now (a .text)) (a .at) (a .state) l (counts .count-of .result) (counts .count-of .ensures) m (f .result) (f .ensures .0) (c .enum-told .given .1))
@@ -88,8 +98,8 @@ same-length-8 c = search needs
 
 returns-3 : tie.Need-returns-3
 returns-3 c =
-    let f = c .before .before .before .before .before .before .before .before .before .vertex-into in
-    let counts = c .before .before .before .before .before .before .before .before .before .before .before .before .before .before in
+    let f = at-vertex-into c .vertex-into in
+    let counts = at-count-of (c .before .before .before .before .before) in
     let test = counts .before .before in
     let row = test .before .before in
     let start = row .before .before .before in

@@ -16,6 +16,13 @@ Inv-loop text at most table₀ first i₀ count₀ table i count = W.Walking mos
 abbrev μ-loop : tie.MeasureT-loop
 μ-loop text at most table₀ first i₀ count₀ table i count = most - count
 
+-- the points of the code that the proof looks back to
+abbrev at-loop : tie.After-put-i32-arg Inv-loop μ-loop → tie.At-loop Inv-loop μ-loop
+at-loop c = c .before .before .before .before .before .before .before .before .before .before
+
+abbrev at-in-loop : tie.Else1 Inv-loop μ-loop → tie.In-loop Inv-loop μ-loop
+at-in-loop c = c .before .before .before .before .before .before .before .before .before .before .before .before .before
+
 loop-holds : tie.Need-loop-holds Inv-loop μ-loop
 loop-holds c =
     let a = c .before .args in
@@ -45,12 +52,15 @@ enum-known-value c = search needs
 
 add-put-i32 : tie.Need-add-put-i32 Inv-loop μ-loop
 add-put-i32 c =
-    let turn = c .before .before .before .before .before .before .before .before .before .before in
+    let turn = at-loop c in
     let start = turn .before .before in
     let a = start .args in
     let l = turn .loop in
     let fits = W.place-fits (a .first) (l .count) (2 ^ 64) (length (now (a .table))) (l .inv .room) (omega (arith, start .fits .first)) (omega (arith, start .good)) in
     omega arith
+
+slice-aggregate-put-i32 : tie.Need-slice-aggregate-put-i32 Inv-loop μ-loop
+slice-aggregate-put-i32 c = search needs
 
 put-i32-requires : tie.Need-put-i32-requires Inv-loop μ-loop
 put-i32-requires c κs = search needs
@@ -61,7 +71,7 @@ same-length c = search needs
 returns : tie.Need-returns Inv-loop μ-loop
 returns c =
     let put = c .before .before in
-    let told = put .before .before in
+    let told = put .before .before .before in
     let number = told .before in
     let read = number .before .before in
     let word = read .before .before in
@@ -77,21 +87,21 @@ returns c =
 
 add-count : tie.Need-add-count Inv-loop μ-loop
 add-count c =
-    let test = c .before .before .before .before .before .before .before .before .before .before .before .before in
+    let test = at-in-loop c in
     let start = test .before .before .before in
     let more = test .loop-test .taken in
     omega (arith, start .fits .most)
 
 loop-less : tie.Need-loop-less Inv-loop μ-loop
 loop-less c =
-    let test = c .before .before .before .before .before .before .before .before .before .before .before .before in
+    let test = at-in-loop c in
     let more = test .loop-test .taken in
     omega arith
 
 loop-again : tie.Need-loop-again Inv-loop μ-loop
 loop-again c =
     let put = c .before .before in
-    let told = put .before .before in
+    let told = put .before .before .before in
     let number = told .before in
     let read = number .before .before in
     let word = read .before .before in
@@ -198,6 +208,7 @@ numbers-into-spec =
     quick-number-at-requires
     enum-known-value
     add-put-i32
+    slice-aggregate-put-i32
     put-i32-requires
     same-length
     returns

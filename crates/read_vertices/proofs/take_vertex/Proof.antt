@@ -9,6 +9,10 @@ use borrow.Author.Needs.{needs}
 use Rattle.read_vertices.proofs.take_vertex.Statement.{statement}
 use Rattle.read_vertices.proofs.take_vertex.Tie as tie
 
+-- the points of the code that the proof looks back to
+abbrev at-layout-of : tie.Else2 → tie.After-layout-of
+at-layout-of c = c .before .before .before .before .before .before .before .before .before .before .before .before .before .before
+
 layout-of-requires : tie.Need-layout-of-requires
 layout-of-requires c κs = search needs
 
@@ -80,7 +84,7 @@ cast-table c =
 
 mul-t21 : tie.Need-mul-t21
 mul-t21 c =
-    let kind = c .before .before .before .before .before .before .before .before .before .before .before .before .before .before in
+    let kind = at-layout-of c in
     let start = kind .before .before in
     let a = start .args in
     let fits = T.product (a .kind) (now (a .text)) (a .at) (a .used) (now (a .table)) (kind .layout-of .ensures) (omega (arith, start .fits .used)) in

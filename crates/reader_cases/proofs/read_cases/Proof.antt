@@ -4,9 +4,6 @@ use lib.ListN.{length}
 use borrow.Author.Needs.{needs}
 use Rattle.reader_cases.proofs.read_cases.Statement.{statement}
 use Rattle.reader_cases.proofs.read_cases.Tie as tie
-use Rattle.reader_cases.proofs.read_cases.Reads as reads
-use Rattle.reader_cases.proofs.read_cases.Lts as lts
-use Rattle.reader_cases.proofs.read_case.Reads as read-case-reads
 
 abbrev Inv-loop : tie.InvT-loop
 Inv-loop cases at₀ at = Unit {0}

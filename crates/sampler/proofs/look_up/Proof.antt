@@ -16,6 +16,10 @@ use borrow.Author.Needs.{needs}
 use Rattle.sampler.proofs.look_up.Statement.{statement}
 use Rattle.sampler.proofs.look_up.Tie as tie
 
+-- the points of the code that the proof looks back to
+abbrev at-start : tie.After-struct-known → tie.Start
+at-start c = c .before .before .before .before .before .before
+
 abbrev lent-tables : tie.Start → Tables
 lent-tables s =
     tables (s .args .v .now) (s .args .vt .now) (s .args .vn .now) (s .args .vp .now) (s .args .corners .now) (s .args .elements .now)
@@ -24,7 +28,7 @@ lent-tables s =
 -- the kind, once it is read
 module _ (c : tie.After-is-wanted) where
   abbrev start : tie.Start
-  start = c .before .before .before .before .before .before .before .before .before .before .before
+  start = at-start (c .before .before .before .before .before)
 
   some : 1 ≤ start .args .element
   some = omega (arith, c .before .before .before .before .before .before .if1 .left)
@@ -84,14 +88,14 @@ returns : tie.Need-returns
 returns c = let s = c .before .before .before .before .before in let a = s .args in refuses (a .surface) (a .used) (lent-tables s) (a .element) (none-such (a .surface) (a .used) (lent-tables s) (a .element) (c .if1 .taken)) (λ z. omega arith)
 
 returns-2 : tie.Need-returns-2
-returns-2 c = let s = c .before .before .before .before .before .before .before in let a = s .args in refuses (a .surface) (a .used) (lent-tables s) (a .element) (past-used (a .surface) (a .used) (lent-tables s) (a .element) (omega arith) (c .if2 .taken)) (λ z. omega arith)
+returns-2 c = let s = at-start (c .before) in let a = s .args in refuses (a .surface) (a .used) (lent-tables s) (a .element) (past-used (a .surface) (a .used) (lent-tables s) (a .element) (omega arith) (c .if2 .taken)) (λ z. omega arith)
 
 element-fits-requires : tie.Need-element-fits-requires
 element-fits-requires c κs = search needs
 
 returns-3 : tie.Need-returns-3
 returns-3 c =
-    let s = c .before .before .before .before .before .before .before .before .before in
+    let s = at-start (c .before .before .before) in
     let a = s .args in
     let some : 1 ≤ a .element = omega arith in
     refuses (a .surface) (a .used) (lent-tables s) (a .element)

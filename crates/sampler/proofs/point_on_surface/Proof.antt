@@ -1,6 +1,6 @@
 -- What was looked up is the definition's element and body, or its refusal.
 use borrow.Author.Needs.{needs}
-use mathlib.Core.Path.{_≡_, sym, ap₂, _∙_}
+use mathlib.Core.Path.{sym, ap₂, _∙_}
 use mathlib.Core.Bool.{true}
 use mir.Facts.{toZ-ofZ}
 use Rattle.tables.specs.Tables.{Tables, tables}
@@ -12,6 +12,10 @@ use Rattle.sampler.proofs.Surfaces.{surface-tables, surface-found, surf
 use Rattle.sampler.proofs.point_on_surface.Statement.{statement}
 use Rattle.sampler.proofs.point_on_surface.Tie as tie
 
+-- the points of the code that the proof looks back to
+abbrev at-start : tie.After-look-up → tie.Start
+at-start c = c .before .before .before .before .before
+
 abbrev lent-tables : tie.Start → Tables
 lent-tables s =
     tables (s .args .v .now) (s .args .vt .now) (s .args .vn .now) (s .args .vp .now) (s .args .corners .now) (s .args .elements .now)
@@ -20,7 +24,7 @@ lent-tables s =
 -- the element and its body
 module _ (c : tie.After-known-told2) where
   abbrev s : tie.Start
-  s = c .before .before .before .before .before .before .before .before
+  s = at-start (c .before .before .before)
 
   abbrev el : Element
   el = c .before .found2 .given .0 .0
@@ -45,7 +49,7 @@ surface-at-requires c κs = surface-lent (surface-found (there c))
 
 returns : tie.Need-returns
 returns c =
-    let s = c .before .before .before .before .before .before .before .before in
+    let s = at-start (c .before .before .before) in
     refused-surface (s .args .s) (s .args .t) (missed true (s .args .used) (lent-tables s) (s .args .element) (sym (c .before .before .before .look-up .ensures) ∙ c .before .found .given .1))
 
 returns-2 : tie.Need-returns-2

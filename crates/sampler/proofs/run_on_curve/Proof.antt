@@ -1,6 +1,6 @@
 -- What was looked up is the definition's element and body, or its refusal.
 use borrow.Author.Needs.{needs}
-use mathlib.Core.Path.{_≡_, sym, _∙_}
+use mathlib.Core.Path.{sym, _∙_}
 use mathlib.Core.Bool.{false}
 use Rattle.tables.specs.Tables.{Tables, tables}
 use Rattle.tables.specs.declared.Body.{Body}
@@ -11,6 +11,10 @@ use Rattle.sampler.proofs.Entries.{curve-found, curve-lent}
 use Rattle.sampler.proofs.run_on_curve.Statement.{statement}
 use Rattle.sampler.proofs.run_on_curve.Tie as tie
 
+-- the points of the code that the proof looks back to
+abbrev at-start : tie.After-look-up → tie.Start
+at-start c = c .before .before .before .before .before
+
 abbrev lent-tables : tie.Start → Tables
 lent-tables s =
     tables (s .args .v .now) (s .args .vt .now) (s .args .vn .now) (s .args .vp .now) (s .args .corners .now) (s .args .elements .now)
@@ -19,7 +23,7 @@ lent-tables s =
 -- the element and its body
 module _ (c : tie.After-known-told2) where
   abbrev s : tie.Start
-  s = c .before .before .before .before .before .before .before .before
+  s = at-start (c .before .before .before)
 
   abbrev el : Element
   el = c .before .found2 .given .0 .0
@@ -44,7 +48,7 @@ run-at-requires c κs = curve-lent (curve-found (there (c .before)))
 
 returns : tie.Need-returns
 returns c =
-    let s = c .before .before .before .before .before .before .before .before in
+    let s = at-start (c .before .before .before) in
     run-refused (s .args .steps) (s .args .at) (s .args .points .now) (missed false (s .args .used) (lent-tables s) (s .args .element) (sym (c .before .before .before .look-up .ensures) ∙ c .before .found .given .1))
 
 same-length : tie.Need-same-length

@@ -4,9 +4,6 @@ use lib.ListN.{length}
 use borrow.Author.Needs.{needs}
 use Rattle.sampler_cases.proofs.put_numbers.Statement.{statement}
 use Rattle.sampler_cases.proofs.put_numbers.Tie as tie
-use Rattle.sampler_cases.proofs.put_numbers.Reads as reads
-use Rattle.sampler_cases.proofs.put_numbers.Lts as lts
-use Rattle.sampler_cases.proofs.put_number.Reads as put-number-reads
 
 abbrev Inv-loop : tie.InvT-loop
 Inv-loop numbers i₀ i = Unit {0}

@@ -4,9 +4,6 @@ use lib.ListN.{length}
 use borrow.Author.Needs.{needs}
 use Rattle.sampler_cases.proofs.sample_cases.Statement.{statement}
 use Rattle.sampler_cases.proofs.sample_cases.Tie as tie
-use Rattle.sampler_cases.proofs.sample_cases.Reads as reads
-use Rattle.sampler_cases.proofs.sample_cases.Lts as lts
-use Rattle.sampler_cases.proofs.sample_case.Reads as sample-case-reads
 
 abbrev Inv-loop : tie.InvT-loop
 Inv-loop cases at₀ at = Unit {0}

@@ -3,11 +3,6 @@ use Prim.Native.Nat.{_-_, _≤_}
 use borrow.Author.Needs.{needs}
 use Rattle.sampler_cases.proofs.sample_elements.Statement.{statement}
 use Rattle.sampler_cases.proofs.sample_elements.Tie as tie
-use Rattle.sampler_cases.proofs.sample_elements.Reads as reads
-use Rattle.sampler_cases.proofs.sample_elements.Lts as lts
-use Rattle.case_files.proofs.least.Reads as least-reads
-use Rattle.sampler_cases.proofs.put.Reads as put-reads
-use Rattle.sampler_cases.proofs.sample.Reads as sample-reads
 
 abbrev Inv-loop : tie.InvT-loop
 Inv-loop used v vt vn vp corners elements bodies ranges parameters loops spans steps first s t tolerance from element₀ t20 element =

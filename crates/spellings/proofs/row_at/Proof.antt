@@ -1,11 +1,9 @@
 -- The rows that are left find what all of them find; a row whose first letter differs is passed.
-use Prim.Native.Nat.{_-_}
-use mathlib.Core.Path.{_≡_, refl, sym, _∙_}
+use mathlib.Core.Path.{sym}
 use mathlib.Core.Logic.{⊎-elim}
 use native.Mathlib.Omega.{arith}
 use borrow.Author.Needs.{needs}
 use denote.Ref.{now}
-use lib.ListN.{length, getD}
 use Rattle.spellings.proofs.Walk.{Walked, start, turn, here, nowhere, differs, not-here}
 use Rattle.spellings.proofs.row_at.Statement.{statement}
 use Rattle.spellings.proofs.row_at.Tie as tie

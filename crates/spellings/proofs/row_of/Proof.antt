@@ -1,7 +1,6 @@
 -- The rows that are left have the letter's row if all of them have.
-use mathlib.Core.Path.{_≡_, refl}
+use mathlib.Core.Path.{refl}
 use native.Mathlib.Omega.{arith}
-use denote.Ref.{now}
 use Rattle.spellings.proofs.Write.{Sought, further, row-here, no-row}
 use Rattle.spellings.proofs.row_of.Statement.{statement}
 use Rattle.spellings.proofs.row_of.Tie as tie

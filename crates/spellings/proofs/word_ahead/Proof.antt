@@ -1,5 +1,5 @@
 -- The byte at the place is the front of what is left from there.
-use mathlib.Core.Path.{_≡_, refl, sym, _∙_}
+use mathlib.Core.Path.{sym, _∙_}
 use borrow.Author.Needs.{needs}
 use denote.Ref.{now}
 use Rattle.spellings.proofs.Compare.{past, here}

@@ -5,6 +5,22 @@ use borrow.Author.Needs.{needs}
 use Rattle.sweep.proofs.sweep.Statement.{statement}
 use Rattle.sweep.proofs.sweep.Tie as tie
 
+-- the points of the code that the proof looks back to
+abbrev at-else1 : tie.After-sweep-vertices-arg7 → tie.Else1
+at-else1 c = c .before .before .before .before .before .before .before
+
+abbrev at-corners : tie.After-clear-rest-arg7 → tie.After-corners
+at-corners c = c .before .before .before .before .before .before .before .before
+
+abbrev at-clear-rest : tie.After-spans → tie.After-clear-rest
+at-clear-rest c = c .before .before .before .before .before .before .before .before .before .before .before
+
+abbrev at-else1-2 : tie.After-renumber-arg3 → tie.Else1
+at-else1-2 c = at-else1 (c .before .before .before .before .before .before .before .before .before .before)
+
+abbrev at-sweep-vertices : tie.After-spans → tie.After-sweep-vertices
+at-sweep-vertices c = at-corners (at-clear-rest c .before) .before .before .before .before .before .before .before .before .before .before .before
+
 refusal-of-requires : tie.Need-refusal-of-requires
 refusal-of-requires c κs = search needs
 
@@ -58,16 +74,16 @@ returns : tie.Need-returns
 returns c = let r = c .before in refused-is (start r .args .used) (t r) (start r .args .numbers .now) (r .refusal-of .ensures) (c .if1 .taken)
 
 sweep-vertices-requires : tie.Need-sweep-vertices-requires
-sweep-vertices-requires c κs = let e = c .before .before .before .before .before .before .before in let r = e .before in vertices-lent (start r .args .used) (t r) (start r .args .numbers .now) (through e)
+sweep-vertices-requires c κs = let e = at-else1 c in let r = e .before in vertices-lent (start r .args .used) (t r) (start r .args .numbers .now) (through e)
 
 renumber-requires : tie.Need-renumber-requires
-renumber-requires c κs = let e = c .before .before .before .before .before .before .before .before .before .before .before .before .before .before .before .before .before in let r = e .before in corners-lent (start r .args .used) (t r) (start r .args .numbers .now) (through e)
+renumber-requires c κs = let e = at-else1-2 c in let r = e .before in corners-lent (start r .args .used) (t r) (start r .args .numbers .now) (through e)
 
 clear-rest-requires : tie.Need-clear-rest-requires
-clear-rest-requires c κs = let e = c .before .before .before .before .before .before .before .before .before .before .before .before .before .before .before .before .before .before .before .before .before .before .before .before .before .before .before in let r = e .before in rest-lent (start r .args .used) (t r) (start r .args .numbers .now) (through e) (c .before .before .before .before .before .before .before .before .corners .given)
+clear-rest-requires c κs = let e = at-else1-2 (at-corners c .before .before) in let r = e .before in rest-lent (start r .args .used) (t r) (start r .args .numbers .now) (through e) (at-corners c .corners .given)
 
 dropped-of-requires : tie.Need-dropped-of-requires
-dropped-of-requires c κs = let e = c .before .before .before .before .before .before .before .before .before .before .before .before .before .before .before .before .before .before .before .before .before .before .before .before .before .before .before .before .before .before .before .before .before .before .before .before .before .before .before in let r = e .before in fewer-left (start r .args .used) (t r) (start r .args .numbers .now) (c .before .before .before .before .before .before .before .before .before .before .before .before .before .before .before .before .before .before .before .before .before .before .before .before .before .before .before .before .before .before .before .sweep-vertices .ensures)
+dropped-of-requires c κs = let e = at-else1 (at-sweep-vertices c .before) in let r = e .before in fewer-left (start r .args .used) (t r) (start r .args .numbers .now) (at-sweep-vertices c .sweep-vertices .ensures)
 
 same-length-12 : tie.Need-same-length-12
 same-length-12 c = search needs
@@ -106,7 +122,7 @@ same-length-23 : tie.Need-same-length-23
 same-length-23 c = search needs
 
 returns-2 : tie.Need-returns-2
-returns-2 c = let e = c .before .before .before .before .before .before .before .before .before .before .before .before .before .before .before .before .before .before .before .before .before .before .before .before .before .before .before .before .before .before .before .before .before .before .before .before .before .before .before .before in let r = e .before in let x = c .before .before .before .before .before .before .before .before .before .before .before .before .clear-rest .ensures in swept-is (start r .args .used) (t r) (start r .args .numbers .now) (c .before .before .before .before .before .before .before .before .before .before .before .before .before .before .before .before .before .before .before .before .before .before .before .before .before .before .before .before .before .before .before .before .sweep-vertices .ensures) (through e) (lent (start r .args .used) (t r) (start r .args .numbers .now) (through e) .elements .corners) (c .before .before .before .before .before .before .before .before .before .before .before .before .before .before .before .before .before .before .before .before .before .before .renumber .ensures) (x .0) (x .1) (x .2) (x .3) (x .4) (x .5) (x .6) (c .dropped-of .ensures)
+returns-2 c = let e = at-else1 (at-sweep-vertices (c .before) .before) in let r = e .before in let x = at-clear-rest (c .before) .clear-rest .ensures in swept-is (start r .args .used) (t r) (start r .args .numbers .now) (at-sweep-vertices (c .before) .sweep-vertices .ensures) (through e) (lent (start r .args .used) (t r) (start r .args .numbers .now) (through e) .elements .corners) (at-corners (at-clear-rest (c .before) .before) .before .renumber .ensures) (x .0) (x .1) (x .2) (x .3) (x .4) (x .5) (x .6) (c .dropped-of .ensures)
 
 pub sweep-spec : {M : Type 1} → statement M
 sweep-spec =

@@ -16,6 +16,10 @@ Inv-loop table elements count corners marks₀ i₀ marks i = Reached (λ n. mar
 abbrev μ-loop : tie.MeasureT-loop
 μ-loop table elements count corners marks₀ i₀ marks i = count - i
 
+-- the points of the code that the proof looks back to
+abbrev at-start : tie.After-slice-known2 Inv-loop μ-loop → tie.Start Inv-loop μ-loop
+at-start c = c .before .before .before .before .before .before .before .before .before .before
+
 loop-holds : tie.Need-loop-holds Inv-loop μ-loop
 loop-holds c = record { within = omega arith; is = refl }
 
@@ -32,7 +36,7 @@ loop-less : tie.Need-loop-less Inv-loop μ-loop
 loop-less c = search needs
 
 loop-again : tie.Need-loop-again Inv-loop μ-loop
-loop-again c = let m = c .before .before .before .before .before .before .loop in let a = c .before .before .before .before .before .before .before .before .before .before .args in reached-more (m .inv) (omega arith) (elements-more (kindOf (a .table)) (now (a .elements)) (now (a .corners)) (m .i) (now (a .marks)) (m .inv .is) (c .before .before .before .before .element-in .ensures) (c .before .before .mark-element .ensures))
+loop-again c = let m = c .before .before .before .before .before .before .loop in let a = at-start c .args in reached-more (m .inv) (omega arith) (elements-more (kindOf (a .table)) (now (a .elements)) (now (a .corners)) (m .i) (now (a .marks)) (m .inv .is) (c .before .before .before .before .element-in .ensures) (c .before .before .mark-element .ensures))
 
 same-length : tie.Need-same-length Inv-loop μ-loop
 same-length c = let a = c .before .before .before .before .before .args in ap length (c .before .loop .inv .is) ∙ length-elements (kindOf (a .table)) (now (a .corners)) (now (a .elements)) (c .before .loop .i) (now (a .marks))

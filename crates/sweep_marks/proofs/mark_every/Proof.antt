@@ -16,6 +16,10 @@ Inv-loop corners run place marks₀ j₀ marks j = Reached (λ n. markEvery corn
 abbrev μ-loop : tie.MeasureT-loop
 μ-loop corners run place marks₀ j₀ marks j = run .count - j
 
+-- the points of the code that the proof looks back to
+abbrev at-loop : tie.After-slice-known2 Inv-loop μ-loop → tie.At-loop Inv-loop μ-loop
+at-loop c = c .before .before .before .before .before .before .before
+
 loop-holds : tie.Need-loop-holds Inv-loop μ-loop
 loop-holds c = record { within = omega arith; is = refl }
 
@@ -38,7 +42,7 @@ module _ (l : tie.At-loop Inv-loop μ-loop) where
 
 loop-again : tie.Need-loop-again Inv-loop μ-loop
 loop-again c =
-    let l = c .before .before .before .before .before .before .before in
+    let l = at-loop c in
     let a = s l .args in
     reached-more (l .loop .inv) (omega arith) (every-more (now (a .corners)) (a .run) (a .place) (l .loop .j) (now (a .marks)) (l .loop .inv .is) (c .before .before .before .before .corner-number .ensures) (c .before .before .mark .ensures))
 

@@ -7,6 +7,10 @@ use borrow.Author.Needs.{needs}
 use Rattle.sweep_rows.proofs.sweep_part.Statement.{statement}
 use Rattle.sweep_rows.proofs.sweep_part.Tie as tie
 
+-- the points of the code that the proof looks back to
+abbrev at-start : tie.After-slice-known2 → tie.Start
+at-start c = c .before .before .before .before .before .before .before .before .before
+
 add-end : tie.Need-add-end
 add-end c = search needs
 
@@ -32,7 +36,7 @@ same-length-2 : tie.Need-same-length-2
 same-length-2 c = search needs
 
 returns : tie.Need-returns
-returns c = let s = c .before .before .before .before .before .before .before .before .before in let t = c .before .before .before .sweep-table in part-swept (namedInTables (s .args .count) (now (s .args .elements)) (now (s .args .corners)) (kindOf (s .args .table))) (s .args .width) (s .args .from) (s .args .n) (now (s .args .numbers)) (now (s .args .values)) (s .pre .0) (t .ensures .0) (t .ensures .1) (t .ensures .2)
+returns c = let s = at-start c in let t = c .before .before .before .sweep-table in part-swept (namedInTables (s .args .count) (now (s .args .elements)) (now (s .args .corners)) (kindOf (s .args .table))) (s .args .width) (s .args .from) (s .args .n) (now (s .args .numbers)) (now (s .args .values)) (s .pre .0) (t .ensures .0) (t .ensures .1) (t .ensures .2)
 
 pub sweep-part-spec : {M : Type 1} → statement M
 sweep-part-spec =

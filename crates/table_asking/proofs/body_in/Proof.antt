@@ -1,19 +1,19 @@
--- The record's numbers, and the range's, stand one after the other from its first on.
-use mathlib.Core.Path.{_≡_, refl, sym, ap, _∙_}
-use Prim.Native.Nat.{ℕ, _+_, _*_}
-use native.Mathlib.Omega.{arith}
+-- A record that is lent with its range, or a row of its numbers and one of the range's.
+use mathlib.Core.Path.{sym, _∙_}
+use Prim.Native.Nat.{_+_, _*_}
 use borrow.Author.Tests.{leb-true}
 use denote.Ref.{now}
-use lib.ListN.{getD, length}
+use lib.ListN.{length}
 use lib.Dec.{leb}
-use lib.IntN.{pos}
-use mir.Syntax.{w32}
-use mir.Val.{toZ, ofZ}
 use Rattle.lists.proofs.Tests.{and-left, and-right}
-use Rattle.tables.proofs.Bits.{passed}
+use Rattle.tables.proofs.Rows.{body-copied}
 use borrow.Author.Needs.{needs}
 use Rattle.table_asking.proofs.body_in.Statement.{statement}
 use Rattle.table_asking.proofs.body_in.Tie as tie
+
+-- the points of the code that the proof looks back to
+abbrev at-numbers-from : tie.After-lent-body2 → tie.After-numbers-from
+at-numbers-from c = c .before .before .before .before .before .before .before
 
 body-fits-requires : tie.Need-body-fits-requires
 body-fits-requires c κs = search needs
@@ -27,97 +27,42 @@ lent-body-requires c κs =
     (leb-true _ _ (and-left b r t), leb-true _ _ (and-right b r t))
 
 returns : tie.Need-returns
-returns c = c .lent-body .ensures
+returns c = search needs
 
-mul-at : tie.Need-mul-at
-mul-at c = search needs
+mul-numbers-from : tie.Need-mul-numbers-from
+mul-numbers-from c = search needs
 
-mul-from : tie.Need-mul-from
-mul-from c = search needs
+slice-aggregate-numbers-from : tie.Need-slice-aggregate-numbers-from
+slice-aggregate-numbers-from c = search needs
 
-number-in-requires : tie.Need-number-in-requires
-number-in-requires c κs = search needs
+numbers-from-requires : tie.Need-numbers-from-requires
+numbers-from-requires c κs = search needs
 
-add-number-in : tie.Need-add-number-in
-add-number-in c = search needs
+mul-values-from : tie.Need-mul-values-from
+mul-values-from c = search needs
 
-number-in-requires-2 : tie.Need-number-in-requires-2
-number-in-requires-2 c κs = search needs
+slice-aggregate-values-from : tie.Need-slice-aggregate-values-from
+slice-aggregate-values-from c = search needs
 
-add-number-in-2 : tie.Need-add-number-in-2
-add-number-in-2 c = search needs
+values-from-requires : tie.Need-values-from-requires
+values-from-requires c κs = search needs
 
-number-in-requires-3 : tie.Need-number-in-requires-3
-number-in-requires-3 c κs = search needs
+slice-aggregate-lent-body : tie.Need-slice-aggregate-lent-body
+slice-aggregate-lent-body c = search needs
 
-add-number-in-3 : tie.Need-add-number-in-3
-add-number-in-3 c = search needs
+slice-aggregate-lent-body-2 : tie.Need-slice-aggregate-lent-body-2
+slice-aggregate-lent-body-2 c = search needs
 
-number-in-requires-4 : tie.Need-number-in-requires-4
-number-in-requires-4 c κs = search needs
-
-add-number-in-4 : tie.Need-add-number-in-4
-add-number-in-4 c = search needs
-
-number-in-requires-5 : tie.Need-number-in-requires-5
-number-in-requires-5 c κs = search needs
-
-add-number-in-5 : tie.Need-add-number-in-5
-add-number-in-5 c = search needs
-
-number-in-requires-6 : tie.Need-number-in-requires-6
-number-in-requires-6 c κs = search needs
-
-add-number-in-6 : tie.Need-add-number-in-6
-add-number-in-6 c = search needs
-
-number-in-requires-7 : tie.Need-number-in-requires-7
-number-in-requires-7 c κs = search needs
-
-add-number-in-7 : tie.Need-add-number-in-7
-add-number-in-7 c = search needs
-
-number-in-requires-8 : tie.Need-number-in-requires-8
-number-in-requires-8 c κs = search needs
-
-add-number-in-8 : tie.Need-add-number-in-8
-add-number-in-8 c = search needs
-
-number-in-requires-9 : tie.Need-number-in-requires-9
-number-in-requires-9 c κs = search needs
-
-value-in-requires : tie.Need-value-in-requires
-value-in-requires c κs = search needs
-
-add-value-in : tie.Need-add-value-in
-add-value-in c = search needs
-
-value-in-requires-2 : tie.Need-value-in-requires-2
-value-in-requires-2 c κs = search needs
-
-add-value-in-2 : tie.Need-add-value-in-2
-add-value-in-2 c = search needs
-
-value-in-requires-3 : tie.Need-value-in-requires-3
-value-in-requires-3 c κs = search needs
-
-add-value-in-3 : tie.Need-add-value-in-3
-add-value-in-3 c = search needs
-
-value-in-requires-4 : tie.Need-value-in-requires-4
-value-in-requires-4 c κs = search needs
+lent-body-requires-2 : tie.Need-lent-body-requires-2
+lent-body-requires-2 c κs = search needs
 
 returns-2 : tie.Need-returns-2
 returns-2 c =
-    let a = c .before .before .before .before .before .before .before .before .before .before .before .before .before .before .before .before .args in
-    let k : 9 * a .index ≡ 9 * a .index + 0 = omega arith in
-    let m : 4 * a .index ≡ 4 * a .index + 0 = omega arith in
-    let e : c .before .before .before .before .before .before .before .before .before .before .before .before .number-in .result ≡ getD (now (a .bodies)) (9 * a .index + 0) 0 = c .before .before .before .before .before .before .before .before .before .before .before .before .number-in .ensures ∙ ap (λ (n : ℕ). getD (now (a .bodies)) n 0) k in
-    let f1 : toZ w32 (ofZ w32 (c .before .before .before .value-in .result)) ≡ getD (now (a .ranges)) (4 * a .index + 0) (pos 0) = passed (c .before .before .before .value-in .ok) (c .before .before .before .value-in .ensures ∙ ap (λ (n : ℕ). getD (now (a .ranges)) n (pos 0)) m) in
-    let f2 : toZ w32 (ofZ w32 (c .before .before .value-in2 .result)) ≡ getD (now (a .ranges)) (4 * a .index + 1) (pos 0) = passed (c .before .before .value-in2 .ok) (c .before .before .value-in2 .ensures) in
-    let f3 : toZ w32 (ofZ w32 (c .before .value-in3 .result)) ≡ getD (now (a .ranges)) (4 * a .index + 2) (pos 0) = passed (c .before .value-in3 .ok) (c .before .value-in3 .ensures) in
-    let f4 : toZ w32 (ofZ w32 (c .value-in4 .result)) ≡ getD (now (a .ranges)) (4 * a .index + 3) (pos 0) = passed (c .value-in4 .ok) (c .value-in4 .ensures) in
-    rw (e, c .before .before .before .before .before .before .before .before .before .before .before .number-in2 .ensures, c .before .before .before .before .before .before .before .before .before .before .number-in3 .ensures, c .before .before .before .before .before .before .before .before .before .number-in4 .ensures, c .before .before .before .before .before .before .before .before .number-in5 .ensures, c .before .before .before .before .before .before .before .number-in6 .ensures, c .before .before .before .before .before .before .number-in7 .ensures, c .before .before .before .before .before .number-in8 .ensures, c .before .before .before .before .number-in9 .ensures, f1, f2, f3, f4) refl
+    let a = at-numbers-from c .before .before .before .before .before .args in
+    let w = at-numbers-from c .numbers-from in
+    let r = c .before .before .before .before .values-from in
+    c .lent-body2 .ensures
+    ∙ body-copied (now (a .bodies)) (now (a .ranges)) (a .index) (w .last .1 .1 .0) (r .last .1 .1 .0) (w .ensures) (r .ensures) (search needs) (search needs)
 
 pub body-in-spec : {M : Type 1} → statement M
 body-in-spec =
@@ -126,30 +71,13 @@ body-in-spec =
     body-fits-requires
     lent-body-requires
     returns
-    mul-at
-    mul-from
-    number-in-requires
-    add-number-in
-    number-in-requires-2
-    add-number-in-2
-    number-in-requires-3
-    add-number-in-3
-    number-in-requires-4
-    add-number-in-4
-    number-in-requires-5
-    add-number-in-5
-    number-in-requires-6
-    add-number-in-6
-    number-in-requires-7
-    add-number-in-7
-    number-in-requires-8
-    add-number-in-8
-    number-in-requires-9
-    value-in-requires
-    add-value-in
-    value-in-requires-2
-    add-value-in-2
-    value-in-requires-3
-    add-value-in-3
-    value-in-requires-4
+    mul-numbers-from
+    slice-aggregate-numbers-from
+    numbers-from-requires
+    mul-values-from
+    slice-aggregate-values-from
+    values-from-requires
+    slice-aggregate-lent-body
+    slice-aggregate-lent-body-2
+    lent-body-requires-2
     returns-2)

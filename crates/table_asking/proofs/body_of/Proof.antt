@@ -24,11 +24,29 @@ returns c =
     let a = c .before .before .before .before .args in
     body-held (a .used) (now (a .bodies)) (now (a .ranges)) (a .body) (c .before .before .has-body .ensures) (c .before .if1 .taken) (c .lent-body .ensures)
 
+slice-aggregate-lent-body : tie.Need-slice-aggregate-lent-body
+slice-aggregate-lent-body c = search needs
+
+slice-aggregate-lent-body-2 : tie.Need-slice-aggregate-lent-body-2
+slice-aggregate-lent-body-2 c = search needs
+
+lent-body-requires-2 : tie.Need-lent-body-requires-2
+lent-body-requires-2 c κs = search needs
+
 returns-2 : tie.Need-returns-2
 returns-2 c =
-    let a = c .before .before .before .args in
-    body-none (a .used) (now (a .bodies)) (now (a .ranges)) (a .body) (c .before .has-body .ensures) (c .if1 .left)
+    let a = c .before .before .before .before .before .before .args in
+    c .lent-body2 .ensures ∙ body-none (a .used) (now (a .bodies)) (now (a .ranges)) (a .body) (c .before .before .before .before .has-body .ensures) (c .before .before .before .if1 .left)
 
 pub body-of-spec : {M : Type 1} → statement M
 body-of-spec =
-    tie.close (tie.spec has-body-requires sub-lent-body lent-body-requires returns returns-2)
+    tie.close
+    (tie.spec
+    has-body-requires
+    sub-lent-body
+    lent-body-requires
+    returns
+    slice-aggregate-lent-body
+    slice-aggregate-lent-body-2
+    lent-body-requires-2
+    returns-2)

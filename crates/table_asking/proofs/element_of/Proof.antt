@@ -27,11 +27,25 @@ returns c =
     let a = c .before .before .before .before .args in
     element-held (a .used) (now (a .elements)) (a .element) (c .before .before .is-held .ensures) (c .before .if1 .taken) (c .lent-element .ensures)
 
+slice-aggregate-lent-element : tie.Need-slice-aggregate-lent-element
+slice-aggregate-lent-element c = search needs
+
+lent-element-requires-2 : tie.Need-lent-element-requires-2
+lent-element-requires-2 c κs = search needs
+
 returns-2 : tie.Need-returns-2
 returns-2 c =
-    let a = c .before .before .before .args in
-    element-none (a .used) (now (a .elements)) (a .element) (c .before .is-held .ensures) (c .if1 .left)
+    let a = c .before .before .before .before .before .args in
+    c .lent-element2 .ensures ∙ element-none (a .used) (now (a .elements)) (a .element) (c .before .before .before .is-held .ensures) (c .before .before .if1 .left)
 
 pub element-of-spec : {M : Type 1} → statement M
 element-of-spec =
-    tie.close (tie.spec is-held-requires sub-lent-element lent-element-requires returns returns-2)
+    tie.close
+    (tie.spec
+    is-held-requires
+    sub-lent-element
+    lent-element-requires
+    returns
+    slice-aggregate-lent-element
+    lent-element-requires-2
+    returns-2)

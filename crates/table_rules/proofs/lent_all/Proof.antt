@@ -39,11 +39,12 @@ is-lent-requires-9 c κs = search needs
 
 returns : tie.Need-returns
 returns c =
+    let fourth = c .before .before .before .before .before .before .before in
     rw (
-      c .before .before .before .before .before .before .before .before .before .before .is-lent .ensures,
-      c .before .before .before .before .before .before .before .before .before .is-lent2 .ensures,
-      c .before .before .before .before .before .before .before .before .is-lent3 .ensures,
-      c .before .before .before .before .before .before .before .is-lent4 .ensures,
+      fourth .before .before .before .is-lent .ensures,
+      fourth .before .before .is-lent2 .ensures,
+      fourth .before .is-lent3 .ensures,
+      fourth .is-lent4 .ensures,
       c .before .before .before .before .before .is-lent5 .ensures,
       c .before .before .before .before .is-lent6 .ensures,
       c .before .before .before .is-lent7 .ensures,

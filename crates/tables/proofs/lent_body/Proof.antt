@@ -6,6 +6,10 @@ use borrow.Author.Needs.{needs}
 use Rattle.tables.proofs.lent_body.Statement.{statement}
 use Rattle.tables.proofs.lent_body.Tie as tie
 
+-- the points of the code that the proof looks back to
+abbrev at-start : tie.After-t55 → tie.Start
+at-start c = c .before .before .before .before .before .before .before .before .before .before .before .before .before
+
 mul-at : tie.Need-mul-at
 mul-at c = search needs
 
@@ -125,7 +129,7 @@ shared-slice-copy-out-t55 c = search needs
 
 returns : tie.Need-returns
 returns c =
-    let a = c .before .before .before .before .before .before .before .before .before .before .before .before .before .args in
+    let a = at-start c .args in
     body-lent (now (a .bodies)) (now (a .ranges)) (a .index) (fitted (c .before .before .before .t43 .given)) (fitted (c .before .before .t47 .given)) (fitted (c .before .t51 .given)) (fitted (c .t55 .given))
 
 pub lent-body-spec : {M : Type 1} → statement M

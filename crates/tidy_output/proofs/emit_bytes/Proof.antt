@@ -14,6 +14,10 @@ Inv-loop bytes out₀ at to₀ i₀ out to i = Left at bytes out₀ to (drop i b
 abbrev μ-loop : tie.MeasureT-loop
 μ-loop bytes out₀ at to₀ i₀ out to i = length bytes - i
 
+-- the points of the code that the proof looks back to
+abbrev at-start : tie.After-slice-known2 Inv-loop μ-loop → tie.Start Inv-loop μ-loop
+at-start c = c .before .before .before .before .before .before .before .before .before
+
 loop-holds : tie.Need-loop-holds Inv-loop μ-loop
 loop-holds c = let a = c .before .before .args in left-start (a .at) (now (a .bytes)) (now (a .out)) (c .before .before .pre)
 
@@ -31,7 +35,7 @@ loop-less c = search needs
 
 loop-again : tie.Need-loop-again Inv-loop μ-loop
 loop-again c =
-    let a = c .before .before .before .before .before .before .before .before .before .args in
+    let a = at-start c .args in
     let l = c .before .before .before .before .before .before .loop in
     left-turn (l .inv) (here (now (a .bytes)) (l .i) (c .before .before .before .before .before .loop-test .taken)) (emitted-whole (c .before .before .emit-byte .ensures))
 

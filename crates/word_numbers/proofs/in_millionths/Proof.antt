@@ -1,6 +1,6 @@
 -- Each turn is a zero more, and the number with all of them fits.
-use Prim.Native.Nat.{_+_, _-_, _*_, _^_, _≤_}
-use mathlib.Core.Path.{_≡_, refl, sym, ap, _∙_}
+use Prim.Native.Nat.{_+_, _-_, _*_, _^_}
+use mathlib.Core.Path.{_≡_, refl, _∙_}
 use native.Mathlib.Omega.{arith}
 use Rattle.word_numbers.proofs.Rounding.{grows}
 use Rattle.word_numbers.proofs.Ahead.{zero-more}

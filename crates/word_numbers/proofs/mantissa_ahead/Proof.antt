@@ -2,7 +2,6 @@
 use mathlib.Core.Path.{_≡_, sym, ap, _∙_}
 use mathlib.Core.Bool.{true}
 use lib.ListN.{drop}
-use native.Mathlib.Omega.{arith}
 use denote.Ref.{now}
 use Rattle.digits.specs.Straight.{first}
 use Rattle.decimals.specs.Number.{isE}

@@ -17,9 +17,6 @@ use Rattle.word_numbers.proofs.Ahead.{exact-on, four, bare-of}
 use borrow.Author.Needs.{needs}
 use Rattle.word_numbers.proofs.measure_ahead.Statement.{statement}
 use Rattle.word_numbers.proofs.measure_ahead.Tie as tie
-use Rattle.digits.proofs.byte_in.Reads as byte-in-reads
-use Rattle.digits.proofs.digits_upto.Reads as few-reads
-use Rattle.word_numbers.proofs.decimals_ahead.Reads as decimals-ahead-reads
 
 digits-upto-requires : tie.Need-digits-upto-requires
 digits-upto-requires c κs = search needs

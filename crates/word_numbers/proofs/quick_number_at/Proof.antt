@@ -21,11 +21,6 @@ use Rattle.decimals.proofs.Ahead.{ahead-no-decimal}
 use borrow.Author.Needs.{needs}
 use Rattle.word_numbers.proofs.quick_number_at.Statement.{statement}
 use Rattle.word_numbers.proofs.quick_number_at.Tie as tie
-use Rattle.digits.proofs.byte_in.Reads as byte-in-reads
-use Rattle.word_numbers.proofs.measure_ahead.Reads as measure-ahead-reads
-use Rattle.word_numbers.proofs.number_at.Reads as number-at-reads
-use Rattle.decimals.proofs.exponent.sign_length.Reads as sign-length-reads
-use Rattle.word_numbers.proofs.signed_of.Reads as signed-of-reads
 
 sub-if1 : tie.Need-sub-if1
 sub-if1 c = search needs

@@ -2,7 +2,6 @@
 use mathlib.Core.Path.{_≡_, refl}
 use Prim.Native.Nat.{_-_, _≤_}
 use native.Mathlib.Omega.{arith}
-use borrow.Author.Needs.{needs}
 use Rattle.word_numbers.proofs.scale.Statement.{statement}
 use Rattle.word_numbers.proofs.scale.Tie as tie
 

@@ -1,5 +1,4 @@
 -- A number within range fits with either sign.
-use Prim.Native.Nat.{ℕ}
 use mathlib.Core.Path.{_∙_, sym, ap}
 use mathlib.Core.Bool.{Bool}
 use Rattle.lists.specs.Signs.{withSign}

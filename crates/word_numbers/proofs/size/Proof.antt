@@ -9,10 +9,6 @@ use Rattle.word_numbers.proofs.Decimals.{size-plain, size-scaled}
 use borrow.Author.Needs.{needs}
 use Rattle.word_numbers.proofs.size.Statement.{statement}
 use Rattle.word_numbers.proofs.size.Tie as tie
-use Rattle.word_numbers.proofs.size.Reads as reads
-use Rattle.word_numbers.proofs.size.Lts as lts
-use Rattle.decimals.proofs.exponent.scaled.Reads as scaled-reads
-use Rattle.word_numbers.proofs.measure.Reads as measure-reads
 
 measure-requires : tie.Need-measure-requires
 measure-requires c κs = search needs

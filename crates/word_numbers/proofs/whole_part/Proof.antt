@@ -1,5 +1,4 @@
 -- Fewer digits than were looked at are all there are.
-use denote.Ref.{now}
 use Rattle.digits.proofs.Runs.{few-whole}
 use borrow.Author.Needs.{needs}
 use Rattle.word_numbers.proofs.whole_part.Statement.{statement}

@@ -1,5 +1,5 @@
 -- By the byte.
-use mathlib.Core.Path.{_≡_, refl}
+use mathlib.Core.Path.{refl}
 use mathlib.Core.Logic.{⊎-elim, inl, inr}
 use borrow.Author.Tests.{ne-eqb}
 use Rattle.decimals.proofs.exponent.sign_length.Statement.{statement}

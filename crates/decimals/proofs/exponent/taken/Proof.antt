@@ -3,10 +3,6 @@ use Rattle.decimals.proofs.Exponents.{taken-before, taken-after, taken-
 use borrow.Author.Needs.{needs}
 use Rattle.decimals.proofs.exponent.taken.Statement.{statement}
 use Rattle.decimals.proofs.exponent.taken.Tie as tie
-use Rattle.decimals.proofs.exponent.taken.Reads as reads
-use Rattle.decimals.proofs.exponent.taken.Lts as lts
-use Rattle.decimals.proofs.exponent.padded.Reads as padded-reads
-use Rattle.digits.proofs.first_digits.Reads as first-digits-reads
 
 sub-whole : tie.Need-sub-whole
 sub-whole c = search needs

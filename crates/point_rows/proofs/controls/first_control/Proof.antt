@@ -1,5 +1,4 @@
 -- Each side of the test is in bounds by what is asked.
-use borrow.Author.Needs.{needs}
 use borrow.Author.Tests.{eq-eqb, ne-eqb}
 use native.Mathlib.Omega.{arith}
 use Rattle.point_rows.proofs.controls.first_control.Statement.{statement}

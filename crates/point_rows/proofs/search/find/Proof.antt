@@ -1,5 +1,4 @@
 -- The search from the first segment or span that may be chosen.
-use borrow.Author.Needs.{needs}
 use borrow.Author.Tests.{eq-eqb, ne-eqb}
 use mir.Facts.{toZ-ofZ}
 use Rattle.point_rows.proofs.Searched.{begun, lead-spline, lead-bezier}

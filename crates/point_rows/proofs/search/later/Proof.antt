@@ -1,6 +1,5 @@
 -- The test on the two numbers' bits is the test on the numbers.
 use borrow.Author.Needs.{needs}
-use mathlib.Core.Path.{_≡_, refl, sym}
 use native.Mathlib.Numerals.{add-one}
 use Rattle.rounding.proofs.Bits.{read-back-given}
 use Rattle.point_rows.proofs.search.later.Statement.{statement}

@@ -14,6 +14,10 @@ Inv-loop text at count basis degree asked i₀ done₀ order₀ wrong₀ i done 
 abbrev μ-loop : tie.MeasureT-loop
 μ-loop text at count basis degree asked i₀ done₀ order₀ wrong₀ i done order wrong = count - done
 
+-- the points of the code that the proof looks back to
+abbrev at-loop : tie.After-first-wrong Inv-loop μ-loop → tie.At-loop Inv-loop μ-loop
+at-loop c = c .before .before .before .before .before .before .before
+
 requirement-of-requires : tie.Need-requirement-of-requires Inv-loop μ-loop
 requirement-of-requires c κs = search needs
 
@@ -57,7 +61,7 @@ loop-less : tie.Need-loop-less Inv-loop μ-loop
 loop-less c = let t = c .before .before .before .before .before .before .loop-test .taken in omega arith
 
 loop-again : tie.Need-loop-again Inv-loop μ-loop
-loop-again c = S.step-number (now (c .before .before .before .before .before .before .before .before .before .before .before .args .text)) (c .before .before .before .before .before .before .before .loop .i) (c .before .before .before .before .before .next-number .result) (c .before .before .before .before .before .next-number .ensures) (c .before .before .before .value .given .1) .to
+loop-again c = S.step-number (now (at-loop c .before .before .before .before .args .text)) (at-loop c .loop .i) (c .before .before .before .before .before .next-number .result) (c .before .before .before .before .before .next-number .ensures) (c .before .before .before .value .given .1) .to
 
 returns-3 : tie.Need-returns-3 Inv-loop μ-loop
 returns-3 c = search needs

@@ -14,6 +14,13 @@ Inv-loop text place keyword-table argument-table said₀ at₀ said at = G.Going
 abbrev μ-loop : tie.MeasureT-loop
 μ-loop text place keyword-table argument-table said₀ at₀ said at = length text - at
 
+-- the points of the code that the proof looks back to
+abbrev at-start : tie.After-scan-line Inv-loop μ-loop → tie.Start Inv-loop μ-loop
+at-start c = c .before .before .before .before .before
+
+abbrev at-loop : tie.After-with-line Inv-loop μ-loop → tie.At-loop Inv-loop μ-loop
+at-loop c = c .before .before .before .before .before .before .before
+
 start-requires : tie.Need-start-requires Inv-loop μ-loop
 start-requires c κs = search needs
 
@@ -28,7 +35,7 @@ enum-told c = search needs
 
 returns : tie.Need-returns Inv-loop μ-loop
 returns c =
-    let start = c .before .before .before .before .before .before .before in
+    let start = at-start (c .before .before) in
     let l = c .before .before .before .before .loop in
     (G.going-stops (now (start .args .text)) (start .args .place) (l .said .tally) (l .at) (l .inv) (c .before .before .before .loop-test .taken) (c .before .before .scan-line .result) (c .before .before .scan-line .ensures) _ (c .enum-told .given .1), l .inv .to)
 
@@ -37,13 +44,13 @@ enum-known-next c = search needs
 
 returns-2 : tie.Need-returns-2 Inv-loop μ-loop
 returns-2 c =
-    let start = c .before .before .before .before .before .before .before .before .before in
+    let start = at-start (c .before .before .before .before) in
     let l = c .before .before .before .before .before .before .loop in
     (G.going-holds (now (start .args .text)) (start .args .place) (l .said .tally) (l .at) (l .inv) (c .before .before .before .before .before .loop-test .taken) (c .before .before .before .before .scan-line .result) (c .before .before .before .before .scan-line .ensures) _ _ (c .before .before .next .given .1) (c .if1 .taken), l .inv .to)
 
 with-line-requires : tie.Need-with-line-requires Inv-loop μ-loop
 with-line-requires c κs =
-    let start = c .before .before .before .before .before .before .before .before .before in
+    let start = at-start (c .before .before .before .before) in
     let l = c .before .before .before .before .before .before .loop in
     let few = l .inv .few in
     let to = l .inv .to in
@@ -52,14 +59,14 @@ with-line-requires c κs =
 
 loop-less : tie.Need-loop-less Inv-loop μ-loop
 loop-less c =
-    let start = c .before .before .before .before .before .before .before .before .before .before in
-    let l = c .before .before .before .before .before .before .before .loop in
+    let start = at-loop c .before .before .before in
+    let l = at-loop c .loop in
     G.going-on (now (start .args .text)) (start .args .place) (l .said .tally) (l .at) (l .inv) (c .before .before .before .before .before .before .loop-test .taken) (c .before .before .before .before .before .scan-line .result) (c .before .before .before .before .before .scan-line .ensures) _ _ (c .before .before .before .next .given .1) (c .before .if1 .left) _ (c .with-line .ensures) .1
 
 loop-again : tie.Need-loop-again Inv-loop μ-loop
 loop-again c =
-    let start = c .before .before .before .before .before .before .before .before .before .before in
-    let l = c .before .before .before .before .before .before .before .loop in
+    let start = at-loop c .before .before .before in
+    let l = at-loop c .loop in
     G.going-on (now (start .args .text)) (start .args .place) (l .said .tally) (l .at) (l .inv) (c .before .before .before .before .before .before .loop-test .taken) (c .before .before .before .before .before .scan-line .result) (c .before .before .before .before .before .scan-line .ensures) _ _ (c .before .before .before .next .given .1) (c .before .if1 .left) _ (c .with-line .ensures) .0
 
 returns-3 : tie.Need-returns-3 Inv-loop μ-loop

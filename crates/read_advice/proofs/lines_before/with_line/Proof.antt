@@ -8,6 +8,13 @@ use borrow.Author.Needs.{needs}
 use Rattle.read_advice.proofs.lines_before.with_line.Statement.{statement}
 use Rattle.read_advice.proofs.lines_before.with_line.Tie as tie
 
+-- the points of the code that the proof looks back to
+abbrev at-start : tie.After-carried-of → tie.Start
+at-start c = c .before .before .before .before .before .before .before
+
+abbrev at-skip-blanks : tie.After-after-keyword → tie.After-skip-blanks
+at-skip-blanks c = c .before .before .before .before .before .before .before .before
+
 skip-blanks-requires : tie.Need-skip-blanks-requires
 skip-blanks-requires c κs = search needs
 
@@ -23,7 +30,7 @@ carried-of-requires c κs = search needs
 word-end-requires : tie.Need-word-end-requires
 word-end-requires c κs =
     let found = c .before .before .before .before .before in
-    let start = c .before .before .before .before .before .before .before in
+    let start = at-start c in
     let met = word-found (now (start .args .text)) (start .args .at) _ (found .skip-blanks .ensures) (c .before .before .before .p .given .1) in
     let more = met .more in
     let to = met .to in
@@ -43,8 +50,8 @@ enum-told-2 c = search needs
 
 returns : tie.Need-returns
 returns c =
-    let found = c .before .before .before .before .before .before .before .before in
-    let start = c .before .before .before .before .before .before .before .before .before .before in
+    let found = at-skip-blanks c in
+    let start = at-skip-blanks c .before .before in
     let met = word-found (now (start .args .text)) (start .args .at) _ (found .skip-blanks .ensures) (c .before .before .before .before .before .before .p .given .1) in
     c .after-keyword .ensures
     ∙ line-said (now (start .args .text)) (start .args .at) (start .args .said .tally) met (c .before .before .before .before .keyword-at .result) (c .before .before .before .before .keyword-at .ensures) (c .before .before .before .carried-of .result) (c .before .before .before .carried-of .ensures) (c .before .after-line .result) (c .before .after-line .ensures)

@@ -1,5 +1,5 @@
 -- Each test says what the definition says of the body (`Closings`).
-use mathlib.Core.Path.{refl, _∙_}
+use mathlib.Core.Path.{refl}
 use native.Mathlib.Omega.{arith}
 use denote.Ref.{now}
 use mir.Facts.{toZ-ofZ}
@@ -10,6 +10,13 @@ use Rattle.read_bodies.proofs.Closings as C
 use Rattle.read_bodies.proofs.Keeping.{parm-take}
 use Rattle.read_bodies.proofs.closing.judge.Statement.{statement}
 use Rattle.read_bodies.proofs.closing.judge.Tie as tie
+
+-- the points of the code that the proof looks back to
+abbrev at-start : tie.After-store-arg → tie.Start
+at-start c = c .before .before .before .before .before .before .before .before .before .before
+
+abbrev at-parm-count : tie.After-store-arg2 → tie.After-parm-count
+at-parm-count c = c .before .before .before .before .before .before .before .before .before .before .before
 
 parm-count-requires : tie.Need-parm-count-requires
 parm-count-requires c κs = c .before .before .pre .0
@@ -55,7 +62,7 @@ requirement-of-requires c κs = search needs
 
 store-requires : tie.Need-store-requires
 store-requires c κs =
-    let s = c .before .before .before .before .before .before .before .before .before .before in
+    let s = at-start c in
     let f = s .fits .first in
     (s .pre .0 .0, omega arith)
 
@@ -70,14 +77,14 @@ cast-store c = search needs
 
 add-store : tie.Need-add-store
 add-store c =
-    let count-u = c .before .before .before .before .before .before .before .before .before .before .before in
+    let count-u = at-parm-count c in
     let f = count-u .before .before .before .fits .first in
     let g = count-u .parm-count .ensures .1 in
     omega arith
 
 store-requires-2 : tie.Need-store-requires-2
 store-requires-2 c κs =
-    let count-u = c .before .before .before .before .before .before .before .before .before .before .before in
+    let count-u = at-parm-count c in
     let s = count-u .before .before .before in
     let f = s .fits .first in
     let g = count-u .parm-count .ensures .1 in

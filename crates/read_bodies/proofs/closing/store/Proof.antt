@@ -15,6 +15,10 @@ Inv-loop text at count asked parameters₀ first i₀ done₀ order₀ parameter
 abbrev μ-loop : tie.MeasureT-loop
 μ-loop text at count asked parameters₀ first i₀ done₀ order₀ parameters i done order = count - done
 
+-- the points of the code that the proof looks back to
+abbrev at-in-loop : tie.After-parameters Inv-loop μ-loop → tie.In-loop Inv-loop μ-loop
+at-in-loop c = c .before .before .before .before .before .before .before .before .before
+
 no-order-requires : tie.Need-no-order-requires Inv-loop μ-loop
 no-order-requires c κs = search needs
 
@@ -74,23 +78,26 @@ add-put-i32 c =
     let g = s .fits .count in
     omega arith
 
+slice-aggregate-put-i32 : tie.Need-slice-aggregate-put-i32 Inv-loop μ-loop
+slice-aggregate-put-i32 c = search needs
+
 put-i32-requires : tie.Need-put-i32-requires Inv-loop μ-loop
 put-i32-requires c κs = search needs
 
 add-done : tie.Need-add-done Inv-loop μ-loop
 add-done c =
-    let t = c .before .before .before .before .before .before .before .before .loop-test .taken in
+    let t = at-in-loop c .loop-test .taken in
     search needs
 
 loop-less : tie.Need-loop-less Inv-loop μ-loop
 loop-less c =
-    let t = c .before .before .before .before .before .before .before .before .loop-test .taken in
+    let t = at-in-loop c .loop-test .taken in
     omega arith
 
 loop-again : tie.Need-loop-again Inv-loop μ-loop
 loop-again c =
     let put = c .before in
-    let step = put .before .before in
+    let step = put .before .before .before in
     let told = step .before in
     let value = told .before in
     let next = value .before .before in
@@ -128,6 +135,7 @@ store-spec =
     step-requires
     cast-put-i32
     add-put-i32
+    slice-aggregate-put-i32
     put-i32-requires
     add-done
     loop-less

@@ -11,6 +11,7 @@ use mathlib.Core.List.{[], _∷_}
 use mir.Syntax.{w32}
 use mir.Val.{toZ, ofZ}
 use borrow.Author.Tests.{not-true, not-false}
+use Rattle.table_store.proofs.Stores.{put-of}
 use Rattle.tables.proofs.Bits.{fitted}
 use Rattle.read_bodies.proofs.loops.take_loop.Statement.{statement}
 use Rattle.read_bodies.proofs.loops.take_loop.Tie as tie
@@ -20,6 +21,10 @@ Inv-loop text at hole curves used loops₀ spans₀ i₀ place₀ count₀ loops
 
 abbrev μ-loop : tie.MeasureT-loop
 μ-loop text at hole curves used loops₀ spans₀ i₀ place₀ count₀ loops spans i place count = length text - i
+
+-- the points of the code that the proof looks back to
+abbrev at-from : tie.Else3 Inv-loop μ-loop → tie.After-from Inv-loop μ-loop
+at-from c = c .before .before .before .before .before .before .before .before .before .before .before .before .before .before .before
 
 mul-place : tie.Need-mul-place Inv-loop μ-loop
 mul-place c = search needs
@@ -107,106 +112,129 @@ enum-known-from c = search needs
 begins-with-requires : tie.Need-begins-with-requires Inv-loop μ-loop
 begins-with-requires c κs = search needs
 
-put2-u32-requires : tie.Need-put2-u32-requires Inv-loop μ-loop
-put2-u32-requires c κs = search needs
+loop-row-requires : tie.Need-loop-row-requires Inv-loop μ-loop
+loop-row-requires c κs = search needs
+
+slice-aggregate-put-u32 : tie.Need-slice-aggregate-put-u32 Inv-loop μ-loop
+slice-aggregate-put-u32 c = search needs
+
+put-u32-requires : tie.Need-put-u32-requires Inv-loop μ-loop
+put-u32-requires c κs = search needs
 
 same-length-7 : tie.Need-same-length-7 Inv-loop μ-loop
 same-length-7 c =
     let if2 = c in
-    let put2-u32 = if2 .before .before .before in
-    let begins-with = put2-u32 .before in
-    let from = begins-with .before .before .before in
+    let put-u32 = if2 .before .before .before in
+    let begins-with = put-u32 .before .before .before .before in
+    let from = begins-with .before .before in
     let next-part = from .before .before in
     let loop = next-part .before in
     let start = loop .before .before .before in
-    K.no-room (now (start .args .text)) (start .args .at) (start .args .hole) (start .args .curves) (start .args .used) (now (start .args .loops)) (now (start .args .spans)) (loop .loop .loops) (loop .loop .spans) (loop .loop .i) (loop .loop .place) (loop .loop .count) (loop .loop .inv) _ _ (L.part-found (start .args .curves) (now (start .args .text)) (loop .loop .i) (next-part .next-part .result) (next-part .next-part .ensures) (from .from .given .1)) ((begins-with .begins-with .result) ∷ (from .from .given .0 .1 .1 .0) ∷ []) (put2-u32 .put2-u32 .ensures .0) (put2-u32 .put2-u32 .ensures .1) (not-true _ (if2 .if2 .taken)) .same
+    let parts = put-of (loop .loop .loops) (loop .loop .place) (put-u32 .before .before .before .loop-row .ensures) (put-u32 .put-u32 .ensures) in
+    K.no-room (now (start .args .text)) (start .args .at) (start .args .hole) (start .args .curves) (start .args .used) (now (start .args .loops)) (now (start .args .spans)) (loop .loop .loops) (loop .loop .spans) (loop .loop .i) (loop .loop .place) (loop .loop .count) (loop .loop .inv) _ _ (L.part-found (start .args .curves) (now (start .args .text)) (loop .loop .i) (next-part .next-part .result) (next-part .next-part .ensures) (from .from .given .1)) ((begins-with .begins-with .result) ∷ (from .from .given .0 .1 .1 .0) ∷ []) (parts .0) (parts .1) (not-true _ (if2 .if2 .taken)) .same
 
 same-length-8 : tie.Need-same-length-8 Inv-loop μ-loop
 same-length-8 c =
     let if2 = c in
-    let put2-u32 = if2 .before .before .before in
-    let begins-with = put2-u32 .before in
-    let from = begins-with .before .before .before in
+    let put-u32 = if2 .before .before .before in
+    let begins-with = put-u32 .before .before .before .before in
+    let from = begins-with .before .before in
     let next-part = from .before .before in
     let loop = next-part .before in
     let start = loop .before .before .before in
-    K.no-room (now (start .args .text)) (start .args .at) (start .args .hole) (start .args .curves) (start .args .used) (now (start .args .loops)) (now (start .args .spans)) (loop .loop .loops) (loop .loop .spans) (loop .loop .i) (loop .loop .place) (loop .loop .count) (loop .loop .inv) _ _ (L.part-found (start .args .curves) (now (start .args .text)) (loop .loop .i) (next-part .next-part .result) (next-part .next-part .ensures) (from .from .given .1)) ((begins-with .begins-with .result) ∷ (from .from .given .0 .1 .1 .0) ∷ []) (put2-u32 .put2-u32 .ensures .0) (put2-u32 .put2-u32 .ensures .1) (not-true _ (if2 .if2 .taken)) .same-spans
+    let parts = put-of (loop .loop .loops) (loop .loop .place) (put-u32 .before .before .before .loop-row .ensures) (put-u32 .put-u32 .ensures) in
+    K.no-room (now (start .args .text)) (start .args .at) (start .args .hole) (start .args .curves) (start .args .used) (now (start .args .loops)) (now (start .args .spans)) (loop .loop .loops) (loop .loop .spans) (loop .loop .i) (loop .loop .place) (loop .loop .count) (loop .loop .inv) _ _ (L.part-found (start .args .curves) (now (start .args .text)) (loop .loop .i) (next-part .next-part .result) (next-part .next-part .ensures) (from .from .given .1)) ((begins-with .begins-with .result) ∷ (from .from .given .0 .1 .1 .0) ∷ []) (parts .0) (parts .1) (not-true _ (if2 .if2 .taken)) .same-spans
 
 returns-4 : tie.Need-returns-4 Inv-loop μ-loop
 returns-4 c =
     let if2 = c in
-    let put2-u32 = if2 .before .before .before in
-    let begins-with = put2-u32 .before in
-    let from = begins-with .before .before .before in
+    let put-u32 = if2 .before .before .before in
+    let begins-with = put-u32 .before .before .before .before in
+    let from = begins-with .before .before in
     let next-part = from .before .before in
     let loop = next-part .before in
     let start = loop .before .before .before in
-    K.no-room (now (start .args .text)) (start .args .at) (start .args .hole) (start .args .curves) (start .args .used) (now (start .args .loops)) (now (start .args .spans)) (loop .loop .loops) (loop .loop .spans) (loop .loop .i) (loop .loop .place) (loop .loop .count) (loop .loop .inv) _ _ (L.part-found (start .args .curves) (now (start .args .text)) (loop .loop .i) (next-part .next-part .result) (next-part .next-part .ensures) (from .from .given .1)) ((begins-with .begins-with .result) ∷ (from .from .given .0 .1 .1 .0) ∷ []) (put2-u32 .put2-u32 .ensures .0) (put2-u32 .put2-u32 .ensures .1) (not-true _ (if2 .if2 .taken))
+    let parts = put-of (loop .loop .loops) (loop .loop .place) (put-u32 .before .before .before .loop-row .ensures) (put-u32 .put-u32 .ensures) in
+    K.no-room (now (start .args .text)) (start .args .at) (start .args .hole) (start .args .curves) (start .args .used) (now (start .args .loops)) (now (start .args .spans)) (loop .loop .loops) (loop .loop .spans) (loop .loop .i) (loop .loop .place) (loop .loop .count) (loop .loop .inv) _ _ (L.part-found (start .args .curves) (now (start .args .text)) (loop .loop .i) (next-part .next-part .result) (next-part .next-part .ensures) (from .from .given .1)) ((begins-with .begins-with .result) ∷ (from .from .given .0 .1 .1 .0) ∷ []) (parts .0) (parts .1) (not-true _ (if2 .if2 .taken))
 
-put2-i32-requires : tie.Need-put2-i32-requires Inv-loop μ-loop
-put2-i32-requires c κs = search needs
+span-row-requires : tie.Need-span-row-requires Inv-loop μ-loop
+span-row-requires c κs = search needs
+
+slice-aggregate-put-i32 : tie.Need-slice-aggregate-put-i32 Inv-loop μ-loop
+slice-aggregate-put-i32 c = search needs
+
+put-i32-requires : tie.Need-put-i32-requires Inv-loop μ-loop
+put-i32-requires c κs = search needs
 
 same-length-9 : tie.Need-same-length-9 Inv-loop μ-loop
 same-length-9 c =
     let if3 = c in
-    let put2-i32 = if3 .before .before in
-    let if2 = put2-i32 .before .before in
-    let put2-u32 = if2 .before .before .before in
-    let begins-with = put2-u32 .before in
-    let from = begins-with .before .before .before in
+    let put-i32 = if3 .before .before in
+    let if2 = put-i32 .before .before .before .before in
+    let put-u32 = if2 .before .before .before in
+    let begins-with = put-u32 .before .before .before .before in
+    let from = begins-with .before .before in
     let next-part = from .before .before in
     let loop = next-part .before in
     let start = loop .before .before .before in
-    K.no-room-spans (now (start .args .text)) (start .args .at) (start .args .hole) (start .args .curves) (start .args .used) (now (start .args .loops)) (now (start .args .spans)) (loop .loop .loops) (loop .loop .spans) (loop .loop .i) (loop .loop .place) (loop .loop .count) (loop .loop .inv) _ _ (L.part-found (start .args .curves) (now (start .args .text)) (loop .loop .i) (next-part .next-part .result) (next-part .next-part .ensures) (from .from .given .1)) (begins-with .begins-with .result) (from .from .given .0 .1 .1 .0) (put2-u32 .put2-u32 .ensures .0) (put2-u32 .put2-u32 .ensures .1) (not-false _ (if2 .if2 .left)) ((toZ w32 (ofZ w32 (from .from .given .0 .0))) ∷ (toZ w32 (ofZ w32 (from .from .given .0 .1 .0))) ∷ []) (put2-i32 .put2-i32 .ensures .0) (put2-i32 .put2-i32 .ensures .1) (not-true _ (if3 .if3 .taken)) .same
+    let parts = put-of (loop .loop .loops) (loop .loop .place) (put-u32 .before .before .before .loop-row .ensures) (put-u32 .put-u32 .ensures) in
+    let ends = put-of (loop .loop .spans) (loop .loop .place) (put-i32 .before .before .before .span-row .ensures) (put-i32 .put-i32 .ensures) in
+    K.no-room-spans (now (start .args .text)) (start .args .at) (start .args .hole) (start .args .curves) (start .args .used) (now (start .args .loops)) (now (start .args .spans)) (loop .loop .loops) (loop .loop .spans) (loop .loop .i) (loop .loop .place) (loop .loop .count) (loop .loop .inv) _ _ (L.part-found (start .args .curves) (now (start .args .text)) (loop .loop .i) (next-part .next-part .result) (next-part .next-part .ensures) (from .from .given .1)) (begins-with .begins-with .result) (from .from .given .0 .1 .1 .0) (parts .0) (parts .1) (not-false _ (if2 .if2 .left)) ((toZ w32 (ofZ w32 (from .from .given .0 .0))) ∷ (toZ w32 (ofZ w32 (from .from .given .0 .1 .0))) ∷ []) (ends .0) (ends .1) (not-true _ (if3 .if3 .taken)) .same
 
 same-length-10 : tie.Need-same-length-10 Inv-loop μ-loop
 same-length-10 c =
     let if3 = c in
-    let put2-i32 = if3 .before .before in
-    let if2 = put2-i32 .before .before in
-    let put2-u32 = if2 .before .before .before in
-    let begins-with = put2-u32 .before in
-    let from = begins-with .before .before .before in
+    let put-i32 = if3 .before .before in
+    let if2 = put-i32 .before .before .before .before in
+    let put-u32 = if2 .before .before .before in
+    let begins-with = put-u32 .before .before .before .before in
+    let from = begins-with .before .before in
     let next-part = from .before .before in
     let loop = next-part .before in
     let start = loop .before .before .before in
-    K.no-room-spans (now (start .args .text)) (start .args .at) (start .args .hole) (start .args .curves) (start .args .used) (now (start .args .loops)) (now (start .args .spans)) (loop .loop .loops) (loop .loop .spans) (loop .loop .i) (loop .loop .place) (loop .loop .count) (loop .loop .inv) _ _ (L.part-found (start .args .curves) (now (start .args .text)) (loop .loop .i) (next-part .next-part .result) (next-part .next-part .ensures) (from .from .given .1)) (begins-with .begins-with .result) (from .from .given .0 .1 .1 .0) (put2-u32 .put2-u32 .ensures .0) (put2-u32 .put2-u32 .ensures .1) (not-false _ (if2 .if2 .left)) ((toZ w32 (ofZ w32 (from .from .given .0 .0))) ∷ (toZ w32 (ofZ w32 (from .from .given .0 .1 .0))) ∷ []) (put2-i32 .put2-i32 .ensures .0) (put2-i32 .put2-i32 .ensures .1) (not-true _ (if3 .if3 .taken)) .same-spans
+    let parts = put-of (loop .loop .loops) (loop .loop .place) (put-u32 .before .before .before .loop-row .ensures) (put-u32 .put-u32 .ensures) in
+    let ends = put-of (loop .loop .spans) (loop .loop .place) (put-i32 .before .before .before .span-row .ensures) (put-i32 .put-i32 .ensures) in
+    K.no-room-spans (now (start .args .text)) (start .args .at) (start .args .hole) (start .args .curves) (start .args .used) (now (start .args .loops)) (now (start .args .spans)) (loop .loop .loops) (loop .loop .spans) (loop .loop .i) (loop .loop .place) (loop .loop .count) (loop .loop .inv) _ _ (L.part-found (start .args .curves) (now (start .args .text)) (loop .loop .i) (next-part .next-part .result) (next-part .next-part .ensures) (from .from .given .1)) (begins-with .begins-with .result) (from .from .given .0 .1 .1 .0) (parts .0) (parts .1) (not-false _ (if2 .if2 .left)) ((toZ w32 (ofZ w32 (from .from .given .0 .0))) ∷ (toZ w32 (ofZ w32 (from .from .given .0 .1 .0))) ∷ []) (ends .0) (ends .1) (not-true _ (if3 .if3 .taken)) .same-spans
 
 returns-5 : tie.Need-returns-5 Inv-loop μ-loop
 returns-5 c =
     let if3 = c in
-    let put2-i32 = if3 .before .before in
-    let if2 = put2-i32 .before .before in
-    let put2-u32 = if2 .before .before .before in
-    let begins-with = put2-u32 .before in
-    let from = begins-with .before .before .before in
+    let put-i32 = if3 .before .before in
+    let if2 = put-i32 .before .before .before .before in
+    let put-u32 = if2 .before .before .before in
+    let begins-with = put-u32 .before .before .before .before in
+    let from = begins-with .before .before in
     let next-part = from .before .before in
     let loop = next-part .before in
     let start = loop .before .before .before in
-    K.no-room-spans (now (start .args .text)) (start .args .at) (start .args .hole) (start .args .curves) (start .args .used) (now (start .args .loops)) (now (start .args .spans)) (loop .loop .loops) (loop .loop .spans) (loop .loop .i) (loop .loop .place) (loop .loop .count) (loop .loop .inv) _ _ (L.part-found (start .args .curves) (now (start .args .text)) (loop .loop .i) (next-part .next-part .result) (next-part .next-part .ensures) (from .from .given .1)) (begins-with .begins-with .result) (from .from .given .0 .1 .1 .0) (put2-u32 .put2-u32 .ensures .0) (put2-u32 .put2-u32 .ensures .1) (not-false _ (if2 .if2 .left)) ((toZ w32 (ofZ w32 (from .from .given .0 .0))) ∷ (toZ w32 (ofZ w32 (from .from .given .0 .1 .0))) ∷ []) (put2-i32 .put2-i32 .ensures .0) (put2-i32 .put2-i32 .ensures .1) (not-true _ (if3 .if3 .taken))
+    let parts = put-of (loop .loop .loops) (loop .loop .place) (put-u32 .before .before .before .loop-row .ensures) (put-u32 .put-u32 .ensures) in
+    let ends = put-of (loop .loop .spans) (loop .loop .place) (put-i32 .before .before .before .span-row .ensures) (put-i32 .put-i32 .ensures) in
+    K.no-room-spans (now (start .args .text)) (start .args .at) (start .args .hole) (start .args .curves) (start .args .used) (now (start .args .loops)) (now (start .args .spans)) (loop .loop .loops) (loop .loop .spans) (loop .loop .i) (loop .loop .place) (loop .loop .count) (loop .loop .inv) _ _ (L.part-found (start .args .curves) (now (start .args .text)) (loop .loop .i) (next-part .next-part .result) (next-part .next-part .ensures) (from .from .given .1)) (begins-with .begins-with .result) (from .from .given .0 .1 .1 .0) (parts .0) (parts .1) (not-false _ (if2 .if2 .left)) ((toZ w32 (ofZ w32 (from .from .given .0 .0))) ∷ (toZ w32 (ofZ w32 (from .from .given .0 .1 .0))) ∷ []) (ends .0) (ends .1) (not-true _ (if3 .if3 .taken))
 
 add-place : tie.Need-add-place Inv-loop μ-loop
 add-place c =
     let if3 = c in
-    let put2-i32 = if3 .before .before in
-    let if2 = put2-i32 .before .before in
-    let put2-u32 = if2 .before .before .before in
-    let begins-with = put2-u32 .before in
-    let from = begins-with .before .before .before in
+    let put-i32 = if3 .before .before in
+    let if2 = put-i32 .before .before .before .before in
+    let put-u32 = if2 .before .before .before in
+    let begins-with = put-u32 .before .before .before .before in
+    let from = begins-with .before .before in
     let next-part = from .before .before in
     let loop = next-part .before in
     let start = loop .before .before .before in
-    let b = K.fits-spans (now (start .args .text)) (start .args .at) (start .args .hole) (start .args .curves) (start .args .used) (now (start .args .loops)) (now (start .args .spans)) (loop .loop .loops) (loop .loop .spans) (loop .loop .i) (loop .loop .place) (loop .loop .count) (loop .loop .inv) _ _ (L.part-found (start .args .curves) (now (start .args .text)) (loop .loop .i) (next-part .next-part .result) (next-part .next-part .ensures) (from .from .given .1)) (begins-with .begins-with .result) (from .from .given .0 .1 .1 .0) (put2-u32 .put2-u32 .ensures .0) (put2-u32 .put2-u32 .ensures .1) (not-false _ (if2 .if2 .left)) (put2-i32 .put2-i32 .ensures .0) (not-false _ (if3 .if3 .left)) in let x = b .0 in record { fits = omega (arith, start .good) }
+    let parts = put-of (loop .loop .loops) (loop .loop .place) (put-u32 .before .before .before .loop-row .ensures) (put-u32 .put-u32 .ensures) in
+    let ends = put-of (loop .loop .spans) (loop .loop .place) (put-i32 .before .before .before .span-row .ensures) (put-i32 .put-i32 .ensures) in
+    let b = K.fits-spans (now (start .args .text)) (start .args .at) (start .args .hole) (start .args .curves) (start .args .used) (now (start .args .loops)) (now (start .args .spans)) (loop .loop .loops) (loop .loop .spans) (loop .loop .i) (loop .loop .place) (loop .loop .count) (loop .loop .inv) _ _ (L.part-found (start .args .curves) (now (start .args .text)) (loop .loop .i) (next-part .next-part .result) (next-part .next-part .ensures) (from .from .given .1)) (begins-with .begins-with .result) (from .from .given .0 .1 .1 .0) (parts .0) (parts .1) (not-false _ (if2 .if2 .left)) (ends .0) (not-false _ (if3 .if3 .left)) in let x = b .0 in record { fits = omega (arith, start .good) }
 
 add-count : tie.Need-add-count Inv-loop μ-loop
 add-count c =
-    let loop = c .before .before .before .before .before .before .before .before .before .before .before .before .before .before in
+    let loop = at-from c .before .before .before in
     let start = loop .before .before .before in
     let x = loop .loop .inv .counted in let y = loop .loop .inv .ahead in let z = loop .loop .inv .to in let v = start .pre .1 in record { fits = omega arith }
 
 loop-less : tie.Need-loop-less Inv-loop μ-loop
 loop-less c =
-    let from = c .before .before .before .before .before .before .before .before .before .before .before in
+    let from = at-from c in
     let next-part = from .before .before in
     let loop = next-part .before in
     let start = loop .before .before .before in
@@ -215,16 +243,18 @@ loop-less c =
 loop-again : tie.Need-loop-again Inv-loop μ-loop
 loop-again c =
     let if3 = c in
-    let put2-i32 = if3 .before .before in
-    let if2 = put2-i32 .before .before in
-    let put2-u32 = if2 .before .before .before in
-    let begins-with = put2-u32 .before in
-    let known-told2 = begins-with .before .before in
+    let put-i32 = if3 .before .before in
+    let if2 = put-i32 .before .before .before .before in
+    let put-u32 = if2 .before .before .before in
+    let begins-with = put-u32 .before .before .before .before in
+    let known-told2 = begins-with .before in
     let from = known-told2 .before in
     let next-part = from .before .before in
     let loop = next-part .before in
     let start = loop .before .before .before in
-    K.looping-more (now (start .args .text)) (start .args .at) (start .args .hole) (start .args .curves) (start .args .used) (now (start .args .loops)) (now (start .args .spans)) (loop .loop .loops) (loop .loop .spans) (loop .loop .i) (loop .loop .place) (loop .loop .count) (loop .loop .inv) _ _ (L.part-found (start .args .curves) (now (start .args .text)) (loop .loop .i) (next-part .next-part .result) (next-part .next-part .ensures) (from .from .given .1)) (begins-with .begins-with .result) (from .from .given .0 .1 .1 .0) (put2-u32 .put2-u32 .ensures .0) (put2-u32 .put2-u32 .ensures .1) (not-false _ (if2 .if2 .left)) (toZ w32 (ofZ w32 (from .from .given .0 .0))) (toZ w32 (ofZ w32 (from .from .given .0 .1 .0))) (put2-i32 .put2-i32 .ensures .0) (put2-i32 .put2-i32 .ensures .1) (not-false _ (if3 .if3 .left)) (begins-with .begins-with .ensures) refl (fitted (known-told2 .known-told2 .given .0 .1)) (fitted (known-told2 .known-told2 .given .1 .0 .1))
+    let parts = put-of (loop .loop .loops) (loop .loop .place) (put-u32 .before .before .before .loop-row .ensures) (put-u32 .put-u32 .ensures) in
+    let ends = put-of (loop .loop .spans) (loop .loop .place) (put-i32 .before .before .before .span-row .ensures) (put-i32 .put-i32 .ensures) in
+    K.looping-more (now (start .args .text)) (start .args .at) (start .args .hole) (start .args .curves) (start .args .used) (now (start .args .loops)) (now (start .args .spans)) (loop .loop .loops) (loop .loop .spans) (loop .loop .i) (loop .loop .place) (loop .loop .count) (loop .loop .inv) _ _ (L.part-found (start .args .curves) (now (start .args .text)) (loop .loop .i) (next-part .next-part .result) (next-part .next-part .ensures) (from .from .given .1)) (begins-with .begins-with .result) (from .from .given .0 .1 .1 .0) (parts .0) (parts .1) (not-false _ (if2 .if2 .left)) (toZ w32 (ofZ w32 (from .from .given .0 .0))) (toZ w32 (ofZ w32 (from .from .given .0 .1 .0))) (ends .0) (ends .1) (not-false _ (if3 .if3 .left)) (begins-with .begins-with .ensures) refl (fitted (known-told2 .known-told2 .given .0 .1)) (fitted (known-told2 .known-told2 .given .1 .0 .1))
 
 pub take-loop-spec : {M : Type 1} → statement M
 take-loop-spec =
@@ -249,11 +279,15 @@ take-loop-spec =
     returns-3
     enum-known-from
     begins-with-requires
-    put2-u32-requires
+    loop-row-requires
+    slice-aggregate-put-u32
+    put-u32-requires
     same-length-7
     same-length-8
     returns-4
-    put2-i32-requires
+    span-row-requires
+    slice-aggregate-put-i32
+    put-i32-requires
     same-length-9
     same-length-10
     returns-5

@@ -11,6 +11,25 @@ use borrow.Author.Needs.{needs}
 use Rattle.read_dispatch.proofs.by_family.take_line.Statement.{statement}
 use Rattle.read_dispatch.proofs.by_family.take_line.Tie as tie
 
+-- the points of the code that the proof looks back to
+abbrev at-start : tie.After-slice-known4 → tie.Start
+at-start c = c .before .before .before .before .before
+
+abbrev at-family4 : tie.After-spans → tie.After-family4
+at-family4 c = c .before .before .before .before .before .before .before
+
+abbrev at-enum-told2 : tie.After-parameters → tie.After-enum-told2
+at-enum-told2 c = c .before .before .before .before .before .before .before .before
+
+abbrev at-family2 : tie.After-slice-known6 → tie.After-family2
+at-family2 c = c .before .before .before .before .before .before .before .before
+
+abbrev at-family : tie.After-vp → tie.After-family
+at-family c = c .before .before .before .before .before .before .before .before .before .before
+
+abbrev at-family3 : tie.After-ranges → tie.After-family3
+at-family3 c = c .before .before .before .before .before .before .before .before .before .before .before
+
 enum-known-family : tie.Need-enum-known-family
 enum-known-family c = search needs
 
@@ -71,9 +90,9 @@ same-length-4 c = search needs
 returns : tie.Need-returns
 returns c =
     let f = c .before .before .before .before .vertex-line in
-    let a = c .before .before .before .before .before .before .before .before .before .before .before .before .before .before .before .before .before .args in
+    let a = at-start (at-family c .before .before) .args in
     let t = tables (now (a .v)) (now (a .vt)) (now (a .vn)) (now (a .vp)) (now (a .corners)) (now (a .elements)) (now (a .bodies)) (now (a .ranges)) (now (a .parameters)) (now (a .loops)) (now (a .spans)) in
-    family-step (now (a .text)) (a .at) (a .state) (f .result) t (withVertices (vertexTables (f .last .1 .1 .1 .1 .0) (f .last .1 .1 .1 .1 .1 .0) (f .last .1 .1 .1 .1 .1 .1 .0) (f .last .1 .1 .1 .1 .1 .1 .1 .0)) t) (c .before .before .before .before .before .before .before .before .before .before .family .given .1) (f .ensures t)
+    family-step (now (a .text)) (a .at) (a .state) (f .result) t (withVertices (vertexTables (f .last .1 .1 .1 .1 .0) (f .last .1 .1 .1 .1 .1 .0) (f .last .1 .1 .1 .1 .1 .1 .0) (f .last .1 .1 .1 .1 .1 .1 .1 .0)) t) (at-family c .family .given .1) (f .ensures t)
 
 same-length-5 : tie.Need-same-length-5
 same-length-5 c = search needs
@@ -84,9 +103,9 @@ same-length-6 c = search needs
 returns-2 : tie.Need-returns-2
 returns-2 c =
     let f = c .before .before .before .before .element-line in
-    let a = c .before .before .before .before .before .before .before .before .before .before .before .before .before .before .before .args in
+    let a = at-start (at-family2 c .before .before) .args in
     let t = tables (now (a .v)) (now (a .vt)) (now (a .vn)) (now (a .vp)) (now (a .corners)) (now (a .elements)) (now (a .bodies)) (now (a .ranges)) (now (a .parameters)) (now (a .loops)) (now (a .spans)) in
-    family-step (now (a .text)) (a .at) (a .state) (f .result) t (elementStored (f .last .1 .1 .1 .1 .0) (f .last .1 .1 .1 .1 .1 .0) t) (c .before .before .before .before .before .before .before .before .family2 .given .1) (f .ensures t refl)
+    family-step (now (a .text)) (a .at) (a .state) (f .result) t (elementStored (f .last .1 .1 .1 .1 .0) (f .last .1 .1 .1 .1 .1 .0) t) (at-family2 c .family2 .given .1) (f .ensures t refl)
 
 same-length-7 : tie.Need-same-length-7
 same-length-7 c = search needs
@@ -103,14 +122,14 @@ same-length-10 c = search needs
 returns-3 : tie.Need-returns-3
 returns-3 c =
     let f = c .before .before .before .before .before .body-line in
-    let a = c .before .before .before .before .before .before .before .before .before .before .before .before .before .before .before .before .before .before .args in
+    let a = at-start (at-family3 c .before .before) .args in
     let t = tables (now (a .v)) (now (a .vt)) (now (a .vn)) (now (a .vp)) (now (a .corners)) (now (a .elements)) (now (a .bodies)) (now (a .ranges)) (now (a .parameters)) (now (a .loops)) (now (a .spans)) in
-    family-step (now (a .text)) (a .at) (a .state) (f .result) t (rangeStored (f .last .1 .1 .1 .1 .1 .1 .1 .1 .0) (elementStored (f .last .1 .1 .1 .1 .1 .0) (f .last .1 .1 .1 .1 .1 .1 .0) t)) (c .before .before .before .before .before .before .before .before .before .before .before .family3 .given .1) (f .ensures t refl refl refl refl)
+    family-step (now (a .text)) (a .at) (a .state) (f .result) t (rangeStored (f .last .1 .1 .1 .1 .1 .1 .1 .1 .0) (elementStored (f .last .1 .1 .1 .1 .1 .0) (f .last .1 .1 .1 .1 .1 .1 .0) t)) (at-family3 c .family3 .given .1) (f .ensures t refl refl refl refl)
 
 returns-4 : tie.Need-returns-4
 returns-4 c =
     let f = c .parm-line in
-    let a = c .before .before .before .before .before .before .before .before .args in
+    let a = at-start (c .before .before .before) .args in
     let t = tables (now (a .v)) (now (a .vt)) (now (a .vn)) (now (a .vp)) (now (a .corners)) (now (a .elements)) (now (a .bodies)) (now (a .ranges)) (now (a .parameters)) (now (a .loops)) (now (a .spans)) in
     family-step (now (a .text)) (a .at) (a .state) (f .result) t (t) (c .before .enum-told .given .1) (f .ensures t)
 
@@ -123,9 +142,9 @@ same-length-12 c = search needs
 returns-5 : tie.Need-returns-5
 returns-5 c =
     let f = c .before .before .before .loop-line in
-    let a = c .before .before .before .before .before .before .before .before .before .before .before .before .before .before .args in
+    let a = at-start (at-family4 c .before .before) .args in
     let t = tables (now (a .v)) (now (a .vt)) (now (a .vn)) (now (a .vp)) (now (a .corners)) (now (a .elements)) (now (a .bodies)) (now (a .ranges)) (now (a .parameters)) (now (a .loops)) (now (a .spans)) in
-    family-step (now (a .text)) (a .at) (a .state) (f .result) t (loopsStored (f .last .1 .1 .1 .1 .0) (f .last .1 .1 .1 .1 .1 .0) t) (c .before .before .before .before .before .before .before .family4 .given .1) (f .ensures t refl refl)
+    family-step (now (a .text)) (a .at) (a .state) (f .result) t (loopsStored (f .last .1 .1 .1 .1 .0) (f .last .1 .1 .1 .1 .1 .0) t) (at-family4 c .family4 .given .1) (f .ensures t refl refl)
 
 same-length-13 : tie.Need-same-length-13
 same-length-13 c = search needs
@@ -139,20 +158,20 @@ same-length-15 c = search needs
 returns-6 : tie.Need-returns-6
 returns-6 c =
     let f = c .before .before .before .before .end-line in
-    let a = c .before .before .before .before .before .before .before .before .before .before .before .before .before .before .before .args in
+    let a = at-start (at-enum-told2 c .before .before) .args in
     let t = tables (now (a .v)) (now (a .vt)) (now (a .vn)) (now (a .vp)) (now (a .corners)) (now (a .elements)) (now (a .bodies)) (now (a .ranges)) (now (a .parameters)) (now (a .loops)) (now (a .spans)) in
-    family-step (now (a .text)) (a .at) (a .state) (f .result) t (bodyStored (f .last .1 .1 .1 .0) (f .last .1 .1 .1 .1 .0) (f .last .1 .1 .1 .1 .1 .0) t) (c .before .before .before .before .before .before .before .before .enum-told2 .given .1) (f .ensures t refl refl refl)
+    family-step (now (a .text)) (a .at) (a .state) (f .result) t (bodyStored (f .last .1 .1 .1 .0) (f .last .1 .1 .1 .1 .0) (f .last .1 .1 .1 .1 .1 .0) t) (at-enum-told2 c .enum-told2 .given .1) (f .ensures t refl refl refl)
 
 returns-7 : tie.Need-returns-7
 returns-7 c =
     let f = c .setting-line in
-    let a = c .before .before .before .before .before .before .before .before .before .args in
+    let a = at-start (c .before .before .before .before) .args in
     let t = tables (now (a .v)) (now (a .vt)) (now (a .vn)) (now (a .vp)) (now (a .corners)) (now (a .elements)) (now (a .bodies)) (now (a .ranges)) (now (a .parameters)) (now (a .loops)) (now (a .spans)) in
     family-step (now (a .text)) (a .at) (a .state) (f .result) t (t) (c .before .before .family5 .given .1) (f .ensures t)
 
 returns-8 : tie.Need-returns-8
 returns-8 c =
-    let a = c .before .before .before .before .before .before .before .args in
+    let a = at-start (c .before .before) .args in
     let t = tables (now (a .v)) (now (a .vt)) (now (a .vn)) (now (a .vp)) (now (a .corners)) (now (a .elements)) (now (a .bodies)) (now (a .ranges)) (now (a .parameters)) (now (a .loops)) (now (a .spans)) in
     family-step (now (a .text)) (a .at) (a .state) Rejected t t (c .enum-told3 .given .1) (refl, refl)
 

@@ -1,13 +1,10 @@
 -- Each answer of `skip_blanks`; at a word, what it is as a keyword.
 use denote.Ref.{now}
+use Rattle.keywords.proofs.Keywords.{keyword-is}
 use Rattle.text.proofs.Found.{word-found, end-found, bad-found}
 use borrow.Author.Needs.{needs}
 use Rattle.read_dispatch.proofs.keys.key_at.Statement.{statement}
 use Rattle.read_dispatch.proofs.keys.key_at.Tie as tie
-use Rattle.read_dispatch.proofs.keys.key_at.Reads as reads
-use Rattle.read_dispatch.proofs.keys.key_at.Lts as lts
-use Rattle.keywords.proofs.keyword_at.Reads as keyword-at-reads
-use Rattle.text.proofs.skip_blanks.Reads as skip-blanks-reads
 
 skip-blanks-requires : tie.Need-skip-blanks-requires
 skip-blanks-requires c κs = search needs
@@ -21,8 +18,11 @@ enum-known-p c = search needs
 enum-known-p-2 : tie.Need-enum-known-p-2
 enum-known-p-2 c = search needs
 
-keyword-at-requires : tie.Need-keyword-at-requires
-keyword-at-requires c κs = search needs
+keyword-row-requires : tie.Need-keyword-row-requires
+keyword-row-requires c κs = search needs
+
+row-letter-requires : tie.Need-row-letter-requires
+row-letter-requires c κs = search needs
 
 returns : tie.Need-returns
 returns c =
@@ -38,9 +38,12 @@ returns-2 c =
 
 returns-3 : tie.Need-returns-3
 returns-3 c =
-    let g = c .before .before .before .before in
-    let a = g .before .before .args in
-    (word-found (now (a .text)) (a .at) (g .skip-blanks .result) (g .skip-blanks .ensures) (c .before .before .p2 .given .1), c .keyword-at .ensures)
+    let f = c .before .keyword-row in
+    let g = c .before .before .before .before .before in
+    let a = g .before .before .args in (
+      word-found (now (a .text)) (a .at) (g .skip-blanks .result) (g .skip-blanks .ensures) (c .before .before .before .p2 .given .1),
+      keyword-is (now (a .text)) _ (f .result) _ (f .ensures .0) (c .row-letter .ensures),
+    )
 
 pub key-at-spec : {M : Type 1} → statement M
-key-at-spec = tie.close (tie.spec skip-blanks-requires enum-known-q enum-known-p enum-known-p-2 keyword-at-requires returns returns-2 returns-3)
+key-at-spec = tie.close (tie.spec skip-blanks-requires enum-known-q enum-known-p enum-known-p-2 keyword-row-requires row-letter-requires returns returns-2 returns-3)

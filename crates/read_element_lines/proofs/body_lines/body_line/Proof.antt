@@ -9,6 +9,10 @@ use borrow.Author.Needs.{needs}
 use Rattle.read_element_lines.proofs.body_lines.body_line.Statement.{statement}
 use Rattle.read_element_lines.proofs.body_lines.body_line.Tie as tie
 
+-- the points of the code that the proof looks back to
+abbrev at-take-body-line : tie.After-ranges → tie.After-take-body-line
+at-take-body-line c = c .before .before .before .before .before
+
 module _ (c : tie.Else1) where
   abbrev start : tie.Start
   start = c .before .before .before .before .before .before .before
@@ -39,7 +43,7 @@ enum-known-count c = search needs
 
 one-body-requires : tie.Need-one-body-requires
 one-body-requires c κs =
-    let called = c .before .before .before .before .before .before .before .before in
+    let called = at-take-body-line (c .before .before .before) in
     let left = called .before .before .before .before .before in
     let s = start left in
     let a = s .args in
@@ -56,7 +60,7 @@ same-length-3 c = search needs
 
 returns-2 : tie.Need-returns-2
 returns-2 c =
-    let called = c .before .before .before .before .before .before .before in
+    let called = at-take-body-line (c .before .before) in
     let left = called .before .before .before .before .before in
     let a = start left .args in
     body-gave (a .free) (now (a .text)) (a .at) (a .state) (now (a .vp)) (now (a .corners)) _ (now (a .elements)) _ (a .bodies) (now (a .ranges)) _ (out left) _ (called .take-body-line .ensures) (c .enum-told .given .1)
@@ -72,7 +76,7 @@ same-length-6 c = search needs
 
 returns-3 : tie.Need-returns-3
 returns-3 c =
-    let called = c .before .before .before .before .before .before .before .before .before in
+    let called = at-take-body-line (c .before .before .before .before) in
     let left = called .before .before .before .before .before in
     let s = start left in
     let a = s .args in

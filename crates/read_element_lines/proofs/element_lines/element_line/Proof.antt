@@ -12,6 +12,10 @@ use borrow.Author.Needs.{needs}
 use Rattle.read_element_lines.proofs.element_lines.element_line.Statement.{statement}
 use Rattle.read_element_lines.proofs.element_lines.element_line.Tie as tie
 
+-- the points of the code that the proof looks back to
+abbrev at-take-element : tie.After-known-told → tie.After-take-element
+at-take-element c = c .before .before .before .before .before .before .before
+
 module _ (c : tie.Else1) where
   abbrev start : tie.Start
   start = c .before .before .before .before .before .before .before
@@ -42,7 +46,7 @@ enum-known-count c = search needs
 
 one-element-requires : tie.Need-one-element-requires
 one-element-requires c κs =
-    let called = c .before .before .before .before .before .before .before in
+    let called = at-take-element c in
     let left = called .before .before .before .before in
     let s = start left in
     let a = s .args in
@@ -74,7 +78,7 @@ same-length-4 c = search needs
 
 returns-3 : tie.Need-returns-3
 returns-3 c =
-    let called = c .before .before .before .before .before .before .before .before .before in
+    let called = at-take-element (c .before .before) in
     let left = called .before .before .before .before in
     let s = start left in
     let a = s .args in

@@ -1,5 +1,5 @@
 -- By the tests on the way and the three kinds.
-use mathlib.Core.Path.{refl, sym, _∙_}
+use mathlib.Core.Path.{sym}
 use Rattle.read_elements.proofs.Bodies.{no-degree, one-degree, two-degrees}
 use borrow.Author.Needs.{needs}
 use Rattle.read_elements.proofs.body.degrees_in.Statement.{statement}

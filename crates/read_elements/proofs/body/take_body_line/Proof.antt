@@ -1,7 +1,6 @@
 -- By the tests, then what storing the range answered, then what storing the controls answered.
 use mathlib.Core.Path.{sym, _∙_}
 use borrow.Author.Tests.{not-true, not-false}
-use native.Mathlib.Omega.{arith}
 use denote.Ref.{now}
 use Rattle.read_elements.proofs.BodyLines as L
 use borrow.Author.Needs.{needs}

@@ -1,12 +1,14 @@
 -- By what storing the corners and the record answered, and whether the controls are wide.
-use Prim.Native.Nat.{_+_, _*_, _≤_}
 use mathlib.Core.Path.{sym, _∙_}
-use native.Mathlib.Omega.{arith}
 use denote.Ref.{now}
 use Rattle.read_elements.proofs.Controls as C
 use borrow.Author.Needs.{needs}
 use Rattle.read_elements.proofs.body.take_controls.Statement.{statement}
 use Rattle.read_elements.proofs.body.take_controls.Tie as tie
+
+-- the points of the code that the proof looks back to
+abbrev at-start : tie.After-take-corners → tie.Start
+at-start c = c .before .before .before .before .before .before .before .before
 
 add-body : tie.Need-add-body
 add-body c = search needs
@@ -30,7 +32,7 @@ all-wide-for-requires : tie.Need-all-wide-for-requires
 all-wide-for-requires c κs =
     let known = c .before .before .before in
     let called = known .before .before .before .before .before .before in
-    let start = called .before .before .before .before .before .before .before .before in
+    let start = at-start called in
     let a = start .args in
     let k = a .free in
     let s = now (a .text) in
@@ -51,7 +53,7 @@ returns : tie.Need-returns
 returns c =
     let known = c .before .before .before .before .before in
     let called = known .before .before .before .before .before .before in
-    let start = called .before .before .before .before .before .before .before .before in
+    let start = at-start called in
     let a = start .args in
     let k = a .free in
     let s = now (a .text) in
@@ -72,7 +74,7 @@ returns-2 : tie.Need-returns-2
 returns-2 c =
     let known = c in
     let called = known .before .before .before .before .before .before in
-    let start = called .before .before .before .before .before .before .before .before in
+    let start = at-start called in
     let a = start .args in
     let k = a .free in
     let s = now (a .text) in
@@ -92,7 +94,7 @@ returns-3 : tie.Need-returns-3
 returns-3 c =
     let known = c .before .before .before .before .before in
     let called = known .before .before .before .before .before .before in
-    let start = called .before .before .before .before .before .before .before .before in
+    let start = at-start called in
     let a = start .args in
     let k = a .free in
     let s = now (a .text) in

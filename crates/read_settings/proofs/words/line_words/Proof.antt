@@ -2,13 +2,17 @@
 use mathlib.Core.Path.{sym, ap, _∙_, subst}
 use native.Mathlib.Omega.{arith}
 use denote.Ref.{now}
-use Rattle.text.specs.Rest.{Rest, restAt, push, wordAt, endOf}
+use Rattle.text.specs.Rest.{Rest, restAt, push, wordAt}
 use Rattle.text.proofs.Found as F
 use Rattle.read_settings.specs.Words.{settingLineIs}
 use Rattle.read_settings.proofs.Lines as L
 use borrow.Author.Needs.{needs}
 use Rattle.read_settings.proofs.words.line_words.Statement.{statement}
 use Rattle.read_settings.proofs.words.line_words.Tie as tie
+
+-- the points of the code that the proof looks back to
+abbrev at-start : tie.After-words-after → tie.Start
+at-start c = c .before .before .before .before .before .before .before
 
 skip-blanks-requires : tie.Need-skip-blanks-requires
 skip-blanks-requires c κs = search needs
@@ -30,7 +34,7 @@ enum-told c = search needs
 
 returns : tie.Need-returns
 returns c =
-    let a = c .before .before .before .before .before .before .before .args in
+    let a = at-start c .args in
     let s = now (a .text) in
     let w = F.word-found s (a .at) _ (c .before .before .before .before .before .skip-blanks .ensures) (c .before .before .before .p .given .1) in
     subst (λ (x : Rest). settingLineIs s x (c .words-after .result)) (sym (w .rest ∙ ap (λ i. push (wordAt s (c .before .before .before .p .given .0 .0)) (restAt s i)) (sym (c .before .word-end .ensures .0)))) (c .words-after .ensures)

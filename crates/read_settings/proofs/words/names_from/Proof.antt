@@ -1,7 +1,5 @@
 -- The loop keeps the run of the names that are left (`Running`); each name takes bytes off what is left.
-use mathlib.Core.Path.{_≡_}
-use mathlib.Core.List.{List}
-use Prim.Native.Nat.{ℕ, _-_}
+use Prim.Native.Nat.{_-_}
 use lib.ListN.{length, drop}
 use native.Mathlib.Omega.{arith}
 use denote.Ref.{now}

@@ -10,6 +10,10 @@ use borrow.Author.Needs.{needs}
 use Rattle.read_word_checks.proofs.held.held_fault.Statement.{statement}
 use Rattle.read_word_checks.proofs.held.held_fault.Tie as tie
 
+-- the points of the code that the proof looks back to
+abbrev at-start : tie.After-free-fault → tie.Start
+at-start c = c .before .before .before .before .before .before .before
+
 enum-told : tie.Need-enum-told
 enum-told c = search needs
 
@@ -41,7 +45,7 @@ returns-2 : tie.Need-returns-2
 returns-2 c = let a = c .before .before .before .before .before .args in S.by-held (seenBy (a .seen)) (now (a .vp)) (a .form) (a .key) ((restAt (now (a .text)) (a .at)) .words) (c .before .before .held .given .1) (c .pattern-fault .ensures)
 
 returns-3 : tie.Need-returns-3
-returns-3 c = let a = c .before .before .before .before .before .before .before .args in S.by-held (seenBy (a .seen)) (now (a .vp)) (a .form) (a .key) ((restAt (now (a .text)) (a .at)) .words) (c .before .before .before .before .held2 .given .1) (c .free-fault .ensures ∙ ap (freeFault (seenBy (a .seen)) (now (a .vp)) (a .form) (a .key) (c .before .before .before .before .held2 .given .0 .0)) (c .before .skip .ensures .1 ∙ ap (λ (n : ℕ). drop n ((restAt (now (a .text)) (a .at)) .words)) (c .before .before .range-words .ensures)))
+returns-3 c = let a = at-start c .args in S.by-held (seenBy (a .seen)) (now (a .vp)) (a .form) (a .key) ((restAt (now (a .text)) (a .at)) .words) (c .before .before .before .before .held2 .given .1) (c .free-fault .ensures ∙ ap (freeFault (seenBy (a .seen)) (now (a .vp)) (a .form) (a .key) (c .before .before .before .before .held2 .given .0 .0)) (c .before .skip .ensures .1 ∙ ap (λ (n : ℕ). drop n ((restAt (now (a .text)) (a .at)) .words)) (c .before .before .range-words .ensures)))
 
 returns-4 : tie.Need-returns-4
 returns-4 c = let a = c .before .before .before .args in S.by-held (seenBy (a .seen)) (now (a .vp)) (a .form) (a .key) ((restAt (now (a .text)) (a .at)) .words) (c .enum-told2 .given .1) refl

@@ -19,6 +19,10 @@ Inv-loop text at tests words seen vp argument-table i₀ index₀ i index = W.Fa
 abbrev μ-loop : tie.MeasureT-loop
 μ-loop text at tests words seen vp argument-table i₀ index₀ i index = length text - i
 
+-- the points of the code that the proof looks back to
+abbrev at-skip-blanks : tie.After-word-fault Inv-loop μ-loop → tie.After-skip-blanks Inv-loop μ-loop
+at-skip-blanks c = c .before .before .before .before .before
+
 loop-holds : tie.Need-loop-holds Inv-loop μ-loop
 loop-holds c = record { to = c .before .pre .0; small = omega arith; rest = refl }
 
@@ -47,7 +51,7 @@ enum-known-number c = search needs
 
 returns : tie.Need-returns Inv-loop μ-loop
 returns c =
-    let found = c .before .before .before .before .before .before .before .before in
+    let found = at-skip-blanks (c .before .before .before) in
     let turn = found .before in
     let start = turn .before .before in
     let a = start .args in
@@ -60,7 +64,7 @@ enum-told c = search needs
 
 word-end-requires : tie.Need-word-end-requires Inv-loop μ-loop
 word-end-requires c κs =
-    let found = c .before .before .before .before .before .before .before in
+    let found = at-skip-blanks (c .before .before) in
     let turn = found .before in
     let start = turn .before .before in
     let a = start .args in
@@ -71,7 +75,7 @@ word-end-requires c κs =
 
 add-index : tie.Need-add-index Inv-loop μ-loop
 add-index c =
-    let found = c .before .before .before .before .before .before .before .before in
+    let found = at-skip-blanks (c .before .before .before) in
     let turn = found .before in
     let start = turn .before .before in
     let a = start .args in
@@ -84,7 +88,7 @@ add-index c =
 
 loop-less : tie.Need-loop-less Inv-loop μ-loop
 loop-less c =
-    let found = c .before .before .before .before .before .before .before .before in
+    let found = at-skip-blanks (c .before .before .before) in
     let turn = found .before in
     let start = turn .before .before in
     let a = start .args in
@@ -97,7 +101,7 @@ loop-less c =
 
 loop-again : tie.Need-loop-again Inv-loop μ-loop
 loop-again c =
-    let found = c .before .before .before .before .before .before .before .before in
+    let found = at-skip-blanks (c .before .before .before) in
     let turn = found .before in
     let start = turn .before .before in
     let a = start .args in

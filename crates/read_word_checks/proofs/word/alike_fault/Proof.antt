@@ -11,6 +11,13 @@ use borrow.Author.Needs.{needs}
 use Rattle.read_word_checks.proofs.word.alike_fault.Statement.{statement}
 use Rattle.read_word_checks.proofs.word.alike_fault.Tie as tie
 
+-- the points of the code that the proof looks back to
+abbrev at-start : tie.After-same-test → tie.Start
+at-start c = c .before .before .before .before .before .before
+
+abbrev at-corner-at : tie.After-same-test2 → tie.After-corner-at
+at-corner-at c = c .before .before .before .before .before .before
+
 corner-at-requires : tie.Need-corner-at-requires
 corner-at-requires c κs = search needs
 
@@ -25,15 +32,15 @@ same-test-requires-2 c κs = search needs
 
 returns : tie.Need-returns
 returns c =
-    let a = c .before .before .before .before .before .before .before .before .before .args in
+    let a = at-start (c .before .before .before) .args in
     let w = wordOf (drop (a .at) (now (a .text))) in
-    alike-well (a .bare) (a .flat) (cornerOf (countsBy (a .seen)) (record { vt = a .texture; vn = a .normal }) w) (endOf (now (a .text)) (a .at)) _ (c .before .before .before .before .before .before .before .corner-at .ensures) (c .before .before .before .before .before .vt .given .1) (sym (c .before .before .before .same-test .ensures) ∙ c .before .before .if1 .taken) (sym (c .before .same-test2 .ensures) ∙ c .if2 .taken)
+    alike-well (a .bare) (a .flat) (cornerOf (countsBy (a .seen)) (record { vt = a .texture; vn = a .normal }) w) (endOf (now (a .text)) (a .at)) _ (at-corner-at (c .before) .corner-at .ensures) (c .before .before .before .before .before .vt .given .1) (sym (c .before .before .before .same-test .ensures) ∙ c .before .before .if1 .taken) (sym (c .before .same-test2 .ensures) ∙ c .if2 .taken)
 
 returns-2 : tie.Need-returns-2
 returns-2 c =
-    let a = c .before .before .before .before .before .before .before .before .before .args in
+    let a = at-start (c .before .before .before) .args in
     let w = wordOf (drop (a .at) (now (a .text))) in
-    alike-flat (a .bare) (a .flat) (cornerOf (countsBy (a .seen)) (record { vt = a .texture; vn = a .normal }) w) (endOf (now (a .text)) (a .at)) _ (c .before .before .before .before .before .before .before .corner-at .ensures) (c .before .before .before .before .before .vt .given .1) (sym (c .before .before .before .same-test .ensures) ∙ c .before .before .if1 .taken) (sym (c .before .same-test2 .ensures) ∙ c .if2 .left)
+    alike-flat (a .bare) (a .flat) (cornerOf (countsBy (a .seen)) (record { vt = a .texture; vn = a .normal }) w) (endOf (now (a .text)) (a .at)) _ (at-corner-at (c .before) .corner-at .ensures) (c .before .before .before .before .before .vt .given .1) (sym (c .before .before .before .same-test .ensures) ∙ c .before .before .if1 .taken) (sym (c .before .same-test2 .ensures) ∙ c .if2 .left)
 
 enum-told : tie.Need-enum-told
 enum-told c = search needs
@@ -43,7 +50,7 @@ enum-told-2 c = search needs
 
 returns-3 : tie.Need-returns-3
 returns-3 c =
-    let a = c .before .before .before .before .before .before .before .args in
+    let a = at-start (c .before) .args in
     let w = wordOf (drop (a .at) (now (a .text))) in
     alike-bare (a .bare) (a .flat) (cornerOf (countsBy (a .seen)) (record { vt = a .texture; vn = a .normal }) w) (endOf (now (a .text)) (a .at)) _ (c .before .before .before .before .before .corner-at .ensures) (c .before .before .before .vt .given .1) (sym (c .before .same-test .ensures) ∙ c .if1 .left)
 

@@ -11,6 +11,10 @@ use borrow.Author.Needs.{needs}
 use Rattle.read_word_checks.proofs.word.wide_fault.Statement.{statement}
 use Rattle.read_word_checks.proofs.word.wide_fault.Tie as tie
 
+-- the points of the code that the proof looks back to
+abbrev at-start : tie.After-two-given → tie.Start
+at-start c = c .before .before .before .before .before .before
+
 reference-at-requires : tie.Need-reference-at-requires
 reference-at-requires c κs = search needs
 
@@ -22,7 +26,7 @@ two-given-requires c κs = search needs
 
 returns : tie.Need-returns
 returns c =
-    let a = c .before .before .before .before .before .before .before .args in
+    let a = at-start (c .before) .args in
     let w = wordOf (drop (a .at) (now (a .text))) in
     wide-is (now (a .vp)) (referenceOf (a .count) w) (endOf (now (a .text)) (a .at)) _ (c .before .before .before .before .before .reference-at .ensures) true (c .before .before .before .number .given .1) (sym (c .if1 .taken) ∙ c .before .two-given .ensures)
 
@@ -34,7 +38,7 @@ enum-told-2 c = search needs
 
 returns-2 : tie.Need-returns-2
 returns-2 c =
-    let a = c .before .before .before .before .before .before .before .args in
+    let a = at-start (c .before) .args in
     let w = wordOf (drop (a .at) (now (a .text))) in
     wide-is (now (a .vp)) (referenceOf (a .count) w) (endOf (now (a .text)) (a .at)) _ (c .before .before .before .before .before .reference-at .ensures) false (c .before .before .before .number .given .1) (sym (c .if1 .left) ∙ c .before .two-given .ensures)
 

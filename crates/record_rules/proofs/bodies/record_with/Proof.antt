@@ -1,7 +1,6 @@
 -- The type and the run of parameters, then a surface's directions or a curve's.
 use mathlib.Core.Bool.{true}
 use mathlib.Core.Path.{_≡_}
-use Prim.Native.Nat.{_+_, _*_}
 use native.Mathlib.Nat.{add-sub-cancel-left}
 use lib.Dec.{eqb}
 use lib.ListN.{length-take, length-drop}

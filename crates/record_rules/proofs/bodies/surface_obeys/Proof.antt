@@ -10,6 +10,10 @@ use borrow.Author.Needs.{needs}
 use Rattle.record_rules.proofs.bodies.surface_obeys.Statement.{statement}
 use Rattle.record_rules.proofs.bodies.surface_obeys.Tie as tie
 
+-- the points of the code that the proof looks back to
+abbrev at-start : tie.After-loops-with → tie.Start
+at-start c = c .before .before .before .before .before .before .before .before .before
+
 cast-start : tie.Need-cast-start
 cast-start c = search needs
 
@@ -65,7 +69,7 @@ returns-2 : tie.Need-returns-2
 unfolding surfaceObeys
 returns-2 c =
     let e = passed (simp add-sub-cancel-left at (c .before .before .directions-obey .ensures)) (c .before .if1 .left) in
-    let s = c .before .before .before .before .before .before .before .before .before .args in
+    let s = at-start c .args in
     let t = tables [] [] [] [] [] [] [] [] (s .parameters .now) (s .loops .now) (s .spans .now) in
     rw e (c .loops-with .ensures ∙ loops-lent (s .used) t (s .curves) _ _)
 

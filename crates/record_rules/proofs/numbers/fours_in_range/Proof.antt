@@ -19,6 +19,10 @@ Inv-loop values first count k₀ k = (k ≤ count) × (allBelow k (λ j. inRange
 abbrev μ-loop : tie.MeasureT-loop
 μ-loop values first count k₀ k = count - k
 
+-- the points of the code that the proof looks back to
+abbrev at-loop : tie.Then1 Inv-loop μ-loop → tie.At-loop Inv-loop μ-loop
+at-loop c = c .before .before .before .before .before .before .before
+
 loop-holds : tie.Need-loop-holds Inv-loop μ-loop
 loop-holds c = (omega arith, refl)
 
@@ -65,7 +69,7 @@ four-in-range-requires : tie.Need-four-in-range-requires Inv-loop μ-loop
 four-in-range-requires c κs = search needs
 
 returns : tie.Need-returns Inv-loop μ-loop
-returns c = c .before .before .before .before .before .before .before .loop .inv
+returns c = at-loop c .loop .inv
 
 add-k : tie.Need-add-k Inv-loop μ-loop
 add-k c = omega arith

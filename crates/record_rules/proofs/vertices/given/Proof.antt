@@ -7,6 +7,10 @@ use Rattle.record_rules.proofs.OneVertex.{given-none, given-many, given
 use Rattle.record_rules.proofs.vertices.given.Statement.{statement}
 use Rattle.record_rules.proofs.vertices.given.Tie as tie
 
+-- the points of the code that the proof looks back to
+abbrev at-start : tie.After-same2 → tie.Start
+at-start c = c .before .before .before .before .before .before .before
+
 returns : tie.Need-returns
 returns c = let s = c .before in let g = toZ-ofZ (s .fits .count) in sym (given-none (s .args .count) (s .args .v) (s .args .w) (rw g at (c .if1 .taken)))
 
@@ -36,7 +40,7 @@ same-requires-2 c κs = search needs
 
 returns-6 : tie.Need-returns-6
 returns-6 c =
-    let s = c .before .before .before .before .before .before .before in let g = toZ-ofZ (s .fits .count) in
+    let s = at-start c in let g = toZ-ofZ (s .fits .count) in
     let e = rw (toZ-ofZ (s .fits .w)) at (c .before .before .before .same .ensures) in
     rw (toZ-ofZ (s .fits .v)) at (c .same2 .ensures) ∙ sym (given-one (s .args .count) (s .args .v) (s .args .w) (rw g at (c .before .before .before .before .before .before .if1 .left)) (rw g at (c .before .before .before .before .before .if2 .left)) (rw g at (c .before .before .before .before .if3 .left)) (passed e (c .before .before .if4 .left)) (rw g at (c .before .if5 .left)))
 

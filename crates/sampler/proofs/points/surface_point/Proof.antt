@@ -1,6 +1,6 @@
 -- Each coordinate is the definition's.
 use borrow.Author.Needs.{needs}
-use mathlib.Core.Path.{_≡_, refl, _∙_}
+use mathlib.Core.Path.{_∙_}
 use mir.Facts.{toZ-ofZ}
 use Rattle.rounding.proofs.Bits.{read-back-small}
 use Rattle.sampler.specs.Inner.{surfaceBy}

@@ -1,5 +1,5 @@
 -- Each return is the definition under its test.
-use mathlib.Core.Path.{_≡_, refl}
+use mathlib.Core.Path.{refl}
 use native.Mathlib.Omega.{arith}
 use borrow.Author.Tests.{ne-eqb}
 use Rattle.sampler.proofs.records.axes_of.Statement.{statement}

@@ -1,5 +1,4 @@
 -- Each return is the definition under the tests that led there.
-use mathlib.Core.Path.{_≡_, refl}
 use borrow.Author.Tests.{ne-eqb}
 use Rattle.sampler.proofs.records.is_carried.Statement.{statement}
 use Rattle.sampler.proofs.records.is_carried.Tie as tie

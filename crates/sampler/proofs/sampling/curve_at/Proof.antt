@@ -13,10 +13,13 @@ use Rattle.tables.specs.declared.Body.{Body}
 use Rattle.tables.specs.declared.Element.{Element}
 use Rattle.tables.proofs.Bits.{fitted}
 use Rattle.sampler.specs.Answers.{pointAnswer, inside}
-use Rattle.sampler.specs.Sampling.{Curved}
 use Rattle.sampler.proofs.Entries.{curve-outside, curve-there, Read, curve-asked, point-read}
 use Rattle.sampler.proofs.sampling.curve_at.Statement.{statement}
 use Rattle.sampler.proofs.sampling.curve_at.Tie as tie
+
+-- the points of the code that the proof looks back to
+abbrev at-start : tie.After-struct-known2 → tie.Start
+at-start c = c .before .before .before .before .before .before .before .before
 
 module _ (c : tie.After-is-inside) where
   abbrev s : tie.Start
@@ -80,7 +83,7 @@ part-x-start : tie.Need-part-x-start
 part-x-start c = search needs
 
 part-x-end : tie.Need-part-x-end
-part-x-end c = omega (arith, c .before .before .before .before .before .before .before .before .pre .run)
+part-x-end c = omega (arith, at-start c .pre .run)
 
 curve-point-requires : tie.Need-curve-point-requires
 curve-point-requires c κs =

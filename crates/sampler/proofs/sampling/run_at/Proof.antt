@@ -15,8 +15,7 @@ use Rattle.tables.specs.declared.Body.{Body}
 use Rattle.tables.specs.declared.Element.{Element}
 use Rattle.tables.proofs.Bits.{fitted}
 use Rattle.point_runs.specs.Inner.{axesBy}
-use Rattle.sampler.specs.Points.{axesOf, runNumbers}
-use Rattle.sampler.specs.Sampling.{Curved}
+use Rattle.sampler.specs.Points.{axesOf}
 use Rattle.sampler.specs.declared.RunResult.the-variants as ran
 use Rattle.sampler.proofs.Entries.{Read}
 use Rattle.sampler.proofs.Runners.{Same, run-none, run-many, run-room, run-filled, run-asked, run-read}

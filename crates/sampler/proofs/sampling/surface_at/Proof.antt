@@ -13,7 +13,6 @@ use Rattle.tables.specs.declared.Body.{Body}
 use Rattle.tables.specs.declared.Element.{Element}
 use Rattle.tables.proofs.Bits.{fitted}
 use Rattle.sampler.specs.Answers.{pointAnswer, inside}
-use Rattle.sampler.specs.Sampling.{Surfaced}
 use Rattle.sampler.proofs.Surfaces.{outside-u, outside-v, surface-there, Laid, surface-asked, surface-read}
 use Rattle.sampler.proofs.sampling.surface_at.Statement.{statement}
 use Rattle.sampler.proofs.sampling.surface_at.Tie as tie

@@ -3,6 +3,22 @@ use borrow.Author.Needs.{needs}
 use Rattle.sweep.proofs.rest.clear_rest.Statement.{statement}
 use Rattle.sweep.proofs.rest.clear_rest.Tie as tie
 
+-- the points of the code that the proof looks back to
+abbrev at-clear-rest-i322 : tie.After-spans → tie.After-clear-rest-i322
+at-clear-rest-i322 c = c .before .before .before .before .before .before .before .before .before .before
+
+abbrev at-clear-rest-u323 : tie.After-spans → tie.After-clear-rest-u323
+at-clear-rest-u323 c = at-clear-rest-i322 c .before .before .before .before .before .before .before .before .before
+
+abbrev at-start : tie.After-struct-known5 → tie.Start
+at-start c = c .before .before .before .before .before .before .before .before .before .before .before .before .before .before .before .before .before .before .before .before .before .before .before .before .before
+
+abbrev at-corners : tie.After-spans → tie.After-corners
+at-corners c = at-clear-rest-u323 c .before .before .before .before .before .before .before .before .before
+
+abbrev at-start-2 : tie.After-struct-known7 → tie.Start
+at-start-2 c = at-start (c .before .before .before .before .before .before .before .before .before)
+
 cast-clear-rest-u32 : tie.Need-cast-clear-rest-u32
 cast-clear-rest-u32 c = search needs
 
@@ -40,7 +56,7 @@ cast-clear-rest-i32-2 : tie.Need-cast-clear-rest-i32-2
 cast-clear-rest-i32-2 c = search needs
 
 clear-rest-i32-requires-2 : tie.Need-clear-rest-i32-requires-2
-clear-rest-i32-requires-2 c κs = c .before .before .before .before .before .before .before .before .before .before .before .before .before .before .before .before .before .before .before .before .before .before .before .before .before .pre .4
+clear-rest-i32-requires-2 c κs = at-start c .pre .4
 
 cast-clear-rest-u32-4 : tie.Need-cast-clear-rest-u32-4
 cast-clear-rest-u32-4 c = search needs
@@ -49,7 +65,7 @@ mul-clear-rest-u32-3 : tie.Need-mul-clear-rest-u32-3
 mul-clear-rest-u32-3 c = search needs
 
 clear-rest-u32-requires-4 : tie.Need-clear-rest-u32-requires-4
-clear-rest-u32-requires-4 c κs = c .before .before .before .before .before .before .before .before .before .before .before .before .before .before .before .before .before .before .before .before .before .before .before .before .before .before .before .before .before .pre .5
+clear-rest-u32-requires-4 c κs = at-start (c .before .before .before .before) .pre .5
 
 cast-clear-rest-i32-3 : tie.Need-cast-clear-rest-i32-3
 cast-clear-rest-i32-3 c = search needs
@@ -58,13 +74,13 @@ mul-clear-rest-i32-2 : tie.Need-mul-clear-rest-i32-2
 mul-clear-rest-i32-2 c = search needs
 
 clear-rest-i32-requires-3 : tie.Need-clear-rest-i32-requires-3
-clear-rest-i32-requires-3 c κs = c .before .before .before .before .before .before .before .before .before .before .before .before .before .before .before .before .before .before .before .before .before .before .before .before .before .before .before .before .before .before .before .before .before .before .pre .6
+clear-rest-i32-requires-3 c κs = at-start-2 c .pre .6
 
 same-length : tie.Need-same-length
-same-length c = c .before .before .before .before .before .before .before .before .before .before .before .before .before .before .before .before .before .before .before .before .before .before .before .before .before .before .before .before .corners .given
+same-length c = at-corners c .corners .given
 
 same-length-2 : tie.Need-same-length-2
-same-length-2 c = c .before .before .before .before .before .before .before .before .before .before .before .before .before .before .before .before .before .before .before .before .before .before .before .elements .given
+same-length-2 c = at-clear-rest-u323 c .before .before .before .before .elements .given
 
 same-length-3 : tie.Need-same-length-3
 same-length-3 c = search needs
@@ -82,7 +98,7 @@ same-length-7 : tie.Need-same-length-7
 same-length-7 c = search needs
 
 returns : tie.Need-returns
-returns c = (c .before .before .before .before .before .before .before .before .before .before .before .before .before .before .before .before .before .before .before .before .before .before .before .before .before .before .before .before .before .clear-rest-u32 .ensures, c .before .before .before .before .before .before .before .before .before .before .before .before .before .before .before .before .before .before .before .before .before .before .before .before .clear-rest-u322 .ensures, c .before .before .before .before .before .before .before .before .before .before .before .before .before .before .before .before .before .before .before .clear-rest-u323 .ensures, c .before .before .before .before .before .before .before .before .before .before .before .before .before .before .clear-rest-i32 .ensures, c .before .before .before .before .before .before .before .before .before .before .clear-rest-i322 .ensures, c .before .before .before .before .before .before .clear-rest-u324 .ensures, c .before .clear-rest-i323 .ensures)
+returns c = (at-corners c .before .clear-rest-u32 .ensures, at-clear-rest-u323 c .before .before .before .before .before .clear-rest-u322 .ensures, at-clear-rest-u323 c .clear-rest-u323 .ensures, at-clear-rest-i322 c .before .before .before .before .clear-rest-i32 .ensures, at-clear-rest-i322 c .clear-rest-i322 .ensures, c .before .before .before .before .before .before .clear-rest-u324 .ensures, c .before .clear-rest-i323 .ensures)
 
 pub clear-rest-spec : {M : Type 1} → statement M
 clear-rest-spec =

@@ -7,6 +7,10 @@ use borrow.Author.Needs.{needs}
 use Rattle.sweep_rows.proofs.corners.corner_by.Statement.{statement}
 use Rattle.sweep_rows.proofs.corners.corner_by.Tie as tie
 
+-- the points of the code that the proof looks back to
+abbrev at-start : tie.After-number-of3 → tie.Start
+at-start c = c .before .before .before .before .before .before .before
+
 cast-textures : tie.Need-cast-textures
 cast-textures c = search needs
 
@@ -30,7 +34,7 @@ number-of-requires-3 c κs = search needs
 
 returns : tie.Need-returns
 unfolding cornerBy
-returns c = let base = c .before .before .before .before .point-base .ensures .0 in corner-of (c .before .before .before .number-of .ensures ∙ ap (λ (b : ℕ). numberListed (c .before .before .before .before .before .before .before .args .numbers .now) b (c .before .before .before .before .before .before .before .args .corner .v)) base) (c .before .before .number-of2 .ensures) (c .number-of3 .ensures)
+returns c = let base = c .before .before .before .before .point-base .ensures .0 in corner-of (c .before .before .before .number-of .ensures ∙ ap (λ (b : ℕ). numberListed (at-start c .args .numbers .now) b (at-start c .args .corner .v)) base) (c .before .before .number-of2 .ensures) (c .number-of3 .ensures)
 
 pub corner-by-spec : {M : Type 1} → statement M
 corner-by-spec =

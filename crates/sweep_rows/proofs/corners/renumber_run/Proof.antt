@@ -3,6 +3,7 @@ use Rattle.sweep_rows.proofs.Renumbering.{Renumbered, renumbered-none, 
 use Prim.Native.Nat.{_-_}
 use native.Mathlib.Omega.{arith}
 use denote.Ref.{now}
+use Rattle.table_store.proofs.Stores.{put-of}
 use borrow.Author.Needs.{needs}
 use Rattle.sweep_rows.proofs.corners.renumber_run.Statement.{statement}
 use Rattle.sweep_rows.proofs.corners.renumber_run.Tie as tie
@@ -32,11 +33,17 @@ lent-corner-requires c κs =
 corner-by-requires : tie.Need-corner-by-requires Inv-loop μ-loop
 corner-by-requires c κs = search needs
 
+corner-row-requires : tie.Need-corner-row-requires Inv-loop μ-loop
+corner-row-requires c κs = search needs
+
 corner-place-requires : tie.Need-corner-place-requires Inv-loop μ-loop
 corner-place-requires c κs = search needs
 
-put3-u32-requires : tie.Need-put3-u32-requires Inv-loop μ-loop
-put3-u32-requires c κs = search needs
+slice-aggregate-put-u32 : tie.Need-slice-aggregate-put-u32 Inv-loop μ-loop
+slice-aggregate-put-u32 c = search needs
+
+put-u32-requires : tie.Need-put-u32-requires Inv-loop μ-loop
+put-u32-requires c κs = search needs
 
 add-j : tie.Need-add-j Inv-loop μ-loop
 add-j c = search needs
@@ -47,10 +54,12 @@ loop-less c = search needs
 loop-again : tie.Need-loop-again Inv-loop μ-loop
 loop-again c =
     let put = c .before .before in
-    let new = put .before .before .before in
+    let row = put .before .before .before .before in
+    let new = row .before in
     let l = new .before .before .before .before .before in
-    let from = put .before .corner-place .ensures in
-    renumbered-more _ _ (l .loop .inv) (s l .pre) (omega arith) (new .before .lent-corner .ensures) (new .corner-by .ensures) (rw from at (put .put3-u32 .ensures .0)) (rw from at (put .put3-u32 .ensures .1))
+    let from = put .before .before .corner-place .ensures in
+    let answer = put-of (l .loop .corners) (put .before .before .corner-place .result) (row .corner-row .ensures) (put .put-u32 .ensures) in
+    renumbered-more _ _ (l .loop .inv) (s l .pre) (omega arith) (new .before .lent-corner .ensures) (new .corner-by .ensures) (rw from at (answer .0)) (rw from at (answer .1))
 
 same-length : tie.Need-same-length Inv-loop μ-loop
 same-length c = c .before .before .loop .inv .long
@@ -68,8 +77,10 @@ renumber-run-spec =
     cast-k
     lent-corner-requires
     corner-by-requires
+    corner-row-requires
     corner-place-requires
-    put3-u32-requires
+    slice-aggregate-put-u32
+    put-u32-requires
     add-j
     loop-less
     loop-again

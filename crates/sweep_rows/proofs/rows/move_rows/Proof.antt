@@ -17,6 +17,10 @@ Inv-loop values₀ width numbers to₀ i₀ values to i = Moved width numbers va
 abbrev μ-loop : tie.MeasureT-loop
 μ-loop values₀ width numbers to₀ i₀ values to i = length numbers - i
 
+-- the points of the code that the proof looks back to
+abbrev at-start : tie.After-values Inv-loop μ-loop → tie.Start Inv-loop μ-loop
+at-start c = c .before .before .before .before .before .before .before
+
 loop-holds : tie.Need-loop-holds Inv-loop μ-loop
 loop-holds c = let a = c .before .args in moved-none (a .width) (now (a .numbers)) (now (a .values))
 
@@ -36,7 +40,7 @@ loop-less : tie.Need-loop-less Inv-loop μ-loop
 loop-less c = search needs
 
 loop-again : tie.Need-loop-again Inv-loop μ-loop
-loop-again c = let s = c .before .before .before .before .before .before .before in let m = c .before .before .before .before .before .loop in moved-more (m .inv) (s .pre .0) (omega arith) (c .before .move-row .ensures .0) (c .before .move-row .ensures .1)
+loop-again c = let s = at-start c in let m = c .before .before .before .before .before .loop in moved-more (m .inv) (s .pre .0) (omega arith) (c .before .move-row .ensures .0) (c .before .move-row .ensures .1)
 
 mul-rest : tie.Need-mul-rest Inv-loop μ-loop
 mul-rest c = let s = c .before .before .before in let q = moved-fits (c .before .loop .inv) (s .pre .0) (omega arith) in record { fits = omega arith }

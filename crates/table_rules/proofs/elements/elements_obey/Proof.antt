@@ -22,11 +22,15 @@ abbrev μ-loop : tie.MeasureT-loop
 abbrev lent-tables : tie.Start Inv-loop μ-loop → Tables
 lent-tables start = let s = start .args in tables (s .v .now) (s .vt .now) (s .vn .now) (s .vp .now) (s .corners .now) (s .elements .now) (s .bodies .now) (s .ranges .now) (s .parameters .now) (s .loops .now) (s .spans .now)
 
+-- the points of the code that the proof looks back to
+abbrev at-start : tie.Then1 Inv-loop μ-loop → tie.Start Inv-loop μ-loop
+at-start c = c .before .before .before .before .before .before .before
+
 loop-holds : tie.Need-loop-holds Inv-loop μ-loop
 loop-holds c = starts (c .before .before .before .before .args .used) (lent-tables (c .before .before .before .before))
 
 lent-element-requires : tie.Need-lent-element-requires Inv-loop μ-loop
-lent-element-requires c κs = omega (arith, c .if1 .taken, c .before .before .before .before .before .before .before .pre)
+lent-element-requires c κs = omega (arith, c .if1 .taken, at-start c .pre)
 
 body-of-requires : tie.Need-body-of-requires Inv-loop μ-loop
 body-of-requires c κs = search needs

@@ -5,6 +5,10 @@ use borrow.Author.Needs.{needs}
 use Rattle.table_rules.proofs.ends.ends_after.Statement.{statement}
 use Rattle.table_rules.proofs.ends.ends_after.Tie as tie
 
+-- the points of the code that the proof looks back to
+abbrev at-corners-length : tie.After-struct-known8 → tie.After-corners-length
+at-corners-length c = c .before .before .before .before .before .before .before .before .before
+
 corners-length-requires : tie.Need-corners-length-requires
 corners-length-requires c κs = search needs
 
@@ -36,7 +40,7 @@ add-t12 : tie.Need-add-t12
 add-t12 c = search needs
 
 returns-2 : tie.Need-returns-2
-returns-2 c = rw (lt-leb _ _ (c .before .before .before .before .before .before .if1 .left), add-one, c .before .before .before .before .before .before .before .before .before .corners-length .ensures)
+returns-2 c = rw (lt-leb _ _ (c .before .before .before .before .before .before .if1 .left), add-one, at-corners-length c .corners-length .ensures)
 
 pub ends-after-spec : {M : Type 1} → statement M
 ends-after-spec =

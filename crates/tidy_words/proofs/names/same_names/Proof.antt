@@ -10,6 +10,10 @@ use borrow.Author.Needs.{needs}
 use Rattle.tidy_words.proofs.names.same_names.Statement.{statement}
 use Rattle.tidy_words.proofs.names.same_names.Tie as tie
 
+-- the points of the code that the proof looks back to
+abbrev at-start : tie.After-same-words → tie.Start
+at-start c = c .before .before .before .before .before .before .before
+
 returns : tie.Need-returns
 returns c =
     let first = c .before .before .before in
@@ -29,7 +33,7 @@ same-words-requires c κs = search needs
 
 returns-2 : tie.Need-returns-2
 returns-2 c =
-    let a = c .before .before .before .before .before .before .before .args in
+    let a = at-start c .args in
     names-same (now (a .text)) (a .run) (a .other) (c .before .before .part-of .ensures) (c .before .part-of2 .ensures) (c .same-words .ensures)
 
 pub same-names-spec : {M : Type 1} → statement M

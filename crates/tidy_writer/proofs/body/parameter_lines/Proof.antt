@@ -1,12 +1,12 @@
 -- One line, or on a surface two.
 use Prim.Native.Nat.{_+_}
 use mathlib.Core.Path.{sym, ap, _∙_}
-use mathlib.Core.List.{List, [], _∷_, _++_}
+use mathlib.Core.List.{[], _∷_}
 use mathlib.Core.Bool.{Bool, cond}
 use borrow.Author.Tests.{eq-eqb, ne-eqb}
 use denote.Ref.{now}
 use lib.ListN.{take, drop}
-use Rattle.text.specs.Written.{writtenLine, writtenLines}
+use Rattle.text.specs.Written.{writtenLines}
 use Rattle.keywords.specs.declared.Argument.the-variants.{DirectionU, DirectionV}
 use Rattle.tidy_writer.specs.Rows.{parameterLine}
 use Rattle.tidy_words.proofs.Emissions.{emitted-then, emitted-is}

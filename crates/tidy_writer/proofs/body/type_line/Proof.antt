@@ -1,7 +1,7 @@
 -- The keyword, `rat` where it is rational, the type, the line's end.
 use Prim.Native.Nat.{ℕ}
 use mathlib.Core.Path.{sym, ap}
-use mathlib.Core.List.{List, [], _∷_}
+use mathlib.Core.List.{[], _∷_}
 use mathlib.Core.Bool.{Bool, cond}
 use borrow.Author.Tests.{ne-eqb}
 use lib.Dec.{eqb}

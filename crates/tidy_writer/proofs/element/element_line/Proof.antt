@@ -6,7 +6,8 @@ use denote.Ref.{now}
 use lib.ListN.{take, drop}
 use Rattle.references.specs.Written.{writtenNumber, writtenCorner}
 use Rattle.keywords.specs.Keywords.{keywordOf}
-use Rattle.tidy_writer.specs.Rows.{kindKeyword, rangeCount, rangeNumbers, storedCorners}
+use Rattle.tables.specs.Rows.{rangeNumbers}
+use Rattle.tidy_writer.specs.Rows.{kindKeyword, rangeCount, storedCorners}
 use Rattle.tables.proofs.Bits.{fitted}
 use Rattle.tidy_words.proofs.Emissions.{emitted-then, emitted-is, emitted-whole}
 use Rattle.tidy_writer.proofs.Turns.{emitted-line, spaced-append}
@@ -40,13 +41,16 @@ same-length c = search needs
 
 returns : tie.Need-returns
 returns c =
-    let a = c .before .before .before .before .before .before .before .before .before .before .before .before .before .before .before .before .before .before .before .before .before .before .args in
+    let numbered = c .before .before .before .before .before .before .before .before .before .before in
+    let told = numbered .before .before .before .before .struct-told .given in
+    let keyed = numbered .before .before .before .before .before .before .before in
+    let a = keyed .before .before .before .before .before .args in
     let e = a .element in
     let ns = map writtenNumber (take (rangeCount (e .kind)) (rangeNumbers (a .body))) in
     let cs = map writtenCorner (storedCorners (e .corners .count) (drop (e .corners .first) (now (a .corners)))) in
-    let k = ap keywordOf (c .before .before .before .before .before .before .before .before .before .before .before .before .before .before .before .before .before .before .before .kind-keyword .ensures) in
-    let n = rw (c .before .before .before .before .before .before .before .before .before .before .before .before .range-count .ensures, fitted {z = a .body .«start_u»} (c .before .before .before .before .before .before .before .before .before .before .before .before .before .before .struct-told .given .1 .1 .1 .1 .1 .1 .1 .1 .1 .0 .1), fitted {z = a .body .«end_u»} (c .before .before .before .before .before .before .before .before .before .before .before .before .before .before .struct-told .given .1 .1 .1 .1 .1 .1 .1 .1 .1 .1 .0 .1), fitted {z = a .body .«start_v»} (c .before .before .before .before .before .before .before .before .before .before .before .before .before .before .struct-told .given .1 .1 .1 .1 .1 .1 .1 .1 .1 .1 .1 .0 .1), fitted {z = a .body .«end_v»} (c .before .before .before .before .before .before .before .before .before .before .before .before .before .before .struct-told .given .1 .1 .1 .1 .1 .1 .1 .1 .1 .1 .1 .1 .0 .1)) at (c .before .before .before .before .before .before .before .before .before .before .emit-numbers .ensures) in
-    emitted-line (keywordOf (kindKeyword (e .kind))) (ns ++ cs) (emitted-is k (emitted-whole (c .before .before .before .before .before .before .before .before .before .before .before .before .before .before .before .before .before .emit-keyword .ensures)))
+    let k = ap keywordOf (keyed .before .before .kind-keyword .ensures) in
+    let n = rw (numbered .before .before .range-count .ensures, fitted {z = a .body .«start_u»} (told .1 .1 .1 .1 .1 .1 .1 .1 .1 .0 .1), fitted {z = a .body .«end_u»} (told .1 .1 .1 .1 .1 .1 .1 .1 .1 .1 .0 .1), fitted {z = a .body .«start_v»} (told .1 .1 .1 .1 .1 .1 .1 .1 .1 .1 .1 .0 .1), fitted {z = a .body .«end_v»} (told .1 .1 .1 .1 .1 .1 .1 .1 .1 .1 .1 .1 .0 .1)) at (numbered .emit-numbers .ensures) in
+    emitted-line (keywordOf (kindKeyword (e .kind))) (ns ++ cs) (emitted-is k (emitted-whole (keyed .emit-keyword .ensures)))
     (emitted-is (spaced-append ns cs) (emitted-then n (c .before .before .before .before .before .before .emit-corners .ensures))) (emitted-whole (c .before .before .emit-byte .ensures))
 
 pub element-line-spec : {M : Type 1} → statement M

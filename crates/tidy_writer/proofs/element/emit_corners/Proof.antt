@@ -1,7 +1,7 @@
 -- What is left of the corners comes to all of them.
 use borrow.Author.Needs.{needs}
-use Prim.Native.Nat.{ℕ, _+_, _*_, _<_, _≤_}
-use mathlib.Core.Path.{_≡_, sym, subst}
+use Prim.Native.Nat.{ℕ, _+_, _<_}
+use mathlib.Core.Path.{_≡_, subst}
 use mathlib.Core.List.{map}
 use native.Mathlib.Omega.{arith}
 use denote.Ref.{now}
@@ -22,6 +22,10 @@ Inv-loop corners run out₀ at k₀ left₀ end₀ out k left end =
 
 abbrev μ-loop : tie.MeasureT-loop
 μ-loop corners run out₀ at k₀ left₀ end₀ out k left end = left
+
+-- the points of the code that the proof looks back to
+abbrev at-start : tie.After-slice-known2 Inv-loop μ-loop → tie.Start Inv-loop μ-loop
+at-start c = c .before .before .before .before .before .before .before .before .before
 
 loop-holds : tie.Need-loop-holds Inv-loop μ-loop
 loop-holds c =
@@ -50,7 +54,7 @@ loop-less c = omega arith
 
 loop-again : tie.Need-loop-again Inv-loop μ-loop
 loop-again c =
-    let a = c .before .before .before .before .before .before .before .before .before .args in
+    let a = at-start c .args in
     let l = c .before .before .before .before .before .before .loop in
     let h : 0 < l .left = omega arith in
     let r = c .before .before .before .before .corner-at in

@@ -9,6 +9,10 @@ use borrow.Author.Needs.{needs}
 use Rattle.tidy_writer.proofs.elements.name_line.Statement.{statement}
 use Rattle.tidy_writer.proofs.elements.name_line.Tie as tie
 
+-- the points of the code that the proof looks back to
+abbrev at-emit-keyword : tie.After-slice-known4 → tie.After-emit-keyword
+at-emit-keyword c = c .before .before .before .before .before .before .before .before .before .before
+
 same-names-requires : tie.Need-same-names-requires
 same-names-requires c κs = search needs
 
@@ -33,10 +37,10 @@ same-length c = search needs
 
 returns-2 : tie.Need-returns-2
 returns-2 c =
-    let a = c .before .before .before .before .before .before .before .before .before .before .before .before .before .before .before .before .args in
+    let a = at-emit-keyword c .before .before .before .before .before .before .args in
     let t = now (a .text) in
-    emitted-is (changed-line (a .statement) (wordsAt t (a .before)) (wordsAt t (a .run)) (sym (c .before .before .before .before .before .before .before .before .before .before .before .before .before .same-names .ensures) ∙ c .before .before .before .before .before .before .before .before .before .before .before .before .if1 .left))
-    (emitted-line (keywordOf (a .statement)) (wordsAt t (a .run)) (emitted-whole (c .before .before .before .before .before .before .before .before .before .before .emit-keyword .ensures)) (c .before .before .before .before .before .before .emit-names .ensures) (emitted-whole (c .before .before .emit-byte .ensures)))
+    emitted-is (changed-line (a .statement) (wordsAt t (a .before)) (wordsAt t (a .run)) (sym (at-emit-keyword c .before .before .before .same-names .ensures) ∙ at-emit-keyword c .before .before .if1 .left))
+    (emitted-line (keywordOf (a .statement)) (wordsAt t (a .run)) (emitted-whole (at-emit-keyword c .emit-keyword .ensures)) (c .before .before .before .before .before .before .emit-names .ensures) (emitted-whole (c .before .before .emit-byte .ensures)))
 
 pub name-line-spec : {M : Type 1} → statement M
 name-line-spec =

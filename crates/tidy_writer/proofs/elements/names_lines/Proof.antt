@@ -9,6 +9,10 @@ use borrow.Author.Needs.{needs}
 use Rattle.tidy_writer.proofs.elements.names_lines.Statement.{statement}
 use Rattle.tidy_writer.proofs.elements.names_lines.Tie as tie
 
+-- the points of the code that the proof looks back to
+abbrev at-name-line : tie.After-slice-known4 → tie.After-name-line
+at-name-line c = c .before .before .before .before .before .before .before .before .before .before
+
 name-line-requires : tie.Need-name-line-requires
 name-line-requires c κs = search needs
 
@@ -23,7 +27,7 @@ same-length c = search needs
 
 returns : tie.Need-returns
 returns c =
-    let a = c .before .before .before .before .before .before .before .before .before .before .before .before .before .before .args in
+    let a = at-name-line c .before .before .before .before .args in
     let t = now (a .text) in
     let p = a .before in
     let e = a .element in
@@ -31,7 +35,7 @@ returns c =
     (three-lines (changed Group (wordsAt t (p .group)) (wordsAt t (e .group)))
     (smoothed (p .smoothing) (e .smoothing))
     (changed Material (wordsAt t (p .material)) (wordsAt t (e .material))))
-    (emitted-then (c .before .before .before .before .before .before .before .before .before .before .name-line .ensures) (emitted-then (c .before .before .before .before .before .before .smoothing-line .ensures) (c .before .before .name-line2 .ensures)))
+    (emitted-then (at-name-line c .name-line .ensures) (emitted-then (c .before .before .before .before .before .before .smoothing-line .ensures) (c .before .before .name-line2 .ensures)))
 
 pub names-lines-spec : {M : Type 1} → statement M
 names-lines-spec =

@@ -21,6 +21,10 @@ Inv-loop loops spans first count out₀ at i₀ left₀ end₀ out i left end =
 abbrev μ-loop : tie.MeasureT-loop
 μ-loop loops spans first count out₀ at i₀ left₀ end₀ out i left end = left
 
+-- the points of the code that the proof looks back to
+abbrev at-loop : tie.After-slice-known2 Inv-loop μ-loop → tie.At-loop Inv-loop μ-loop
+at-loop c = c .before .before .before .before .before .before .before .before
+
 loop-holds : tie.Need-loop-holds Inv-loop μ-loop
 loop-holds c =
     let s = c .before .before in
@@ -57,7 +61,7 @@ loop-less c = omega arith
 loop-again : tie.Need-loop-again Inv-loop μ-loop
 loop-again c =
     let part = c .before .before .before .before .before .before .part-at in
-    let turn = c .before .before .before .before .before .before .before .before in
+    let turn = at-loop c in
     let a = turn .before .before .before .args in
     let l = turn .loop in
     let h : 0 < l .left = omega arith in

@@ -1,5 +1,5 @@
 -- Three words, one after the other.
-use mathlib.Core.Path.{_≡_, ap}
+use mathlib.Core.Path.{ap}
 use mathlib.Core.List.{_∷_}
 use lib.IntN.{ℤ}
 use Rattle.tables.proofs.Bits.{fitted}

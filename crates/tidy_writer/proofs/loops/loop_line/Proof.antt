@@ -1,6 +1,6 @@
 -- The keyword, the part with which the loop begins, those that go on, the line's end.
 use Prim.Native.Nat.{ℕ, _*_}
-use mathlib.Core.Path.{_≡_, sym, ap, _∙_}
+use mathlib.Core.Path.{sym, ap, _∙_}
 use mathlib.Core.List.{_++_}
 use denote.Ref.{now}
 use lib.Dec.{eqb}

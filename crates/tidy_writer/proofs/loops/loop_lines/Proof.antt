@@ -1,6 +1,5 @@
 -- What is left of the loops comes to all of them.
 use Prim.Native.Nat.{_+_, _*_, _<_, _≤_}
-use mathlib.Core.Path.{_≡_}
 use native.Mathlib.Omega.{arith}
 use denote.Ref.{now}
 use lib.ListN.{drop}
@@ -20,6 +19,10 @@ Inv-loop table loops spans first count out₀ at i₀ left₀ end₀ out i left 
 abbrev μ-loop : tie.MeasureT-loop
 μ-loop table loops spans first count out₀ at i₀ left₀ end₀ out i left end = left
 
+-- the points of the code that the proof looks back to
+abbrev at-start : tie.After-slice-known2 Inv-loop μ-loop → tie.Start Inv-loop μ-loop
+at-start c = c .before .before .before .before .before .before .before .before
+
 loop-holds : tie.Need-loop-holds Inv-loop μ-loop
 loop-holds c = let a = c .before .before .args in (left-start (a .at) (writtenLines (loopLines (a .count) (drop (loopWidth * a .first) (now (a .loops))) (drop (spanWidth * a .first) (now (a .spans))))) (now (a .out)) (c .before .before .pre .1 .0), omega arith)
 
@@ -37,7 +40,7 @@ loop-less c = omega arith
 
 loop-again : tie.Need-loop-again Inv-loop μ-loop
 loop-again c =
-    let a = c .before .before .before .before .before .before .before .before .args in
+    let a = at-start c .args in
     let l = c .before .before .before .before .before .loop in
     let h : 0 < l .left = omega arith in
     (left-turn (l .inv .0) (loops-turn (now (a .loops)) (now (a .spans)) (l .i) (l .left) h) (c .before .before .loop-line .ensures), omega arith)

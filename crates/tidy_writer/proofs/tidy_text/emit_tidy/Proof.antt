@@ -1,5 +1,4 @@
 -- The vertices, and then the elements.
-use mathlib.Core.List.{List, _++_}
 use native.Mathlib.Omega.{arith}
 use denote.Ref.{now}
 use Rattle.tidy_writer.specs.TidyFrom.{verticesFrom, elementsFrom, tidyFrom}

@@ -1,8 +1,8 @@
 -- What is left of the numbers comes to all of them.
 use borrow.Author.Needs.{needs}
-use Prim.Native.Nat.{_<_, _≤_}
-use mathlib.Core.Path.{_≡_, sym, ap}
-use mathlib.Core.List.{List, map, _∷_}
+use Prim.Native.Nat.{_<_}
+use mathlib.Core.Path.{ap}
+use mathlib.Core.List.{map, _∷_}
 use native.Mathlib.Omega.{arith}
 use denote.Ref.{now}
 use lib.IntN.{ℤ, pos}
@@ -22,6 +22,10 @@ Inv-loop values first count out₀ at i₀ left₀ end₀ out i left end =
 
 abbrev μ-loop : tie.MeasureT-loop
 μ-loop values first count out₀ at i₀ left₀ end₀ out i left end = left
+
+-- the points of the code that the proof looks back to
+abbrev at-loop : tie.After-slice-known2 Inv-loop μ-loop → tie.At-loop Inv-loop μ-loop
+at-loop c = c .before .before .before .before .before .before .before
 
 loop-holds : tie.Need-loop-holds Inv-loop μ-loop
 loop-holds c = let a = c .before .args in left-start (a .at) (spaced (map writtenNumber (take (a .count) (drop (a .first) (now (a .values)))))) (now (a .out)) (c .before .pre)
@@ -53,8 +57,8 @@ loop-less c = omega arith
 
 loop-again : tie.Need-loop-again Inv-loop μ-loop
 loop-again c =
-    let v = now (c .before .before .before .before .before .before .before .before .before .args .values) in
-    let l = c .before .before .before .before .before .before .before .loop in
+    let v = now (at-loop c .before .before .args .values) in
+    let l = at-loop c .loop in
     let h : 0 < l .left = omega arith in
     let k : l .i < length v = omega arith in
     let e = ap (λ (z : ℤ). 32 ∷ writtenNumber z) (toZ-ofZ {w = w32} {z = getD v (l .i) (pos 0)} (record { sfits = c .before .before .before .emit-spaced-number-arg2 .given })) in

@@ -1,6 +1,6 @@
 -- Where a record begins with how many of its numbers were given, these; else all of them.
 use borrow.Author.Needs.{needs}
-use mathlib.Core.Path.{_≡_, sym, ap, _∙_}
+use mathlib.Core.Path.{sym, ap, _∙_}
 use mathlib.Core.List.{List, _∷_, map}
 use mathlib.Core.Bool.{Bool}
 use denote.Ref.{now}

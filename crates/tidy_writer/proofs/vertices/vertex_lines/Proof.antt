@@ -1,6 +1,5 @@
 -- What is left of the records comes to all of them.
 use Prim.Native.Nat.{_+_, _*_, _<_, _≤_}
-use mathlib.Core.Path.{_≡_}
 use native.Mathlib.Omega.{arith}
 use denote.Ref.{now}
 use lib.ListN.{drop}
@@ -19,6 +18,10 @@ Inv-loop statement counted weights table values width used out₀ at first₀ le
 abbrev μ-loop : tie.MeasureT-loop
 μ-loop statement counted weights table values width used out₀ at first₀ left₀ end₀ out first left end = left
 
+-- the points of the code that the proof looks back to
+abbrev at-start : tie.After-slice-known2 Inv-loop μ-loop → tie.Start Inv-loop μ-loop
+at-start c = c .before .before .before .before .before .before .before
+
 loop-holds : tie.Need-loop-holds Inv-loop μ-loop
 loop-holds c = let a = c .before .args in (left-start (a .at) (writtenLines (vertexRows (a .statement) (a .counted) (a .weights) (a .width) (a .used) (now (a .values)))) (now (a .out)) (c .before .pre .1 .2), omega arith)
 
@@ -36,7 +39,7 @@ loop-less c = omega arith
 
 loop-again : tie.Need-loop-again Inv-loop μ-loop
 loop-again c =
-    let a = c .before .before .before .before .before .before .before .args in
+    let a = at-start c .args in
     let l = c .before .before .before .before .before .loop in
     let h : 0 < l .left = omega arith in
     (left-turn (l .inv .0) (rows-turn (a .statement) (a .counted) (a .weights) (a .width) (now (a .values)) (l .first) (l .left) h) (c .before .before .row-line .ensures), omega arith)
