@@ -49,7 +49,7 @@ use Rattle.end_to_end.specs.EntryPoints.{Reader, Tidier, Sampler}
 use Rattle.end_to_end.specs.Demand1.{Outcomes}
 use Rattle.end_to_end.specs.Demand2.{Demand2}
 use Rattle.end_to_end.specs.Demand3.{Demand3}
-use Rattle.end_to_end.specs.Cheats.{TurnsAllDown, FixedTables, TouchesNoTable, FixedCounts, CopiesItsInput, TurnsAllAway, RefusesAll, FixedPoint, RepeatsFirst, OffByOne, Stopped}
+use Rattle.end_to_end.specs.Cheats.{TurnsAllDown, FixedTables, TouchesNoTable, FixedCounts, CopiesItsInput, TurnsAllAway, RefusesAll, FixedPoint, RepeatsFirst, OffByOne, RoundedCurves, Stopped}
 
 -- ---- texts: nothing, an empty line, a v at 0 0 0, a v at 1 0 0
 
@@ -203,11 +203,15 @@ module _ (reads : Reader) (tidies : Tidier) (samples : Sampler) where
       no-both (getD (samples .run used line 1 1 0 points .points) 0 (pos 0)) a
       (subst (λ (z : ℤ). Close z (exact (pos 1)) 1) (h used line 1 1 0 points 1 0 (omega arith)) b)
 
-off-by-one : (samples : Sampler) → OffByOne samples → ElementsSampled samples → ⊥
+-- demand 3 has it of every sampler
+pub rounded-curves : (samples : Sampler) → ElementsSampled samples → RoundedCurves samples
+rounded-curves samples r u t number p o k low high = r u t number o .curve k p low high .rounded
+
+off-by-one : (samples : Sampler) → OffByOne samples → RoundedCurves samples → ⊥
 off-by-one samples h r =
     let low = yes-le (pos 0) (pos 0) refl in
     let high = yes-le (pos 0) (pos 1) refl in
-    let e = r used line 1 obeying .curve is-curve (pos 0) low high .rounded ∙ sym (curve-coordinates (obeying, is-curve) (pos 0) low high) in
+    let e = r used line 1 (pos 0) obeying is-curve low high ∙ sym (curve-coordinates (obeying, is-curve) (pos 0) low high) in
     let f = sym (ap (λ (l : List ℤ). getD l 0 (pos 0)) e) ∙ h used line 1 (pos 0) 0 in
     no-more (getD (sampling .curve used line 1 (pos 0) .outcome .coordinates) 0 (pos 0)) f
   where

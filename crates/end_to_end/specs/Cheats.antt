@@ -4,14 +4,16 @@ use mathlib.Core.Path.{_≡_}
 use mathlib.Core.List.{List}
 use lib.ListN.{take, getD}
 use lib.IntN.{ℤ, pos, _+ℤ_}
+use lib.Signed.{_≤ℤ_}
 use Rattle.tables.specs.Tables.{Tables}
 use Rattle.tables.specs.declared.Used.{Used}
 use Rattle.read_lines.specs.declared.ReadResult.the-variants as reading
 use Rattle.tidy_form.specs.declared.Weights.{Weights}
 use Rattle.tidier.specs.declared.TidyResult.the-variants.{Written, TooLong}
-use Rattle.sampler.specs.Points.{axesOf}
-use Rattle.sampler.specs.Answers.{elementOf}
-use Rattle.sampler.specs.Demand3.{sampling, ElementsSampled}
+use Rattle.point_runs.specs.Runs.{tabulated}
+use Rattle.sampler.specs.Points.{axesOf, curveAt}
+use Rattle.sampler.specs.Answers.{elementOf, bodyOf}
+use Rattle.sampler.specs.Demand3.{sampling, Obeying, IsCurve}
 use Rattle.sampler.specs.declared.PointResult.the-variants as sampled
 use Rattle.end_to_end.specs.EntryPoints.{Reader, Tidier, Sampler}
 use Rattle.end_to_end.specs.Demand1.{Outcomes}
@@ -59,6 +61,12 @@ OffByOne samples =
     (u : Used) (t : Tables) (number : ℕ) (p : ℤ) (axis : ℕ)
     → getD (samples .curve u t number p .outcome .coordinates) axis (pos 0) ≡ getD (sampling .curve u t number p .outcome .coordinates) axis (pos 0) +ℤ pos 1
 
+-- the part of demand 3 that stops it: a curve's point is the rounding rule's. The bound takes no part.
+abbrev pub RoundedCurves : Sampler → Type 0
+RoundedCurves samples =
+    (u : Used) (t : Tables) (number : ℕ) (p : ℤ) → Obeying u t number → IsCurve t number → bodyOf t number .«start_u» ≤ℤ p → p ≤ℤ bodyOf t number .«end_u»
+    → samples .curve u t number p .outcome .coordinates ≡ tabulated (axesOf (elementOf t number)) (curveAt t (elementOf t number) (bodyOf t number) p)
+
 pub record Stopped : Type 0 where
   pub turns-all-down : (reads : Reader) (tidies : Tidier) → TurnsAllDown reads → Demand2 reads tidies → ⊥
   pub fixed-tables : (reads : Reader) (tidies : Tidier) → FixedTables reads → Demand2 reads tidies → ⊥
@@ -69,4 +77,4 @@ pub record Stopped : Type 0 where
   pub refuses-all : (reads : Reader) (tidies : Tidier) (samples : Sampler) → RefusesAll samples → Outcomes reads tidies samples → Demand3 reads tidies samples → ⊥
   pub fixed-point : (reads : Reader) (tidies : Tidier) (samples : Sampler) → FixedPoint samples → Demand3 reads tidies samples → ⊥
   pub repeats-first : (reads : Reader) (tidies : Tidier) (samples : Sampler) → RepeatsFirst samples → Demand3 reads tidies samples → ⊥
-  pub off-by-one : (samples : Sampler) → OffByOne samples → ElementsSampled samples → ⊥
+  pub off-by-one : (samples : Sampler) → OffByOne samples → RoundedCurves samples → ⊥
