@@ -29,7 +29,7 @@ use Rattle.keywords.specs.declared.Argument.TheVariants as argument
 use Rattle.model.specs.Model.{Free, ParmDirection, Model, Open, State, start}
 use Rattle.model.specs.Statements.{apply}
 use Rattle.model.specs.Statements as statements
-use Rattle.model.specs.Parse.{Parsed, fine, fault, then, must, unless, Keyword, a-vertex, an-element, a_Body, parm, trim, hole, ends, cstype, deg, g, s, usemtl, over, WordForm, a-number, a-corner, a-control, a-curve, a-direction, a-type, a-rational, a-degree, a-smoothing, a-name, anything, Value, number, corner, whole as whole-value, basis, name, on_said, direction_of, type_said, rational_said, direction_said, Seen, said_of, placed, values_of, form_of, seen_in, unlike, narrow_in, corners_of, numbers_of, range_words, allowed, counted, in_force, opened_body, complete, counts_agree, range_within, checked, parse}
+use Rattle.model.specs.Parse.{Parsed, fine, fault, then, must, unless, Keyword, a-vertex, an-element, a-body, parm, trim, hole, ends, cstype, deg, g, s, usemtl, over, WordForm, a-number, a-corner, a-control, a-curve, a-direction, a-type, a-rational, a-degree, a-smoothing, a-name, anything, Value, number, corner, whole as whole-value, basis, name, on_said, direction_of, type_said, rational_said, direction_said, Seen, said_of, placed, values_of, form_of, seen_in, unlike, narrow_in, corners_of, numbers_of, range_words, allowed, counted, in_force, opened_body, complete, counts_agree, range_within, checked, parse}
 use Rattle.model.proofs.Pieces.{opened, finished}
 use Rattle.model.specs.Room.{Rooms, fits}
 use Rattle.model.specs.Read.{carried_in, statement, step, Answer, read, refused, finish, on_parsed, read_lines, read_of}
@@ -189,7 +189,7 @@ finished-well (some o) key =
 checked-well : (k : Keyword) (x : State) (key : ℕ) (ws : List Word) (xs : List Value) → well (checked k x key ws xs) ≡ true
 checked-well (a-vertex k) x key ws xs = refl
 checked-well (an-element k) x key ws xs = well-unless (unlike ws (corners_of xs)) 9 (fine (statements.element k (corners_of xs))) refl refl
-checked-well (a_Body k) x key ws xs = opened-well k x key (drop (range_words k) ws) (corners_of xs) (numbers_of xs)
+checked-well (a-body k) x key ws xs = opened-well k x key (drop (range_words k) ws) (corners_of xs) (numbers_of xs)
 checked-well parm x key ws xs = refl
 checked-well trim x key ws xs = refl
 checked-well hole x key ws xs = refl

@@ -13,7 +13,7 @@ use Rattle.statements.specs.declared.rules.Held.TheVariants as held
 pub use Rattle.statements.specs.Rules.{is_surface, is_planar, fewest, range_words, fewest_controls, parts, control_form, rules_of}
 -- the statements by the keywords that open them
 pub use Rattle.statements.specs.declared.Carried.{Carried as Keyword}
-pub use Rattle.statements.specs.declared.Carried.TheVariants.{Vertex as a-vertex, Element as an-element, Body as a_Body, Parameters as parm, Trim as trim, Hole as hole, End as ends, BodyType as cstype, Degree as deg, Group as g, Smoothing as s, Material as usemtl, PassedOver as over}
+pub use Rattle.statements.specs.declared.Carried.TheVariants.{Vertex as a-vertex, Element as an-element, Body as a-body, Parameters as parm, Trim as trim, Hole as hole, End as ends, BodyType as cstype, Degree as deg, Group as g, Smoothing as s, Material as usemtl, PassedOver as over}
 pub use Rattle.model.specs.Words.{Parsed, fine, fault, then, must, unless, direction_of, says_v, WordForm, a-number, a-corner, a-control, a-curve, a-direction, a-type, a-rational, a-degree, a-smoothing, a-name, anything, Value, number, corner, whole, direction, basis, name, nothing, on_said, type_said, rational_said, direction_said, Seen, said_of, placed, values_of, numbers_of, corners_of, wholes_of, names_of, basis_said, direction_in}
 
 -- ---- 10, 5 and the form of each word, by the statement's row of rules
@@ -158,7 +158,7 @@ held_by held.End x key ws xs r = closes x.open-body key r
 abbrev pub says_of : Keyword → Form → List Value → Statement
 says_of (a-vertex k) f xs = vertex k (vertex_record k (numbers_of xs))
 says_of (an-element k) f xs = element k (corners_of xs)
-says_of (a_Body k) f xs = body (opened_body k f (numbers_of xs)) (corners_of xs)
+says_of (a-body k) f xs = body (opened_body k f (numbers_of xs)) (corners_of xs)
 says_of parm f xs = parameters (direction_in xs) (numbers_of xs)
 says_of trim f xs = loop (record { hole = false; parts = parts_of (numbers_of xs) (wholes_of xs) })
 says_of hole f xs = loop (record { hole = true; parts = parts_of (numbers_of xs) (wholes_of xs) })

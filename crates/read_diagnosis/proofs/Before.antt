@@ -8,7 +8,7 @@ use native.Mathlib.Omega.{arith}
 use Rattle.text.specs.Words.{Word}
 use Rattle.model.specs.Model as model
 use Rattle.model.specs.Statements.{Statement, end}
-use Rattle.model.specs.Parse.{Parsed, fine, fault, then, must, Keyword, a-vertex, an-element, a_Body, parm, trim, hole, ends, cstype, deg, g, s, usemtl, over, allowed, counted, form_of, values_of, Value, seen_in, parse}
+use Rattle.model.specs.Parse.{Parsed, fine, fault, then, must, Keyword, a-vertex, an-element, a-body, parm, trim, hole, ends, cstype, deg, g, s, usemtl, over, allowed, counted, form_of, values_of, Value, seen_in, parse}
 use Rattle.model.proofs.Pieces.{finished}
 use Rattle.read_diagnosis.specs.Diagnosis.{parse_before}
 
@@ -33,7 +33,7 @@ module _ (x : model.State) (key : ℕ) (ws : List Word) where
   unfolding parse parse_before
   before-fault (a-vertex k) n p e = e
   before-fault (an-element k) n p e = e
-  before-fault (a_Body k) n p e = e
+  before-fault (a-body k) n p e = e
   before-fault parm n p e = e
   before-fault trim n p e = e
   before-fault hole n p e = e

@@ -23,7 +23,7 @@ use Rattle.model.specs.Model as model
 use Rattle.model.specs.Model.{point, line, face, Free, curve, curve2, surface}
 use Rattle.model.specs.Statements as statements
 use Rattle.model.specs.Parse as parse
-use Rattle.model.specs.Parse.{fine, then, must, unless, Keyword, a-vertex, an-element, a_Body, parm, trim, hole, ends, cstype, deg, g, s, usemtl, over, values_of, Value, corners_of, unlike}
+use Rattle.model.specs.Parse.{fine, then, must, unless, Keyword, a-vertex, an-element, a-body, parm, trim, hole, ends, cstype, deg, g, s, usemtl, over, values_of, Value, corners_of, unlike}
 use Rattle.model.specs.Read.{carried_in}
 use Rattle.read_state.specs.State.{form_in, OpenIs, StateIs}
 use Rattle.read_state.specs.declared.Open.{Open}
@@ -94,9 +94,9 @@ module _ (text : List ℕ) (t : List ℤ) (key : ℕ) (x : model.State) (c : Ope
   carried-diagnosis (an-element point) = line-diagnosis (an-element point) (λ xs e. element-diagnosis false false xs _ e)
   carried-diagnosis (an-element line) = line-diagnosis (an-element line) (λ xs e. element-diagnosis true false xs _ e)
   carried-diagnosis (an-element face) = line-diagnosis (an-element face) (λ xs e. element-diagnosis true true xs _ e)
-  carried-diagnosis (a_Body curve) = line-diagnosis (a_Body curve) (λ xs e. body-diagnosis curve false 2 xs _ (curve-force x.form x.form.basis refl) e)
-  carried-diagnosis (a_Body curve2) = line-diagnosis (a_Body curve2) (λ xs e. curve2-diagnosis xs _ e)
-  carried-diagnosis (a_Body surface) = line-diagnosis (a_Body surface) (λ xs e. body-diagnosis surface true 4 xs _ (surface-force x.form x.form.basis refl) e)
+  carried-diagnosis (a-body curve) = line-diagnosis (a-body curve) (λ xs e. body-diagnosis curve false 2 xs _ (curve-force x.form x.form.basis refl) e)
+  carried-diagnosis (a-body curve2) = line-diagnosis (a-body curve2) (λ xs e. curve2-diagnosis xs _ e)
+  carried-diagnosis (a-body surface) = line-diagnosis (a-body surface) (λ xs e. body-diagnosis surface true 4 xs _ (surface-force x.form x.form.basis refl) e)
   carried-diagnosis parm = line-diagnosis parm (λ xs e. refl)
   carried-diagnosis trim = line-diagnosis trim (λ xs e. refl)
   carried-diagnosis hole = line-diagnosis hole (λ xs e. refl)

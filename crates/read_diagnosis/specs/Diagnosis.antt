@@ -5,7 +5,7 @@ use Rattle.text.specs.Rest.{rest_at}
 use Rattle.keywords.specs.Keywords.{statement_of}
 use Rattle.model.specs.Model as model
 use Rattle.model.specs.Statements.{Statement, end, passed}
-use Rattle.model.specs.Parse.{Parsed, fine, fault, then, must, unless, Keyword, a-vertex, an-element, a_Body, parm, trim, hole, ends, cstype, deg, g, s, usemtl, over, allowed, counted, form_of, values_of, Value, seen_in, checked}
+use Rattle.model.specs.Parse.{Parsed, fine, fault, then, must, unless, Keyword, a-vertex, an-element, a-body, parm, trim, hole, ends, cstype, deg, g, s, usemtl, over, allowed, counted, form_of, values_of, Value, seen_in, checked}
 use Rattle.model.specs.Read.{carried_in}
 use Rattle.read_state.specs.State.{StateIs}
 use Rattle.read_state.specs.declared.State.{State}
@@ -21,7 +21,7 @@ diagnosis_of (fault n p) = Refused n p
 abbrev pub checked_before : Keyword → model.State → ℕ → List Word → List Value → Parsed Statement
 checked_before (a-vertex k) x key ws xs = checked (a-vertex k) x key ws xs
 checked_before (an-element k) x key ws xs = checked (an-element k) x key ws xs
-checked_before (a_Body k) x key ws xs = checked (a_Body k) x key ws xs
+checked_before (a-body k) x key ws xs = checked (a-body k) x key ws xs
 checked_before parm x key ws xs = checked parm x key ws xs
 checked_before trim x key ws xs = checked trim x key ws xs
 checked_before hole x key ws xs = checked hole x key ws xs

@@ -7,7 +7,7 @@ use Rattle.statements.specs.declared.Statement.TheVariants.{Carried, Refused, Un
 use Rattle.statements.specs.declared.Carried as carried
 use Rattle.statements.specs.declared.Carried.TheVariants as carrying
 use Rattle.keywords.specs.Lookup.{of_letter, keyword_at}
-use Rattle.model.specs.Parse.{fault, a-vertex, an-element, a_Body, parm, ends}
+use Rattle.model.specs.Parse.{fault, a-vertex, an-element, a-body, parm, ends}
 use Rattle.model.specs.Model as model
 use Rattle.model.specs.Room.{Rooms}
 use Rattle.read_state.specs.declared.State.{State}
@@ -53,7 +53,7 @@ family_of Unknown = Other
 abbrev pub FamilyIs : Family → List ℕ → ℕ → State → Tables → Tables → Step → Type 0
 FamilyIs (Vertex k) s at c t u r = StepIs s at (a-vertex k) c t u r
 FamilyIs (Element k) s at c t u r = StepIs s at (an-element k) c t u r
-FamilyIs (Body k) s at c t u r = StepIs s at (a_Body k) c t u r
+FamilyIs (Body k) s at c t u r = StepIs s at (a-body k) c t u r
 FamilyIs Parameters s at c t u r = StepIs s at parm c t u r
 FamilyIs (Loop hole) s at c t u r = StepIs s at (loop_word hole) c t u r
 FamilyIs End s at c t u r = StepIs s at ends c t u r

@@ -21,7 +21,7 @@ use Rattle.keywords.specs.Keywords.{statement_of}
 use Rattle.model.specs.Model as model
 use Rattle.model.specs.Model.{Free, free, Body, Element, Model}
 use Rattle.model.specs.Statements.{Statement, body, apply}
-use Rattle.model.specs.Parse.{fine, fault, a_Body, range_words, opened_body, parse}
+use Rattle.model.specs.Parse.{fine, fault, a-body, range_words, opened_body, parse}
 use Rattle.model.specs.Room.{Rooms, summed, part_count, fits}
 use Rattle.model.specs.Layout.{free_number, corner_row, element_row, body_rows, range_row, bodies_of}
 use Rattle.model.specs.Read.{carried_in}
@@ -135,7 +135,7 @@ module _ (R : Rooms) (s : List ℕ) (p at : ℕ) {read : ℕ} (m : Model) (n : m
         rows a b c d = cc
 
   module _ (w : Word) (k : Free)
-      (begins : rest_at s p ≡ push w (rest_at s at)) (keyword : carried_in (statement_of w.bytes) w.place ≡ fine (a_Body k)) where
+      (begins : rest_at s p ≡ push w (rest_at s at)) (keyword : carried_in (statement_of w.bytes) w.place ≡ fine (a-body k)) where
     pub body-next : (l g : List ℕ) (z : List ℤ) (count q : ℕ) → TakenBody k c.used c.names c.form t.vertices.vp s at t.elements.corners l t.elements.elements g (length t.bodies.bodies) t.bodies.ranges z count q
         → NextLine R s p read x (one_body k count c) (range_stored z (element_stored l g t)) q × (q ≡ (rest_at s p).next)
     body-next l g z count q v =
@@ -146,7 +146,7 @@ module _ (R : Rooms) (s : List ℕ) (p at : ℕ) {read : ℕ} (m : Model) (n : m
         let r = rest_at s at in
         let pv = taken-parse k x c.used c.form t.vertices.vp h.state.used h.state.form (given R s x c t read h) r v.range cs q refl v.said in
         let parsed = pv.parsed w.place in
-        let fresh = (line_small (a_Body k) x w.place r.words (body b cs) (line_of (a_Body k) x w.place r.words (body b cs) parsed)).0 in
+        let fresh = (line_small (a-body k) x w.place r.words (body b cs) (line_of (a-body k) x w.place r.words (body b cs) parsed)).0 in
         let o = of-body (form_in_force k c.form) (numbers_walk (range_words k) r) (controls_said k c.used t.vertices.vp) v.range cs q v.said in
         let counted : length v.range ≡ range_words k = full-count (range_words k) r.words r.bad r.next v.range o.rest o.walked in
         let cu = corners-used R s m n f c t h in
@@ -176,7 +176,7 @@ module _ (R : Rooms) (s : List ℕ) (p at : ℕ) {read : ℕ} (m : Model) (n : m
         ∙ body-image R m n f b cs z fresh.3 z' cr er in (
           record {
             after = apply (body b cs) x;
-            said = line-fine R s p at x w (a_Body k) begins keyword (body b cs) pv.bad parsed fit;
+            said = line-fine R s p at x w (a-body k) begins keyword (body b cs) pv.bad parsed fit;
             holds = record {
               state = record {
                 used = used-after b cs k count fresh.3 v.counted;
@@ -188,15 +188,15 @@ module _ (R : Rooms) (s : List ℕ) (p at : ℕ) {read : ℕ} (m : Model) (n : m
               image = im;
               wide = h.wide;
               room = fit;
-              bounded = subst (λ (i : ℕ). Bounded (read + (i - p)) (apply (body b cs) x)) pv.next (line-bounded R s p at x w (a_Body k) begins keyword (body b cs) parsed h.bounded);
+              bounded = subst (λ (i : ℕ). Bounded (read + (i - p)) (apply (body b cs) x)) pv.next (line-bounded R s p at x w (a-body k) begins keyword (body b cs) parsed h.bounded);
               body = begun k f v.range cs n;
             };
           },
-          sym (next-is R s p at x w (a_Body k) begins keyword ∙ pv.next),
+          sym (next-is R s p at x w (a-body k) begins keyword ∙ pv.next),
         )
 
     pub body-roomless : (l g : List ℕ) (z : List ℤ) → NoBody k c.used c.form t.vertices.vp s at t.elements.corners l t.elements.elements g (length t.bodies.bodies) t.bodies.ranges z → (rest_at s at).bad ≡ none
-        → (u : Statement) → parse (a_Body k) x w.place (rest_at s at).words ≡ fine u → line_says R s p x ≡ fault 14 w.place
+        → (u : Statement) → parse (a-body k) x w.place (rest_at s at).words ≡ fine u → line_says R s p x ≡ fault 14 w.place
     body-roomless l g z v b u e =
         let y = parse-said k x c.used c.form t.vertices.vp h.state.used h.state.form (given R s x c t read h) (rest_at s at) w.place u b e in
         let cs : List Corner = y.corners in
@@ -216,4 +216,4 @@ module _ (R : Rooms) (s : List ℕ) (p at : ℕ) {read : ℕ} (m : Model) (n : m
         let i2 = i.2 in
         let i3 = i.3 in
         absurd (⊎_elim (λ q. ⊎_elim (λ r. omega arith) (λ r. omega arith) q) (λ q. ⊎_elim (λ r. omega arith) (λ r. omega arith) q) short)) (λ f. f) (test (fits R (apply u x))) in
-        line-roomless R s p at x w (a_Body k) begins keyword u b e full
+        line-roomless R s p at x w (a-body k) begins keyword u b e full

@@ -15,7 +15,7 @@ use Rattle.tables.specs.ElementTables.{ElementTables, element_tables}
 use Rattle.tables.specs.Tables.{Tables}
 use Rattle.model.specs.Model as model
 use Rattle.model.specs.Model.{Free, Model, Open}
-use Rattle.model.specs.Parse.{a_Body, rules_of}
+use Rattle.model.specs.Parse.{a-body, rules_of}
 use Rattle.model.specs.Room.{Rooms}
 use Rattle.read_state.specs.declared.State.{State}
 use Rattle.read_state.specs.Changed.{state, element_stored, range_stored}
@@ -34,9 +34,9 @@ use Rattle.read_vertex_lines.proofs.Given.{given-in}
 use Rattle.read_element_lines.proofs.Bodies.{body-next, body-roomless}
 
 module _ (k : Free) (s : List ℕ) (at : ℕ) (c : State) (vp : List ℤ) (l m e f : List ℕ) (bodies : ℕ) (y z : List ℤ) where
-  pub body-inside : allowed_by (rules_of (a_Body k)).standing (free_numbered c.«open».kind) false ≡ false → BodyStep k s at c vp (element_tables l e) (element_tables m f) bodies y z Rejected
+  pub body-inside : allowed_by (rules_of (a-body k)).standing (free_numbered c.«open».kind) false ≡ false → BodyStep k s at c vp (element_tables l e) (element_tables m f) bodies y z Rejected
   body-inside o t i₁ i₂ i₃ i₄ R p read x w b =
-      left-barred R s p at read x c t (range_stored z (element_stored m f t)) w (a_Body k) b (given-in R s x c t read b.holds) o
+      left-barred R s p at read x c t (range_stored z (element_stored m f t)) w (a-body k) b (given-in R s x c t read b.holds) o
 
   abbrev Answered : Element → Type 0
   Answered = BodyIs k c.used c.names c.form vp s at l m e f bodies y z
@@ -44,15 +44,15 @@ module _ (k : Free) (s : List ℕ) (at : ℕ) (c : State) (vp : List ℤ) (l m e
   module _ (out : c.«open».kind ≡ 0) where
     gave : NoBody k c.used c.form vp s at l m e f bodies y z
         → (t : Tables) → t.vertices.vp ≡ vp → t.elements ≡ element_tables l e → length t.bodies.bodies ≡ bodies → t.bodies.ranges ≡ y
-        → (R : Rooms) (p read : ℕ) (mo : Model) (n : model.Names) (fo : model.Form) (o : Option Open) (w : Word) → Began R s p at read (state mo n fo o) c t w (a_Body k)
-        → Left R s p at (state mo n fo o) (range_stored z (element_stored m f t)) w (a_Body k)
+        → (R : Rooms) (p read : ℕ) (mo : Model) (n : model.Names) (fo : model.Form) (o : Option Open) (w : Word) → Began R s p at read (state mo n fo o) c t w (a-body k)
+        → Left R s p at (state mo n fo o) (range_stored z (element_stored m f t)) w (a-body k)
     gave v t i₁ i₂ i₃ i₄ R p read mo n fo (some o) w b = nothing (sym (no_body s c.«open» (some o) b.holds.state.open-body out))
     gave v t i₁ i₂ i₃ i₄ R p read mo n fo none w b =
         let v' : NoBody k c.used c.form t.vertices.vp s at t.elements.corners m t.elements.elements f (length t.bodies.bodies) t.bodies.ranges z =
         rw (i₁, i₃, i₄) (subst (λ (a : ElementTables). NoBody k c.used c.form vp s at a.corners m a.elements f bodies y z) (sym i₂) v) in
         record {
           given = given-in R s (state mo n fo none) c t read b.holds;
-          roomless = λ g u h. body-roomless R s p at mo n fo c t b.holds w k b.begins b.keyword m f z v' g u (sym (before-parse (state mo n fo none) w.place (rest_at s at).words (a_Body k) refl) ∙ h);
+          roomless = λ g u h. body-roomless R s p at mo n fo c t b.holds w k b.begins b.keyword m f z v' g u (sym (before-parse (state mo n fo none) w.place (rest_at s at).words (a-body k) refl) ∙ h);
         }
 
     pub body_gave : (r : Element) → Answered r → r ≡ element.Rejected → BodyStep k s at c vp (element_tables l e) (element_tables m f) bodies y z Rejected
@@ -61,7 +61,7 @@ module _ (k : Free) (s : List ℕ) (at : ℕ) (c : State) (vp : List ℤ) (l m e
     module _ (count q : ℕ) where
       took : TakenBody k c.used c.names c.form vp s at l m e f bodies y z count q
           → (t : Tables) → t.vertices.vp ≡ vp → t.elements ≡ element_tables l e → length t.bodies.bodies ≡ bodies → t.bodies.ranges ≡ y
-          → (R : Rooms) (p read : ℕ) (mo : Model) (n : model.Names) (fo : model.Form) (o : Option Open) (w : Word) → Began R s p at read (state mo n fo o) c t w (a_Body k)
+          → (R : Rooms) (p read : ℕ) (mo : Model) (n : model.Names) (fo : model.Form) (o : Option Open) (w : Word) → Began R s p at read (state mo n fo o) c t w (a-body k)
           → NextLine R s p read (state mo n fo o) (one_body k count c) (range_stored z (element_stored m f t)) q × (q ≡ (rest_at s p).next)
       took v t i₁ i₂ i₃ i₄ R p read mo n fo (some o) w b = nothing (sym (no_body s c.«open» (some o) b.holds.state.open-body out))
       took v t i₁ i₂ i₃ i₄ R p read mo n fo none w b =

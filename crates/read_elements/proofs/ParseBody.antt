@@ -20,7 +20,7 @@ use Rattle.read_state.specs.State.{used_in, form_in}
 use Rattle.read_state.specs.Numbers.{numbers_walk}
 use Rattle.model.specs.Model.{Free, curve, curve2, surface, State}
 use Rattle.model.specs.Statements.{Statement, body}
-use Rattle.model.specs.Parse.{Parsed, fine, then, must, unless, a_Body, WordForm, a-number, control_form, range_words, fewest_controls, Value, number, corner, on_said, said_of, values_of, corners_of, numbers_of, unlike, in_force, narrow_in, opened_body, seen_in, parse}
+use Rattle.model.specs.Parse.{Parsed, fine, then, must, unless, a-body, WordForm, a-number, control_form, range_words, fewest_controls, Value, number, corner, on_said, said_of, values_of, corners_of, numbers_of, unlike, in_force, narrow_in, opened_body, seen_in, parse}
 use Rattle.model.specs.Standing.{outside_body}
 use Rattle.model.proofs.Pieces.{opened}
 use Rattle.read_elements.specs.Corners.{control, corner_said, corners_from, corners_walk}
@@ -62,7 +62,7 @@ controls k x =
 pub record ParsedBody (k : Free) (x : State) (r : Rest) (zs : List ℤ) (cs : List Corner) (q : ℕ) : Type 0 where
   pub bad : r.bad ≡ none
   pub next : r.next ≡ q
-  pub parsed : (key : ℕ) → parse (a_Body k) x key r.words ≡ fine (body (opened_body k x.form zs) cs)
+  pub parsed : (key : ℕ) → parse (a-body k) x key r.words ≡ fine (body (opened_body k x.form zs) cs)
 
 module _ (k : Free) (x : State) (n : Used) (g : Form) (vp : List ℤ) (u : n ≡ used_in x) (v : g ≡ form_in x.form) (t : Given vp x.model.vertices.vp) (r : Rest) where
   pub taken-parse : (zs : List ℤ) (cs : List Corner) (q : ℕ) → outside_body x.open-body ≡ true → body_said k n g vp r ≡ some (zs, (cs, q)) → ParsedBody k x r zs cs q
@@ -104,7 +104,7 @@ module _ (k : Free) (x : State) (n : Used) (g : Form) (vp : List ℤ) (u : n ≡
     pub is : s ≡ body (opened_body k x.form range) corners
     pub said : body_said k n g vp r ≡ some (range, (corners, r.next))
 
-  pub parse-said : (key : ℕ) (s : Statement) → r.bad ≡ none → parse (a_Body k) x key r.words ≡ fine s → SaidBody s
+  pub parse-said : (key : ℕ) (s : Statement) → r.bad ≡ none → parse (a-body k) x key r.words ≡ fine s → SaidBody s
   unfolding parse
   parse-said key s good e =
       let m = range_words k in

@@ -22,7 +22,7 @@ use Rattle.keywords.specs.Arguments.{argument_of, argument_bytes}
 use Rattle.statements.specs.declared.Statement.{Statement}
 use Rattle.statements.specs.declared.Statement.TheVariants.{Carried, Refused, Unknown}
 use Rattle.model.specs.Model.{ParmDirection, Open, State}
-use Rattle.model.specs.Parse.{Parsed, fine, fault, then, must, unless, Keyword, a-vertex, an-element, a_Body, parm, trim, hole, ends, cstype, deg, g, s, usemtl, over, allowed, counted, WordForm, a-number, a-corner, a-control, a-curve, a-direction, a-type, a-rational, a-degree, a-smoothing, a-name, anything, form_of, on_said, type_said, rational_said, direction_said, direction_of, Seen, said_of, placed, values_of, Value, corners_of, range_words, unlike, in_force, narrow_in, complete, counts_agree, range_within, checked, seen_in, parse}
+use Rattle.model.specs.Parse.{Parsed, fine, fault, then, must, unless, Keyword, a-vertex, an-element, a-body, parm, trim, hole, ends, cstype, deg, g, s, usemtl, over, allowed, counted, WordForm, a-number, a-corner, a-control, a-curve, a-direction, a-type, a-rational, a-degree, a-smoothing, a-name, anything, form_of, on_said, type_said, rational_said, direction_said, direction_of, Seen, said_of, placed, values_of, Value, corners_of, range_words, unlike, in_force, narrow_in, complete, counts_agree, range_within, checked, seen_in, parse}
 use Rattle.model.proofs.Pieces.{finished}
 use Rattle.model.specs.Read.{carried_in}
 
@@ -167,7 +167,7 @@ finished-said (some o) key =
 checked-said : (k : Keyword) (x : State) (key : ℕ) (ws : List Word) (xs : List Value) → lacking (checked k x key ws xs) ≡ false
 checked-said (a-vertex k) x key ws xs = refl
 checked-said (an-element k) x key ws xs = unless-lacking (unlike ws (corners_of xs)) 9 _ refl refl
-checked-said (a_Body k) x key ws xs =
+checked-said (a-body k) x key ws xs =
     unless-lacking (unlike (drop (range_words k) ws) (corners_of xs)) 9 _ refl
     (must-lacking (in_force k x.form x.form.basis) 11 key _ refl
     (unless-lacking (narrow_in k x.model.vertices (drop (range_words k) ws) (corners_of xs)) 12 _ refl refl))

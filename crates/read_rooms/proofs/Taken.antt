@@ -13,7 +13,7 @@ use Rattle.statements.specs.declared.Statement as keywords
 use Rattle.statements.specs.declared.Statement.TheVariants.{Carried, Refused, Unknown}
 use Rattle.model.specs.Model.{geometric, texture, normal, parametric, Shape, Free, curve, curve2, surface, Body, Open, State}
 use Rattle.model.specs.Statements.{Statement, element}
-use Rattle.model.specs.Parse.{fine, Keyword, a-vertex, an-element, a_Body, parm, trim, hole, ends, cstype, deg, g, s, usemtl, over, allowed, counted, range_words, form_of, values_of, Value, numbers_of, corners_of, wholes_of, parts_of, unlike, in_force, narrow_in, complete, counts_agree, range_within, opened_body, material_of, names_of, checked, seen_in, parse}
+use Rattle.model.specs.Parse.{fine, Keyword, a-vertex, an-element, a-body, parm, trim, hole, ends, cstype, deg, g, s, usemtl, over, allowed, counted, range_words, form_of, values_of, Value, numbers_of, corners_of, wholes_of, parts_of, unlike, in_force, narrow_in, complete, counts_agree, range_within, opened_body, material_of, names_of, checked, seen_in, parse}
 use Rattle.model.proofs.Pieces.{finished}
 use Rattle.model.specs.Read.{carried_in}
 use Rattle.model.proofs.Parsed.{fine-fault, fine-is, must-fine, unless-fine, then-fine}
@@ -57,14 +57,14 @@ module _ (x : State) (key : ℕ) (ws : List Word) where
   no-parameters curve2 b z n e = record { bodies = omega arith; ranges = omega arith; no-us = ap (λ (y : Body). y.us) e; no-vs = ap (λ (y : Body). y.vs) e; no-loops = ap (λ (y : Body). y.loops) e }
   no-parameters surface b z n e = record { bodies = omega arith; ranges = omega arith; no-us = ap (λ (y : Body). y.us) e; no-vs = ap (λ (y : Body). y.vs) e; no-loops = ap (λ (y : Body). y.loops) e }
 
-  body-takes : (k : Free) (t : Statement) → parse (a_Body k) x key ws ≡ fine t → Takes t (element_room 1 (length ws - range_words k))
+  body-takes : (k : Free) (t : Statement) → parse (a-body k) x key ws ≡ fine t → Takes t (element_room 1 (length ws - range_words k))
   body-takes k t h =
-      let d = said (a_Body k) t h in
+      let d = said (a-body k) t h in
       let vs : List Word = drop (range_words k) ws in
       let a = unless-fine (unlike (drop (range_words k) ws) (corners_of d.values)) 9 _ t d.is in
       let b = must-fine (in_force k x.form x.form.basis) 11 key _ t a.1 in
       let c = unless-fine (narrow_in k x.model.vertices (drop (range_words k) ws) (corners_of d.values)) 12 _ t b.1 in
-      let r = corners-after (seen_in x) (form_of (a_Body k) (length ws)) (range_words k) 0 ws d.values (λ i l. let e : ltb i (range_words k) ≡ true = lt-ltb i (range_words k) (omega arith) in rw e refl) d.are in
+      let r = corners-after (seen_in x) (form_of (a-body k) (length ws)) (range_words k) 0 ws d.values (λ i l. let e : ltb i (range_words k) ≡ true = lt-ltb i (range_words k) (omega arith) in rw e refl) d.are in
       to (element_room 1 (length ws - range_words k)) c.1
       (record { elements = omega arith; corners = omega arith }, no-parameters k (opened_body k x.form (numbers_of d.values)) (numbers_of d.values) (length ws - range_words k) refl)
 
@@ -110,7 +110,7 @@ module _ (x : State) (key : ℕ) (ws : List Word) where
   carried-takes (a-vertex normal) t h = to (carried_room (a-vertex normal) (length ws)) (said (a-vertex normal) t h).is (omega arith)
   carried-takes (a-vertex parametric) t h = to (carried_room (a-vertex parametric) (length ws)) (said (a-vertex parametric) t h).is (omega arith)
   carried-takes (an-element k) t h = plain-takes k t h
-  carried-takes (a_Body k) t h = body-takes k t h
+  carried-takes (a-body k) t h = body-takes k t h
   carried-takes parm t h = parm-takes t h
   carried-takes trim t h = trim-takes t h
   carried-takes hole t h = hole-takes t h

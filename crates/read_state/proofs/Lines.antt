@@ -11,7 +11,7 @@ use Rattle.text.specs.Words.{Word}
 use Rattle.references.specs.Corner.{Corner}
 use Rattle.model.specs.Model.{Free, curve, curve2, surface, Form, Open, State}
 use Rattle.model.specs.Statements.{Statement}
-use Rattle.model.specs.Parse.{fine, Keyword, a-vertex, an-element, a_Body, parm, trim, hole, ends, cstype, deg, g, s, usemtl, over, allowed, counted, form_of, Value, numbers_of, corners_of, wholes_of, names_of, parts_of, seen_in, values_of, unlike, in_force, narrow_in, complete, counts_agree, range_within, opened_body, material_of, range_words, checked, parse}
+use Rattle.model.specs.Parse.{fine, Keyword, a-vertex, an-element, a-body, parm, trim, hole, ends, cstype, deg, g, s, usemtl, over, allowed, counted, form_of, Value, numbers_of, corners_of, wholes_of, names_of, parts_of, seen_in, values_of, unlike, in_force, narrow_in, complete, counts_agree, range_within, opened_body, material_of, range_words, checked, parse}
 use Rattle.model.specs.Standing.{inside_body, outside_body}
 use Rattle.model.proofs.Pieces.{finished}
 use Rattle.model.proofs.Parsed.{fine-fault, fine-is, must-fine, unless-fine, then-fine}
@@ -63,7 +63,7 @@ line_small (an-element k) x key ws t l =
     let c = corners-few l.values in
     let m = l.as_many in
     is (length ws) x.open-body u.1 ((let h : length (corners_of l.values) ≤ length ws = omega arith in h), l.allowed-here)
-line_small (a_Body k) x key ws t l =
+line_small (a-body k) x key ws t l =
     let cs : List Corner = corners_of l.values in
     let vs : List Word = drop (range_words k) ws in
     let u = unless-fine (unlike vs cs) 9 _ t l.check in

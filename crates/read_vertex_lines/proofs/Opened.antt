@@ -20,7 +20,7 @@ use Rattle.text.specs.Rest.{rest_at}
 use Rattle.tables.specs.Tables.{Tables}
 use Rattle.model.specs.Model as model
 use Rattle.model.specs.Statements.{Statement}
-use Rattle.model.specs.Parse.{fine, then, must, Keyword, a-vertex, an-element, a_Body, parm, trim, hole, ends, cstype, deg, g, s, usemtl, over, rules_of, open_free, says_v, allowed, counted, form_of, values_of, seen_in, parse}
+use Rattle.model.specs.Parse.{fine, then, must, Keyword, a-vertex, an-element, a-body, parm, trim, hole, ends, cstype, deg, g, s, usemtl, over, rules_of, open_free, says_v, allowed, counted, form_of, values_of, seen_in, parse}
 use Rattle.model.specs.Room.{Rooms}
 use Rattle.model.specs.Layout.{free_number}
 use Rattle.model.proofs.Parsed.{must-fine}
@@ -74,7 +74,7 @@ inside-some f n h e = never (sym (ap (λ (i : ℕ). in_body (free_numbered i) f)
 abbrev pub is_end : Keyword → Bool
 is_end (a-vertex k) = false
 is_end (an-element k) = false
-is_end (a_Body k) = false
+is_end (a-body k) = false
 is_end parm = false
 is_end trim = false
 is_end hole = false
@@ -92,7 +92,7 @@ module _ (x : model.State) (key : ℕ) (ws : List Word) where
   unfolding parse parse_before
   before-parse (a-vertex k) e = refl
   before-parse (an-element k) e = refl
-  before-parse (a_Body k) e = refl
+  before-parse (a-body k) e = refl
   before-parse parm e = refl
   before-parse trim e = refl
   before-parse hole e = refl

@@ -11,7 +11,7 @@ use Rattle.keywords.specs.Keywords.{statement_of}
 use Rattle.model.specs.Model as model
 use Rattle.model.specs.Model.{VertexKind, geometric, texture, normal, parametric, Shape, Free}
 use Rattle.model.specs.Statements.{Statement}
-use Rattle.model.specs.Parse.{fine, fault, Keyword, a-vertex, an-element, a_Body, ends}
+use Rattle.model.specs.Parse.{fine, fault, Keyword, a-vertex, an-element, a-body, ends}
 use Rattle.model.specs.Room.{Rooms}
 use Rattle.model.specs.Read.{carried_in}
 use Rattle.read_state.specs.declared.State.{State}
@@ -76,7 +76,7 @@ ElementStep k s at c a b r = (t : Tables) → t.elements ≡ a → StepIs s at (
 abbrev pub BodyStep : Free → List ℕ → ℕ → State → List ℤ → ElementTables → ElementTables → ℕ → List ℤ → List ℤ → Step → Type 0
 BodyStep k s at c vp a b bodies y z r =
     (t : Tables) → t.vertices.vp ≡ vp → t.elements ≡ a → length t.bodies.bodies ≡ bodies → t.bodies.ranges ≡ y
-    → StepIs s at (a_Body k) c t (range_stored z (with_elements b t)) r
+    → StepIs s at (a-body k) c t (range_stored z (with_elements b t)) r
 
 abbrev pub EndStep : List ℕ → ℕ → State → List ℕ → List ℕ → List ℤ → List ℤ → List ℤ → List ℤ → Step → Type 0
 EndStep s at c b d y z p q r =

@@ -38,7 +38,7 @@ pub read-back-given : {z : ℤ} → mag z < 2147483648 → to_z w32 (of_z w32 z)
 read-back-given {z} h = to_z-of_z {w = w32} (record { sfits = h })
 
 pub widened : {x : ℤ} → SFits w32 x → to_z w64 (of_z w64 (to_z w32 (of_z w32 x))) ≡ x
-widened f = ap (λ (z : ℤ). to_z w64 (of_z w64 z)) (to_z-of_z f) ∙ to_z-of_z (sfits_widen tt f)
+widened f = ap (λ (z : ℤ). to_z w64 (of_z w64 z)) (to_z-of_z f) ∙ to_z-of_z {w = w64} (sfits_widen (tt {0}) f)
 
 -- `-n` below zero, and n from zero up
 pub minus : (n : ℤ) → lt_z n (pos 0) ≡ true → pos 0 -ℤ n ≡ pos (nat_abs n)

@@ -17,7 +17,7 @@ use Rattle.references.specs.Fits.{number_fits}
 use Rattle.tables.specs.Bodies.{Basis, bezier, bspline, cardinal, taylor, basis_number}
 use Rattle.model.specs.Model.{Vertices, Free, curve, curve2, surface, ParmDirection, Body, Form, start}
 use Rattle.model.specs.Statements.{body, parameters}
-use Rattle.model.specs.Parse.{WordForm, a-number, control_form, form_of, a_Body, parm, Value, number, corner, Seen, degrees_needed, in_force, degree_in, range_words, fewest_controls}
+use Rattle.model.specs.Parse.{WordForm, a-number, control_form, form_of, a-body, parm, Value, number, corner, Seen, degrees_needed, in_force, degree_in, range_words, fewest_controls}
 use Rattle.model.specs.Layout.{flag}
 use Rattle.tidy_form.specs.declared.Weights.TheVariants as weights
 use Rattle.tidy_form.specs.Printed.{range_of}
@@ -128,9 +128,9 @@ controls-of x n b cs f =
     let r = map number (range_of k b) in
     let c = map corner cs in
     let l : length r ≡ range_words k = length-map (range_of k b) number ∙ range_length k b in
-    let q = fitting-after (seen_of x n) (form_of (a_Body k) (length (r ++ c))) 0 r c (f.fits weights.Always) in
+    let q = fitting-after (seen_of x n) (form_of (a-body k) (length (r ++ c))) 0 r c (f.fits weights.Always) in
     record {
       least = (let i = leb-true (range_words k + fewest_controls k) (length (r ++ c)) (f.many weights.Always) in let j = length-append r c in let h = length-map cs corner in omega arith);
-      fits = fitting-is (seen_of x n) (form_of (a_Body k) (length (r ++ c))) (λ j. control_form k) (range_words k) c (λ j h. rw (le-ltb j (range_words k) h) refl)
-          (subst (λ (i : ℕ). Fitting (seen_of x n) (form_of (a_Body k) (length (r ++ c))) i c) (let e : 0 + length r ≡ range_words k = omega arith in e) q);
+      fits = fitting-is (seen_of x n) (form_of (a-body k) (length (r ++ c))) (λ j. control_form k) (range_words k) c (λ j h. rw (le-ltb j (range_words k) h) refl)
+          (subst (λ (i : ℕ). Fitting (seen_of x n) (form_of (a-body k) (length (r ++ c))) i c) (let e : 0 + length r ≡ range_words k = omega arith in e) q);
     }

@@ -16,7 +16,7 @@ use Rattle.references.specs.Corner.{Corner, alike, Parts}
 use Rattle.references.specs.Fits.{reference_fits, part_fits, corner_fits}
 use Rattle.model.specs.Model.{VertexKind, geometric, texture, normal, parametric, Vertices, Shape, Free, curve, curve2, surface, Loop, Body, Kind, plain, free, Element, Model, is_curve2, counts_of}
 use Rattle.model.specs.Statements.{element, body, loop}
-use Rattle.model.specs.Parse.{is_planar, WordForm, a-number, a-corner, a-control, a-curve, Value, number, corner, Seen, counted, form_of, range_words, control_form, an-element, a_Body, parts}
+use Rattle.model.specs.Parse.{is_planar, WordForm, a-number, a-corner, a-control, a-curve, Value, number, corner, Seen, counted, form_of, range_words, control_form, an-element, a-body, parts}
 use Rattle.tidy_form.specs.declared.Weights.TheVariants as weights
 use Rattle.tidy_form.specs.Printed.{range_of}
 use Rattle.tidy_form.specs.Tidied.{unsettled, at_line}
@@ -177,7 +177,7 @@ module _ (m : Model) where
         let l : length (r ++ map corner (map g cs)) ≡ length (r ++ map corner cs) =
         length-append r (map corner (map g cs)) ∙ ap (λ (j : ℕ). length r + j) (length-map (map g cs) corner ∙ length-map cs g ∙ sym (length-map cs corner)) ∙ sym (length-append r (map corner cs)) in
         record {
-          many = λ c. ap (counted (a_Body k)) l ∙ f.many c;
+          many = λ c. ap (counted (a-body k)) l ∙ f.many c;
           fits = λ w. values-new (is_planar k) (λ i. cond (ltb i (range_words k)) a-number (control_form k)) (λ i c. line-new k (ltb i (range_words k)) c) (λ i z. number-new k (ltb i (range_words k)) z) 0 (range_of k b) cs N (f.fits w);
           whole = (uniform-new (is_planar k) cs N f.whole.0, wide-new b k cs N (f.fits weights.Always) f.whole.1);
         }

@@ -16,7 +16,7 @@ use Rattle.keywords.specs.Keywords.{statement_of}
 use Rattle.tables.specs.Asking.{part_of}
 use Rattle.model.specs.Model.{Free, Element, Model, Open, State, start}
 use Rattle.model.specs.Statements.{Statement, vertex, element, group, smoothing, material, type, degree, body, parameters, loop, end, passed, apply, on_open, with_body, with_parameters, with_loop, ended}
-use Rattle.model.specs.Parse.{fine, unless, Keyword, a-vertex, an-element, a_Body, parm, trim, hole, ends, cstype, deg, g, s, usemtl, over, a-name, Value, name, Seen, said_of, placed, values_of, counted, checked, names_of, corners_of, unlike, in_force, narrow_in, range_words, complete, counts_agree, range_within, seen_in, parse, form_of, material_of}
+use Rattle.model.specs.Parse.{fine, unless, Keyword, a-vertex, an-element, a-body, parm, trim, hole, ends, cstype, deg, g, s, usemtl, over, a-name, Value, name, Seen, said_of, placed, values_of, counted, checked, names_of, corners_of, unlike, in_force, narrow_in, range_words, complete, counts_agree, range_within, seen_in, parse, form_of, material_of}
 use Rattle.model.proofs.Pieces.{opened, finished}
 use Rattle.model.specs.Room.{Rooms, fits}
 use Rattle.model.specs.Read.{carried_in, statement, step, read, read_lines, read_of}
@@ -103,7 +103,7 @@ module _ (t : List ℕ) where
     put : (v : Statement) → fine v ≡ fine u → Sets v → Sets u
     put v e w = subst Sets (let z : v ≡ u = cc in z) w
 
-    body-sets : (k : Free) (ws : List Word) (xs : List Value) → checked (a_Body k) x p ws xs ≡ fine u → Sets u
+    body-sets : (k : Free) (ws : List Word) (xs : List Value) → checked (a-body k) x p ws xs ≡ fine u → Sets u
     body-sets k ws xs e =
         let vs = drop (range_words k) ws in
         let a = unless-fine (unlike vs (corners_of xs)) 9 _ u e in
@@ -128,7 +128,7 @@ module _ (t : List ℕ) where
         → checked k x p ws xs ≡ fine u → Sets u
     sets (a-vertex k) ws xs h c v e = put _ e tt
     sets (an-element k) ws xs h c v e = put _ (unless-fine (unlike ws (corners_of xs)) 9 _ u e).1 tt
-    sets (a_Body k) ws xs h c v e = body-sets k ws xs e
+    sets (a-body k) ws xs h c v e = body-sets k ws xs e
     sets parm ws xs h c v e = put _ e tt
     sets trim ws xs h c v e = put _ e tt
     sets hole ws xs h c v e = put _ e tt

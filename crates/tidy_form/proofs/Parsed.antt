@@ -17,7 +17,7 @@ use Rattle.digits.specs.Said.{says}
 use Rattle.keywords.specs.Arguments.{argument_of}
 use Rattle.model.specs.Model.{Vertices, ParmDirection, Open, State, curves}
 use Rattle.model.specs.Statements.{Statement, smoothing, material, type, degree, end, passed}
-use Rattle.model.specs.Parse.{fine, Keyword, a-vertex, an-element, a_Body, parm, trim, hole, ends, cstype, deg, g, s, usemtl, over, Value, direction, whole, basis, name, nothing, counted, form_of, allowed, values_of, said_of, placed, direction_of, direction_said, checked, seen_in, parse, says_v, complete, counts_agree, range_within}
+use Rattle.model.specs.Parse.{fine, Keyword, a-vertex, an-element, a-body, parm, trim, hole, ends, cstype, deg, g, s, usemtl, over, Value, direction, whole, basis, name, nothing, counted, form_of, allowed, values_of, said_of, placed, direction_of, direction_said, checked, seen_in, parse, says_v, complete, counts_agree, range_within}
 use Rattle.model.specs.Standing.{is_v}
 use Rattle.model.proofs.Values.{v-is}
 use Rattle.statements.specs.declared.rules.Count.TheVariants.{Within}
@@ -139,7 +139,7 @@ module _ (x : State) (p : ℕ) (ws : List Word) (t : Statement) where
   kinds : (k : Keyword) (xs : List Value) → Way k xs → Ready x t
   kinds (a-vertex k) xs w = vertex-fit x p ws xs w.many t k w.allowed w.counted w.fits w.checked
   kinds (an-element k) xs w = element-fit x p ws xs w.many t k w.allowed w.counted w.fits w.checked
-  kinds (a_Body k) xs w = body-fit x p ws xs w.many t k w.allowed w.counted w.fits w.checked
+  kinds (a-body k) xs w = body-fit x p ws xs w.many t k w.allowed w.counted w.fits w.checked
   kinds parm xs w =
       let d = first-direction ws xs w.counted w.values in
       parm-fit x p ws xs w.many t d.0 d.1 w.allowed w.counted w.fits d.2 w.checked

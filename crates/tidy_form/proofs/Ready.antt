@@ -15,7 +15,7 @@ use Rattle.text.specs.Words.{Word}
 use Rattle.references.specs.Corner.{Corner, alike}
 use Rattle.model.specs.Model.{VertexKind, Vertices, Shape, Free, curve, curve2, surface, ParmDirection, Part, Loop, Form, State, curves}
 use Rattle.model.specs.Statements.{Statement, vertex, element, group, body, parameters, loop}
-use Rattle.model.specs.Parse.{Parsed, fine, must, unless, a-vertex, an-element, a_Body, parm, trim, hole, g, a-number, Value, number, corner, whole, direction, name, counted, form_of, allowed, numbers_of, corners_of, names_of, differing, unlike, narrow, narrow_in, vertex_record, opened_body, in_force, checked, is_surface, says_v, range_words, fewest_controls}
+use Rattle.model.specs.Parse.{Parsed, fine, must, unless, a-vertex, an-element, a-body, parm, trim, hole, g, a-number, Value, number, corner, whole, direction, name, counted, form_of, allowed, numbers_of, corners_of, names_of, differing, unlike, narrow, narrow_in, vertex_record, opened_body, in_force, checked, is_surface, says_v, range_words, fewest_controls}
 use Rattle.model.specs.Standing.{outside_body, inside_body, is_v}
 use Rattle.model.proofs.Pieces.{opened}
 use Rattle.tidy_form.specs.declared.Weights.{Weights}
@@ -132,8 +132,8 @@ module _ (x : State) (p : ℕ) (ws : List Word) where
         put (element k (corners_of xs)) t r.1
         (record { fine = told (element k (corners_of xs)) xs (λ w. ap (map corner) z ∙ sym q.1) c f (unlike-fit ws (corners_of xs) l r.0); here = a })
 
-    pub body-fit : (k : Free) → allowed (a_Body k) x.open-body ws ≡ true → counted (a_Body k) (length xs) ≡ true
-        → Fitting (seen_of X N) (form_of (a_Body k) (length xs)) 0 xs → checked (a_Body k) x p ws xs ≡ fine t → Ready x t
+    pub body-fit : (k : Free) → allowed (a-body k) x.open-body ws ≡ true → counted (a-body k) (length xs) ≡ true
+        → Fitting (seen_of X N) (form_of (a-body k) (length xs)) 0 xs → checked (a-body k) x p ws xs ≡ fine t → Ready x t
     body-fit k a c f h =
         let b : range_words k + fewest_controls k ≤ length xs = leb-true (range_words k + fewest_controls k) (length xs) c in
         let q = line-fit (seen_of X N) k (range_words k) 0 xs (omega arith) (omega arith) f in
@@ -156,16 +156,16 @@ module _ (x : State) (p : ℕ) (ws : List Word) where
         put (body (opened_body k x.form r) cs) t u₃.1
         (assemble k r cs (opened-is k x.form r q.many) a c f q.are (unlike-fit vs cs l u₁.0) u₂.0 (narrow_in-fit k X vs cs l u₃.0))
       where
-        assemble : (k : Free) (r : List ℤ) (cs : List Corner) → Opened k x.form r → outside_body x.open-body ≡ true → counted (a_Body k) (length xs) ≡ true
-            → Fitting (seen_of X N) (form_of (a_Body k) (length xs)) 0 xs → xs ≡ map number r ++ map corner cs → uniform cs ≡ true
+        assemble : (k : Free) (r : List ℤ) (cs : List Corner) → Opened k x.form r → outside_body x.open-body ≡ true → counted (a-body k) (length xs) ≡ true
+            → Fitting (seen_of X N) (form_of (a-body k) (length xs)) 0 xs → xs ≡ map number r ++ map corner cs → uniform cs ≡ true
             → in_force k x.form x.form.basis ≡ true → wide_in k X cs ≡ true
             → Ready x (body (opened_body k x.form r) cs)
         assemble k r cs o a c f e u i w =
             let b = opened_body k x.form r in
             let fr = o.free in
             record {
-              fine = told (body b cs) xs (λ v. ap (λ (y : List ℤ). map number y ++ map corner cs) o.range ∙ sym e) (ap (λ (y : Free). counted (a_Body y) (length xs)) fr ∙ c)
-                  (subst (λ (y : Free). Fitting (seen_of X N) (form_of (a_Body y) (length xs)) 0 xs) (sym fr) f) (u, ap (λ (y : Free). wide_in y X cs) fr ∙ w);
+              fine = told (body b cs) xs (λ v. ap (λ (y : List ℤ). map number y ++ map corner cs) o.range ∙ sym e) (ap (λ (y : Free). counted (a-body y) (length xs)) fr ∙ c)
+                  (subst (λ (y : Free). Fitting (seen_of X N) (form_of (a-body y) (length xs)) 0 xs) (sym fr) f) (u, ap (λ (y : Free). wide_in y X cs) fr ∙ w);
               here = (a, record { force = ap (λ (y : Free). in_force y x.form x.form.basis) fr ∙ i; gives = ap₂ (λ (y : Free) (y' : List ℤ). opened_body y x.form y') fr o.range });
             }
 

@@ -15,7 +15,7 @@ use Rattle.keywords.specs.declared.Argument.TheVariants.{Rational}
 use Rattle.tables.specs.Bodies.{Basis, bezier, bspline, cardinal, taylor}
 use Rattle.model.specs.Model.{geometric, texture, normal, parametric, Vertices, point, line, face, Free, curve, curve2, surface, ParmDirection, along-u, along-v}
 use Rattle.model.specs.Statements.{Statement, vertex, element, group, smoothing, material, type, degree, body, parameters, loop, end, passed}
-use Rattle.model.specs.Parse.{a_Body, WordForm, a-number, a-corner, a-control, a-curve, a-direction, a-type, a-rational, a-degree, a-smoothing, a-name, anything, Value, Seen, form_of}
+use Rattle.model.specs.Parse.{a-body, WordForm, a-number, a-corner, a-control, a-curve, a-direction, a-type, a-rational, a-degree, a-smoothing, a-name, anything, Value, Seen, form_of}
 use Rattle.tidy_form.specs.declared.Weights.{Weights}
 use Rattle.tidy_form.specs.Printed.{keyword_in, loop_keyword, basis_argument, direction_argument, printed}
 use Rattle.tidy_form.proofs.Values.{key_of, values_in, written, words-written}
@@ -38,7 +38,7 @@ keyword-token (type r t) = refl
 keyword-token (degree m n) = refl
 keyword-token (body b cs) = go b.free
   where
-    go : (k : Free) → is_token (keyword_of (a_Body k)) ≡ true
+    go : (k : Free) → is_token (keyword_of (a-body k)) ≡ true
     go curve = refl
     go curve2 = refl
     go surface = refl

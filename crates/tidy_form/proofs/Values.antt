@@ -15,7 +15,7 @@ use Rattle.keywords.specs.declared.Argument.TheVariants.{Rational}
 use Rattle.tables.specs.Bodies.{Basis}
 use Rattle.model.specs.Model.{geometric, texture, normal, parametric, point, line, face, Free, curve, curve2, surface, Part}
 use Rattle.model.specs.Statements.{Statement, vertex, element, group, smoothing, material, type, degree, body, parameters, loop, end, passed}
-use Rattle.model.specs.Parse.{Keyword, a-vertex, an-element, a_Body, parm, trim, hole, ends, cstype, deg, g, s, usemtl, over, fine, Value, number, corner, whole, direction, basis, name, nothing}
+use Rattle.model.specs.Parse.{Keyword, a-vertex, an-element, a-body, parm, trim, hole, ends, cstype, deg, g, s, usemtl, over, fine, Value, number, corner, whole, direction, basis, name, nothing}
 use Rattle.model.specs.Read as reading
 use Rattle.tidy_form.specs.declared.Weights.{Weights}
 use Rattle.tidy_form.specs.Printed.{keyword_in, coordinates, basis_argument, direction_argument, range_of, part_words, words_after}
@@ -33,7 +33,7 @@ key_of (smoothing n) = s
 key_of (material w) = usemtl
 key_of (type r t) = cstype
 key_of (degree m n) = deg
-key_of (body b cs) = a_Body b.free
+key_of (body b cs) = a-body b.free
 key_of (parameters d z) = parm
 key_of (loop l) = loop_key l.hole
 key_of end = ends
@@ -56,7 +56,7 @@ key_back (type r t) p = refl
 key_back (degree m n) p = refl
 key_back (body b cs) p = go b.free
   where
-    go : (k : Free) → reading.carried_in (statement_of (keyword_of (a_Body k))) p ≡ fine (a_Body k)
+    go : (k : Free) → reading.carried_in (statement_of (keyword_of (a-body k))) p ≡ fine (a-body k)
     go curve = refl
     go curve2 = refl
     go surface = refl

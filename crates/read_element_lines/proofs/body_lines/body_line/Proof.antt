@@ -1,7 +1,7 @@
 -- Each way out by the law of its answer.
 use mathlib.Core.Path.{◌≡◌, ◌∙◌}
 use borrow.Author.Tests.{not-true, not-false}
-use Rattle.model.specs.Parse.{a_Body}
+use Rattle.model.specs.Parse.{a-body}
 use Rattle.read_vertex_lines.proofs.Opened.{row-says, outside-none}
 use Rattle.read_element_lines.proofs.SteppedBodies.{body-inside, body_gave, body-fits, body-took}
 use borrow.Author.Rules.{rules}
@@ -17,7 +17,7 @@ module _ (c : tie.Else1) where
   start = c.before.before.before.before.before.before.before
 
   out : start.args.state.«open».kind ≡ 0
-  out = let a = start.args in outside-none a.state.«open».kind (row-says (a_Body a.free) a.state.«open».kind _ c.before.before.body-rules.ensures c.before.allowed.ensures ∙ not-false _ c.if1.left)
+  out = let a = start.args in outside-none a.state.«open».kind (row-says (a-body a.free) a.state.«open».kind _ c.before.before.body-rules.ensures c.before.allowed.ensures ∙ not-false _ c.if1.left)
 
 body-rules-requires : tie.Need-body-rules-requires
 body-rules-requires c κs = search rules
@@ -29,7 +29,7 @@ returns : tie.Need-returns
 returns c =
     let row = c.before.before in
     let a = row.before.before.before.before.before.args in
-    body-inside a.free a.text.now a.at a.state a.vp.now a.corners.now _ a.elements.now _ a.bodies a.ranges.now _ (row-says (a_Body a.free) a.state.«open».kind _ row.body-rules.ensures c.before.allowed.ensures ∙ not-true _ c.if1.taken)
+    body-inside a.free a.text.now a.at a.state a.vp.now a.corners.now _ a.elements.now _ a.bodies a.ranges.now _ (row-says (a-body a.free) a.state.«open».kind _ row.body-rules.ensures c.before.allowed.ensures ∙ not-true _ c.if1.taken)
 
 take-body-line-requires : tie.Need-take-body-line-requires
 take-body-line-requires c κs = search rules

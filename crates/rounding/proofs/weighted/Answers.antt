@@ -9,25 +9,19 @@ use mir.Syntax.{w64}
 use mir.Facts.{to_z-of_z, to_z_pos, sfits_widen}
 use Rattle.rounding.proofs.IntLaws.{abs-*}
 use Rattle.rounding.proofs.Bits.{fits-abs, read_back, widened}
-use Rattle.rounding.proofs.weighted.Statement.{statement}
-use Rattle.rounding.proofs.weighted.Tie as tie
+use Rattle.rounding.proofs.weighted.Goals as goal
+use Rattle.rounding.proofs.weighted.Goals.{Start}
 
-small : (c : tie.Start) → nat_abs (c.args.a *ℤ pos c.args.k) ≤ 2000000000 * c.args.k
+small : (c : Start) → nat_abs (c.args.a *ℤ pos c.args.k) ≤ 2000000000 * c.args.k
 small c = rw (abs-* c.args.a (pos c.args.k)) (mul-le-mul_right c.args.k c.requires.0)
 
-cast-result : tie.Need-overflow-cast-result
-cast-result c = rw (to_z-of_z c.ranges.a) (sfits_widen tt c.ranges.a)
+pub overflow_cast-result : goal.overflow_cast-result
+overflow_cast-result c = rw (to_z-of_z c.ranges.a) (sfits_widen tt c.ranges.a)
 
-cast-result-2 : tie.Need-overflow-cast-result-2
-cast-result-2 c = search rules
+pub overflow_mul-result : goal.overflow_mul-result
+overflow_mul-result c = rw (widened c.ranges.a, to_z_pos w64 {n = c.args.k} (omega arith)) (fits-abs w64 _ (omega (arith, small c)))
 
-mul-result : tie.Need-overflow-mul-result
-mul-result c = rw (widened c.ranges.a, to_z_pos w64 {n = c.args.k} (omega arith)) (fits-abs w64 _ (omega (arith, small c)))
-
-returns : tie.Need-returns
+pub returns : goal.returns
 returns c =
     rw (widened c.ranges.a, to_z_pos w64 {n = c.args.k} (omega arith), read_back w64 (c.args.a *ℤ pos c.args.k) (omega (arith, small c)))
     (refl, small c)
-
-pub weighted-spec : {M : Type 1} → statement M
-weighted-spec = tie.close (tie.spec cast-result cast-result-2 mul-result returns)

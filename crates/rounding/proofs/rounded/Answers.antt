@@ -1,0 +1,23 @@
+-- The sign and the size of a number make the rounded one (`rounded-signed`).
+use borrow.Author.Rules.{rules}
+use mathlib.Core.Path.{◌∙◌}
+use native.Mathlib.Omega.{arith}
+use mir.Syntax.{w32}
+use mir.Facts.{to_z-of_z}
+use Rattle.rounding.proofs.Bits.{read_back}
+use Rattle.rounding.proofs.Rounding.{rounded-signed}
+use Rattle.rounding.proofs.rounded.Goals as goal
+
+pub size-requires : goal.size-requires
+size-requires c = rw (to_z-of_z c.ranges.n) (omega (arith, c.requires.1, c.requires.2))
+
+pub nearest-requires : goal.nearest-requires
+nearest-requires c =
+    (c.requires.0, c.requires.1, rw (c.size.ensures, to_z-of_z c.ranges.n) c.requires.2)
+
+pub returns : goal.returns
+returns c =
+    rw (read_back w32 c.with_sign.result (omega arith)) (
+      rw (c.nearest.ensures.0, c.size.ensures, to_z-of_z c.ranges.n) at c.with_sign.ensures.0 ∙ rounded-signed c.args.n c.args.d,
+      c.with_sign.ensures.1,
+    )

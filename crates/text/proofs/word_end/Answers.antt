@@ -1,0 +1,19 @@
+-- The loop keeps where the word ends (`InWord`); each turn takes a byte off what is left.
+use mathlib.Core.Path.{refl}
+use Prim.Native.Nat.{◌-◌}
+use lib.ListN.{length}
+use borrow.Author.Rules.{rules}
+use Rattle.text.proofs.Loops as L
+use Rattle.text.proofs.word_end.Goals as goal
+
+pub loop-i-init : goal.loop-i-init
+loop-i-init c = record { to = c.requires; ends = refl }
+
+pub loop-i-preserved : goal.loop-i-preserved
+loop-i-preserved c = L.word-turn c.loop-i.invariant c.loop-i-test.true _ c.is_word.ensures c.if-is_word.true
+
+pub returns-else-is_word : goal.returns-else-is_word
+returns-else-is_word c = L.word-stop c.loop-i.invariant c.loop-i-test.true _ c.is_word.ensures c.if-is_word.false
+
+pub returns : goal.returns
+returns c = L.word-done c.loop-i.invariant c.loop-i-test.false
