@@ -18,7 +18,7 @@ use tidy_form::Weights;
 
 // What reading comes to: the used counts, or a refusal at a place where `refusal` is not 0.
 #[repr(C)]
-#[derive(Drop)]
+#[derive(Clone, Copy)]
 pub struct ReadRecord {
     pub refusal: u32,
     pub place: usize,
@@ -27,7 +27,7 @@ pub struct ReadRecord {
 
 // What tidying comes to: the tidy text's length and the used counts, or a refusal at a place; with 16 the counts, and the length that is needed.
 #[repr(C)]
-#[derive(Drop)]
+#[derive(Clone, Copy)]
 pub struct TidyRecord {
     pub refusal: u32,
     pub place: usize,
@@ -38,7 +38,7 @@ pub struct TidyRecord {
 
 // Three axes are x, y, z; two are u, v, in x and y. Refused where `refusal` is not 0.
 #[repr(C)]
-#[derive(Drop)]
+#[derive(Clone, Copy)]
 pub struct Point {
     pub refusal: u32,
     pub axes: u32,
@@ -49,7 +49,7 @@ pub struct Point {
 
 // How many numbers a run wrote. Refused where `refusal` is not 0.
 #[repr(C)]
-#[derive(Drop)]
+#[derive(Clone, Copy)]
 pub struct Run {
     pub refusal: u32,
     pub numbers: usize,
@@ -57,7 +57,7 @@ pub struct Run {
 
 // How many points a polyline wrote. Refused where `refusal` is not 0.
 #[repr(C)]
-#[derive(Drop)]
+#[derive(Clone, Copy)]
 pub struct PolylinePoints {
     pub refusal: u32,
     pub points: u32,
@@ -65,7 +65,7 @@ pub struct PolylinePoints {
 
 // The used counts after a sweep, and how many records of each kind it dropped. Refused where `refusal` is not 0: every count is 0 then.
 #[repr(C)]
-#[derive(Drop)]
+#[derive(Clone, Copy)]
 pub struct SweepCounts {
     pub refusal: u32,
     pub used: Used,

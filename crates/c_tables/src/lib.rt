@@ -9,7 +9,7 @@ pub mod records;
 
 // A part of the caller's text; its length is 0 for none.
 #[repr(C)]
-#[derive(Drop)]
+#[derive(Clone, Copy)]
 pub struct Part {
     pub place: usize,
     pub length: usize,

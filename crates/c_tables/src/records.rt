@@ -6,7 +6,7 @@ use tables::{Body, Element};
 
 // All zeros for no such element.
 #[repr(C)]
-#[derive(Drop)]
+#[derive(Clone, Copy)]
 pub struct ElementRecord {
     pub kind: u32,
     pub first_corner: u32,
@@ -21,7 +21,7 @@ pub struct ElementRecord {
 
 // All zeros for no such body; a curve's v entries are 0.
 #[repr(C)]
-#[derive(Drop)]
+#[derive(Clone, Copy)]
 pub struct BodyRecord {
     pub basis: u32,
     pub rational: u32,

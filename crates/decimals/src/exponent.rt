@@ -12,13 +12,13 @@ use digits::whole::{DigitRow, row_at};
 use digits::{byte_at, digits_end, first_digits};
 
 // A number without its sign, in ten-millionths, and where its word ends.
-#[derive(Drop)]
+#[derive(Clone, Copy)]
 pub enum Magnitude {
     Of { value: u64, end: usize },
     Bad,
 }
 
-#[derive(Drop)]
+#[derive(Clone, Copy)]
 pub enum Exponent {
     Of { minus: bool, power: u64, end: usize },
     Bad,
@@ -61,7 +61,7 @@ pub fn is_e(b: u8) -> bool
 }
 
 // Where the digits of a mantissa stand: up to the point, and from after it to the end.
-#[derive(Drop)]
+#[derive(Clone, Copy)]
 pub struct Mantissa {
     pub point: usize,
     pub from: usize,

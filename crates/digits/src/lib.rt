@@ -7,7 +7,7 @@ ghost use Rattle.text.specs.Words.{word_of};
 ghost use Rattle.digits.specs.Digits.{nat_of};
 ghost use Rattle.digits.specs.Straight.{first, is_empty, digit_of, cap, run, WholeRead, UptoRead};
 
-#[derive(Drop)]
+#[derive(Clone, Copy)]
 pub struct Run {
     pub end: usize,
     pub value: u64,

@@ -4,7 +4,7 @@ ghost use Rattle.text.specs.Rest.{end_of};
 ghost use Rattle.digits.specs.Degree.{name_of};
 ghost use Rattle.digits.specs.Answers.{said_name, ends_at};
 
-#[derive(Drop)]
+#[derive(Clone, Copy)]
 pub enum Name {
     Of { end: usize },
     Malformed,

@@ -8,14 +8,14 @@ ghost use Rattle.digits.specs.Straight.{whole_of};
 
 use crate::{whole_run, word_ends};
 
-#[derive(Drop)]
+#[derive(Clone, Copy)]
 pub enum Whole {
     Value { value: u32, end: usize },
     Malformed,
     OutOfRange,
 }
 
-#[derive(Drop)]
+#[derive(Clone, Copy)]
 pub enum DigitRow {
     Of { value: u64, end: usize },
     Malformed,

@@ -16,7 +16,7 @@ use statements::{Carried, Statement};
 // Where the statement may stand; how many words follow the keyword, at least, at most, and a multiple of how many; the form that a word has to have, and the
 // least and the greatest value that it may have.
 #[repr(C)]
-#[derive(Drop)]
+#[derive(Clone, Copy)]
 pub struct RuleRow {
     pub standing: u32,
     pub least: usize,
@@ -27,7 +27,7 @@ pub struct RuleRow {
     pub high: i32,
 }
 
-#[derive(Drop)]
+#[derive(Clone, Copy)]
 pub struct Limits {
     pub low: i32,
     pub high: i32,

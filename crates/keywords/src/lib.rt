@@ -78,13 +78,13 @@ const ARGUMENTS: [u8; 108] = *b"\
     off        I";
 
 // A keyword's statement, and where its word ends.
-#[derive(Drop)]
+#[derive(Clone, Copy)]
 pub struct Keyword {
     pub statement: Statement,
     pub end: usize,
 }
 
-#[derive(Drop)]
+#[derive(Clone, Copy)]
 pub enum Argument {
     Rational,
     BasisMatrix,

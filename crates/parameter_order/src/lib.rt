@@ -6,7 +6,7 @@ ghost use Rattle.parameter_order.specs.Stepping.{requirement_of, fresh, too_ofte
 use tables::bases;
 
 // What they are held against: the type, the degree, and the indexes at which the widest range starts and ends.
-#[derive(Drop)]
+#[derive(Clone, Copy)]
 pub struct Requirement {
     pub basis: u32,
     pub degree: u32,
@@ -15,7 +15,7 @@ pub struct Requirement {
 }
 
 // What those so far come to: the last, the index from which on its value stands, whether all are in order, and the ends of the widest range as far as they go.
-#[derive(Drop)]
+#[derive(Clone, Copy)]
 pub struct Order {
     pub previous: i32,
     pub since: usize,

@@ -14,7 +14,7 @@ use rounding::{between, distance};
 use tables::bases;
 
 // A place of the row: a whole number on each of three axes, as doubles.
-#[derive(Drop)]
+#[derive(Clone, Copy)]
 pub struct Place {
     pub x: f64,
     pub y: f64,
@@ -22,14 +22,14 @@ pub struct Place {
 }
 
 // The working row: one place shorter at each level.
-#[derive(Drop)]
+#[derive(Clone, Copy)]
 pub struct Row {
     pub places: [Place; 21],
     pub count: usize,
 }
 
 // Where a number of a row lies: the parameters from which to which it goes, and the part of the way.
-#[derive(Drop)]
+#[derive(Clone, Copy)]
 pub struct Interval {
     pub low: i32,
     pub high: i32,
@@ -168,7 +168,7 @@ pub fn certain(trusted: bool, a: Place, b: Place, gap: Interval, guess: Place) -
 }
 
 // A point worked in doubles alone, and whether every place on the way was certain.
-#[derive(Drop)]
+#[derive(Clone, Copy)]
 pub struct Guess {
     pub place: Place,
     pub sure: bool,

@@ -11,7 +11,7 @@ pub mod controls;
 pub mod search;
 
 // A direction but for its parameters.
-#[derive(Drop)]
+#[derive(Clone, Copy)]
 pub struct BodyDirection {
     pub basis: u32,
     pub degree: usize,

@@ -14,7 +14,7 @@ use point_rows::BodyDirection;
 use point_rows::controls::{control, first_control};
 
 // What a point has on three axes, from number `axis` of each vertex on.
-#[derive(Drop)]
+#[derive(Clone, Copy)]
 pub struct Point {
     pub x: i32,
     pub y: i32,

@@ -13,7 +13,7 @@ use rounding::{rounded, weighted};
 mod weights;
 
 // Three numbers of a vertex, or of a point.
-#[derive(Drop)]
+#[derive(Clone, Copy)]
 pub struct Triple {
     pub x: i32,
     pub y: i32,

@@ -9,7 +9,7 @@ use point_chords::is_near;
 use sampler::PointResult;
 
 // A point's coordinates, 0 for each that it lacks.
-#[derive(Drop)]
+#[derive(Clone, Copy)]
 pub struct Space {
     pub x: i32,
     pub y: i32,

@@ -19,14 +19,14 @@ mod chords;
 const DEPTH: u32 = 12;
 
 // How many points were written, or why none was.
-#[derive(Drop)]
+#[derive(Clone, Copy)]
 pub enum PolylineResult {
     Filled { points: u32 },
     Refused { number: u32 },
 }
 
 // An interval is a chord, or halved at its middle, with what is sampled there.
-#[derive(Drop)]
+#[derive(Clone, Copy)]
 pub enum Split {
     Chord,
     Halves { middle: i32, point: PointResult },

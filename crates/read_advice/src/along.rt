@@ -11,7 +11,7 @@ use tables::bases;
 // enough; the number, from 1, of the first parameter that may not stand after the one before it, 0 where all may; the ends of the widest range; the range, and 1
 // where all are in order and it stands within the widest.
 #[repr(C)]
-#[derive(Drop)]
+#[derive(Clone, Copy)]
 pub struct DirectionAdvice {
     pub place: usize,
     pub parameters: u32,
@@ -91,7 +91,7 @@ fn count_at(text: &[u8], at: usize) -> usize
     }
 }
 
-#[derive(Drop)]
+#[derive(Clone, Copy)]
 struct Judged {
     order: Order,
     wrong: u32,
@@ -146,7 +146,7 @@ fn judge_order(text: &[u8], at: usize, count: u32, basis: u32, degree: u32) -> J
 }
 
 // A number of a line, and where it ends; 0 and its place where there is none.
-#[derive(Drop)]
+#[derive(Clone, Copy)]
 struct Taken {
     value: i32,
     next: usize,
@@ -167,7 +167,7 @@ fn number_after(text: &[u8], at: usize) -> Taken {
 }
 
 // The range that a body states.
-#[derive(Drop)]
+#[derive(Clone, Copy)]
 pub struct Range {
     pub u_start: i32,
     pub u_end: i32,

@@ -16,7 +16,7 @@ use text::{AfterBlanks, Scan};
 // The keyword of the line that holds the place, and how many words follow it; what the lines before say; of the open body the type and degrees in force, its
 // controls, and its parameters along u and v.
 #[repr(C)]
-#[derive(Drop)]
+#[derive(Clone, Copy)]
 pub struct Advice {
     pub key: usize,
     pub words: usize,
@@ -30,7 +30,7 @@ pub struct Advice {
 }
 
 // A line's keyword, and how many words follow it.
-#[derive(Drop)]
+#[derive(Clone, Copy)]
 pub struct Keyed {
     pub key: usize,
     pub words: usize,

@@ -17,7 +17,7 @@ use text::{AfterBlanks, Scan};
 // How many there are so far of what a word may refer to, a curv2 from its end on; the kind of the open body's element, 0 where none is open, and the place of
 // its keyword.
 #[repr(C)]
-#[derive(Drop)]
+#[derive(Clone, Copy)]
 pub struct Tally {
     pub v: u32,
     pub vt: u32,
@@ -29,7 +29,7 @@ pub struct Tally {
 }
 
 // The tally, the type and degrees in force, and where the numbers of the open body's last parm lines start, 0 where there was none.
-#[derive(Drop)]
+#[derive(Clone, Copy)]
 pub struct Said {
     pub tally: Tally,
     pub form: Form,
@@ -38,7 +38,7 @@ pub struct Said {
 }
 
 // What the lines before say, and where the line starts that holds the place.
-#[derive(Drop)]
+#[derive(Clone, Copy)]
 pub struct Before {
     pub line: usize,
     pub said: Said,

@@ -15,7 +15,7 @@ use read_state::{Form, Open};
 use table_store::{put_i32, put_u32};
 use tables::{Body, Used, kinds, widths};
 
-#[derive(Drop)]
+#[derive(Clone, Copy)]
 pub enum BodyCheck {
     Refused(u32),
     Valid {
@@ -26,7 +26,7 @@ pub enum BodyCheck {
     },
 }
 
-#[derive(Drop)]
+#[derive(Clone, Copy)]
 pub enum Closed {
     Closed { u: u32, v: u32 },
     Refused(u32),

@@ -13,13 +13,13 @@ use tables::parts::LoopPart;
 use tables::{parts, widths};
 use text::{AfterBlanks, skip_blanks};
 
-#[derive(Drop)]
+#[derive(Clone, Copy)]
 pub enum Curve {
     Of { number: u32, end: usize },
     Nothing,
 }
 
-#[derive(Drop)]
+#[derive(Clone, Copy)]
 pub enum PartMet {
     Part {
         from: i32,
@@ -31,7 +31,7 @@ pub enum PartMet {
     Stopped,
 }
 
-#[derive(Drop)]
+#[derive(Clone, Copy)]
 pub enum Loop {
     Accepted { parts: u32, next: usize },
     Rejected,

@@ -6,14 +6,14 @@ use read_vertices::{Numbers, numbers_into};
 use text::{AfterBlanks, skip_blanks};
 use word_numbers::{Number, number_at};
 
-#[derive(Drop)]
+#[derive(Clone, Copy)]
 pub enum Step {
     Number { value: i32, end: usize },
     End(usize),
     Stopped,
 }
 
-#[derive(Drop)]
+#[derive(Clone, Copy)]
 pub enum Counted {
     Ended { count: usize, next: usize },
     Stopped(usize),

@@ -9,7 +9,7 @@ use statements::rows::parameter_rules;
 use statements::rules::counted;
 use text::{AfterBlanks, skip_blanks, word_end};
 
-#[derive(Drop)]
+#[derive(Clone, Copy)]
 pub enum Parm {
     Accepted {
         along_v: bool,

@@ -7,7 +7,7 @@ ghost use Rattle.read_dispatch.specs.Taking.{family_of};
 use read_element_lines::setting_lines::Setting;
 use statements::{Free, Shape, VertexKind};
 
-#[derive(Drop)]
+#[derive(Clone, Copy)]
 pub enum Family {
     Vertex(VertexKind),
     Element(Shape),

@@ -12,7 +12,7 @@ use text::AfterBlanks;
 
 // A word, with its place, the letter of its row among the keywords, and its end; no word, and where the next line starts; or a byte that is not allowed.
 // Whole numbers, since a keyword's statement that a call answers is stored in pieces and waited for.
-#[derive(Drop)]
+#[derive(Clone, Copy)]
 pub enum Key {
     Word {
         place: usize,

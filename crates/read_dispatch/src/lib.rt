@@ -16,7 +16,7 @@ use read_state::State;
 use read_vertex_lines::Step;
 use read_word_checks::Refusal;
 
-#[derive(Drop)]
+#[derive(Clone, Copy)]
 pub enum LineResult {
     Next { state: State, next: usize },
     Stopped { number: u32, place: usize },

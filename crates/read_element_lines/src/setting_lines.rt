@@ -15,7 +15,7 @@ use statements::rows::{
 use statements::rules::{Rules, allowed};
 use text::Scan;
 
-#[derive(Drop)]
+#[derive(Clone, Copy)]
 pub enum Setting {
     BodyType,
     Degree,

@@ -23,7 +23,7 @@ use tables::{Corner, CornerRun, Used, kinds, widths};
 use text::AfterBlanks;
 
 // What a line's corner words are: corners of v and the parts allowed besides it, or numbers of parameter vertices.
-#[derive(Drop)]
+#[derive(Clone, Copy)]
 pub enum CornerForm {
     Vertex { texture: bool, normal: bool },
     Parameter,
@@ -82,7 +82,7 @@ fn may_follow(f: u32, g: u32) -> bool
     g == f
 }
 
-#[derive(Drop)]
+#[derive(Clone, Copy)]
 pub enum Corners {
     Complete { next: usize, count: usize },
     Stopped,
@@ -146,7 +146,7 @@ pub fn corners_into(
 }
 
 // What a statement asks of its element: the number of its kind, the fewest corners, and what they are.
-#[derive(Drop)]
+#[derive(Clone, Copy)]
 pub struct Rule {
     pub kind: u32,
     pub fewest: usize,
@@ -203,7 +203,7 @@ fn put_element(elements: &mut [u32], used: u32, element: tables::Element) -> boo
     table_store::put_u32(elements, widths::ELEMENT * (used as usize), &row)
 }
 
-#[derive(Drop)]
+#[derive(Clone, Copy)]
 pub enum Element {
     Accepted { count: u32, next: usize },
     Rejected,

@@ -11,7 +11,7 @@ use table_store::clear;
 use tables::{NameRun, Used};
 
 // What a text comes to: how many records of each kind were read, or a refusal.
-#[derive(Drop)]
+#[derive(Clone, Copy)]
 pub enum ReadResult {
     Read(Used),
     Refused { number: u32, place: usize },

@@ -13,7 +13,7 @@ use text::{AfterBlanks, Scan};
 
 // Entries of the eleven tables.
 #[repr(C)]
-#[derive(Drop)]
+#[derive(Clone, Copy)]
 pub struct Rooms {
     pub v: usize,
     pub vt: usize,
@@ -177,7 +177,7 @@ fn room_for(statement: Statement, count: usize) -> Rooms
 }
 
 // A line's room and where the next line starts; or a byte of it is not allowed.
-#[derive(Drop)]
+#[derive(Clone, Copy)]
 enum Line {
     Counted { room: Rooms, next: usize },
     Stopped,

@@ -16,13 +16,13 @@ use statements::rows::{degree_rules, group_rules, material_rules, smoothing_rule
 use statements::rules::counted;
 use tables::bases;
 
-#[derive(Drop)]
+#[derive(Clone, Copy)]
 pub enum TakenForm {
     Accepted { form: Form, next: usize },
     Rejected,
 }
 
-#[derive(Drop)]
+#[derive(Clone, Copy)]
 pub enum TakenNames {
     Accepted { names: Names, next: usize },
     Rejected,

@@ -8,7 +8,7 @@ use tables::NameRun;
 use text::{AfterBlanks, Scan, scan_line, skip_blanks, word_end};
 
 // Where the first two words stand, how many there are, and where the next line starts; a word that is not there has a place that says nothing.
-#[derive(Drop)]
+#[derive(Clone, Copy)]
 pub enum Line {
     Words {
         first: usize,
@@ -20,7 +20,7 @@ pub enum Line {
 }
 
 // The run of the line's names, how many there are, and where the next line starts.
-#[derive(Drop)]
+#[derive(Clone, Copy)]
 pub enum NamesRead {
     Run {
         run: NameRun,

@@ -6,7 +6,7 @@ use statements::Free;
 use tables::{NameRun, Used, kinds};
 
 // Where the names in force stand in the text, and the smoothing.
-#[derive(Drop)]
+#[derive(Clone, Copy)]
 pub struct Names {
     pub group: NameRun,
     pub material: NameRun,
@@ -14,7 +14,7 @@ pub struct Names {
 }
 
 // cstype and deg: a type's number, 0 where none is set; degrees, 0 for none.
-#[derive(Drop)]
+#[derive(Clone, Copy)]
 pub struct Form {
     pub basis: u32,
     pub rational: u32,
@@ -24,7 +24,7 @@ pub struct Form {
 
 // The body that has no end yet: its element's kind, 0 where there is none; its controls; its loop parts; where the numbers of its last parm lines start,
 // 0 where there was none.
-#[derive(Drop)]
+#[derive(Clone, Copy)]
 pub struct Open {
     pub kind: u32,
     pub controls: u32,
@@ -33,7 +33,7 @@ pub struct Open {
     pub v_at: usize,
 }
 
-#[derive(Drop)]
+#[derive(Clone, Copy)]
 pub struct State {
     pub used: Used,
     pub curves: u32,

@@ -13,7 +13,7 @@ use statements::rules::allowed;
 use tables::Used;
 
 // What a line whose keyword is known comes to: the state after it, a refusal at its keyword, or a fault still to be found.
-#[derive(Drop)]
+#[derive(Clone, Copy)]
 pub enum Step {
     Accepted { state: State, next: usize },
     Refuses(u32),

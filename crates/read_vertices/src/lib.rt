@@ -12,7 +12,7 @@ use word_numbers::Number;
 
 // What a line's numbers come to: the line ended; as many as were asked for were found; or it has a word that is no number, a byte that is not allowed, or
 // more numbers than the table has room for.
-#[derive(Drop)]
+#[derive(Clone, Copy)]
 pub enum Numbers {
     Ended { count: usize, next: usize },
     Full { end: usize },
@@ -58,7 +58,7 @@ pub fn numbers_into(text: &[u8], at: usize, most: usize, table: &mut [i32], firs
 }
 
 // A line of numbers alone, as many as it may have.
-#[derive(Drop)]
+#[derive(Clone, Copy)]
 pub enum NumberRow {
     Whole { count: usize, next: usize },
     Incomplete,
@@ -104,7 +104,7 @@ pub fn row_into(
 }
 
 // How many numbers a line of a kind has, and where they stand in the record.
-#[derive(Drop)]
+#[derive(Clone, Copy)]
 pub struct Layout {
     pub least: usize,
     pub most: usize,
@@ -157,7 +157,7 @@ fn put_blank(table: &mut [i32], at: usize, width: usize) -> bool
     table_store::put_i32(table, at, &[0, 0, 0])
 }
 
-#[derive(Drop)]
+#[derive(Clone, Copy)]
 pub enum Vertex {
     Accepted { next: usize },
     Rejected,

@@ -4,7 +4,7 @@ pub mod word; // what is wrong with a word
 pub mod walk; // the first word at fault
 pub mod held; // what is held against a line whose words have their forms
 
-#[derive(Drop)]
+#[derive(Clone, Copy)]
 pub enum Refusal {
     Refused { number: u32, place: usize },
     Nothing,

@@ -4,7 +4,7 @@ ghost use Rattle.read_word_checks.specs.Faults.{test_by};
 use statements::rules::{Forms, WordForm, form_at};
 
 // What a word is tested for: its form; a corner also for the first corner's pattern, which has no vt or no vn; a control for two coordinates given.
-#[derive(Drop)]
+#[derive(Clone, Copy)]
 pub enum Test {
     Form(WordForm),
     Alike {
@@ -17,7 +17,7 @@ pub enum Test {
 }
 
 // The tests of a line's words: the form of each, or one test for all.
-#[derive(Drop)]
+#[derive(Clone, Copy)]
 pub enum Tests {
     Each(Forms),
     All(Test),

@@ -19,14 +19,14 @@ use statements::rules::WordForm;
 use tables::vertices::given_at;
 use word_numbers::Number;
 
-#[derive(Drop)]
+#[derive(Clone, Copy)]
 pub enum WordCheck {
     Valid,
     Fault(u32),
 }
 
 // How many there are so far of what a word may refer to.
-#[derive(Drop)]
+#[derive(Clone, Copy)]
 pub struct Seen {
     pub v: u32,
     pub vt: u32,

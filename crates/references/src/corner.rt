@@ -10,7 +10,7 @@ ghost use Rattle.references.specs.Straight.{second, third, SecondIs};
 use crate::reference::{Part, part_at};
 use digits::{byte_at, byte_in, digits_upto, word_ends};
 
-#[derive(Drop)]
+#[derive(Clone, Copy)]
 pub enum CornerWord {
     Of {
         v: u32,
@@ -138,7 +138,7 @@ pub fn corner_at(
 }
 
 // Most corners are far from the text's end and count from the first: these are read straight ahead, and every other part by part.
-#[derive(Drop)]
+#[derive(Clone, Copy)]
 pub enum Ahead {
     Corner {
         v: u32,
@@ -150,7 +150,7 @@ pub enum Ahead {
 }
 
 // A second part, 0 where there is none.
-#[derive(Drop)]
+#[derive(Clone, Copy)]
 pub enum Second {
     Of { number: u32, end: usize },
     Other,

@@ -9,14 +9,14 @@ ghost use Rattle.references.specs.Straight.{CornerPartIs};
 
 use digits::{byte_at, whole_run, word_ends};
 
-#[derive(Drop)]
+#[derive(Clone, Copy)]
 pub enum Reference {
     Item { number: u32, end: usize },
     Malformed,
     Missing,
 }
 
-#[derive(Drop)]
+#[derive(Clone, Copy)]
 pub enum Part {
     Of { number: u32, end: usize },
     Malformed,

@@ -14,7 +14,7 @@ mod points;
 mod records;
 pub mod sampling;
 
-#[derive(Drop)]
+#[derive(Clone, Copy)]
 pub enum PointResult {
     Space { x: i32, y: i32, z: i32 },
     Plane { u: i32, v: i32 },
@@ -22,14 +22,14 @@ pub enum PointResult {
 }
 
 // How many numbers a run wrote, or why it wrote none.
-#[derive(Drop)]
+#[derive(Clone, Copy)]
 pub enum RunResult {
     Filled { numbers: usize },
     Refused { number: u32 },
 }
 
 // An element that can be sampled, with its body; or the refusal.
-#[derive(Drop)]
+#[derive(Clone, Copy)]
 pub enum Lookup {
     Found { element: Element, body: Body },
     Refused { number: u32 },

@@ -11,7 +11,7 @@ ghost use Rattle.spellings.specs.Lookup.{found_in, lettered_in, word_ahead, ahea
 pub const WIDTH: usize = 12;
 
 // What a word finds in a table: the number of its row, from 0, and where the word ends; where it finds none, how many rows there are, and its own place.
-#[derive(Drop)]
+#[derive(Clone, Copy)]
 pub struct Found {
     pub row: usize,
     pub end: usize,

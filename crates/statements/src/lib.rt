@@ -3,7 +3,7 @@ pub mod rows; // a row of rules for each statement
 pub mod rules; // what a row is made of, and the tests by it
 
 // v, vt, vn, vp.
-#[derive(Drop)]
+#[derive(Clone, Copy)]
 pub enum VertexKind {
     Geometric,
     Texture,
@@ -12,7 +12,7 @@ pub enum VertexKind {
 }
 
 // p, l, f.
-#[derive(Drop)]
+#[derive(Clone, Copy)]
 pub enum Shape {
     Point,
     Line,
@@ -20,7 +20,7 @@ pub enum Shape {
 }
 
 // curv, curv2, surf.
-#[derive(Drop)]
+#[derive(Clone, Copy)]
 pub enum Free {
     Curve,
     Curve2,
@@ -28,7 +28,7 @@ pub enum Free {
 }
 
 // 01, "What the box carries": what is stored, and what is passed over.
-#[derive(Drop)]
+#[derive(Clone, Copy)]
 pub enum Carried {
     Vertex(VertexKind),
     Element(Shape),
@@ -46,7 +46,7 @@ pub enum Carried {
 }
 
 // A keyword's statement: carried, known and refused (4), or unknown (3).
-#[derive(Drop)]
+#[derive(Clone, Copy)]
 pub enum Statement {
     Carried(Carried),
     Refused,

@@ -6,14 +6,14 @@ use crate::{Free, Shape, VertexKind};
 use tables::kinds;
 
 // Which parts a corner may have besides v.
-#[derive(Drop)]
+#[derive(Clone, Copy)]
 pub struct Parts {
     pub vt: bool,
     pub vn: bool,
 }
 
 // What a word has to be.
-#[derive(Drop)]
+#[derive(Clone, Copy)]
 pub enum WordForm {
     Number,
     Corner(Parts),
@@ -29,7 +29,7 @@ pub enum WordForm {
 }
 
 // Where a statement may stand: outside a body, in one, in a surface's; a parm along v in a surface's alone.
-#[derive(Drop)]
+#[derive(Clone, Copy)]
 pub enum Standing {
     Outside,
     Body,
@@ -38,7 +38,7 @@ pub enum Standing {
 }
 
 // How many words may follow the keyword.
-#[derive(Drop)]
+#[derive(Clone, Copy)]
 pub enum Count {
     Any,
     AtLeast(usize),
@@ -49,7 +49,7 @@ pub enum Count {
 
 // The forms of a line's words: one for all; a range and then controls; a direction and then numbers; two numbers and a curve, again and again; a type, and
 // rat before it.
-#[derive(Drop)]
+#[derive(Clone, Copy)]
 pub enum Forms {
     All(WordForm),
     Range { words: usize, control: WordForm },
@@ -59,7 +59,7 @@ pub enum Forms {
 }
 
 // What is held against a line whose words have their forms: 9 of corners; 9, 11 and 12 of a body's element; 11, 12 and 13 of a body at its end.
-#[derive(Drop)]
+#[derive(Clone, Copy)]
 pub enum Held {
     Nothing,
     Corners(Parts),
@@ -67,7 +67,7 @@ pub enum Held {
     End,
 }
 
-#[derive(Drop)]
+#[derive(Clone, Copy)]
 pub struct Rules {
     pub standing: Standing,
     pub count: Count,

@@ -15,7 +15,7 @@ mod vertices;
 
 // How many records of each kind were dropped.
 #[repr(C)]
-#[derive(Drop)]
+#[derive(Clone, Copy)]
 pub struct Dropped {
     pub v: u32,
     pub vt: u32,
@@ -24,7 +24,7 @@ pub struct Dropped {
 }
 
 // The used counts after the sweep with what was dropped, or why nothing was changed.
-#[derive(Drop)]
+#[derive(Clone, Copy)]
 pub enum SweepResult {
     Swept { used: Used, dropped: Dropped },
     Refused { number: u32 },

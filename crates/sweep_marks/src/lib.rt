@@ -6,7 +6,7 @@ ghost use Rattle.sweep_marks.specs.Marks.{kind_of, place_of, mark_number, mark_e
 use tables::{CORNER_V, CORNER_VN, CORNER_VT, CornerRun, Element, kinds};
 
 // The tables of vertices.
-#[derive(Drop)]
+#[derive(Clone, Copy)]
 pub enum VertexTable {
     V,
     Vt,

@@ -5,7 +5,7 @@ ghost use Rattle.table_rules.specs.Whole.{ends_after, body_follows, element_foll
 use tables::{Body, Element, Used, kinds};
 
 // Numbers of corners, bodies, parameters and loop parts.
-#[derive(Drop)]
+#[derive(Clone, Copy)]
 pub struct Ends {
     pub corners: usize,
     pub bodies: usize,

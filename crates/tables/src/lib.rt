@@ -12,7 +12,7 @@ pub mod widths;
 
 // Records, but for the corners, which count numbers.
 #[repr(C)]
-#[derive(Drop)]
+#[derive(Clone, Copy)]
 pub struct Used {
     pub v: u32,
     pub vt: u32,
@@ -26,21 +26,21 @@ pub struct Used {
 }
 
 // A run of an element's corners: the number of the corners' table that it begins at, counted from 0, and how many corners it has.
-#[derive(Drop)]
+#[derive(Clone, Copy)]
 pub struct CornerRun {
     pub first: u32,
     pub count: u32,
 }
 
 // A run of names in the text, from the first name to the last; both numbers are 0 for none.
-#[derive(Drop)]
+#[derive(Clone, Copy)]
 pub struct NameRun {
     pub place: u32,
     pub length: u32,
 }
 
 // The numbers of an element's record, in their order; docs/RECORDS.md says what each is.
-#[derive(Drop)]
+#[derive(Clone, Copy)]
 pub struct Element {
     pub kind: u32,
     pub corners: CornerRun,
@@ -51,7 +51,7 @@ pub struct Element {
 }
 
 // The numbers of a body's record and of its range, in their order.
-#[derive(Drop)]
+#[derive(Clone, Copy)]
 pub struct Body {
     pub basis: u32,
     pub rational: u32,
@@ -70,7 +70,7 @@ pub struct Body {
 
 // A corner's references, each counted from 1; 0 for none.
 #[repr(C)]
-#[derive(Drop)]
+#[derive(Clone, Copy)]
 pub struct Corner {
     pub v: u32,
     pub vt: u32,

@@ -6,7 +6,7 @@ ghost use Rattle.tables.specs.Rows.{loop_numbers, span_numbers};
 use crate::{number_in, value_in, widths};
 
 // What begins with the part, its curv2's number, its two numbers.
-#[derive(Drop)]
+#[derive(Clone, Copy)]
 pub struct LoopPart {
     pub begins: u32,
     pub curve: u32,

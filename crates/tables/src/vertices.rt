@@ -5,7 +5,7 @@ ghost use Rattle.tables.specs.Vertices.{vertex_in, parameter_vertex_in};
 
 use crate::{value_in, widths};
 
-#[derive(Drop)]
+#[derive(Clone, Copy)]
 pub struct Vertex {
     pub x: i32,
     pub y: i32,
@@ -13,7 +13,7 @@ pub struct Vertex {
     pub w: i32,
 }
 
-#[derive(Drop)]
+#[derive(Clone, Copy)]
 pub struct ParameterVertex {
     pub given: i32,
     pub u: i32,

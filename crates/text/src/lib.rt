@@ -99,7 +99,7 @@ fn comment_end(text: &[u8], at: usize) -> usize
 }
 
 // What a byte between words does that is neither a blank nor the start of a word.
-#[derive(Drop)]
+#[derive(Clone, Copy)]
 enum Turn {
     On(usize),
     End(usize),
@@ -129,7 +129,7 @@ fn turn_at(text: &[u8], at: usize) -> Turn
 }
 
 // What a line goes on with: a word, its end with the place of the next line, a byte that is not allowed.
-#[derive(Drop)]
+#[derive(Clone, Copy)]
 pub enum AfterBlanks {
     Start(usize),
     End(usize),
@@ -166,7 +166,7 @@ pub fn skip_blanks(text: &[u8], at: usize) -> AfterBlanks
     AfterBlanks::End(i)
 }
 
-#[derive(Drop)]
+#[derive(Clone, Copy)]
 pub enum Scan {
     Good { count: usize, next: usize },
     Bad(usize),

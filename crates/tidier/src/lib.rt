@@ -10,7 +10,7 @@ use tidy_form::Weights;
 use tidy_writer::tidy_text::write_tidy;
 
 // What tidying a text comes to: the tidy text's length; a tidy text that does not fit (16 at place 0), with the length that it needs; or the reader's refusal.
-#[derive(Drop)]
+#[derive(Clone, Copy)]
 pub enum TidyResult {
     Written { length: usize, used: Used },
     TooLong { needed: usize, used: Used },

@@ -3,7 +3,7 @@ ghost use Rattle.std.specs.Prelude.{◌≡◌, ◌≤◌, take, drop};
 ghost use Rattle.tidy_form.specs.Printed.{weighted};
 
 // Whether the w of a v, its weight, is written where it is 1.000000 too: Q-11, "the old form stays as a choice that the caller names".
-#[derive(Drop)]
+#[derive(Clone, Copy)]
 pub enum Weights {
     WhenNeeded,
     Always,

@@ -13,7 +13,7 @@ ghost use Rattle.digits.specs.Straight.{first, WholeRead, UptoRead};
 use decimals::exponent::{Magnitude, is_e, scaled, shifted, sign_length};
 use digits::{Run, byte_at, byte_in, digits_end, digits_upto, whole_run, word_ends};
 
-#[derive(Drop)]
+#[derive(Clone, Copy)]
 pub enum Number {
     Value { value: i32, end: usize },
     Malformed,
@@ -170,7 +170,7 @@ pub fn number_at(text: &[u8], at: usize) -> Number
 
 // Most numbers are far from the text's end and have at most four digits before the point and six after it: these are read straight ahead, in whole
 // millionths, and every other as `number_at` does.
-#[derive(Drop)]
+#[derive(Clone, Copy)]
 pub enum Exact {
     Of { millionths: u64, end: usize },
     Scaled { millionths: u64, end: usize }, // e or E follows
