@@ -54,6 +54,10 @@ add_same f (fin p m e) (fin q n d) s a t b v w =
     let x : m * up e * down d ≡ a * c = ap (λ (z : ℕ). z * down d) (sym (mul-one (m * up e)) ∙ v.1) ∙ mul_assoc a (down e) (down d) in
     let y : n * up d * down e ≡ b * c = ap (λ (z : ℕ). z * down e) (sym (mul-one (n * up d)) ∙ w.1) ∙ mul_right_comm b (down d) (down e) ∙ mul_assoc b (down e) (down d) in
     (λ i. sum f (v.0 i) (x i) (w.0 i) (y i) c) ∙ sum_same f s a t b c (mul-pos (down_pos e) (down_pos d))
+add_same f lib.Ieee.nan y s a t b v w = elim v [ ]
+add_same f (lib.Ieee.inf _) y s a t b v w = elim v [ ]
+add_same f (fin p m e) lib.Ieee.nan s a t b v w = elim w [ ]
+add_same f (fin p m e) (lib.Ieee.inf _) s a t b v w = elim w [ ]
 
 -- ---- a sum of two whole numbers, by their signs
 both-plus : (f : Format) (a b : ℕ) → sum f false a false b 1 ≡ of_int f (pos (a + b))
@@ -106,6 +110,8 @@ of_int-value f (negsuc n) h = round_whole f true (suc n) h
 neg_value : (x : Float) (s : Bool) (a c : ℕ) → HasValue x s a c → HasValue (neg x) (not s) a c
 unfolding neg
 neg_value (fin t m e) s a c v = (ap not v.0, v.1)
+neg_value lib.Ieee.nan s a c v = elim v [ ]
+neg_value (lib.Ieee.inf _) s a c v = elim v [ ]
 
 less : (a b : ℕ) → sub_ℕ a b ≡ pos a -ℤ pos b
 less a zero = ap (λ (t : Bool). cond t (negsuc (0 - suc a)) (pos (a - 0))) (le-ltb a 0 zero-le) ∙ ap pos (omega arith)
