@@ -16,5 +16,5 @@ returns c =
     let a = c.args in
     let w = c.numbers_from in
     c.lent_corner_from-2.ensures
-    ∙ corner-copied a.corners.now c.corner_place-at.result w.new.1.1.0 w.ensures (search rules)
+    ∙ corner-copied a.corners.now c.corner_place-at.result w.new.row w.ensures (search rules)
     ∙ ap (corner_in a.corners.now) c.corner_place-at.ensures

@@ -1,0 +1,7 @@
+-- The row, by the count of its words.
+use mathlib.Core.Path.{refl}
+use borrow.Author.Rules.{rules}
+use Rattle.statements.proofs.rows.vertex_rules.Goals as goal
+
+pub returns : goal.returns
+returns c = rw (c.plain_rules.ensures, c.vertex_count.ensures) refl
