@@ -23,4 +23,4 @@ returns c =
     let w = c.numbers_from in
     let r = c.values_from in
     c.lent_body-2.ensures
-    ∙ body-copied a.bodies.now a.ranges.now a.index c.numbers_from.last.1.1.0 c.values_from.last.1.1.0 c.numbers_from.ensures c.values_from.ensures (search rules) (search rules)
+    ∙ body-copied a.bodies.now a.ranges.now a.index c.numbers_from.new.row c.values_from.new.row c.numbers_from.ensures c.values_from.ensures (search rules) (search rules)

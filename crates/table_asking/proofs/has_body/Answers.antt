@@ -6,9 +6,9 @@ use Rattle.table_asking.proofs.has_body.Goals as goal
 pub returns-then-is_held : goal.returns-then-is_held
 returns-then-is_held c =
     let a = c.args in
-    body-ranged a.used a.bodies.now a.ranges.now a.body c.is_held_lem.ensures c.if-is_held.true
+    body-ranged a.used a.bodies.now a.ranges.now a.body c.is_held.ensures c.if-is_held.true
 
 pub returns : goal.returns
 returns c =
     let a = c.args in
-    body-unheld a.used a.bodies.now a.ranges.now a.body c.is_held_lem.ensures c.if-is_held.false
+    body-unheld a.used a.bodies.now a.ranges.now a.body c.is_held.ensures c.if-is_held.false

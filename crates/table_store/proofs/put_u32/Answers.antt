@@ -7,10 +7,10 @@ use Rattle.table_store.proofs.Stores.{StoredTo, stored-none, stored_more, put-st
 use Rattle.table_store.proofs.put_u32.Goals as goal
 
 pub returns-then-numbers-at : goal.returns-then-numbers-at
-returns-then-numbers-at c = let a = c.args in put_refused a.numbers.now a.at a.row.now (search rules)
+returns-then-numbers-at c = let a = c.args in let both = put_refused a.numbers.now a.at a.row.now (search rules) in record { value = both.0; numbers_after = both.1 }
 
 pub returns-then-numbers-at-2 : goal.returns-then-numbers-at-2
-returns-then-numbers-at-2 c = let a = c.args in put_refused a.numbers.now a.at a.row.now (search rules)
+returns-then-numbers-at-2 c = let a = c.args in let both = put_refused a.numbers.now a.at a.row.now (search rules) in record { value = both.0; numbers_after = both.1 }
 
 pub loop-i-init : goal.loop-i-init
 loop-i-init c = let a = c.args in stored-none a.numbers.now a.at a.row.now
@@ -23,4 +23,4 @@ loop-i-preserved c =
 pub returns : goal.returns
 returns c =
     let a = c.args in
-    put-stored a.numbers.now a.at a.row.now c.loop-i.invariant c.if-numbers-at.false c.if-numbers-at-2.false c.loop-i-test.false
+    let both = put-stored a.numbers.now a.at a.row.now c.loop-i.invariant c.if-numbers-at.false c.if-numbers-at-2.false c.loop-i-test.false in record { value = both.0; numbers_after = both.1 }
