@@ -1,0 +1,13 @@
+use borrow.Author.Rules.{rules}
+use mathlib.Core.Path.{◌≡◌, refl, ◌∙◌}
+use Prim.Native.Nat.{◌-◌, ◌≤◌}
+use Rattle.record_rules.specs.Rules.{curves_among}
+use Rattle.record_rules.proofs.OneBody.{curves-more, curves-past}
+use native.Mathlib.Omega.{arith}
+use Rattle.record_rules.proofs.loops.curves_before.Given as goal
+
+abbrev pub invariant-loop-i : goal.invariant-loop-i
+invariant-loop-i l = (l.i ≤ l.index) × (l.before ≤ l.i) × (l.before ≡ curves_among l.elements l.i)
+
+abbrev pub decreases-loop-i : goal.decreases-loop-i
+decreases-loop-i l = l.index - l.i
