@@ -1,0 +1,51 @@
+-- The invariant: the curv2 elements below i are counted, and none of them is the one looked for.
+use mathlib.Core.Path.{◌≡◌, refl, sym, ap, ◌∙◌}
+use mathlib.Core.Logic.{⊎_elim}
+use Prim.Native.Nat.{◌+◌, ◌-◌, ◌≤◌}
+use native.Mathlib.Omega.{arith}
+use Rattle.record_rules.specs.Rules.{curves_among}
+use Rattle.c_tables.specs.CurveNumbers.{curve_among}
+use Rattle.c_tables.proofs.CurveNumbers.{found, other-curve, no-curve, of-whole}
+use borrow.Author.Rules.{rules}
+use Rattle.c_tables.proofs.curve_numbers.curve_of.Goals as goal
+
+pub loop-i-init : goal.loop-i-init
+loop-i-init c = (omega arith, omega arith, refl, refl)
+
+pub overflow_add-seen : goal.overflow_add-seen
+overflow_add-seen c = omega arith
+
+pub overflow_add-result : goal.overflow_add-result
+overflow_add-result c = omega arith
+
+pub returns-then-seen-curve : goal.returns-then-seen-curve
+returns-then-seen-curve c =
+    let a = c.args in
+    of-whole a.used a.elements.now a.curve c.whole_elements-whole.ensures (found a.elements.now a.curve c.loop-i.i c.loop-i.seen c.loop-i.invariant.2 c.whole_elements-whole.result (omega arith) (sym c.kind_in.ensures ∙ c.if-kind_in-eq-CURVE2.true) c.if-seen-curve.true)
+
+pub overflow_add-i : goal.overflow_add-i
+overflow_add-i c = omega arith
+
+pub loop-i-smaller : goal.loop-i-smaller
+loop-i-smaller c = omega arith
+
+pub loop-i-preserved : goal.loop-i-preserved
+loop-i-preserved c =
+    let a = c.args in
+    let kind = c.kind_in.ensures in
+    ⊎_elim
+    (λ w.
+    let s : c.if-kind_in-eq-CURVE2.seen ≡ c.loop-i.seen + 1 = w.2 in
+    let p = other-curve a.elements.now a.curve c.loop-i.i c.loop-i.seen c.loop-i.invariant.2 c.loop-i.invariant.3 (sym kind ∙ w.0.taken) w.1.left in
+    (omega arith, omega arith, s ∙ p.0, p.1))
+    (λ w.
+    let s : c.if-kind_in-eq-CURVE2.seen ≡ c.loop-i.seen = w.1 in
+    let p = no-curve a.elements.now a.curve c.loop-i.i c.loop-i.seen c.loop-i.invariant.2 c.loop-i.invariant.3 (λ f. w.0.left (kind ∙ f)) in
+    (omega arith, omega arith, s ∙ p.0, p.1))
+    c.if-kind_in-eq-CURVE2.branch
+
+pub returns : goal.returns
+returns c =
+    let a = c.args in
+    let end : c.loop-i.i ≡ c.whole_elements-whole.result = omega arith in
+    of-whole a.used a.elements.now a.curve c.whole_elements-whole.ensures (sym c.loop-i.invariant.3 ∙ ap (curve_among a.elements.now a.curve) end)

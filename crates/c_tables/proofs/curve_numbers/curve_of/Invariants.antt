@@ -1,0 +1,16 @@
+use mathlib.Core.Path.{◌≡◌, refl, sym, ap, ◌∙◌}
+use mathlib.Core.Logic.{⊎_elim}
+use Prim.Native.Nat.{◌+◌, ◌-◌, ◌≤◌}
+use native.Mathlib.Omega.{arith}
+use Rattle.record_rules.specs.Rules.{curves_among}
+use Rattle.c_tables.specs.CurveNumbers.{curve_among}
+use Rattle.c_tables.proofs.CurveNumbers.{found, other-curve, no-curve, of-whole}
+use borrow.Author.Rules.{rules}
+use Rattle.c_tables.proofs.curve_numbers.curve_of.Given as goal
+
+abbrev pub invariant-loop-i : goal.invariant-loop-i
+invariant-loop-i l =
+    (l.i ≤ l.whole) × (l.seen ≤ l.i) × (l.seen ≡ curves_among l.elements l.i) × (curve_among l.elements l.curve l.i ≡ 0)
+
+abbrev pub decreases-loop-i : goal.decreases-loop-i
+decreases-loop-i l = l.whole - l.i
