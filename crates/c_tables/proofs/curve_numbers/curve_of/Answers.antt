@@ -8,6 +8,7 @@ use Rattle.c_tables.specs.CurveNumbers.{curve_among}
 use Rattle.c_tables.proofs.CurveNumbers.{found, other-curve, no-curve, of-whole}
 use borrow.Author.Rules.{rules}
 use Rattle.c_tables.proofs.curve_numbers.curve_of.Goals as goal
+use Rattle.c_tables.proofs.curve_numbers.curve_of.Goals.{then-kind_in-eq-CURVE2+else-seen-curve, else-kind_in-eq-CURVE2}
 
 pub loop-i-init : goal.loop-i-init
 loop-i-init c = (omega arith, omega arith, refl, refl)
@@ -33,16 +34,14 @@ pub loop-i-preserved : goal.loop-i-preserved
 loop-i-preserved c =
     let a = c.args in
     let kind = c.kind_in.ensures in
-    ⊎_elim
-    (λ w.
-    let s : c.if-kind_in-eq-CURVE2.seen ≡ c.loop-i.seen + 1 = w.2 in
-    let p = other-curve a.elements.now a.curve c.loop-i.i c.loop-i.seen c.loop-i.invariant.2 c.loop-i.invariant.3 (sym kind ∙ w.0.taken) w.1.left in
-    (omega arith, omega arith, s ∙ p.0, p.1))
-    (λ w.
-    let s : c.if-kind_in-eq-CURVE2.seen ≡ c.loop-i.seen = w.1 in
-    let p = no-curve a.elements.now a.curve c.loop-i.i c.loop-i.seen c.loop-i.invariant.2 c.loop-i.invariant.3 (λ f. w.0.left (kind ∙ f)) in
-    (omega arith, omega arith, s ∙ p.0, p.1))
-    c.if-kind_in-eq-CURVE2.branch
+    elim c.if-kind_in-eq-CURVE2.branch [
+      | then-kind_in-eq-CURVE2+else-seen-curve w ↦
+          let p = other-curve a.elements.now a.curve c.loop-i.i c.loop-i.seen c.loop-i.invariant.2 c.loop-i.invariant.3 (sym kind ∙ w.if-kind_in-eq-CURVE2.true) w.if-seen-curve.false in
+          (omega arith, omega arith, w.seen-is ∙ p.0, p.1)
+      | else-kind_in-eq-CURVE2 w ↦
+          let p = no-curve a.elements.now a.curve c.loop-i.i c.loop-i.seen c.loop-i.invariant.2 c.loop-i.invariant.3 (λ f. w.if-kind_in-eq-CURVE2.false (kind ∙ f)) in
+          (omega arith, omega arith, w.seen-is ∙ p.0, p.1)
+    ]
 
 pub returns : goal.returns
 returns c =
