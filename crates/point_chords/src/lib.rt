@@ -1,4 +1,6 @@
 // The tests of a chord, over the numbers of one axis.
+#![tactic(auto)]
+
 ghost use Rattle.std.specs.Prelude.{◌≡◌};
 ghost use Rattle.point_chords.specs.Chords.{middle, near, short_interval};
 

@@ -8,8 +8,7 @@ use mir.Val.{SFits}
 use Rattle.rounding.proofs.Bits.{fits-abs, read_back, widened}
 use Rattle.point_chords.specs.Chords.{near}
 use Rattle.point_chords.proofs.Sizes.{twice-size, sum-size, off-size, wide, kept, wide_fits, sum_fits, sum_is}
-use Rattle.point_chords.proofs.is_near.Statement.{statement}
-use Rattle.point_chords.proofs.is_near.Tie as tie
+use Rattle.point_chords.proofs.is_near.Goals as goal
 
 module _ {x : ℤ} (f : SFits w32 x) where
   twice-fits : SFits w64 (pos 2 *ℤ wide x)
@@ -39,59 +38,43 @@ module _ {t : ℤ} (f : SFits w32 t) where
   under-is : kept (pos 0 -ℤ kept (pos 2 *ℤ wide t)) ≡ pos 0 -ℤ pos 2 *ℤ t
   under-is = rw (twice-is f) (read_back w64 (pos 0 -ℤ pos 2 *ℤ t) (omega (arith, under-small)))
 
-cast-room : tie.Need-overflow-cast-room
-cast-room c = wide_fits c.ranges.tolerance
+pub overflow_cast-room : goal.overflow_cast-room
+overflow_cast-room c = wide_fits c.ranges.tolerance
 
-mul-room : tie.Need-overflow-mul-room
-mul-room c = twice-fits c.ranges.tolerance
+pub overflow_mul-room : goal.overflow_mul-room
+overflow_mul-room c = twice-fits c.ranges.tolerance
 
-cast-off : tie.Need-overflow-cast-off
-cast-off c = wide_fits c.ranges.m
+pub overflow_cast-off : goal.overflow_cast-off
+overflow_cast-off c = wide_fits c.ranges.m
 
-mul-off : tie.Need-overflow-mul-off
-mul-off c = twice-fits c.ranges.m
+pub overflow_mul-off : goal.overflow_mul-off
+overflow_mul-off c = twice-fits c.ranges.m
 
-cast-off-2 : tie.Need-overflow-cast-off-2
-cast-off-2 c = wide_fits c.ranges.p
+pub overflow_cast-off-2 : goal.overflow_cast-off-2
+overflow_cast-off-2 c = wide_fits c.ranges.p
 
-cast-off-3 : tie.Need-overflow-cast-off-3
-cast-off-3 c = wide_fits c.ranges.q
+pub overflow_cast-off-3 : goal.overflow_cast-off-3
+overflow_cast-off-3 c = wide_fits c.ranges.q
 
-add-off : tie.Need-overflow-add-off
-add-off c = sum_fits c.ranges.p c.ranges.q
+pub overflow_add-off : goal.overflow_add-off
+overflow_add-off c = sum_fits c.ranges.p c.ranges.q
 
-sub-off : tie.Need-overflow-sub-off
-sub-off c = off-fits c.ranges.p c.ranges.q c.ranges.m
+pub overflow_sub-off : goal.overflow_sub-off
+overflow_sub-off c = off-fits c.ranges.p c.ranges.q c.ranges.m
 
-sub-if1 : tie.Need-overflow-sub-if1
-sub-if1 c = under-fits c.ranges.tolerance
+pub overflow_sub-room : goal.overflow_sub-room
+overflow_sub-room c = under-fits c.ranges.tolerance
 
-returns : tie.Need-returns
+pub returns-then-room-off : goal.returns-then-room-off
 unfolding near
-returns c =
-    let f = c.before.ranges in
-    let k = rw (under-is f.tolerance, off-is f.p f.q f.m) at c.if1.true in
+returns-then-room-off c =
+    let f = c.ranges in
+    let k = rw (under-is f.tolerance, off-is f.p f.q f.m) at c.if-room-off.true in
     rw (off-is f.p f.q f.m, twice-is f.tolerance, k)
 
-returns-2 : tie.Need-returns-2
+pub returns : goal.returns
 unfolding near
-returns-2 c =
-    let f = c.before.ranges in
-    let k = rw (under-is f.tolerance, off-is f.p f.q f.m) at c.if1.false in
+returns c =
+    let f = c.ranges in
+    let k = rw (under-is f.tolerance, off-is f.p f.q f.m) at c.if-room-off.false in
     rw k
-
-pub is-near-spec : {M : Type 1} → statement M
-is-near-spec =
-    tie.close
-    (tie.spec
-    cast-room
-    mul-room
-    cast-off
-    mul-off
-    cast-off-2
-    cast-off-3
-    add-off
-    sub-off
-    sub-if1
-    returns
-    returns-2)

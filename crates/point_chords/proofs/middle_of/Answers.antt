@@ -12,8 +12,7 @@ use Rattle.rounding.proofs.Bits.{fits-abs, read_back}
 use Rattle.point_chords.specs.Chords.{middle}
 use Rattle.point_chords.proofs.Middle.{lowered, half-size, middle-fits}
 use Rattle.point_chords.proofs.Sizes.{wide, kept, wide_fits, sum_fits, sum_is, sum-size}
-use Rattle.point_chords.proofs.middle_of.Statement.{statement}
-use Rattle.point_chords.proofs.middle_of.Tie as tie
+use Rattle.point_chords.proofs.middle_of.Goals as goal
 
 module _ {a b : ℤ} (f : SFits w32 a) (g : SFits w32 b) where
   -- whatever it is raised and lowered by, no step passes 64 bits
@@ -52,41 +51,28 @@ module _ {a b : ℤ} (f : SFits w32 a) (g : SFits w32 b) where
 
   kept_low : kept low ≡ middle a b
   unfolding middle
-  kept_low = rw (half_is 4294967296 (omega arith), lowered (a +ℤ b) (sum-size f g)) (to_z-of_z (sfits_widen tt middle-in))
+  kept_low = rw (half_is 4294967296 (omega arith), lowered (a +ℤ b) (sum-size f g)) (to_z-of_z {w = w64} (sfits_widen {w = w32} {w' = w64} (tt {0}) middle-in))
 
-cast-raised : tie.Need-overflow-cast-raised
-cast-raised c = wide_fits c.ranges.a
+pub overflow_cast-raised : goal.overflow_cast-raised
+overflow_cast-raised c = wide_fits c.ranges.a
 
-cast-raised-2 : tie.Need-overflow-cast-raised-2
-cast-raised-2 c = wide_fits c.ranges.b
+pub overflow_cast-raised-2 : goal.overflow_cast-raised-2
+overflow_cast-raised-2 c = wide_fits c.ranges.b
 
-add-raised : tie.Need-overflow-add-raised
-add-raised c = sum_fits c.ranges.a c.ranges.b
+pub overflow_add-raised : goal.overflow_add-raised
+overflow_add-raised c = sum_fits c.ranges.a c.ranges.b
 
-add-raised-2 : tie.Need-overflow-add-raised-2
-add-raised-2 c = raised-fits c.ranges.a c.ranges.b _ (omega arith)
+pub overflow_add-raised-2 : goal.overflow_add-raised-2
+overflow_add-raised-2 c = raised-fits c.ranges.a c.ranges.b _ (omega arith)
 
-div-result : tie.Need-nonzero-div-result
-div-result c = (omega arith, half-fits c.ranges.a c.ranges.b _ (omega arith))
+pub nonzero_div-result : goal.nonzero_div-result
+nonzero_div-result c = (omega arith, half-fits c.ranges.a c.ranges.b _ (omega arith))
 
-sub-result : tie.Need-overflow-sub-result
-sub-result c = low_fits c.ranges.a c.ranges.b _ (omega arith) _ (omega arith)
+pub overflow_sub-result : goal.overflow_sub-result
+overflow_sub-result c = low_fits c.ranges.a c.ranges.b _ (omega arith) _ (omega arith)
 
-cast-result : tie.Need-overflow-cast-result
-cast-result c = subst (λ (z : ℤ). SFits w32 z) (sym (kept_low c.ranges.a c.ranges.b)) (middle-in c.ranges.a c.ranges.b)
+pub overflow_cast-result : goal.overflow_cast-result
+overflow_cast-result c = subst (λ (z : ℤ). SFits w32 z) (sym (kept_low c.ranges.a c.ranges.b)) (middle-in c.ranges.a c.ranges.b)
 
-returns : tie.Need-returns
+pub returns : goal.returns
 returns c = ap (λ (z : ℤ). to_z w32 (of_z w32 z)) (kept_low c.ranges.a c.ranges.b) ∙ to_z-of_z (middle-in c.ranges.a c.ranges.b)
-
-pub middle-of-spec : {M : Type 1} → statement M
-middle-of-spec =
-    tie.close
-    (tie.spec
-    cast-raised
-    cast-raised-2
-    add-raised
-    add-raised-2
-    div-result
-    sub-result
-    cast-result
-    returns)
