@@ -1,4 +1,6 @@
 // What a point's working row is made from: the segment or span found, its parameters and its controls.
+#![tactic(auto)]
+
 ghost use Rattle.std.specs.Prelude.{◌≡◌, ◌≤◌, ◌<◌};
 ghost use Rattle.rounding.specs.Range.{InRange};
 ghost use Rattle.point_exact.specs.Sampled.{low_at, high_at};

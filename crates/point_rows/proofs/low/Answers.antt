@@ -1,0 +1,68 @@
+-- Each side of the test reads the parameter of that kind's definition.
+use mathlib.Core.Path.{◌≡◌}
+use Prim.Native.Nat.{◌+◌, ◌-◌, ◌≤◌, ◌<◌}
+use native.Mathlib.Omega.{arith}
+use borrow.Author.Tests.{eq-eqb, ne_eqb}
+use lib.Dec.{eqb}
+use lib.ListN.{length}
+use mathlib.Core.Bool.{true, false}
+use Rattle.rounding.specs.Range.{InRange}
+use Rattle.rounding.proofs.Bits.{read-back-small}
+use Rattle.point_exact.specs.Directions.{at}
+use Rattle.point_rows.proofs.Places.{deep, inside, spline-low, bezier-low, segment-inside}
+use Rattle.point_rows.proofs.low.Goals as goal
+use Rattle.point_rows.proofs.low.Goals.{After-result-1, After-result-2-1, Else-along-eq-BSPLINE, Then-along-eq-BSPLINE}
+
+is-spline : (c : Then-along-eq-BSPLINE) → eqb c.args.along.basis 2 ≡ true
+is-spline c = eq-eqb c.args.along.basis 2 c.if-along-eq-BSPLINE.true
+
+within : (c : Then-along-eq-BSPLINE) → (c.args.r ≤ c.args.chosen + c.args.j) × (c.args.chosen + c.args.j + 1 < length c.args.x.now)
+within c = (omega (arith, deep c.args.along c.args.x.now c.args.t (is-spline c) c.requires.0), inside c.args.along c.args.x.now c.args.t (is-spline c) c.requires.0 c.args.j (omega arith))
+
+pub overflow_add-result : goal.overflow_add-result
+overflow_add-result c = omega (arith, within c)
+
+pub overflow_sub-result : goal.overflow_sub-result
+overflow_sub-result c = omega (arith, within c)
+
+pub offset_bounds-x-chosen : goal.offset_bounds-x-chosen
+offset_bounds-x-chosen c = omega (arith, within c)
+
+pub bounds-x-chosen : goal.bounds-x-chosen
+bounds-x-chosen c = omega (arith, within c)
+
+is-spline-at-After-result-1 : (c : After-result-1) → eqb c.args.along.basis 2 ≡ true
+is-spline-at-After-result-1 c = eq-eqb c.args.along.basis 2 c.if-along-eq-BSPLINE.true
+
+within-at-After-result-1 : (c : After-result-1) → (c.args.r ≤ c.args.chosen + c.args.j) × (c.args.chosen + c.args.j + 1 < length c.args.x.now)
+within-at-After-result-1 c = (omega (arith, deep c.args.along c.args.x.now c.args.t (is-spline-at-After-result-1 c) c.requires.0), inside c.args.along c.args.x.now c.args.t (is-spline-at-After-result-1 c) c.requires.0 c.args.j (omega arith))
+
+small : (c : After-result-1) → InRange (at c.args.x.now (c.args.chosen + c.args.j - c.args.r))
+small c = c.requires.0.sound.small (c.args.chosen + c.args.j - c.args.r) (omega (arith, (within-at-After-result-1 c)))
+
+pub returns-then-along-eq-BSPLINE : goal.returns-then-along-eq-BSPLINE
+returns-then-along-eq-BSPLINE c = rw (read-back-small _ (small c)) (spline-low c.args.along c.args.x.now c.args.t (is-spline-at-After-result-1 c) c.args.chosen c.args.r c.args.j c.requires.0.is, small c)
+
+is-bezier : (c : Else-along-eq-BSPLINE) → eqb c.args.along.basis 2 ≡ false
+is-bezier c = ne_eqb c.args.along.basis 2 c.if-along-eq-BSPLINE.false
+
+there : (c : Else-along-eq-BSPLINE) → c.args.chosen + 1 < length c.args.x.now
+there c = segment-inside c.args.along c.args.x.now c.args.t (is-bezier c) c.requires.0
+
+pub offset_bounds-x-chosen-2 : goal.offset_bounds-x-chosen-2
+offset_bounds-x-chosen-2 c = omega (arith, there c)
+
+pub bounds-x-chosen-2 : goal.bounds-x-chosen-2
+bounds-x-chosen-2 c = omega (arith, there c)
+
+is-bezier-at-After-result-2-1 : (c : After-result-2-1) → eqb c.args.along.basis 2 ≡ false
+is-bezier-at-After-result-2-1 c = ne_eqb c.args.along.basis 2 c.if-along-eq-BSPLINE.false
+
+there-at-After-result-2-1 : (c : After-result-2-1) → c.args.chosen + 1 < length c.args.x.now
+there-at-After-result-2-1 c = segment-inside c.args.along c.args.x.now c.args.t (is-bezier-at-After-result-2-1 c) c.requires.0
+
+small-too : (c : After-result-2-1) → InRange (at c.args.x.now c.args.chosen)
+small-too c = c.requires.0.sound.small c.args.chosen (omega (arith, (there-at-After-result-2-1 c)))
+
+pub returns : goal.returns
+returns c = rw (read-back-small _ (small-too c)) (bezier-low c.args.along c.args.x.now c.args.t (is-bezier-at-After-result-2-1 c) c.args.chosen c.args.r c.args.j c.requires.0.is, small-too c)

@@ -1,0 +1,19 @@
+-- The search from the first segment or span that may be chosen.
+use borrow.Author.Tests.{eq-eqb, ne_eqb}
+use mir.Facts.{to_z-of_z}
+use Rattle.point_rows.proofs.Searched.{begun, lead-spline, lead-bezier}
+use Rattle.point_rows.proofs.search.find.Goals as goal
+
+pub search-requires : goal.search-requires
+search-requires c =
+    rw (to_z-of_z c.ranges.t) (c.requires, begun c.requires (lead-spline c.args.along c.args.x.now (eq-eqb _ _ c.if-along-eq-BSPLINE.true)))
+
+pub returns-then-along-eq-BSPLINE : goal.returns-then-along-eq-BSPLINE
+returns-then-along-eq-BSPLINE c = rw (to_z-of_z c.ranges.t) at c.search.ensures
+
+pub search-requires-2 : goal.search-requires-2
+search-requires-2 c =
+    rw (to_z-of_z c.ranges.t) (c.requires, begun c.requires (lead-bezier c.args.along c.args.x.now (ne_eqb _ _ c.if-along-eq-BSPLINE.false)))
+
+pub returns : goal.returns
+returns c = rw (to_z-of_z c.ranges.t) at c.search-2.ensures
