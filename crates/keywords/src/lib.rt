@@ -1,4 +1,6 @@
 // The spellings of keywords and of the fixed words after them, one table each, and what a word of a text finds there.
+#![tactic(auto)]
+
 ghost use Rattle.std.specs.Prelude.{◌≡◌, cond, ◌+◌, ◌≤◌, length, drop};
 ghost use Rattle.std.proofs.lemmas.List.Edits.{sets};
 ghost use Rattle.lists.specs.Lists.{same};
@@ -115,25 +117,25 @@ fn statement_of(letter: u8) -> Statement
     ensures { result ≡ of_letter letter }
 {
     match letter {
-        b'_a' => Statement::Carried(Carried::Vertex(VertexKind::Geometric)),
-        b'_b' => Statement::Carried(Carried::Vertex(VertexKind::Texture)),
-        b'_c' => Statement::Carried(Carried::Vertex(VertexKind::Normal)),
-        b'_d' => Statement::Carried(Carried::Vertex(VertexKind::Parametric)),
-        b'_e' => Statement::Carried(Carried::BodyType),
-        b'_f' => Statement::Carried(Carried::Degree),
-        b'_g' => Statement::Carried(Carried::Element(Shape::Point)),
-        b'_h' => Statement::Carried(Carried::Element(Shape::Line)),
-        b'_i' => Statement::Carried(Carried::Element(Shape::Face)),
-        b'_j' => Statement::Carried(Carried::Body(Free::Curve)),
-        b'_k' => Statement::Carried(Carried::Body(Free::Curve2)),
-        b'_l' => Statement::Carried(Carried::Body(Free::Surface)),
-        b'_m' => Statement::Carried(Carried::Parameters),
-        b'_n' => Statement::Carried(Carried::Trim),
-        b'_o' => Statement::Carried(Carried::Hole),
-        b'_p' => Statement::Carried(Carried::End),
-        b'_q' => Statement::Carried(Carried::Group),
-        b'_r' => Statement::Carried(Carried::Smoothing),
-        b'_s' => Statement::Carried(Carried::Material),
+        b'A' => Statement::Carried(Carried::Vertex(VertexKind::Geometric)),
+        b'B' => Statement::Carried(Carried::Vertex(VertexKind::Texture)),
+        b'C' => Statement::Carried(Carried::Vertex(VertexKind::Normal)),
+        b'D' => Statement::Carried(Carried::Vertex(VertexKind::Parametric)),
+        b'E' => Statement::Carried(Carried::BodyType),
+        b'F' => Statement::Carried(Carried::Degree),
+        b'G' => Statement::Carried(Carried::Element(Shape::Point)),
+        b'H' => Statement::Carried(Carried::Element(Shape::Line)),
+        b'I' => Statement::Carried(Carried::Element(Shape::Face)),
+        b'J' => Statement::Carried(Carried::Body(Free::Curve)),
+        b'K' => Statement::Carried(Carried::Body(Free::Curve2)),
+        b'L' => Statement::Carried(Carried::Body(Free::Surface)),
+        b'M' => Statement::Carried(Carried::Parameters),
+        b'N' => Statement::Carried(Carried::Trim),
+        b'O' => Statement::Carried(Carried::Hole),
+        b'P' => Statement::Carried(Carried::End),
+        b'Q' => Statement::Carried(Carried::Group),
+        b'R' => Statement::Carried(Carried::Smoothing),
+        b'S' => Statement::Carried(Carried::Material),
         b'-' => Statement::Carried(Carried::PassedOver),
         b'!' => Statement::Refused,
         _ => Statement::Unknown,
@@ -144,15 +146,15 @@ fn argument_of(letter: u8) -> Argument
     ensures { result ≡ of_sign letter }
 {
     match letter {
-        b'_a' => Argument::Rational,
-        b'_b' => Argument::BasisMatrix,
-        b'_c' => Argument::Bezier,
-        b'_d' => Argument::Bspline,
-        b'_e' => Argument::Cardinal,
-        b'_f' => Argument::Taylor,
-        b'_g' => Argument::DirectionU,
-        b'_h' => Argument::DirectionV,
-        b'_i' => Argument::Off,
+        b'A' => Argument::Rational,
+        b'B' => Argument::BasisMatrix,
+        b'C' => Argument::Bezier,
+        b'D' => Argument::Bspline,
+        b'E' => Argument::Cardinal,
+        b'F' => Argument::Taylor,
+        b'G' => Argument::DirectionU,
+        b'H' => Argument::DirectionV,
+        b'I' => Argument::Off,
         _ => Argument::Other,
     }
 }
@@ -228,10 +230,10 @@ fn vertex_letter(kind: VertexKind) -> u8
     ensures { result ≡ letter_of (Statement.Carried (Carried.Vertex kind)) }
 {
     match kind {
-        VertexKind::Geometric => b'_a',
-        VertexKind::Texture => b'_b',
-        VertexKind::Normal => b'_c',
-        VertexKind::Parametric => b'_d',
+        VertexKind::Geometric => b'A',
+        VertexKind::Texture => b'B',
+        VertexKind::Normal => b'C',
+        VertexKind::Parametric => b'D',
     }
 }
 
@@ -239,9 +241,9 @@ fn element_letter(shape: Shape) -> u8
     ensures { result ≡ letter_of (Statement.Carried (Carried.Element shape)) }
 {
     match shape {
-        Shape::Point => b'_g',
-        Shape::Line => b'_h',
-        Shape::Face => b'_i',
+        Shape::Point => b'G',
+        Shape::Line => b'H',
+        Shape::Face => b'I',
     }
 }
 
@@ -249,9 +251,9 @@ fn body_letter(free: Free) -> u8
     ensures { result ≡ letter_of (Statement.Carried (Carried.Body free)) }
 {
     match free {
-        Free::Curve => b'_j',
-        Free::Curve2 => b'_k',
-        Free::Surface => b'_l',
+        Free::Curve => b'J',
+        Free::Curve2 => b'K',
+        Free::Surface => b'L',
     }
 }
 
@@ -262,15 +264,15 @@ fn letter_of(statement: Carried) -> u8
         Carried::Vertex(kind) => vertex_letter(kind),
         Carried::Element(shape) => element_letter(shape),
         Carried::Body(free) => body_letter(free),
-        Carried::Parameters => b'_m',
-        Carried::Trim => b'_n',
-        Carried::Hole => b'_o',
-        Carried::End => b'_p',
-        Carried::BodyType => b'_e',
-        Carried::Degree => b'_f',
-        Carried::Group => b'_q',
-        Carried::Smoothing => b'_r',
-        Carried::Material => b'_s',
+        Carried::Parameters => b'M',
+        Carried::Trim => b'N',
+        Carried::Hole => b'O',
+        Carried::End => b'P',
+        Carried::BodyType => b'E',
+        Carried::Degree => b'F',
+        Carried::Group => b'Q',
+        Carried::Smoothing => b'R',
+        Carried::Material => b'S',
         Carried::PassedOver => b'-',
     }
 }
@@ -279,15 +281,15 @@ fn sign_of(argument: Argument) -> u8
     ensures { result ≡ sign_of argument }
 {
     match argument {
-        Argument::Rational => b'_a',
-        Argument::BasisMatrix => b'_b',
-        Argument::Bezier => b'_c',
-        Argument::Bspline => b'_d',
-        Argument::Cardinal => b'_e',
-        Argument::Taylor => b'_f',
-        Argument::DirectionU => b'_g',
-        Argument::DirectionV => b'_h',
-        Argument::Off => b'_i',
+        Argument::Rational => b'A',
+        Argument::BasisMatrix => b'B',
+        Argument::Bezier => b'C',
+        Argument::Bspline => b'D',
+        Argument::Cardinal => b'E',
+        Argument::Taylor => b'F',
+        Argument::DirectionU => b'G',
+        Argument::DirectionV => b'H',
+        Argument::Off => b'I',
         Argument::Other => b' ',
     }
 }
