@@ -135,7 +135,7 @@ fn put_form(form: u8, text: &[u8], at: usize)
     match form {
         b'n' => number(text, at),
         b'r' => reference(text, at, 4),
-        b'_r' => reference(text, at, 4_294_967_295),
+        b'R' => reference(text, at, 4_294_967_295),
         b'p' => corner(text, at, false, false),
         b'l' => corner(text, at, true, false),
         b'f' => corner(text, at, true, true),
