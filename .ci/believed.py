@@ -31,7 +31,7 @@ THEOREMS = {
     "end_to_end/proofs/Polylines.antt": "filled-polylines own-polylines",
     "read_rooms/proofs/NeverLacks.antt": "never-lacks-room",
     "read_rooms/proofs/Few.antt": "few-for-its-words",
-    "read_rooms/proofs/Words.antt": "few-words",
+    "read_rooms/proofs/Words.antt": "few_words",
     "polyline/proofs/Demanded.antt": "polylines-on-curves",
     "polyline/proofs/Every.antt": "every-chord",
     "point_chords/proofs/Middle.antt": "middle-floored",
@@ -44,7 +44,7 @@ THEOREMS = {
     "swept_files/proofs/Every.antt": "every-refusal",
     "swept_files/proofs/Accepted.antt": "accepted-obeys accepted-sweeps",
     "swept_files/proofs/Files.antt": "swept-files",
-    "swept_files/proofs/Lines.antt": "same-lines",
+    "swept_files/proofs/Lines.antt": "same_lines",
     "swept_files/proofs/SweptText.antt": "swept-texts",
 }
 TOKEN = re.compile(r"«[^»]+»|[^\s(){}\[\],;λ⌜⌝]+")
@@ -64,7 +64,7 @@ def uses_of(text):
 
 def file_of(path):
     """The file of specs/ that a module's name stands for; None for the library's and the toolchain's."""
-    match = re.fullmatch(r"Rattle·([^·.]+)(?:·specs\.specs|\.specs)\.(.+)", path)
+    match = re.fullmatch(r"Rattle\.([^.]+)\.specs\.(.+)", path)
     file = CRATES / match[1] / "specs" / (match[2].replace(".", "/") + ".antt") if match else None
     return file if file and file.exists() else None
 
@@ -127,7 +127,7 @@ def resolve(path, name, seen=()):
 
 def named_in(text, names, modules, own=None):
     """The definitions that the words of a text name."""
-    parts = {part: name for name in names if "_" in name for part in name.split("_") if part}
+    parts = {part: name for name in names if "◌" in name for part in name.split("◌") if part}
     found = set()
     for token in TOKEN.findall(text):
         head, _, tail = token.partition(".")
@@ -143,7 +143,7 @@ def named_in(text, names, modules, own=None):
 def ensured(text, function):
     """The `ensures` of a function of the code."""
     start = re.search(rf"(?m)^\s*pub (?:extern \"C\" )?fn {function}\b", text)
-    return "\n".join(re.findall(r"ensures \{(.*)\}", text[start.start():text.index("\n{", start.start())])) if start else ""
+    return "\n".join(re.findall(r"ensures\*?(?: \w+)? \{(.*)\}", text[start.start():text.index("\n{", start.start())])) if start else ""
 
 
 def stated(text, theorem):

@@ -1,7 +1,7 @@
 """The names that a file of crates/ brings in and does not use.
 
     python3 .ci/imports.py          lists them, and fails where there are any
-    python3 .ci/imports.py --fix    takes them out
+    python3 .ci/imports.py --fix    takes them out (`rt fmt` then lays out what is left)
 
 What a file passes on (`pub use`) counts as used. An operator is used where one of its parts stands.
 """
@@ -11,49 +11,58 @@ import sys
 from pathlib import Path
 
 ROOT = Path(__file__).resolve().parent.parent
-USE = re.compile(r"^ *(?:unfoldable )?(?:ghost )?use ([^\s{;]+?)(?:\.\{([^}]*)\})?(?: as ([^\s;]+))?(;?)$")
+USE = re.compile(r"(?m)^ *(?:unfoldable )?(?:ghost )?use ([^\s{};]+?)(?:(?:\.|::)\{([^}]*)\})?(?: as ([^\s;]+))?;?$")
 # Words between what parts them: in a definition, where a colon or a point is a part of a name, and in code.
-TOKENS = [re.compile(r"«[^»]+»|\[\]|[^\s(){}\[\],;λ⌜⌝]+"), re.compile(r"[^\s(){}\[\],;λ⌜⌝.:]+"), re.compile(r"\w+")]
+TOKENS = [re.compile(r"«[^»]+»|\[\]|[^\s(){}\[\],;λ]+"), re.compile(r"[^\s(){}\[\],;λ.:]+"), re.compile(r"\w+")]
 
 
-def tokens(lines):
-    """The words of the lines that are no `use`, comments apart."""
-    said = "\n".join(re.sub(r"(--|//).*", "", line) for line in lines if not USE.match(line))
+def files():
+    """The files with code, definitions and proofs, without what rt keeps in out/."""
+    for crate in sorted((ROOT / "crates").iterdir()):
+        for part, ending in (("proofs", "antt"), ("specs", "antt"), ("src", "rt")):
+            yield from sorted((crate / part).glob(f"**/*.{ending}"))
+
+
+def tokens(text):
+    """The words of a text without its `use` items, comments apart."""
+    said = re.sub(r"(--|//).*", "", USE.sub("", text))
     return {token for pattern in TOKENS for token in pattern.findall(said)}
 
 
 def is_used(name, said):
-    parts = [part for part in name.split("_") if part]
-    return name in said or ("_" in name and not name.startswith("«") and any(part in said for part in parts))
+    parts = [part for part in name.split("◌") if part]
+    return name in said or ("◌" in name and not name.startswith("«") and any(part in said for part in parts))
 
 
-def kept(line, said):
-    """The line without the names that are not used; None where none is left."""
-    match = USE.match(line)
-    if not match:
-        return line
-    path, listed, alias, _ = match.groups()
+def kept(item, said):
+    """The text of a `use` item without the names that are not used; None where none is left."""
+    path, listed, alias = item.groups()
+    last = re.split(r"::|\.", path)[-1]
     if listed is None:
-        name = alias or re.split(r"::|\.", path)[-1]
-        return line if is_used(name, said) else None
-    names = [name.strip() for name in listed.split(",")]
-    left = [name for name in names if is_used(name.split(" as ")[-1], said)]
-    return line.replace("{" + listed + "}", "{" + ", ".join(left) + "}") if left else None
+        return item[0] if is_used(alias or last, said) else None
+    names = [name.strip() for name in listed.split(",") if name.strip()]
+    left = [name for name in names if is_used(last if name == "self" else name.split(" as ")[-1], said)]
+    if left == names:
+        return item[0]
+    return item[0].replace("{" + listed + "}", "{" + ", ".join(left) + "}") if left else None
 
 
 def main():
     found = 0
-    for file in sorted((*ROOT.glob("crates/**/*.antt"), *ROOT.glob("crates/**/*.rt"))):
-        lines = file.read_text(encoding="utf-8").splitlines()
-        said = tokens(lines)
-        left = [kept(line, said) for line in lines]
-        for number, (line, new) in enumerate(zip(lines, left), 1):
-            if new != line:
-                found += 1
-                if "--fix" not in sys.argv:
-                    print(f"{file.relative_to(ROOT)}:{number}: not all is used of {line.strip()}")
-        if "--fix" in sys.argv and left != lines:
-            file.write_text("\n".join(line for line in left if line is not None) + "\n", encoding="utf-8")
+    for file in files():
+        text = file.read_text(encoding="utf-8")
+        said = tokens(text)
+        changes = [(item, new) for item in USE.finditer(text) if (new := kept(item, said)) != item[0]]
+        found += len(changes)
+        if "--fix" not in sys.argv:
+            for item, _ in changes:
+                number = text.count("\n", 0, item.start()) + 1
+                print(f"{file.relative_to(ROOT)}:{number}: not all is used of {' '.join(item[0].split())}")
+        elif changes:
+            for item, new in reversed(changes):
+                end = item.end() + (new is None)
+                text = text[: item.start()] + (new or "") + text[end:]
+            file.write_text(text, encoding="utf-8")
     return 1 if found and "--fix" not in sys.argv else 0
 
 

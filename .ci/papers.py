@@ -16,8 +16,9 @@ import believed
 import keywords
 
 ROOT = Path(__file__).resolve().parent.parent
-PATH = r"[\w.·-]+(?:/[\w.·*-]+)*\.(?:antt|rt|edit|py|sh|rs|md|txt|obj|tidy|c|h|patch)\b"
+PATH = r"[\w.-]+(?:/[\w.*+-]+)*\.(?:antt|rt|edit|py|sh|rs|md|txt|obj|tidy|c|h|patch)\b"
 NAMES = r"(?:`[^`|]+`(?:, | and )?)+"
+REQUIRES = re.compile(r"\brequires\*?(?: \w+)? \{")
 PARTS = ("src", "specs", "proofs", "must-fail", "tests")
 PLACEHOLDERS = ("part.obj",)  # a file of whoever reads README
 
@@ -50,7 +51,7 @@ def defines(file, name):
 
 
 def names_in(text):
-    return [name for name in re.findall(r"`([^`]+)`", text) if re.fullmatch(r"[\w:'′≈_·-]+", name)]
+    return [name for name in re.findall(r"`([^`]+)`", text) if re.fullmatch(r"[\w:'◌≈_-]+", name)]
 
 
 def check_paths(line, say):
@@ -146,7 +147,7 @@ def check_functions(line, say):
         asked = [text for crate in cells[1].split(", ") if (text := signature(crate, name.split("::")[-1]))]
         if not asked:
             say(f"no public function `{name}` in {cells[1]}")
-        elif "no `requires`" in cells[3] and any("requires {" in text for text in asked):
+        elif "no `requires`" in cells[3] and any(REQUIRES.search(text) for text in asked):
             say(f"`{name}` has a `requires`")
 
 
@@ -166,7 +167,7 @@ def check_entry_points(line, say):
         for names, paths in re.findall(rf"({NAMES}) \(({PATH})\)", line):
             for name in names_in(names):
                 text = signature(paths.split("/")[0], name)
-                if text is None or "requires {" in text:
+                if text is None or REQUIRES.search(text):
                     say(f"entry point `{name}`: {'not found' if text is None else 'has a requires'}")
 
 
@@ -252,7 +253,7 @@ def faults_of(line):
 # Lines that are wrong on purpose, each with what has to be found in it.
 WRONG = (
     ("as docs/NOWHERE.md says", "no file docs/NOWHERE.md"),
-    ("text/specs/Bytes.antt: `isWord`, `isNoWord`", "`isNoWord` is not in"),
+    ("text/specs/Bytes.antt: `is_word`, `is_no_word`", "`is_no_word` is not in"),
     ("`read` and `unread` (reader/src/lib.rt)", "`unread` is not in"),
     ("| `claim`, `no-claim` | cases/proofs/Claim.antt | says |", "`no-claim` is not in"),
     ("must-fail reader/refuses_some", "no edit reader/refuses_some"),
