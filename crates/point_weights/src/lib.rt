@@ -1,4 +1,6 @@
 // A coordinate of a cubic Bezier curve at a 64th of a segment: four controls by one row of a table of weights.
+#![tactic(auto)]
+
 ghost use Rattle.std.specs.Prelude.{◌≡◌, ◌+◌, ◌*◌, ◌≤◌};
 ghost use Rattle.rounding.specs.Range.{InRange};
 ghost use Rattle.point_rows.specs.Controls.{control_at, ControlsLent};

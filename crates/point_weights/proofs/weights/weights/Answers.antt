@@ -2,12 +2,8 @@
 use mathlib.Core.Path.{refl}
 use Rattle.point_exact.specs.Exact.{choose}
 use Rattle.point_weights.specs.Weights.{weight}
-use Rattle.point_weights.proofs.weights.weights.Statement.{statement}
-use Rattle.point_weights.proofs.weights.weights.Tie as tie
+use Rattle.point_weights.proofs.weights.weights.Goals as goal
 
-returns : tie.Need-returns
+pub returns : goal.returns
 unfolding weight choose
 returns c = record { long = refl; each = refl }
-
-pub weights-spec : {M : Type 1} → statement M
-weights-spec = tie.close (tie.spec returns)
