@@ -1,4 +1,6 @@
 // Rows of digits, and where a word ends.
+#![tactic(auto)]
+
 pub mod whole; // degrees and smoothing numbers
 pub mod name;
 

@@ -1,5 +1,5 @@
 ghost use Rattle.std.specs.Prelude.{◌≡◌, ◌≤◌, ◌<◌, length, drop};
-ghost use Rattle.keywords.specs.Lookup.{argument_table};
+ghost use Rattle.keywords.specs.Lookup.{table_of_arguments};
 ghost use Rattle.text.specs.Words.{word_of};
 ghost use Rattle.text.specs.Rest.{end_of};
 ghost use Rattle.digits.specs.Degree.{degree_of, smoothing_of};
@@ -68,7 +68,7 @@ pub fn degree_at(text: &[u8], at: usize) -> Whole
 // The smoothing number that the word at `at` is.
 pub fn smoothing_at(text: &[u8], at: usize, argument_table: &[u8; 108]) -> Whole
     requires at_in_bounds { at ≤ length text.now }
-    requires argument_table_value { argument_table.now ≡ argument_table }
+    requires argument_table_value { argument_table.now ≡ table_of_arguments }
     ensures { said_whole result ≡ ends_at (smoothing_of (word_of (drop at text.now))) (end_of text.now at) }
 {
     let off = keywords::off_end(text, at, argument_table);

@@ -2,7 +2,7 @@
 ghost use Rattle.std.specs.Prelude.{◌≡◌, drop};
 ghost use Rattle.text.specs.Words.{word_of};
 ghost use Rattle.keywords.specs.Keywords.{statement_of};
-ghost use Rattle.keywords.specs.Lookup.{keyword_table};
+ghost use Rattle.keywords.specs.Lookup.{table_of_keywords};
 ghost use Rattle.keyword_rules.specs.Asked.{standing_number, multiple_of, corner_number, form_number, limits_of, carried_of, rule_row_of};
 ghost use Rattle.keyword_rules.specs.Ranges.{range_in};
 ghost use Rattle.statements.specs.Rules.{rules_of};
@@ -169,7 +169,7 @@ fn range_in(forms: Forms) -> usize
 
 // The same of the line whose keyword stands at `at`.
 pub fn words_of_range(text: &[u8], at: usize, table: &[u8; 528]) -> usize
-    requires { table.now ≡ keyword_table }
+    requires { table.now ≡ table_of_keywords }
     ensures { result ≡ range_in (rules_of (carried_of (statement_of (word_of (drop at text.now))))).forms }
 {
     let found = keywords::keyword_at(text, at, table);

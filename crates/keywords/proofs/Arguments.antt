@@ -14,7 +14,7 @@ use Rattle.text.specs.Rest.{end_of}
 use Rattle.spellings.specs.Rows.{kind_at, found_by}
 use Rattle.spellings.specs.Lookup.{lettered_in}
 use Rattle.keywords.specs.Arguments.{sign_of, arguments, argument_of, argument_bytes}
-use Rattle.keywords.specs.Lookup.{of_sign, argument_table, argument_at}
+use Rattle.keywords.specs.Lookup.{of_sign, table_of_arguments, argument_at}
 use Rattle.spellings.specs.declared.Found.{Found}
 use Rattle.keywords.specs.declared.Argument.{Argument}
 use Rattle.keywords.specs.declared.Argument.TheVariants.{Rational, BasisMatrix, Bezier, Bspline, Cardinal, Taylor, DirectionU, DirectionV, Off, Other}
@@ -36,25 +36,25 @@ told DirectionV = refl
 told Off = refl
 told Other = refl
 
-pub laid : Laid sign_of of_sign Other arguments argument_table 9
-unfolding arguments argument_table
+pub laid : Laid sign_of of_sign Other arguments table_of_arguments 9
+unfolding arguments table_of_arguments
 laid = record { many = refl; walked = λ w. refl; no_word = refl; ahead = refl; words = refl; letters = refl; told = told; apart = all-distinct }
 
 pub argument_is : (s : List ℕ) (at : ℕ) (f : Found) (k : Argument) → f ≡ found_by arguments (word_of (drop at s)) at → k ≡ kind_at Other arguments f.row → k ≡ argument_at s at
 unfolding argument_at argument_of
 argument_is s at f k g l = rw (l, g) refl
 
-rows-lettered : (k : Argument) → lettered_in 9 argument_table (sign_of k) ≡ argument_bytes k
-unfolding arguments argument_table argument_bytes
+rows-lettered : (k : Argument) → lettered_in 9 table_of_arguments (sign_of k) ≡ argument_bytes k
+unfolding arguments table_of_arguments argument_bytes
 rows-lettered k = refl
 
 -- the row that is found by a kind's letter has its spelling
 pub argument-row :
-    (t : List ℕ) (from letter : ℕ) (k : Argument) → t ≡ argument_table → word_of (drop from t) ≡ lettered_in 9 t letter → letter ≡ sign_of k → word_of (drop from t) ≡ argument_bytes k
+    (t : List ℕ) (from letter : ℕ) (k : Argument) → t ≡ table_of_arguments → word_of (drop from t) ≡ lettered_in 9 t letter → letter ≡ sign_of k → word_of (drop from t) ≡ argument_bytes k
 argument-row t from letter k e w l = w ∙ rw (e, l) (rows-lettered k)
 
-off-row : word_of (drop 96 argument_table) ≡ argument_bytes Off
-unfolding arguments argument_table argument_bytes
+off-row : word_of (drop 96 table_of_arguments) ≡ argument_bytes Off
+unfolding arguments table_of_arguments argument_bytes
 off-row = refl
 
 off-length : length (argument_bytes Off) ≡ 3
@@ -64,7 +64,7 @@ off-length = refl
 abbrev pub off_end : List ℕ → ℕ → ℕ
 off_end s at = cond (same (word_of (drop at s)) (argument_bytes Off)) (end_of s at) at
 
-pub off-is : (s t : List ℕ) (at end : ℕ) → t ≡ argument_table → end ≡ compare_of s at t 96 → end ≡ off_end s at
+pub off-is : (s t : List ℕ) (at end : ℕ) → t ≡ table_of_arguments → end ≡ compare_of s at t 96 → end ≡ off_end s at
 off-is s t at end e c = rw (e, off-row) at c
 
 -- a word ends after its place exactly when it is off

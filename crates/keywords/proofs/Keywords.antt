@@ -9,7 +9,7 @@ use Rattle.text.specs.Rest.{end_of}
 use Rattle.spellings.specs.Rows.{row_of, kind_at, found_by}
 use Rattle.spellings.specs.Lookup.{lettered_in}
 use Rattle.keywords.specs.Keywords.{letter_of, keywords, statement_of, keyword_of}
-use Rattle.keywords.specs.Lookup.{of_letter, keyword_table, keyword_at}
+use Rattle.keywords.specs.Lookup.{of_letter, table_of_keywords, keyword_at}
 use Rattle.spellings.specs.declared.Found.{Found}
 use Rattle.statements.specs.declared.VertexKind.TheVariants.{Geometric, Texture, Normal, Parametric}
 use Rattle.statements.specs.declared.Shape.TheVariants.{Point, Line, Face}
@@ -51,8 +51,8 @@ told (Carried PassedOver) = refl
 told Refused = refl
 told Unknown = refl
 
-pub laid : Laid letter_of of_letter Unknown keywords keyword_table 44
-unfolding keywords keyword_table
+pub laid : Laid letter_of of_letter Unknown keywords table_of_keywords 44
+unfolding keywords table_of_keywords
 laid = record { many = refl; walked = λ w. refl; no_word = refl; ahead = refl; words = refl; letters = refl; told = told; apart = all-distinct }
 
 pub keyword-is : (s : List ℕ) (at : ℕ) (f : Found) (k : Statement) → f ≡ found_by keywords (word_of (drop at s)) at → k ≡ kind_at Unknown keywords f.row → record { statement = k; end = f.end } ≡ keyword_at s at
@@ -60,11 +60,11 @@ unfolding keyword_at statement_of
 keyword-is s at f k g l =
     rw (l, g, found-end letter_of Unknown keywords (row_of keywords (word_of (drop at s))) at (end_of s at) refl all-marked) refl
 
-rows-lettered : (k : carried.Carried) → lettered_in 44 keyword_table (letter_of (Carried k)) ≡ keyword_of k
-unfolding keywords keyword_table keyword_of
+rows-lettered : (k : carried.Carried) → lettered_in 44 table_of_keywords (letter_of (Carried k)) ≡ keyword_of k
+unfolding keywords table_of_keywords keyword_of
 rows-lettered k = refl
 
 -- the row that is found by a kind's letter has its spelling
 pub keyword-row :
-    (t : List ℕ) (from letter : ℕ) (k : carried.Carried) → t ≡ keyword_table → word_of (drop from t) ≡ lettered_in 44 t letter → letter ≡ letter_of (Carried k) → word_of (drop from t) ≡ keyword_of k
+    (t : List ℕ) (from letter : ℕ) (k : carried.Carried) → t ≡ table_of_keywords → word_of (drop from t) ≡ lettered_in 44 t letter → letter ≡ letter_of (Carried k) → word_of (drop from t) ≡ keyword_of k
 keyword-row t from letter k e w l = w ∙ rw (e, l) (rows-lettered k)

@@ -17,8 +17,8 @@ unfoldable pub of_letter : ℕ → Statement
 of_letter = kind_by letter_of Unknown keywords
 
 -- the code's table
-unfoldable pub keyword_table : List ℕ
-keyword_table = flat (line letter_of) keywords
+unfoldable pub table_of_keywords : List ℕ
+table_of_keywords = flat (line letter_of) keywords
 
 -- the statement of the word at a place and where the word ends; an unknown word's end is not looked for, and its place stands for it
 unfoldable pub keyword_at : List ℕ → ℕ → Keyword
@@ -33,8 +33,8 @@ unfoldable pub of_sign : ℕ → Argument
 of_sign = kind_by sign_of Other arguments
 
 -- the code's table
-unfoldable pub argument_table : List ℕ
-argument_table = flat (line sign_of) arguments
+unfoldable pub table_of_arguments : List ℕ
+table_of_arguments = flat (line sign_of) arguments
 
 -- the argument that the word at a place is
 unfoldable pub argument_at : List ℕ → ℕ → Argument

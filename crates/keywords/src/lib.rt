@@ -8,7 +8,7 @@ ghost use Rattle.text.specs.Words.{word_of};
 ghost use Rattle.text.specs.Rest.{end_of};
 ghost use Rattle.spellings.specs.Rows.{Finds, found_by, spelling_at, fitting};
 ghost use Rattle.keywords.specs.Keywords.{keywords, keyword_of, letter_of};
-ghost use Rattle.keywords.specs.Lookup.{keyword_table, keyword_at, of_letter, argument_table, argument_at, of_sign};
+ghost use Rattle.keywords.specs.Lookup.{table_of_keywords, keyword_at, of_letter, table_of_arguments, argument_at, of_sign};
 ghost use Rattle.keywords.specs.Arguments.{arguments, argument_bytes, sign_of};
 
 use spellings::{Found, WIDTH, copy_word, row_at, row_of, same_word, write_row};
@@ -102,13 +102,13 @@ pub enum Argument {
 
 // The tables, to be made once and lent.
 pub fn keyword_table() -> [u8; 528]
-    ensures { result ≡ keyword_table }
+    ensures { result ≡ table_of_keywords }
 {
     KEYWORDS
 }
 
 pub fn argument_table() -> [u8; 108]
-    ensures { result ≡ argument_table }
+    ensures { result ≡ table_of_arguments }
 {
     ARGUMENTS
 }
@@ -161,7 +161,7 @@ fn argument_of(letter: u8) -> Argument
 
 // The row that the word at `at` finds, by a walk of the table (02, Q-4).
 pub fn keyword_row(text: &[u8], at: usize, table: &[u8; 528]) -> Found
-    requires { table.now ≡ keyword_table }
+    requires { table.now ≡ table_of_keywords }
     ensures { (result ≡ found_by keywords (word_of (drop at text.now)) at) × Finds keywords (word_of (drop at text.now)) result.row }
 {
     if text.len() <= at {
@@ -174,7 +174,7 @@ pub fn keyword_row(text: &[u8], at: usize, table: &[u8; 528]) -> Found
 }
 
 pub fn argument_row(text: &[u8], at: usize, table: &[u8; 108]) -> Found
-    requires { table.now ≡ argument_table }
+    requires { table.now ≡ table_of_arguments }
     ensures { (result ≡ found_by arguments (word_of (drop at text.now)) at) × Finds arguments (word_of (drop at text.now)) result.row }
 {
     if text.len() <= at {
@@ -188,7 +188,7 @@ pub fn argument_row(text: &[u8], at: usize, table: &[u8; 108]) -> Found
 
 // The statement that the word at `at` is the keyword of: the kind of the row that it finds.
 pub fn keyword_at(text: &[u8], at: usize, table: &[u8; 528]) -> Keyword
-    requires { table.now ≡ keyword_table }
+    requires { table.now ≡ table_of_keywords }
     ensures { result ≡ keyword_at text.now at }
 {
     let found = keyword_row(text, at, table);
@@ -207,7 +207,7 @@ pub fn keyword_at(text: &[u8], at: usize, table: &[u8; 528]) -> Keyword
 
 // The argument that the word at `at` is.
 pub fn argument_at(text: &[u8], at: usize, table: &[u8; 108]) -> Argument
-    requires { table.now ≡ argument_table }
+    requires { table.now ≡ table_of_arguments }
     ensures { result ≡ argument_at text.now at }
 {
     let found = argument_row(text, at, table);
@@ -220,7 +220,7 @@ pub fn argument_at(text: &[u8], at: usize, table: &[u8; 108]) -> Argument
 
 // Where the word at `at` ends if it is off; else `at`.
 pub fn off_end(text: &[u8], at: usize, table: &[u8; 108]) -> usize
-    requires { table.now ≡ argument_table }
+    requires { table.now ≡ table_of_arguments }
     ensures { result ≡ cond (same (word_of (drop at text.now)) (argument_bytes Argument.Off)) (end_of text.now at) at }
 {
     same_word(text, at, table, WIDTH * OFF_ROW)
@@ -296,7 +296,7 @@ fn sign_of(argument: Argument) -> u8
 
 // How many bytes a statement's keyword has.
 pub fn keyword_length(statement: Carried, table: &[u8; 528]) -> usize
-    requires { table.now ≡ keyword_table }
+    requires { table.now ≡ table_of_keywords }
     ensures { result ≡ length (keyword_of statement) }
 {
     let from = row_of(table, letter_of(statement), KEYWORD_ROWS);
@@ -305,7 +305,7 @@ pub fn keyword_length(statement: Carried, table: &[u8; 528]) -> usize
 
 // A statement's keyword, written to `at` of `out`; the place after it.
 pub fn write_keyword(statement: Carried, table: &[u8; 528], out: &mut [u8], at: usize) -> usize
-    requires table_value { table.now ≡ keyword_table }
+    requires table_value { table.now ≡ table_of_keywords }
     requires statement_in_bounds { at + length (keyword_of statement) ≤ length out.old }
     ensures { (result ≡ at + length (keyword_of statement)) × (out.new ≡ sets out.old at (keyword_of statement)) }
 {
@@ -314,7 +314,7 @@ pub fn write_keyword(statement: Carried, table: &[u8; 528], out: &mut [u8], at: 
 }
 
 pub fn argument_length(argument: Argument, table: &[u8; 108]) -> usize
-    requires { table.now ≡ argument_table }
+    requires { table.now ≡ table_of_arguments }
     ensures { result ≡ length (argument_bytes argument) }
 {
     let from = row_of(table, sign_of(argument), ARGUMENT_ROWS);
@@ -322,7 +322,7 @@ pub fn argument_length(argument: Argument, table: &[u8; 108]) -> usize
 }
 
 pub fn write_argument(argument: Argument, table: &[u8; 108], out: &mut [u8], at: usize) -> usize
-    requires table_value { table.now ≡ argument_table }
+    requires table_value { table.now ≡ table_of_arguments }
     requires argument_in_bounds { at + length (argument_bytes argument) ≤ length out.old }
     ensures { (result ≡ at + length (argument_bytes argument)) × (out.new ≡ sets out.old at (argument_bytes argument)) }
 {

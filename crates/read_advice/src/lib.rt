@@ -3,7 +3,7 @@ pub mod lines_before; // what the lines before a place say
 pub mod along; // the parameters along one direction of the open body
 
 ghost use Rattle.std.specs.Prelude.{◌≡◌, ◌≤◌, length};
-ghost use Rattle.keywords.specs.Lookup.{keyword_table};
+ghost use Rattle.keywords.specs.Lookup.{table_of_keywords};
 ghost use Rattle.read_advice.specs.Advice.{AdviceIs};
 ghost use Rattle.read_advice.specs.Inner.{NothingTold};
 
@@ -62,7 +62,7 @@ fn keyword_of(text: &[u8], at: usize) -> Keyed
 
 // How many controls the line of the open body gives, its keyword at `opened`.
 fn controls_given(text: &[u8], kind: u32, opened: usize, table: &[u8; 528]) -> usize
-    requires { table.now ≡ keyword_table }
+    requires { table.now ≡ table_of_keywords }
 {
     if kind == 0 {
         return 0;

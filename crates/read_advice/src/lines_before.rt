@@ -1,7 +1,7 @@
 // What the lines before the one that holds a place say, each of which reading took.
 ghost use Rattle.std.specs.Prelude.{◌≡◌, ◌+◌, ◌≤◌, ◌<◌, length};
 ghost use Rattle.text.specs.Rest.{rest_at};
-ghost use Rattle.keywords.specs.Lookup.{keyword_table, argument_table};
+ghost use Rattle.keywords.specs.Lookup.{table_of_keywords, table_of_arguments};
 ghost use Rattle.model.specs.Layout.{free_number};
 ghost use Rattle.read_advice.specs.Tally.{start_tally, with_counts, opening, after_end, after_vertex, after_line, after_words, tally_of};
 ghost use Rattle.read_advice.specs.Inner.{vertex_total};
@@ -155,7 +155,7 @@ fn form_after(
     argument_table: &[u8; 108],
 ) -> Form
     requires at_in_bounds { at ≤ length text.now }
-    requires argument_table_value { argument_table.now ≡ argument_table }
+    requires argument_table_value { argument_table.now ≡ table_of_arguments }
 {
     if let Carried::BodyType = carried {
         return taken_form(take_type(text, at, form, argument_table), form);
@@ -176,7 +176,7 @@ fn after_keyword(
     argument_table: &[u8; 108],
 ) -> Said
     requires at_in_bounds { at ≤ length text.now }
-    requires argument_table_value { argument_table.now ≡ argument_table }
+    requires argument_table_value { argument_table.now ≡ table_of_arguments }
     ensures { result.tally ≡ tally }
 {
     let form = form_after(text, at, carried, said.form, argument_table);
@@ -219,8 +219,8 @@ fn with_line(
     argument_table: &[u8; 108],
 ) -> Said
     requires at_in_bounds { (at ≤ length text.now) × (vertex_total said.tally ≤ 16777216) }
-    requires keyword_table_value { keyword_table.now ≡ keyword_table }
-    requires argument_table_value { argument_table.now ≡ argument_table }
+    requires keyword_table_value { keyword_table.now ≡ table_of_keywords }
+    requires argument_table_value { argument_table.now ≡ table_of_arguments }
     ensures { result.tally ≡ after_words (rest_at text.now at).words said.tally }
 {
     match text::skip_blanks(text, at) {
@@ -262,8 +262,8 @@ pub fn said_before(
     argument_table: &[u8; 108],
 ) -> Before
     requires text_len_bound { length text.now ≤ 16777216 }
-    requires keyword_table_value { keyword_table.now ≡ keyword_table }
-    requires argument_table_value { argument_table.now ≡ argument_table }
+    requires keyword_table_value { keyword_table.now ≡ table_of_keywords }
+    requires argument_table_value { argument_table.now ≡ table_of_arguments }
     ensures { (result.said.tally ≡ tally_of text.now place) × (result.line ≤ length text.now) }
 {
     let mut said = start();

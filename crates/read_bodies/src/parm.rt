@@ -1,6 +1,6 @@
 // A parm line: a direction, then numbers, as many as its row lets in. They are stored at the body's end.
 ghost use Rattle.std.specs.Prelude.{◌≡◌, ◌≤◌, length};
-ghost use Rattle.keywords.specs.Lookup.{argument_table};
+ghost use Rattle.keywords.specs.Lookup.{table_of_arguments};
 ghost use Rattle.read_bodies.specs.Parm.{way_of, ParmRowIs, ParmIs};
 
 use crate::numbers::{Counted, count_numbers};
@@ -62,7 +62,7 @@ fn take_row(text: &[u8], at: usize, along_v: bool) -> Parm
 // A parm line of an open body, a surface's or a curve's; `at` is just after the keyword.
 pub fn take_parm(text: &[u8], at: usize, surface: bool, table: &[u8; 108]) -> Parm
     requires at_in_bounds { at ≤ length text.now }
-    requires table_value { table.now ≡ argument_table }
+    requires table_value { table.now ≡ table_of_arguments }
     ensures { ParmIs surface text.now at result }
 {
     match skip_blanks(text, at) {

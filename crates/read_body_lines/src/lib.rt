@@ -1,6 +1,6 @@
 // The lines that stand inside a body, each from just after its keyword on: parm, trim, hole, and its end.
 ghost use Rattle.std.specs.Prelude.{◌≡◌, ◌+◌, ◌<◌};
-ghost use Rattle.keywords.specs.Lookup.{argument_table};
+ghost use Rattle.keywords.specs.Lookup.{table_of_arguments};
 ghost use Rattle.model.specs.Parse.{parm};
 ghost use Rattle.read_body_lines.specs.OpenBody.{keeping, looped, curves_with, closed_with, type_for, degree_for, form_for, body_lent};
 ghost use Rattle.read_vertex_lines.specs.Bounds.{InBounds};
@@ -34,7 +34,7 @@ fn keeping(along_v: bool, at: usize, state: State) -> State
 
 pub fn parm_line(text: &[u8], at: usize, state: State, argument_table: &[u8; 108]) -> Step
     requires in_bounds { InBounds text.now at state }
-    requires argument_table_value { argument_table.now ≡ argument_table }
+    requires argument_table_value { argument_table.now ≡ table_of_arguments }
     ensures { QuietStep parm text.now at state result }
 {
     let open = state.open;

@@ -3,7 +3,7 @@ ghost use Rattle.std.specs.Prelude.{◌≡◌, ◌≤◌, length};
 ghost use Rattle.text.specs.Rest.{rest_at};
 ghost use Rattle.keywords.specs.declared.Argument.TheVariants.{DirectionV};
 ghost use Rattle.keywords.specs.Arguments.{is_argument};
-ghost use Rattle.keywords.specs.Lookup.{keyword_table, argument_table};
+ghost use Rattle.keywords.specs.Lookup.{table_of_keywords, table_of_arguments};
 ghost use Rattle.model.specs.Parse.{says_v};
 ghost use Rattle.read_word_checks.specs.Faults.{seen_by};
 ghost use Rattle.read_diagnosis.specs.Lines.{words_fault, line_fault, statement_fault};
@@ -35,7 +35,7 @@ fn words_fault(
     argument_table: &[u8; 108],
 ) -> Refusal
     requires at_in_bounds { at ≤ length text.now }
-    requires argument_table_value { argument_table.now ≡ argument_table }
+    requires argument_table_value { argument_table.now ≡ table_of_arguments }
     ensures { result ≡ words_fault (seen_by seen) vp.now form key forms held words (rest_at text.now at).words }
 {
     match first_fault(
@@ -75,7 +75,7 @@ fn is_v(argument: Argument) -> bool
 // Whether the line's words from `at` on begin with a parm's direction v.
 fn says_v(text: &[u8], at: usize, argument_table: &[u8; 108]) -> bool
     requires at_in_bounds { at ≤ length text.now }
-    requires argument_table_value { argument_table.now ≡ argument_table }
+    requires argument_table_value { argument_table.now ≡ table_of_arguments }
     ensures { result ≡ says_v (rest_at text.now at).words }
 {
     match text::skip_blanks(text, at) {
@@ -102,7 +102,7 @@ fn line_fault(
     argument_table: &[u8; 108],
 ) -> Refusal
     requires at_in_bounds { at ≤ length text.now }
-    requires argument_table_value { argument_table.now ≡ argument_table }
+    requires argument_table_value { argument_table.now ≡ table_of_arguments }
     ensures { result ≡ line_fault (seen_by seen) vp.now form kind key statement words (rest_at text.now at).words }
 {
     let rules = rules_of(statement);
@@ -150,8 +150,8 @@ fn statement_fault(
     argument_table: &[u8; 108],
 ) -> Refusal
     requires key_in_bounds { key ≤ length text.now }
-    requires keyword_table_value { keyword_table.now ≡ keyword_table }
-    requires argument_table_value { argument_table.now ≡ argument_table }
+    requires keyword_table_value { keyword_table.now ≡ table_of_keywords }
+    requires argument_table_value { argument_table.now ≡ table_of_arguments }
     ensures { result ≡ statement_fault (seen_by seen) vp.now form kind text.now key words }
 {
     let keyword = keywords::keyword_at(text, key, keyword_table);
@@ -193,8 +193,8 @@ pub fn diagnose(
     argument_table: &[u8; 108],
 ) -> Refusal
     requires at_in_bounds { at ≤ length text.now }
-    requires keyword_table_value { keyword_table.now ≡ keyword_table }
-    requires argument_table_value { argument_table.now ≡ argument_table }
+    requires keyword_table_value { keyword_table.now ≡ table_of_keywords }
+    requires argument_table_value { argument_table.now ≡ table_of_arguments }
     ensures { DiagnosisIs text.now at state vp.now result }
 {
     let used = state.used;

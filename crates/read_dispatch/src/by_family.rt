@@ -1,6 +1,6 @@
 // A line's function by the family of its statement, lent the tables that it fills.
 ghost use Rattle.std.specs.Prelude.{◌≡◌};
-ghost use Rattle.keywords.specs.Lookup.{argument_table};
+ghost use Rattle.keywords.specs.Lookup.{table_of_arguments};
 ghost use Rattle.tables.specs.Tables.{tables};
 ghost use Rattle.read_vertex_lines.specs.Bounds.{InBounds};
 ghost use Rattle.read_dispatch.specs.Taking.{FamilyIs};
@@ -33,7 +33,7 @@ pub fn take_line(
     argument_table: &[u8; 108],
 ) -> Step
     requires in_bounds { InBounds text.now at state }
-    requires argument_table_value { argument_table.now ≡ argument_table }
+    requires argument_table_value { argument_table.now ≡ table_of_arguments }
     ensures { FamilyIs family text.now at state (tables v.old vt.old vn.old vp.old corners.old elements.old bodies.old ranges.old parameters.old loops.old spans.old) (tables v.new vt.new vn.new vp.new corners.new elements.new bodies.new ranges.new parameters.new loops.new spans.new) result }
 {
     match family {

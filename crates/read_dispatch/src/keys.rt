@@ -3,7 +3,7 @@ ghost use Rattle.std.specs.Prelude.{◌≡◌, ◌<◌, length};
 ghost use Rattle.spellings.specs.Rows.{kind_at};
 ghost use Rattle.statements.specs.declared.Statement.TheVariants.{Unknown};
 ghost use Rattle.keywords.specs.Keywords.{keywords};
-ghost use Rattle.keywords.specs.Lookup.{keyword_table, of_letter};
+ghost use Rattle.keywords.specs.Lookup.{table_of_keywords, of_letter};
 ghost use Rattle.read_dispatch.specs.Taking.{KeyIs};
 
 use keywords::KEYWORD_ROWS;
@@ -25,7 +25,7 @@ pub enum Key {
 
 // The letter of a row of the table of keywords, a blank past the last.
 fn row_letter(row: usize, table: &[u8; 528]) -> u8
-    requires { table.now ≡ keyword_table }
+    requires { table.now ≡ table_of_keywords }
     ensures { of_letter result ≡ kind_at Unknown keywords row }
 {
     if row < KEYWORD_ROWS {
@@ -37,7 +37,7 @@ fn row_letter(row: usize, table: &[u8; 528]) -> u8
 // Of the line that starts at `at`.
 pub fn key_at(text: &[u8], at: usize, keyword_table: &[u8; 528]) -> Key
     requires at_in_bounds { at < length text.now }
-    requires keyword_table_value { keyword_table.now ≡ keyword_table }
+    requires keyword_table_value { keyword_table.now ≡ table_of_keywords }
     ensures { KeyIs text.now at result }
 {
     match text::skip_blanks(text, at) {

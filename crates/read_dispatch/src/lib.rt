@@ -4,7 +4,7 @@ mod by_family; // a line's function by its family
 mod keys; // what stands first in a line
 
 ghost use Rattle.std.specs.Prelude.{◌≡◌, ◌<◌, length};
-ghost use Rattle.keywords.specs.Lookup.{keyword_table, argument_table};
+ghost use Rattle.keywords.specs.Lookup.{table_of_keywords, table_of_arguments};
 ghost use Rattle.tables.specs.Tables.{tables};
 ghost use Rattle.read_vertex_lines.specs.Bounds.{InBounds};
 ghost use Rattle.read_dispatch.specs.Taking.{KeyIs, LineIs, stopped_by};
@@ -60,8 +60,8 @@ pub fn line_with(
 ) -> LineResult
     requires at_in_bounds { (at < length text.now) × InBounds text.now at state }
     requires key_is { KeyIs text.now at key }
-    requires keyword_table_value { keyword_table.now ≡ keyword_table }
-    requires argument_table_value { argument_table.now ≡ argument_table }
+    requires keyword_table_value { keyword_table.now ≡ table_of_keywords }
+    requires argument_table_value { argument_table.now ≡ table_of_arguments }
     ensures { LineIs text.now at state (tables v.old vt.old vn.old vp.old corners.old elements.old bodies.old ranges.old parameters.old loops.old spans.old) (tables v.new vt.new vn.new vp.new corners.new elements.new bodies.new ranges.new parameters.new loops.new spans.new) result }
 {
     match key {
@@ -137,8 +137,8 @@ pub fn line_at(
     argument_table: &[u8; 108],
 ) -> LineResult
     requires at_in_bounds { (at < length text.now) × InBounds text.now at state }
-    requires keyword_table_value { keyword_table.now ≡ keyword_table }
-    requires argument_table_value { argument_table.now ≡ argument_table }
+    requires keyword_table_value { keyword_table.now ≡ table_of_keywords }
+    requires argument_table_value { argument_table.now ≡ table_of_arguments }
     ensures { LineIs text.now at state (tables v.old vt.old vn.old vp.old corners.old elements.old bodies.old ranges.old parameters.old loops.old spans.old) (tables v.new vt.new vn.new vp.new corners.new elements.new bodies.new ranges.new parameters.new loops.new spans.new) result }
 {
     let key = key_at(text, at, keyword_table);

@@ -1,6 +1,6 @@
 // The lines of cstype, deg, g, s and usemtl, and those that are passed over: they change what is in force and no table.
 ghost use Rattle.std.specs.Prelude.{◌≡◌, ◌≤◌, length};
-ghost use Rattle.keywords.specs.Lookup.{argument_table};
+ghost use Rattle.keywords.specs.Lookup.{table_of_arguments};
 ghost use Rattle.model.specs.Parse.{over, rules_of};
 ghost use Rattle.read_vertex_lines.specs.Bounds.{InBounds};
 ghost use Rattle.read_vertex_lines.specs.Stepping.{QuietStep};
@@ -93,7 +93,7 @@ pub fn setting_line(
     argument_table: &[u8; 108],
 ) -> Step
     requires in_bounds { InBounds text.now at state }
-    requires argument_table_value { argument_table.now ≡ argument_table }
+    requires argument_table_value { argument_table.now ≡ table_of_arguments }
     ensures { QuietStep (setting_of setting) text.now at state result }
 {
     let open = state.open;

@@ -1,6 +1,6 @@
 // All lines of a text, one after the other.
 ghost use Rattle.std.specs.Prelude.{◌≡◌, ◌≤◌, ◌<◌, length};
-ghost use Rattle.keywords.specs.Lookup.{keyword_table, argument_table};
+ghost use Rattle.keywords.specs.Lookup.{table_of_keywords, table_of_arguments};
 ghost use Rattle.tables.specs.Tables.{tables};
 ghost use Rattle.read_lines.specs.Answered.{read_answer};
 ghost use Rattle.read_lines.specs.Lines.{begin, Blank, lines_read, LinesIs};
@@ -79,8 +79,8 @@ fn store_lines(
 ) -> ReadResult
     requires text_len_bound { length text.now ≤ 16777216 }
     requires blank { Blank (tables v.old vt.old vn.old vp.old corners.old elements.old bodies.old ranges.old parameters.old loops.old spans.old) }
-    requires keyword_table_value { keyword_table.now ≡ keyword_table }
-    requires argument_table_value { argument_table.now ≡ argument_table }
+    requires keyword_table_value { keyword_table.now ≡ table_of_keywords }
+    requires argument_table_value { argument_table.now ≡ table_of_arguments }
     ensures { LinesIs text.now (tables v.old vt.old vn.old vp.old corners.old elements.old bodies.old ranges.old parameters.old loops.old spans.old) (tables v.new vt.new vn.new vp.new corners.new elements.new bodies.new ranges.new parameters.new loops.new spans.new) result }
 {
     let mut state = begin();
@@ -146,8 +146,8 @@ pub fn lines_of(
 ) -> ReadResult
     requires text_len_bound { length text.now ≤ 16777216 }
     requires blank { Blank (tables v.old vt.old vn.old vp.old corners.old elements.old bodies.old ranges.old parameters.old loops.old spans.old) }
-    requires keyword_table_value { keyword_table.now ≡ keyword_table }
-    requires argument_table_value { argument_table.now ≡ argument_table }
+    requires keyword_table_value { keyword_table.now ≡ table_of_keywords }
+    requires argument_table_value { argument_table.now ≡ table_of_arguments }
     ensures { read_answer result (tables v.new vt.new vn.new vp.new corners.new elements.new bodies.new ranges.new parameters.new loops.new spans.new) ≡ lines_read text.now (tables v.old vt.old vn.old vp.old corners.old elements.old bodies.old ranges.old parameters.old loops.old spans.old) }
 {
     match store_lines(

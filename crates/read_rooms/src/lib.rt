@@ -1,7 +1,7 @@
 // How many entries of each table a text can need: one pass over its bytes, before it is read.
 ghost use Rattle.std.specs.Prelude.{◌≡◌, ◌+◌, ◌*◌, ◌-◌, ◌≤◌, ◌<◌, length};
 ghost use Rattle.text.specs.Rest.{rest_at};
-ghost use Rattle.keywords.specs.Lookup.{keyword_table};
+ghost use Rattle.keywords.specs.Lookup.{table_of_keywords};
 ghost use Rattle.read_rooms.specs.Rooms.{no_room, both, element_room, body_room, kind_room, carried_room, room_for, rooms_of_text};
 ghost use Rattle.read_rooms.specs.Line.{vertex_room, counted_of};
 ghost use Rattle.read_rooms.specs.Claims.{total};
@@ -186,7 +186,7 @@ enum Line {
 // The line that starts at `at`.
 fn line_at(text: &[u8], at: usize, table: &[u8; 528]) -> Line
     requires at_in_bounds { (at ≤ length text.now) × (length text.now ≤ 16777216) }
-    requires table_value { table.now ≡ keyword_table }
+    requires table_value { table.now ≡ table_of_keywords }
     ensures { result ≡ counted_of (rest_at text.now at) }
 {
     match text::skip_blanks(text, at) {
@@ -212,7 +212,7 @@ fn line_at(text: &[u8], at: usize, table: &[u8; 528]) -> Line
 // All lines of a text that is not too long.
 fn rooms_of_lines(text: &[u8], table: &[u8; 528]) -> Rooms
     requires text_len_bound { length text.now ≤ 16777216 }
-    requires table_value { table.now ≡ keyword_table }
+    requires table_value { table.now ≡ table_of_keywords }
     ensures { result ≡ rooms_of_text text.now }
 {
     let mut rooms = no_room();

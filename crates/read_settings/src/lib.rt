@@ -4,7 +4,7 @@ pub mod words; // the words of such a line
 ghost use Rattle.std.specs.Prelude.{◌≡◌, ◌≤◌, length};
 ghost use Rattle.text.specs.Rest.{rest_at};
 ghost use Rattle.digits.specs.Answers.{said_whole, ends_at};
-ghost use Rattle.keywords.specs.Lookup.{argument_table};
+ghost use Rattle.keywords.specs.Lookup.{table_of_arguments};
 ghost use Rattle.read_settings.specs.Steps.{basis_or, is_rational, typed, type_taken, second_said, second_end, degree_taken, smoothing_taken, material_taken, group_taken};
 ghost use Rattle.model.specs.Parse.{type_said};
 
@@ -85,7 +85,7 @@ fn with_type(argument: Argument, rational: u32, form: Form, next: usize) -> Take
 // A cstype line, `at` just after its keyword; 01: "of two the first is rat; the last is a type".
 pub fn take_type(text: &[u8], at: usize, form: Form, argument_table: &[u8; 108]) -> TakenForm
     requires at_in_bounds { at ≤ length text.now }
-    requires argument_table_value { argument_table.now ≡ argument_table }
+    requires argument_table_value { argument_table.now ≡ table_of_arguments }
     ensures { result ≡ type_taken form (rest_at text.now at) }
 {
     match line_words(text, at) {
@@ -180,7 +180,7 @@ pub fn take_smoothing(
     argument_table: &[u8; 108],
 ) -> TakenNames
     requires at_in_bounds { at ≤ length text.now }
-    requires argument_table_value { argument_table.now ≡ argument_table }
+    requires argument_table_value { argument_table.now ≡ table_of_arguments }
     ensures { result ≡ smoothing_taken names (rest_at text.now at) }
 {
     match line_words(text, at) {

@@ -1,6 +1,6 @@
 ghost use Rattle.std.specs.Prelude.{◌≡◌, ◌∷◌, ◌≤◌, length};
 ghost use Rattle.text.specs.Rest.{rest_at, word_at, end_of};
-ghost use Rattle.keywords.specs.Lookup.{argument_table};
+ghost use Rattle.keywords.specs.Lookup.{table_of_arguments};
 ghost use Rattle.read_word_checks.specs.Faults.{seen_by, pattern_fault, in_force_by, body_fault, curve2_fault, free_fault, held_fault};
 
 use crate::Refusal;
@@ -26,7 +26,7 @@ fn pattern_from(
 ) -> Refusal
     requires at_in_bounds { at ≤ length text.now }
     requires at_in_bounds_2 { end_of text.now at ≤ length text.now }
-    requires argument_table_value { argument_table.now ≡ argument_table }
+    requires argument_table_value { argument_table.now ≡ table_of_arguments }
     ensures { result ≡ pattern_fault (seen_by seen) vp.now texture normal (word_at text.now at ∷ (rest_at text.now (end_of text.now at)).words) }
 {
     match references::corner::corner_at(text, at, seen.v, seen.vt, seen.vn, texture, normal) {
@@ -60,7 +60,7 @@ fn pattern_fault(
     argument_table: &[u8; 108],
 ) -> Refusal
     requires at_in_bounds { at ≤ length text.now }
-    requires argument_table_value { argument_table.now ≡ argument_table }
+    requires argument_table_value { argument_table.now ≡ table_of_arguments }
     ensures { result ≡ pattern_fault (seen_by seen) vp.now texture normal (rest_at text.now at).words }
 {
     match text::skip_blanks(text, at) {
@@ -101,7 +101,7 @@ fn body_fault(
     argument_table: &[u8; 108],
 ) -> Refusal
     requires at_in_bounds { at ≤ length text.now }
-    requires argument_table_value { argument_table.now ≡ argument_table }
+    requires argument_table_value { argument_table.now ≡ table_of_arguments }
     ensures { result ≡ body_fault (seen_by seen) vp.now form key surface (rest_at text.now at).words }
 {
     match pattern_fault(text, at, surface, surface, seen, vp, argument_table) {
@@ -132,7 +132,7 @@ fn curve2_fault(
     argument_table: &[u8; 108],
 ) -> Refusal
     requires at_in_bounds { at ≤ length text.now }
-    requires argument_table_value { argument_table.now ≡ argument_table }
+    requires argument_table_value { argument_table.now ≡ table_of_arguments }
     ensures { result ≡ curve2_fault (seen_by seen) vp.now form key (rest_at text.now at).words }
 {
     if in_force(false, form) {
@@ -164,7 +164,7 @@ fn free_fault(
     argument_table: &[u8; 108],
 ) -> Refusal
     requires at_in_bounds { at ≤ length text.now }
-    requires argument_table_value { argument_table.now ≡ argument_table }
+    requires argument_table_value { argument_table.now ≡ table_of_arguments }
     ensures { result ≡ free_fault (seen_by seen) vp.now form key free (rest_at text.now at).words }
 {
     match free {
@@ -186,7 +186,7 @@ pub fn held_fault(
     argument_table: &[u8; 108],
 ) -> Refusal
     requires at_in_bounds { at ≤ length text.now }
-    requires argument_table_value { argument_table.now ≡ argument_table }
+    requires argument_table_value { argument_table.now ≡ table_of_arguments }
     ensures { result ≡ held_fault (seen_by seen) vp.now form key held (rest_at text.now at).words }
 {
     match held {

@@ -1,6 +1,6 @@
 ghost use Rattle.std.specs.Prelude.{◌≡◌, ◌≤◌, length, drop};
 ghost use Rattle.text.specs.Rest.{rest_at};
-ghost use Rattle.keywords.specs.Lookup.{argument_table};
+ghost use Rattle.keywords.specs.Lookup.{table_of_arguments};
 ghost use Rattle.read_word_checks.specs.Faults.{seen_by, fault_in};
 
 use crate::Refusal;
@@ -19,7 +19,7 @@ pub fn first_fault(
     argument_table: &[u8; 108],
 ) -> Refusal
     requires at_in_bounds { at ≤ length text.now }
-    requires argument_table_value { argument_table.now ≡ argument_table }
+    requires argument_table_value { argument_table.now ≡ table_of_arguments }
     ensures { result ≡ fault_in (seen_by seen) vp.now tests words 0 (rest_at text.now at).words }
 {
     let mut i = at;

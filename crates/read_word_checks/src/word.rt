@@ -5,7 +5,7 @@ ghost use Rattle.decimals.specs.Number.{number_of};
 ghost use Rattle.references.specs.Reference.{reference_of};
 ghost use Rattle.references.specs.Corner.{corner_of, agree};
 ghost use Rattle.digits.specs.Degree.{degree_of, smoothing_of, name_of};
-ghost use Rattle.keywords.specs.Lookup.{argument_table};
+ghost use Rattle.keywords.specs.Lookup.{table_of_arguments};
 ghost use Rattle.model.specs.Parse.{said_of, direction_of, direction_said, type_said, rational_said};
 ghost use Rattle.read_word_checks.specs.Faults.{check_of, counts_by, seen_by, alike_said, given_by, wide_said, tested_by};
 
@@ -86,7 +86,7 @@ fn degree_fault(text: &[u8], at: usize) -> WordCheck
 
 fn smoothing_fault(text: &[u8], at: usize, argument_table: &[u8; 108]) -> WordCheck
     requires at_in_bounds { at ≤ length text.now }
-    requires argument_table_value { argument_table.now ≡ argument_table }
+    requires argument_table_value { argument_table.now ≡ table_of_arguments }
     ensures { result ≡ check_of (smoothing_of (word_of (drop at text.now))) }
 {
     match digits::whole::smoothing_at(text, at, argument_table) {
@@ -244,7 +244,7 @@ fn form_fault(
     argument_table: &[u8; 108],
 ) -> WordCheck
     requires at_in_bounds { at ≤ length text.now }
-    requires argument_table_value { argument_table.now ≡ argument_table }
+    requires argument_table_value { argument_table.now ≡ table_of_arguments }
     ensures { result ≡ check_of (said_of (seen_by seen) form (word_at text.now at)) }
 {
     match form {
@@ -281,7 +281,7 @@ pub fn word_fault(
     argument_table: &[u8; 108],
 ) -> WordCheck
     requires at_in_bounds { at ≤ length text.now }
-    requires argument_table_value { argument_table.now ≡ argument_table }
+    requires argument_table_value { argument_table.now ≡ table_of_arguments }
     ensures { result ≡ check_of (tested_by (seen_by seen) vp.now test (word_at text.now at)) }
 {
     match test {

@@ -2,7 +2,7 @@
 ghost use Rattle.std.specs.Prelude.{◌≡◌, [], ◌∷◌, ◌+◌, min};
 ghost use Rattle.references.specs.Written.{written_whole, written_number, written_corner};
 ghost use Rattle.keywords.specs.Keywords.{keyword_of};
-ghost use Rattle.keywords.specs.Lookup.{keyword_table, argument_table};
+ghost use Rattle.keywords.specs.Lookup.{table_of_keywords, table_of_arguments};
 ghost use Rattle.keywords.specs.Arguments.{argument_bytes};
 ghost use Rattle.tidy_words.specs.Emitting.{emission, emitted_whole, emitted_spaced};
 
@@ -49,7 +49,7 @@ pub fn emit_keyword(
     out: &mut [u8],
     at: usize,
 ) -> usize
-    requires { table.now ≡ keyword_table }
+    requires { table.now ≡ table_of_keywords }
     ensures { emission result out.new ≡ emitted_whole at (keyword_of statement) out.old }
 {
     let end = place_after(at, keywords::keyword_length(statement, table));
@@ -65,7 +65,7 @@ pub fn emit_argument(
     out: &mut [u8],
     at: usize,
 ) -> usize
-    requires { table.now ≡ argument_table }
+    requires { table.now ≡ table_of_arguments }
     ensures { emission result out.new ≡ emitted_whole at (argument_bytes argument) out.old }
 {
     let end = place_after(at, keywords::argument_length(argument, table));
@@ -112,7 +112,7 @@ pub fn emit_spaced_argument(
     out: &mut [u8],
     at: usize,
 ) -> usize
-    requires { table.now ≡ argument_table }
+    requires { table.now ≡ table_of_arguments }
     ensures { emission result out.new ≡ emitted_spaced at (argument_bytes argument) out.old }
 {
     let word = emit_byte(out, at, b' ');

@@ -2,7 +2,7 @@
 ghost use Rattle.std.specs.Prelude.{◌≡◌, ◌∷◌, [], ◌++◌, take, drop};
 ghost use Rattle.text.specs.Written.{written_line, written_lines};
 ghost use Rattle.keywords.specs.Keywords.{keyword_of};
-ghost use Rattle.keywords.specs.Lookup.{keyword_table, argument_table};
+ghost use Rattle.keywords.specs.Lookup.{table_of_keywords, table_of_arguments};
 ghost use Rattle.statements.specs.declared.Carried.TheVariants.{BodyType, Degree};
 ghost use Rattle.tidy_form.specs.Printed.{degree_words};
 ghost use Rattle.tidy_words.specs.Emitting.{Emitted};
@@ -30,8 +30,8 @@ fn type_line(
     out: &mut [u8],
     at: usize,
 ) -> usize
-    requires table_value { table.now ≡ keyword_table }
-    requires arguments_value { arguments.now ≡ argument_table }
+    requires table_value { table.now ≡ table_of_keywords }
+    requires arguments_value { arguments.now ≡ table_of_arguments }
     ensures { Emitted at (written_line (keyword_of BodyType ∷ type_words body)) out.old out.new result }
 {
     let words = tidy_words::emit_keyword(statements::Carried::BodyType, table, out, at);
@@ -56,7 +56,7 @@ fn type_line(
 
 // One number on a curve, whose v degree is 0, two on a surface.
 fn degree_line(body: Body, table: &[u8; 528], out: &mut [u8], at: usize) -> usize
-    requires { table.now ≡ keyword_table }
+    requires { table.now ≡ table_of_keywords }
     ensures { Emitted at (written_line (keyword_of Degree ∷ degree_words body.degree_u body.degree_v)) out.old out.new result }
 {
     let words = tidy_words::emit_keyword(statements::Carried::Degree, table, out, at);
@@ -78,8 +78,8 @@ fn parameter_line(
     out: &mut [u8],
     at: usize,
 ) -> usize
-    requires table_value { table.now ≡ keyword_table }
-    requires arguments_value { arguments.now ≡ argument_table }
+    requires table_value { table.now ≡ table_of_keywords }
+    requires arguments_value { arguments.now ≡ table_of_arguments }
     ensures { Emitted at (written_line (parameter_line direction (take count (drop first parameters.now)))) out.old out.new result }
 {
     let words = tidy_words::emit_keyword(statements::Carried::Parameters, table, out, at);
@@ -97,8 +97,8 @@ fn parameter_lines(
     out: &mut [u8],
     at: usize,
 ) -> usize
-    requires table_value { table.now ≡ keyword_table }
-    requires arguments_value { arguments.now ≡ argument_table }
+    requires table_value { table.now ≡ table_of_keywords }
+    requires arguments_value { arguments.now ≡ table_of_arguments }
     ensures { Emitted at (written_lines (parameter_lines parameters.now kind body)) out.old out.new result }
 {
     let first = body.first_parameter as usize;
@@ -136,8 +136,8 @@ fn form_lines(
     out: &mut [u8],
     at: usize,
 ) -> usize
-    requires table_value { table.now ≡ keyword_table }
-    requires arguments_value { arguments.now ≡ argument_table }
+    requires table_value { table.now ≡ table_of_keywords }
+    requires arguments_value { arguments.now ≡ table_of_arguments }
     ensures { Emitted at (written_lines (form_lines body)) out.old out.new result }
 {
     let second = type_line(body, table, arguments, out, at);
@@ -156,8 +156,8 @@ fn closing_lines(
     out: &mut [u8],
     at: usize,
 ) -> usize
-    requires table_value { table.now ≡ keyword_table }
-    requires arguments_value { arguments.now ≡ argument_table }
+    requires table_value { table.now ≡ table_of_keywords }
+    requires arguments_value { arguments.now ≡ table_of_arguments }
     ensures { Emitted at (written_lines (parameter_lines parameters.now kind body ++ (body_loops parts.now spans.now body ++ end_line ∷ []))) out.old out.new result }
 {
     let trims = parameter_lines(kind, body, table, arguments, parameters, out, at);
@@ -181,8 +181,8 @@ pub fn own_lines(
     out: &mut [u8],
     at: usize,
 ) -> usize
-    requires table_value { table.now ≡ keyword_table }
-    requires arguments_value { arguments.now ≡ argument_table }
+    requires table_value { table.now ≡ table_of_keywords }
+    requires arguments_value { arguments.now ≡ table_of_arguments }
     ensures { Emitted at (written_lines (own_lines corners.now bodies.now ranges.now parameters.now parts.now spans.now element)) out.old out.new result }
 {
     let body = table_asking::body_in(bodies, ranges, element::body_index(element.body));

@@ -2,7 +2,7 @@
 ghost use Rattle.std.specs.Prelude.{◌≡◌, map, ◌≤◌, drop};
 ghost use Rattle.text.specs.Written.{written_line};
 ghost use Rattle.references.specs.Written.{written_corner};
-ghost use Rattle.keywords.specs.Lookup.{keyword_table};
+ghost use Rattle.keywords.specs.Lookup.{table_of_keywords};
 ghost use Rattle.tidy_words.specs.Emitting.{Emitted};
 ghost use Rattle.tidy_words.specs.Emitting.{spaced};
 ghost use Rattle.tidy_writer.specs.Rows.{kind_keyword, range_count, body_index, stored_corners, element_words};
@@ -69,7 +69,7 @@ pub fn element_line(
     out: &mut [u8],
     at: usize,
 ) -> usize
-    requires { table.now ≡ keyword_table }
+    requires { table.now ≡ table_of_keywords }
     ensures { Emitted at (written_line (element_words corners.now body element)) out.old out.new result }
 {
     let words = tidy_words::emit_keyword(kind_keyword(element.kind), table, out, at);

@@ -1,7 +1,7 @@
 // The lines of elements, one after the other, and of all that the tables hold.
 ghost use Rattle.std.specs.Prelude.{◌≡◌, ◌+◌, ◌≤◌};
 ghost use Rattle.text.specs.Written.{written_lines};
-ghost use Rattle.keywords.specs.Lookup.{keyword_table, argument_table};
+ghost use Rattle.keywords.specs.Lookup.{table_of_keywords, table_of_arguments};
 ghost use Rattle.tidy_form.specs.Agree.{words_at};
 ghost use Rattle.tidy_words.specs.Emitting.{Emitted};
 ghost use Rattle.tidy_writer.specs.TidyFrom.{changed, smoothed, names_lines, element_lines, elements_from};
@@ -20,7 +20,7 @@ fn name_line(
     out: &mut [u8],
     at: usize,
 ) -> usize
-    requires table_value { table.now ≡ keyword_table }
+    requires table_value { table.now ≡ table_of_keywords }
     requires at_bound { at ≤ 16777217 }
     ensures { Emitted at (written_lines (changed statement (words_at text.now before) (words_at text.now run))) out.old out.new result }
 {
@@ -39,7 +39,7 @@ fn smoothing_line(
     out: &mut [u8],
     at: usize,
 ) -> usize
-    requires table_value { table.now ≡ keyword_table }
+    requires table_value { table.now ≡ table_of_keywords }
     requires at_bound { at ≤ 16777217 }
     ensures { Emitted at (written_lines (smoothed before smoothing)) out.old out.new result }
 {
@@ -59,7 +59,7 @@ fn names_lines(
     out: &mut [u8],
     at: usize,
 ) -> usize
-    requires table_value { table.now ≡ keyword_table }
+    requires table_value { table.now ≡ table_of_keywords }
     requires at_bound { at ≤ 16777217 }
     ensures { Emitted at (written_lines (names_lines text.now before element)) out.old out.new result }
 {
@@ -101,8 +101,8 @@ fn element_lines(
     out: &mut [u8],
     at: usize,
 ) -> usize
-    requires table_value { table.now ≡ keyword_table }
-    requires arguments_value { arguments.now ≡ argument_table }
+    requires table_value { table.now ≡ table_of_keywords }
+    requires arguments_value { arguments.now ≡ table_of_arguments }
     requires at_bound { (at ≤ 16777217) × (number + 1 ≤ 4294967295) }
     ensures { Emitted at (written_lines (element_lines text.now used elements.now corners.now bodies.now ranges.now parameters.now parts.now spans.now number)) out.old out.new result }
 {
@@ -129,8 +129,8 @@ pub fn elements_lines(
     out: &mut [u8],
     at: usize,
 ) -> usize
-    requires table_value { table.now ≡ keyword_table }
-    requires arguments_value { arguments.now ≡ argument_table }
+    requires table_value { table.now ≡ table_of_keywords }
+    requires arguments_value { arguments.now ≡ table_of_arguments }
     requires at_bound { at ≤ 16777217 }
     ensures { Emitted at (written_lines (elements_from text.now used elements.now corners.now bodies.now ranges.now parameters.now parts.now spans.now used.elements 0)) out.old out.new result }
 {

@@ -3,7 +3,7 @@ ghost use Rattle.std.specs.Prelude.{◌≡◌, ◌∷◌, [], ◌+◌, ◌*◌, 
 ghost use Rattle.text.specs.Written.{written_lines};
 ghost use Rattle.references.specs.Written.{written_number, written_whole};
 ghost use Rattle.tables.specs.Records.{loop_width, span_width};
-ghost use Rattle.keywords.specs.Lookup.{keyword_table};
+ghost use Rattle.keywords.specs.Lookup.{table_of_keywords};
 ghost use Rattle.tidy_form.specs.Printed.{loop_keyword};
 ghost use Rattle.tidy_words.specs.Emitting.{Emitted};
 ghost use Rattle.tidy_words.specs.Emitting.{spaced};
@@ -65,7 +65,7 @@ fn loop_line(
     out: &mut [u8],
     at: usize,
 ) -> usize
-    requires table_value { table.now ≡ keyword_table }
+    requires table_value { table.now ≡ table_of_keywords }
     requires at_bound { (at ≤ 16777217) × (first + 1 + count ≤ 8589934590) }
     ensures { Emitted at (written_lines (begun_lines count (drop (loop_width * first) loops.now) (drop (span_width * first) spans.now))) out.old out.new result }
 {
@@ -89,7 +89,7 @@ pub fn loop_lines(
     out: &mut [u8],
     at: usize,
 ) -> usize
-    requires table_value { table.now ≡ keyword_table }
+    requires table_value { table.now ≡ table_of_keywords }
     requires at_bound { (at ≤ 16777217) × (first + count ≤ 8589934590) }
     ensures { Emitted at (written_lines (loop_lines count (drop (loop_width * first) loops.now) (drop (span_width * first) spans.now))) out.old out.new result }
 {

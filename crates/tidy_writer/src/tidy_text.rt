@@ -1,7 +1,7 @@
 // All that the tables hold, as the tidy text.
 ghost use Rattle.std.specs.Prelude.{◌≡◌, ◌≤◌, min, length};
 ghost use Rattle.text.specs.Written.{written_lines};
-ghost use Rattle.keywords.specs.Lookup.{keyword_table};
+ghost use Rattle.keywords.specs.Lookup.{table_of_keywords};
 ghost use Rattle.tables.specs.Tables.{tables};
 ghost use Rattle.tidy_words.specs.Emitting.{emission, emitted_whole, Emitted};
 ghost use Rattle.tidy_writer.specs.TidyFrom.{vertices_from, tidy_from};
@@ -21,7 +21,7 @@ fn all_vertices(
     out: &mut [u8],
     at: usize,
 ) -> usize
-    requires table_value { table.now ≡ keyword_table }
+    requires table_value { table.now ≡ table_of_keywords }
     requires at_bound { at ≤ 16777217 }
     ensures { Emitted at (written_lines (vertices_from weights used v.now vt.now vn.now vp.now)) out.old out.new result }
 {

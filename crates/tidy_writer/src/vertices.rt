@@ -3,7 +3,7 @@ ghost use Rattle.std.specs.Prelude.{◌≡◌, ◌∷◌, map, ◌≤◌, ◌-�
 ghost use Rattle.text.specs.Written.{written_line, written_lines};
 ghost use Rattle.references.specs.Written.{written_number};
 ghost use Rattle.keywords.specs.Keywords.{keyword_of};
-ghost use Rattle.keywords.specs.Lookup.{keyword_table};
+ghost use Rattle.keywords.specs.Lookup.{table_of_keywords};
 ghost use Rattle.tidy_words.specs.Emitting.{Emitted};
 ghost use Rattle.tidy_words.specs.Emitting.{spaced};
 ghost use Rattle.tidy_writer.specs.Rows.{row_numbers, vertex_rows};
@@ -40,7 +40,7 @@ fn number_line(
     out: &mut [u8],
     at: usize,
 ) -> usize
-    requires { table.now ≡ keyword_table }
+    requires { table.now ≡ table_of_keywords }
     ensures { Emitted at (written_line (keyword_of statement ∷ map written_number (take count (drop first values.now)))) out.old out.new result }
 {
     let words = tidy_words::emit_keyword(statement, table, out, at);
@@ -72,7 +72,7 @@ fn row_line(
     out: &mut [u8],
     at: usize,
 ) -> usize
-    requires table_value { table.now ≡ keyword_table }
+    requires table_value { table.now ≡ table_of_keywords }
     requires le_width { (1 ≤ width) × (width ≤ 4) × (first ≤ 17179869180) }
     ensures { Emitted at (written_line (keyword_of statement ∷ map written_number (row_numbers counted weights (take width (drop first values.now))))) out.old out.new result }
 {
@@ -96,7 +96,7 @@ pub fn vertex_lines(
     out: &mut [u8],
     at: usize,
 ) -> usize
-    requires table_value { table.now ≡ keyword_table }
+    requires table_value { table.now ≡ table_of_keywords }
     requires le_width { (1 ≤ width) × (width ≤ 4) × (at ≤ 16777217) }
     ensures { Emitted at (written_lines (vertex_rows statement counted weights width used values.now)) out.old out.new result }
 {
