@@ -13,7 +13,7 @@ use Rattle.rounding.specs.Range.{InRange}
 use Rattle.rounding.proofs.Order.{up, up_le, up-abs, up-trans, lt-or-le}
 use Rattle.rounding.proofs.Ring.{ring, ◌⊕◌, ◌⊝◌, ◌≐◌}
 use Rattle.doubles.specs.Doubles.{weight_of}
-use Rattle.point_exact.specs.Directions.{PointBasis, bezier, bspline, by, Direction, at, span, chosen}
+use Rattle.point_exact.specs.Directions.{PointBasis, bezier, bspline, Direction, at, span, chosen}
 use Rattle.point_exact.specs.Rules.{Rules}
 use Rattle.point_exact.specs.Sampled.{low_at, high_at, offset_at, gap_at}
 use Rattle.point_exact.proofs.Chosen.{segment-holds}

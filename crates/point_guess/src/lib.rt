@@ -1,4 +1,6 @@
 // The working row in doubles: a place guessed by leaning to either side, and made exactly where the two differ or doubles are not to be trusted.
+#![tactic(auto)]
+
 ghost use Rattle.std.specs.Prelude.{◌≡◌, ◌+◌, ◌-◌, ◌≤◌, ◌<◌, nat_abs, ◌-ℤ◌, true, ◌&&◌};
 ghost use Rattle.std.specs.Float.Ieee.{eq};
 ghost use Rattle.doubles.specs.Doubles.{Encoding, above};
