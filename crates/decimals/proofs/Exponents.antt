@@ -19,7 +19,7 @@ use Rattle.digits.specs.Straight.{first, run, cap}
 use Rattle.digits.proofs.Rows.{nat_of-append, nat_of-below, cap-nat_of, ten-pos}
 use Rattle.digits.proofs.Wholes.{RowRead, NoRow, row-digits, no-digits}
 use Rattle.digits.proofs.Saids.{said, ended-says, must-says, must-wrong}
-use Rattle.decimals.specs.Number.{is_sign, exponent, after, unsigned}
+use Rattle.decimals.specs.Number.{is_sign, unsigned}
 use Rattle.decimals.specs.Straight.{exponent_of, taken_of, MantissaRead}
 use Rattle.decimals.proofs.Shifts.{cap-times}
 use Rattle.decimals.proofs.Signed.{signs, unsigned_is, ends}
