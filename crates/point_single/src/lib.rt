@@ -1,4 +1,6 @@
 // Points: the controls of a segment or span gathered into a row, the row worked down, and what it comes to decoded.
+#![tactic(auto)]
+
 ghost use Rattle.std.specs.Prelude.{◌≡◌, ◌+◌, ◌*◌, ◌≤◌, length};
 ghost use Rattle.doubles.specs.Doubles.{decode};
 ghost use Rattle.point_rows.specs.Places.{direction};
