@@ -8,7 +8,7 @@ use lib.Dec.{leb, eqb}
 use borrow.Author.Tests.{leb-true, ne_eqb}
 use native.Mathlib.Omega.{arith}
 use Rattle.lists.proofs.Tests.{and_left, and_right, and_both}
-use Rattle.digits.specs.Said.{says, must}
+use Rattle.digits.specs.Said.{says}
 use Rattle.digits.specs.Digits.{is_digit, digits}
 use Rattle.references.specs.Reference.{is_reference, refer}
 use Rattle.references.specs.Corner.{Corner, Counts, Parts, split, formed, patterned, corner_of}

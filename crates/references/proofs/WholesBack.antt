@@ -10,7 +10,7 @@ use borrow.Author.Tests.{le-leb, leb-true, ne_eqb}
 use native.Mathlib.Omega.{arith}
 use Rattle.lists.specs.Lists.{same}
 use Rattle.lists.proofs.Tests.{and_left, and_right, and_both, test, never}
-use Rattle.digits.specs.Said.{says, must}
+use Rattle.digits.specs.Said.{says}
 use Rattle.digits.specs.Digits.{is_digit, digits, nat_of, is_whole, negative, unminus}
 use Rattle.keywords.specs.declared.Argument.TheVariants.{Off}
 use Rattle.keywords.specs.Arguments.{arguments, argument_bytes}

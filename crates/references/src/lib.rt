@@ -1,2 +1,4 @@
+#![tactic(auto)]
+
 pub mod corner;
 pub mod reference;
