@@ -1,1 +1,3 @@
+#![tactic(auto)]
+
 // What a file says and how its text says it, as definitions: no code.
