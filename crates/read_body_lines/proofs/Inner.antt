@@ -21,7 +21,7 @@ use Rattle.model.specs.Parse.{parm, rules_of, is_surface}
 use Rattle.model.specs.Room.{Rooms}
 use Rattle.read_state.specs.declared.State.{State}
 use Rattle.read_state.specs.declared.Open.{Open}
-use Rattle.read_state.specs.State.{OpenIs}
+use Rattle.read_state.specs.State.{OpenBodyIs}
 use Rattle.read_state.specs.Changed.{state, loops_stored}
 use Rattle.read_bodies.specs.Numbers.{numbers_at}
 use Rattle.read_bodies.specs.Closing.{parm_of}
@@ -60,7 +60,7 @@ along-v curve2 = refl
 along-v surface = refl
 
 -- what a row says of the open body's kind it says of the body
-module _ (s : List ℕ) (o : model.Open) (c : Open) (is : OpenIs s o c) (a : Standing) (v : Bool) where
+module _ (s : List ℕ) (o : model.Open) (c : Open) (is : OpenBodyIs s o c) (a : Standing) (v : Bool) where
   pub row_of : allowed_by a (free_numbered c.kind) v ≡ allowed_by a (some o.body.free) v
   row_of = ap (λ (k : Option Free). allowed_by a k v) (open-kind s (some o) c is)
 
@@ -175,7 +175,7 @@ module _ (hole : Bool) (s : List ℕ) (at : ℕ) (c : State) (l m : List ℕ) (y
       left-barred R s p at read x c t (loops_stored m z t) w (loop_word hole) b (given-in R s x c t read b.holds)
       (ap (λ (a : Standing). allowed_by a (free_numbered c.«open».kind) false) (loop-standing hole) ∙ n)
 
-  surface-there : (o : model.Open) → OpenIs s o c.«open» → InSurface ≡ true → is_surface o.body.free ≡ true
+  surface-there : (o : model.Open) → OpenBodyIs s o c.«open» → InSurface ≡ true → is_surface o.body.free ≡ true
   surface-there o is k = sym (row_of s o c.«open» is standing.Surface false) ∙ k
 
   pub loop-gave : (r : Loop) → InSurface ≡ true → LoopIs s at hole c.curves c.used.loops l m y z r → r ≡ loops.Rejected → LoopStep hole s at c l m y z Rejected

@@ -48,7 +48,7 @@ pub record ParmAt (s : List ℕ) (at : ℕ) (zs : List ℤ) : Type 0 where
 abbrev pub no_open : Open
 no_open = record { kind = 0; controls = 0; parts = 0; u_at = 0; v_at = 0 }
 
-pub record OpenIs (s : List ℕ) (o : model.Open) (c : Open) : Type 0 where
+pub record OpenBodyIs (s : List ℕ) (o : model.Open) (c : Open) : Type 0 where
   pub kind : c.kind ≡ free_number o.body.free
   pub controls : c.controls ≡ length o.controls
   pub parts : c.parts ≡ part_count o.body
@@ -57,7 +57,7 @@ pub record OpenIs (s : List ℕ) (o : model.Open) (c : Open) : Type 0 where
 
 abbrev pub OpenIs : List ℕ → Option model.Open → Open → Type 0
 OpenIs s none c = c ≡ no_open
-OpenIs s (some o) c = OpenIs s o c
+OpenIs s (some o) c = OpenBodyIs s o c
 
 -- the state x of a text s, read up to a place of it, in numbers
 pub record StateIs (s : List ℕ) (x : model.State) (c : State) : Type 0 where

@@ -1,4 +1,6 @@
 // What is in force while a text is read, as numbers.
+#![tactic(auto)]
+
 ghost use Rattle.std.specs.Prelude.{◌≡◌};
 ghost use Rattle.model.specs.Layout.{free_number};
 
