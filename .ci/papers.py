@@ -24,7 +24,7 @@ PLACEHOLDERS = ("part.obj",)  # a file of whoever reads README
 
 
 def crates_of(text):
-    return {line.split(":")[0] for line in text.splitlines() if ":" in line and not line.startswith("#")}
+    return {line.split(":")[0].split()[0] for line in text.splitlines() if ":" in line and not line.startswith("#")}
 
 
 CRATES = crates_of((ROOT / "crates.txt").read_text())

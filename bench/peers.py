@@ -60,7 +60,7 @@ def build_own(folder, archive):
 
 def build(folder):
     if "KUHLABIRES_ARCHIVE" not in os.environ:
-        run("rt", "staticlib", "kuhlabires", cwd=ROOT, stdout=subprocess.DEVNULL)
+        run(sys.executable, ROOT / "host" / "library.py", stdout=subprocess.DEVNULL)
     build_own(folder, ARCHIVE)
     run("g++", "-std=c++17", "-O3", ROOT / "bench" / "read_tinyobjloader.cpp", "-o", folder / "read_tinyobjloader")
     run("g++", "-std=c++17", "-O3", ROOT / "bench" / "read_assimp.cpp", "-lassimp", "-o", folder / "read_assimp")

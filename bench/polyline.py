@@ -1,6 +1,6 @@
 """Polylines of the examples at several tolerances, beside the run that is as straight.
 
-    rt staticlib kuhlabires && python3 bench/polyline.py [ROUNDS]
+    python3 host/library.py && python3 bench/polyline.py [ROUNDS]
 
 Prints the table of docs/SPEED.md: points handed out, intervals looked at, samples
 (calls of sampler::sampling::curve_at, counted by callgrind), and nanoseconds for a

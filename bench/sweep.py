@@ -1,6 +1,6 @@
 """The sweep of tables of 1 to 16 MB of text: records a second, and instructions a record.
 
-    rt staticlib kuhlabires && python3 bench/sweep.py [ROUNDS]
+    python3 host/library.py && python3 bench/sweep.py [ROUNDS]
 
 Prints the table of docs/SPEED.md. Records are those of v, vt, vn and vp, the corners, elements,
 bodies, parameters and loop parts. Instructions are counted by callgrind inside the call alone.

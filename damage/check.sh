@@ -1,5 +1,5 @@
 #!/usr/bin/env bash
-# The short run, after `rt staticlib kuhlabires`: seeded damage against second/, plain and under valgrind; the fuzzer's corpus and every stored case
+# The short run, after `python3 host/library.py`: seeded damage against second/, plain and under valgrind; the fuzzer's corpus and every stored case
 # through its target. docs/DAMAGE.md says how the long ones are run.
 set -euo pipefail
 cd "$(dirname "$0")/.."

@@ -10,24 +10,20 @@ cd "$(dirname "$0")/.."
 command -v clang > /dev/null && command -v valgrind > /dev/null ||
     { apt-get update -qq && apt-get install -y -qq clang llvm libclang-rt-14-dev valgrind; }
 
-home=$(dirname "$(dirname "$(readlink -f "$(command -v rt)")")")
-machine=on/$(uname -m)
+tools=$(dirname "$(dirname "$(readlink -f "$(command -v rt)")")")/toolchain
 made=$PWD/target/damage
-rm -rf "$made/kit"
-mkdir -p "$made/kit/$machine/toolchain/bin" "$made/corpus"
-for part in "$home"/*; do [ "$part" = "$home/on" ] || ln -s "$part" "$made/kit/"; done
-for part in "$home/$machine"/*; do [ "$part" = "$home/$machine/toolchain" ] || ln -s "$part" "$made/kit/$machine/"; done
-tools=$home/$machine/toolchain
-ln -s "$tools/lib" "$made/kit/$machine/toolchain/lib"
-for tool in "$tools"/bin/*; do ln -s "$tool" "$made/kit/$machine/toolchain/bin/"; done
-rm "$made/kit/$machine/toolchain/bin/clang"
-cat > "$made/kit/$machine/toolchain/bin/clang" << END
+rm -rf "$made/tools"
+mkdir -p "$made/tools/bin" "$made/corpus"
+ln -s "$tools/lib" "$made/tools/lib"
+for tool in "$tools"/bin/*; do ln -s "$tool" "$made/tools/bin/"; done
+rm "$made/tools/bin/clang"
+cat > "$made/tools/bin/clang" << END
 #!/bin/sh
 cp module.bc "$made/module.bc"
 exec "$tools/bin/clang" "\$@"
 END
-chmod +x "$made/kit/$machine/toolchain/bin/clang"
-RATTLE_HOME=$made/kit rt staticlib kuhlabires > "$made/staticlib.log" || { cat "$made/staticlib.log"; exit 1; }
+chmod +x "$made/tools/bin/clang"
+python3 host/library.py --with "$made/tools" "$made/libkuhlabires.a" > "$made/library.log" || { cat "$made/library.log"; exit 1; }
 
 target=--target=x86_64-unknown-linux-gnu
 "$tools/bin/clang" $target -Xclang -disable-llvm-passes -S -emit-llvm -x ir "$made/module.bc" -o "$made/module.ll"

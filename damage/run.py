@@ -1,6 +1,6 @@
 """The proved library under damaged files, held against second/.
 
-    rt staticlib kuhlabires && python3 damage/run.py SEED COUNT [LONG]
+    python3 host/library.py && python3 damage/run.py SEED COUNT [LONG]
 
 The stored calls on points; then every stored case and example, and COUNT seeded
 texts, damaged in the ways of kinds.py, are read, in the rooms that the library finds for

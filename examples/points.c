@@ -1,7 +1,7 @@
 /*
  * Prints points of a curve of an .obj file, one a line: a run of so many steps, or its polyline within a tolerance in millionths.
  *
- *     rt staticlib kuhlabires
+ *     python3 host/library.py
  *     gcc -O2 -Iinclude examples/points.c target/staticlib/libkuhlabires.a -o points
  *     ./points examples/chair-rail.obj 1 8
  *     ./points examples/foam-wing.obj 1 polyline 500

@@ -1,4 +1,4 @@
-//! Links the proved library: the archive that KUHLABIRES_ARCHIVE names, or the one that `rt staticlib kuhlabires` leaves in the repository.
+//! Links the proved library: the archive that KUHLABIRES_ARCHIVE names, or the one that `python3 host/library.py` leaves in the repository.
 use std::env;
 use std::path::PathBuf;
 
@@ -12,7 +12,7 @@ fn main() {
     println!("cargo:rerun-if-changed={}", archive.display());
     let archive = archive
         .canonicalize()
-        .unwrap_or_else(|error| panic!("{}: {error}; make it with `rt staticlib kuhlabires`", archive.display()));
+        .unwrap_or_else(|error| panic!("{}: {error}; make it with `python3 host/library.py`", archive.display()));
     let name = archive
         .file_stem()
         .and_then(|stem| stem.to_str())

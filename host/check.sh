@@ -1,6 +1,6 @@
 #!/usr/bin/env bash
 # Builds the static library, the Rust crate with its command, and the C example against the library as install.sh leaves it, and holds what they write
-# against host/tests/expected.
+# against host/tests/expected. With --built it takes the static library that stands.
 set -euo pipefail
 cd "$(dirname "$0")/.."
 
@@ -13,7 +13,7 @@ need sqlite3 sqlite3
 # A shell's patterns give files in the order of their bytes.
 export LC_ALL=C
 
-rt staticlib kuhlabires
+[ "${1:-}" = --built ] || python3 host/library.py
 (cd host && cargo build --release --offline --quiet && cargo test --release --offline --quiet)
 
 # The flags of the installed library: by pkg-config, or as the file has them where that is not at hand.

@@ -1,7 +1,7 @@
 #!/usr/bin/env bash
 # Installs the C library below PREFIX: include/kuhlabires.h, lib/libkuhlabires.a and lib/pkgconfig/kuhlabires.pc. A C program is then built by
 #     cc program.c $(pkg-config --cflags --libs kuhlabires)
-# and the Rust crate by KUHLABIRES_ARCHIVE=PREFIX/lib/libkuhlabires.a. The archive is made by `rt staticlib kuhlabires` where it is not there.
+# and the Rust crate by KUHLABIRES_ARCHIVE=PREFIX/lib/libkuhlabires.a. The archive is made by `python3 host/library.py` where it is not there.
 set -euo pipefail
 if [ $# != 1 ] || [ -z "$1" ]; then
     echo "usage: host/install.sh PREFIX" >&2
@@ -11,7 +11,7 @@ mkdir -p "$1"
 prefix=$(cd "$1" && pwd)
 cd "$(dirname "$0")/.."
 archive=target/staticlib/libkuhlabires.a
-[ -f "$archive" ] || rt staticlib kuhlabires
+[ -f "$archive" ] || python3 host/library.py
 
 version=$(sed -n 's/^#define KUHLABIRES_VERSION "\(.*\)"$/\1/p' include/kuhlabires.h)
 install -d "$prefix/include" "$prefix/lib/pkgconfig"

@@ -1,7 +1,7 @@
 /*
  * Kuhlabires: a verified reader, tidier and sampler of Wavefront .obj files.
  *
- * Link the archive that `rt staticlib kuhlabires` makes, target/staticlib/libkuhlabires.a, or the one that `host/install.sh PREFIX` installs.
+ * Link the archive that `python3 host/library.py` makes, target/staticlib/libkuhlabires.a, or the one that `host/install.sh PREFIX` installs.
  *
  * The functions whose names begin with kuhlabires_tables_ take the tables as one struct, and are the ones to begin with: they stand at the end,
  * with the words of a refusal and the line of a place.

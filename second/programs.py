@@ -1,6 +1,6 @@
 """The proved programs tidy and points, run and compared.
 
-    rt check tidy points && python3 second/programs.py
+    rt ci && python3 second/programs.py
 
 tidy: on every stored case and at its own limits, against the second tidier, whose
 answers for them are stored (expected.txt, tidy/, check.py). points: against the
@@ -20,7 +20,7 @@ from records import Read
 from sampler import RefusedPoint, run_on_curve
 from tidier import PROGRAM_ROOM, printed
 
-PROGRAMS = EXAMPLES.parent / "target" / "bin"
+CRATES = EXAMPLES.parent / "crates"
 STEPS = (0, 1, 16, 65_536, 65_537)
 
 
@@ -28,17 +28,22 @@ UNREAD = b"standard input could not be read: "
 UNWRITTEN = b"standard output could not be written: "
 
 
+def built(program):
+    """The proved program as `rt ci` leaves it, and `rt run` in its crate's folder too."""
+    return CRATES / program / "out" / program
+
+
 def written(program, data, *arguments):
     """What the program writes; with what it says on standard error, if it says anything."""
     run = subprocess.run(
-        [PROGRAMS / program, *map(str, arguments)], input=data, capture_output=True, check=True
+        [built(program), *map(str, arguments)], input=data, capture_output=True, check=True
     )
     return (run.stdout, run.stderr) if run.stderr else run.stdout
 
 
 def said(program, source, *, to=subprocess.PIPE, closed=""):
     """What the program writes to standard output and to standard error, on the descriptor `source`."""
-    command = ["sh", "-c", f'exec "$0" "$@" {closed}', PROGRAMS / program, "1", "1"]
+    command = ["sh", "-c", f'exec "$0" "$@" {closed}', built(program), "1", "1"]
     run = subprocess.run(command, stdin=source, stdout=to, stderr=subprocess.PIPE, check=False)
     return run.stdout or b"", run.stderr
 
