@@ -1,8 +1,12 @@
 // Standard input read to its end, and standard output written whole. A call that fails is told apart from the end of the input and said on standard error.
-ghost use Rattle.std.specs.Prelude.{◌≡◌, ◌≤◌, length};
-ghost use Rattle.io.specs.Counts.{IsPrefixLen};
+#![tactic(auto)]
 
-use libc::{STDIN_FILENO, STDOUT_FILENO};
+ghost use Rattle.std.specs.Prelude.{◌≡◌, ◌≤◌, IfOk, length};
+ghost use Rattle.streams.specs.Counts.{IsPrefixLen};
+
+use std::fmt::Write;
+use std::io::Read;
+use std::{fmt, io, str};
 
 // How many bytes were put at the front of a buffer, and whether a read failed.
 #[derive(Clone, Copy)]
@@ -11,20 +15,49 @@ pub struct Input {
     pub failed: bool,
 }
 
-fn read_once(buffer: &mut [u8]) -> Input
-    ensures { result.count ≤ length buffer.old }
-{
-    let got = libc::read(STDIN_FILENO, buffer);
-    Input {
-        count: io::count(got, buffer),
-        failed: got < 0,
+// The text of an error, as far as it has room.
+#[derive(Drop)]
+struct Said {
+    bytes: [u8; 80],
+    len: usize,
+}
+
+impl Write for Said {
+    fn write_str(&mut self, s: &str) -> fmt::Result {
+        for b in s.as_bytes() {
+            if self.len < self.bytes.len() {
+                self.bytes[self.len] = *b;
+                self.len += 1;
+            }
+        }
+        Ok(())
     }
 }
 
-fn read_failed() -> Input
+// Says on standard error what failed, and why in the system's words: std's, without the number that it puts behind them.
+fn fail(rt: &impl Eprint, what: &str, error: io::Error) {
+    let mut said = Said {
+        bytes: [0; 80],
+        len: 0,
+    };
+    let _ = write!(said, "{error}");
+    let text = str::from_utf8(said.bytes.get(..said.len).unwrap_or(b"")).unwrap_or("");
+    let words = text
+        .split_once(" (os error ")
+        .map_or(text, |(words, _)| words);
+    let _ = eprintln!(rt; "{what}: {words}");
+}
+
+fn read_once(input: &mut impl Read, buffer: &mut [u8]) -> io::Result<usize>
+    ensures { IfOk result (λ count. count ≤ length buffer.old) }
+{
+    input.read(buffer)
+}
+
+fn read_failed(rt: &impl Eprint, error: io::Error) -> Input
     ensures { result.count ≡ 0 }
 {
-    os::fail(b"standard input could not be read");
+    fail(rt, "standard input could not be read", error);
     Input {
         count: 0,
         failed: true,
@@ -32,20 +65,16 @@ fn read_failed() -> Input
 }
 
 // Reads until the buffer is full, the input ends or a read fails: a part of an input that could not be read whole is not handed out.
-pub fn read_input(buffer: &mut [u8]) -> Input
+pub fn read_input(rt: &impl Eprint, input: &mut impl Read, buffer: &mut [u8]) -> Input
     ensures { IsPrefixLen result.count buffer.new }
 {
     let mut at: usize = 0;
     while at < buffer.len() {
-        let part = read_once(&mut buffer[at..]);
-        if part.failed {
-            return read_failed();
+        match read_once(input, &mut buffer[at..]) {
+            Ok(0) => break,
+            Ok(count) => at += count,
+            Err(error) => return read_failed(rt, error),
         }
-        let count = part.count;
-        if count == 0 {
-            break;
-        }
-        at += count;
     }
     Input {
         count: at,
@@ -54,10 +83,12 @@ pub fn read_input(buffer: &mut [u8]) -> Input
 }
 
 // Writes all the bytes; where that fails, says so and answers false.
-pub fn write_output(bytes: &[u8]) -> bool {
-    if io::write_all(STDOUT_FILENO, bytes) {
-        return true;
+pub fn write_output(rt: &(impl Print + Eprint), bytes: &[u8]) -> bool {
+    match rt.write_all(bytes) {
+        Ok(()) => true,
+        Err(error) => {
+            fail(rt, "standard output could not be written", error);
+            false
+        }
     }
-    os::fail(b"standard output could not be written");
-    false
 }
