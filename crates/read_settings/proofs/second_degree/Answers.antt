@@ -1,0 +1,11 @@
+-- By the count.
+use mathlib.Core.Path.{refl}
+use borrow.Author.Tests.{eq-eqb, ne_eqb}
+use borrow.Author.Rules.{rules}
+use Rattle.read_settings.proofs.second_degree.Goals as goal
+
+pub returns-then-count-eq1 : goal.returns-then-count-eq1
+returns-then-count-eq1 c = rw (eq-eqb _ 1 c.if-count-eq1.true) refl
+
+pub returns : goal.returns
+returns c = rw (ne_eqb _ 1 c.if-count-eq1.false) c.degree_at.ensures

@@ -1,0 +1,14 @@
+use Rattle.sweep_marks.proofs.Marking.{Reached, reached-more, reached-all, elements-more, length-elements}
+use Rattle.sweep_marks.specs.Marks.{kind_of, mark_elements}
+use Prim.Native.Nat.{◌-◌}
+use native.Mathlib.Omega.{arith}
+use mathlib.Core.Path.{refl, ap, ◌∙◌}
+use lib.ListN.{length}
+use borrow.Author.Rules.{rules}
+use Rattle.sweep_marks.proofs.mark_elements.Given as goal
+
+abbrev pub invariant-loop-i : goal.invariant-loop-i
+invariant-loop-i l = Reached (λ n. mark_elements (kind_of l.table) l.elements l.corners n l.initial.marks) l.count l.marks l.i
+
+abbrev pub decreases-loop-i : goal.decreases-loop-i
+decreases-loop-i l = l.count - l.i
