@@ -84,12 +84,12 @@ held c = sym (not-false _ (ap not c.if-not-counted.false)) ∙ row-at-In-Value-s
 abbrev first : (c : In-Value-second_degree) → ℕ
 first c = c.in-Words.first
 
-one-says : (c : In-Value-second_degree) → degree_of (word_of (drop (first c) (s-at-In-Value-second_degree c))) ≡ says c.«degree-u».given.0.0
-one-says c = (L.whole_says (degree_of (word_of (drop (first c) (s-at-In-Value-second_degree c)))) (end_of (s-at-In-Value-second_degree c) (first c)) _ c.degree_at.ensures c.«degree-u».given.1).0
+one-says : (c : In-Value-second_degree) → degree_of (word_of (drop (first c) (s-at-In-Value-second_degree c))) ≡ says c.in-Value.degree_u
+one-says c = (L.whole_says (degree_of (word_of (drop (first c) (s-at-In-Value-second_degree c)))) (end_of (s-at-In-Value-second_degree c) (first c)) _ c.degree_at.ensures c.in-Value.is).0
 
 pub returns-in-Value-second_degree : goal.returns-in-Value-second_degree
 returns-in-Value-second_degree c =
-    let said = L.whole_says (second_said (s-at-In-Value-second_degree c) (second c) (n-at-In-Value-second_degree c)) (second_end (s-at-In-Value-second_degree c) (second c) (n-at-In-Value-second_degree c)) _ c.second_degree.ensures c.«degree-v».given.1 in
+    let said = L.whole_says (second_said (s-at-In-Value-second_degree c) (second c) (n-at-In-Value-second_degree c)) (second_end (s-at-In-Value-second_degree c) (second c) (n-at-In-Value-second_degree c)) _ c.second_degree.ensures c.in-Value-second_degree.is in
     L.degree-second (s-at-In-Value-second_degree c) _ _ _ _ _ (line-at-In-Value-second_degree c) c.args.form (held c) _ (one-says c) said.0
 
 abbrev s-at-In-Malformed-second_degree : (c : In-Malformed-second_degree) → List ℕ
@@ -113,8 +113,8 @@ held-at-In-Malformed-second_degree c = sym (not-false _ (ap not c.if-not-counted
 abbrev first-at-In-Malformed-second_degree : (c : In-Malformed-second_degree) → ℕ
 first-at-In-Malformed-second_degree c = c.in-Words.first
 
-one-says-at-In-Malformed-second_degree : (c : In-Malformed-second_degree) → degree_of (word_of (drop (first-at-In-Malformed-second_degree c) (s-at-In-Malformed-second_degree c))) ≡ says c.«degree-u».given.0.0
-one-says-at-In-Malformed-second_degree c = (L.whole_says (degree_of (word_of (drop (first-at-In-Malformed-second_degree c) (s-at-In-Malformed-second_degree c)))) (end_of (s-at-In-Malformed-second_degree c) (first-at-In-Malformed-second_degree c)) _ c.degree_at.ensures c.«degree-u».given.1).0
+one-says-at-In-Malformed-second_degree : (c : In-Malformed-second_degree) → degree_of (word_of (drop (first-at-In-Malformed-second_degree c) (s-at-In-Malformed-second_degree c))) ≡ says c.in-Value.degree_u
+one-says-at-In-Malformed-second_degree c = (L.whole_says (degree_of (word_of (drop (first-at-In-Malformed-second_degree c) (s-at-In-Malformed-second_degree c)))) (end_of (s-at-In-Malformed-second_degree c) (first-at-In-Malformed-second_degree c)) _ c.degree_at.ensures c.in-Value.is).0
 
 pub returns-in-Malformed-second_degree : goal.returns-in-Malformed-second_degree
 returns-in-Malformed-second_degree c =
@@ -142,8 +142,8 @@ held-at-In-OutOfRange-second_degree c = sym (not-false _ (ap not c.if-not-counte
 abbrev first-at-In-OutOfRange-second_degree : (c : In-OutOfRange-second_degree) → ℕ
 first-at-In-OutOfRange-second_degree c = c.in-Words.first
 
-one-says-at-In-OutOfRange-second_degree : (c : In-OutOfRange-second_degree) → degree_of (word_of (drop (first-at-In-OutOfRange-second_degree c) (s-at-In-OutOfRange-second_degree c))) ≡ says c.«degree-u».given.0.0
-one-says-at-In-OutOfRange-second_degree c = (L.whole_says (degree_of (word_of (drop (first-at-In-OutOfRange-second_degree c) (s-at-In-OutOfRange-second_degree c)))) (end_of (s-at-In-OutOfRange-second_degree c) (first-at-In-OutOfRange-second_degree c)) _ c.degree_at.ensures c.«degree-u».given.1).0
+one-says-at-In-OutOfRange-second_degree : (c : In-OutOfRange-second_degree) → degree_of (word_of (drop (first-at-In-OutOfRange-second_degree c) (s-at-In-OutOfRange-second_degree c))) ≡ says c.in-Value.degree_u
+one-says-at-In-OutOfRange-second_degree c = (L.whole_says (degree_of (word_of (drop (first-at-In-OutOfRange-second_degree c) (s-at-In-OutOfRange-second_degree c)))) (end_of (s-at-In-OutOfRange-second_degree c) (first-at-In-OutOfRange-second_degree c)) _ c.degree_at.ensures c.in-Value.is).0
 
 pub returns-in-OutOfRange-second_degree : goal.returns-in-OutOfRange-second_degree
 returns-in-OutOfRange-second_degree c =

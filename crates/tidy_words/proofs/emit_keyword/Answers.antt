@@ -1,0 +1,14 @@
+-- Written where it ends within the buffer and the longest text; else nothing is.
+use native.Mathlib.Omega.{arith}
+use Rattle.keywords.specs.Keywords.{keyword_of}
+use Rattle.tidy_words.proofs.Emissions.{whole_room, whole-roomless}
+use borrow.Author.Rules.{rules}
+use Rattle.tidy_words.proofs.emit_keyword.Goals as goal
+
+pub returns-then-end-room_in : goal.returns-then-end-room_in
+returns-then-end-room_in c =
+    whole_room c.args.at (keyword_of c.args.statement) c.args.out.now _ _ c.keyword_length.ensures c.place_after-end.ensures (omega arith) _ _ c.write_keyword.ensures
+
+pub returns : goal.returns
+returns c =
+    whole-roomless c.args.at (keyword_of c.args.statement) c.args.out.now _ _ c.keyword_length.ensures c.place_after-end.ensures (omega arith)

@@ -1,0 +1,14 @@
+-- Written where it ends within the buffer and the longest text; else nothing is.
+use native.Mathlib.Omega.{arith}
+use Rattle.references.specs.Written.{written_whole}
+use Rattle.tidy_words.proofs.Emissions.{whole_room, whole-roomless}
+use borrow.Author.Rules.{rules}
+use Rattle.tidy_words.proofs.emit_whole.Goals as goal
+
+pub returns-then-end-room_in : goal.returns-then-end-room_in
+returns-then-end-room_in c =
+    whole_room c.args.at (written_whole c.args.n) c.args.out.now _ _ c.whole_length.ensures c.place_after-end.ensures (omega arith) _ _ c.write_whole.ensures
+
+pub returns : goal.returns
+returns c =
+    whole-roomless c.args.at (written_whole c.args.n) c.args.out.now _ _ c.whole_length.ensures c.place_after-end.ensures (omega arith)
