@@ -1,4 +1,6 @@
 // Runs on curves: the parameters that a run samples at, and its points.
+#![tactic(auto)]
+
 ghost use Rattle.std.specs.Prelude.{◌≡◌, cond, ◌++◌, ◌+◌, ◌*◌, ◌≤◌, ◌<◌, eqb, length, drop, ◌≤ℤ◌};
 ghost use Rattle.rounding.specs.Range.{InRange};
 ghost use Rattle.tables.specs.Records.{curve2_kind};
