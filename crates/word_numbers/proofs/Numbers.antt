@@ -12,7 +12,7 @@ use Rattle.text.specs.Words.{word_of}
 use Rattle.text.specs.Rest.{end_of}
 use Rattle.digits.specs.Said.{Said, says, wrong}
 use Rattle.digits.specs.Answers.{ends_at}
-use Rattle.digits.specs.Digits.{nat_of, negative}
+use Rattle.digits.specs.Digits.{nat_of}
 use Rattle.decimals.specs.Number.{is_sign, unsigned, number_of}
 use Rattle.decimals.specs.Straight.{pointed, magnitude_of, size_of, settle_of}
 use Rattle.digits.specs.Straight.{first, is_empty, run, past, WholeRead, UptoRead}
