@@ -1,4 +1,6 @@
 // Points on curves and surfaces, alone and in runs.
+#![tactic(auto)]
+
 ghost use Rattle.std.specs.Prelude.{◌≡◌};
 ghost use Rattle.tables.specs.Tables.{tables};
 ghost use Rattle.sampler.specs.Answers.{point_answer, point_on_curve, point_on_surface, run_answer, run_into};
