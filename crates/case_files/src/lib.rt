@@ -1,4 +1,6 @@
 // What the programs that run cases share: a case is a line of numbers and a label, and then a text.
+#![tactic(auto)]
+
 ghost use Rattle.std.specs.Prelude.{◌≡◌, ◌≤◌, min, length};
 ghost use Rattle.case_files.specs.Cases.{case_number_at, case_line_end};
 

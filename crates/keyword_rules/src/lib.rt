@@ -1,4 +1,6 @@
 // A keyword's row of rules as numbers, for other languages.
+#![tactic(auto)]
+
 ghost use Rattle.std.specs.Prelude.{◌≡◌, drop};
 ghost use Rattle.text.specs.Words.{word_of};
 ghost use Rattle.keywords.specs.Keywords.{statement_of};
