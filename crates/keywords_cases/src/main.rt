@@ -1,95 +1,91 @@
 // Words from standard input, each with what it is as a keyword and what it is as an argument. A stored keyword is written from the table.
+#![tactic(auto)]
+
 ghost use Rattle.std.specs.Prelude.{◌≤◌, ◌<◌, length};
 
 use keywords::Argument;
-use libc::STDOUT_FILENO;
 use statements::{Carried, Statement};
+use std::io;
+use std::io::Read;
 use text::AfterBlanks;
 
-fn put(bytes: &[u8]) {
-    io::write_all(STDOUT_FILENO, bytes);
-}
-
-fn put_keyword(statement: Carried) {
+fn put_keyword(rt: &impl Print, statement: Carried) -> io::Result<()> {
     let table = keywords::keyword_table();
     let mut out = [0u8; 10];
     let n = keywords::write_keyword(statement, &table, &mut out, 0);
-    put(b" stored ");
-    put(&out[..n]);
+    print!(rt; " stored ")?;
+    rt.write_all(&out[..n])
 }
 
-fn put_carried(statement: Carried) {
+fn put_carried(rt: &impl Print, statement: Carried) -> io::Result<()> {
     match statement {
-        Carried::PassedOver => put(b" passed over"),
-        _ => put_keyword(statement),
+        Carried::PassedOver => print!(rt; " passed over"),
+        _ => put_keyword(rt, statement),
     }
 }
 
-fn put_statement(text: &[u8], at: usize) {
+fn put_statement(rt: &impl Print, text: &[u8], at: usize) -> io::Result<()> {
     let table = keywords::keyword_table();
     let keyword = keywords::keyword_at(text, at, &table);
     let statement = keyword.statement;
     match statement {
-        Statement::Carried(carried) => put_carried(carried),
-        Statement::Refused => put(b" refused"),
-        Statement::Unknown => put(b" unknown"),
+        Statement::Carried(carried) => put_carried(rt, carried),
+        Statement::Refused => print!(rt; " refused"),
+        Statement::Unknown => print!(rt; " unknown"),
     }
 }
 
-fn put_argument(text: &[u8], at: usize) {
+fn put_argument(rt: &impl Print, text: &[u8], at: usize) -> io::Result<()> {
     let table = keywords::argument_table();
     let argument = keywords::argument_at(text, at, &table);
     match argument {
-        Argument::Other => put(b"\n"),
-        Argument::Rational => put(b", rational\n"),
-        Argument::BasisMatrix => put(b", basis matrix\n"),
-        Argument::Bezier => put(b", Bezier\n"),
-        Argument::Bspline => put(b", B-spline\n"),
-        Argument::Cardinal => put(b", Cardinal\n"),
-        Argument::Taylor => put(b", Taylor\n"),
-        Argument::DirectionU => put(b", along u\n"),
-        Argument::DirectionV => put(b", along v\n"),
-        Argument::Off => put(b", off\n"),
+        Argument::Other => println!(rt),
+        Argument::Rational => println!(rt; ", rational"),
+        Argument::BasisMatrix => println!(rt; ", basis matrix"),
+        Argument::Bezier => println!(rt; ", Bezier"),
+        Argument::Bspline => println!(rt; ", B-spline"),
+        Argument::Cardinal => println!(rt; ", Cardinal"),
+        Argument::Taylor => println!(rt; ", Taylor"),
+        Argument::DirectionU => println!(rt; ", along u"),
+        Argument::DirectionV => println!(rt; ", along v"),
+        Argument::Off => println!(rt; ", off"),
     }
 }
 
-fn put_word(text: &[u8], start: usize, end: usize)
+fn put_word(rt: &impl Print, text: &[u8], start: usize, end: usize) -> io::Result<()>
     requires { (start ≤ end) × (end ≤ length text.now) }
 {
-    put(&text[start..end]);
-    put(b":");
-    put_statement(text, start);
-    put_argument(text, start);
+    rt.write_all(&text[start..end])?;
+    print!(rt; ":")?;
+    put_statement(rt, text, start)?;
+    put_argument(rt, text, start)
 }
 
-fn show(text: &[u8]) {
+fn show(rt: &impl Print, text: &[u8]) -> io::Result<()> {
     let mut i: usize = 0;
     while i < text.len() {
         match text::skip_blanks(text, i) {
             AfterBlanks::Start(p) => {
                 i = text::word_end(text, p);
-                put_word(text, p, i);
+                put_word(rt, text, p, i)?;
             }
             AfterBlanks::End(q) => {
                 i = q;
             }
             AfterBlanks::Bad(_) => {
-                return;
+                return Ok(());
             }
         }
     }
+    Ok(())
 }
 
-fn main() {
+fn main(rt: HostRuntime) -> io::Result<()> {
     let mut buffer = [0u8; 4096];
-    let got = libc::read(0, &mut buffer);
-    if got < 0 {
-        return;
-    }
-    let n = io::count(got, &buffer);
-    show(&buffer[..n]);
-    put_statement(b"", 0);
-    put_argument(b"v", 1);
-    put_statement(b"usemtl", 3);
-    put_argument(b"curv2", 4);
+    let n = rt.stdin().read(&mut buffer)?;
+    show(&rt, &buffer[..n])?;
+    put_statement(&rt, b"", 0)?;
+    put_argument(&rt, b"v", 1)?;
+    put_statement(&rt, b"usemtl", 3)?;
+    put_argument(&rt, b"curv2", 4)
 }
