@@ -1,0 +1,16 @@
+use Prim.Native.Nat.{◌-◌, ◌^◌}
+use lib.ListN.{length}
+use native.Mathlib.Omega.{arith}
+use borrow.Author.Rules.{rules}
+use borrow.Author.Tests.{not-true, not-false}
+use Rattle.tables.proofs.Bits.{fitted}
+use Rattle.read_vertices.proofs.Walking as W
+use mathlib.Core.Path.{ap}
+use mathlib.Core.Bool.{not}
+use Rattle.read_vertices.proofs.numbers_into.Given as goal
+
+abbrev pub invariant-loop-count : goal.invariant-loop-count
+invariant-loop-count l = W.Walking l.most l.text l.at l.first l.initial.table l.i l.count l.table
+
+abbrev pub decreases-loop-count : goal.decreases-loop-count
+decreases-loop-count l = l.most - l.count

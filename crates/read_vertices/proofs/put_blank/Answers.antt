@@ -1,0 +1,12 @@
+-- By the width, each case is one put.
+use borrow.Author.Tests.{ne_eqb}
+use borrow.Author.Rules.{rules}
+use Rattle.read_vertices.proofs.put_blank.Goals as goal
+
+pub returns-then-width-eq-V : goal.returns-then-width-eq-V
+returns-then-width-eq-V c = let width = c.if-width-eq-V.true in let both = rw width c in record { value = both.0; table_after = both.1 }
+
+pub returns : goal.returns
+returns c =
+    let width = ne_eqb c.args.width 4 c.if-width-eq-V.false in
+    let both = rw width c in record { value = both.0; table_after = both.1 }

@@ -1,0 +1,70 @@
+-- The blank record, the line's numbers over it and the count before them come to the record (`Taking`).
+use native.Mathlib.Omega.{arith}
+use borrow.Author.Tests.{not-true, not-false}
+use Rattle.word_numbers.proofs.Signs.{reads}
+use Rattle.read_vertices.proofs.Rows as R
+use Rattle.read_vertices.proofs.Taking as T
+use borrow.Author.Rules.{rules}
+use mathlib.Core.Path.{ap}
+use mathlib.Core.Bool.{not}
+use Rattle.read_vertices.proofs.take_vertex.Goals as goal
+
+pub overflow_mul-first : goal.overflow_mul-first
+overflow_mul-first c =
+    let a = c.args in
+    let fits = T.product a.kind a.text.now a.at a.used a.table.now c.layout_of-layout.ensures (omega (arith, c.ranges.used)) in
+    omega arith
+
+pub returns-then-not-put_blank : goal.returns-then-not-put_blank
+returns-then-not-put_blank c =
+    let a = c.args in
+    T.no_room a.kind a.text.now a.at a.used a.table.now c.layout_of-layout.ensures c (not-true _ (ap not c.if-not-put_blank.true))
+
+pub overflow_add-first : goal.overflow_add-first
+overflow_add-first c =
+    let a = c.args in
+    let fits = T.inside a.kind a.text.now a.at a.used a.table.now c.layout_of-layout.ensures c (not-false _ (ap not c.if-not-put_blank.false)) in
+    omega (arith, c.well_formed)
+
+pub returns-then-layout-eq0 : goal.returns-then-layout-eq0
+returns-then-layout-eq0 c =
+    let a = c.args in
+    let whole = R.is_whole _ _ a.text.now a.at _ _ _ c.row_into.ensures c.in-Whole.is in
+    T.taken-plain a.kind a.text.now a.at a.used a.table.now c.layout_of-layout.ensures c (not-false _ (ap not c.if-not-put_blank.false)) whole c.if-layout-eq0.true
+
+pub overflow_cast-table : goal.overflow_cast-table
+overflow_cast-table c =
+    let a = c.args in
+    let whole = R.is_whole _ _ a.text.now a.at _ _ _ c.row_into.ensures c.in-Whole.is in
+    let small = T.count_small a.kind a.text.now a.at a.used a.table.now c.layout_of-layout.ensures c (not-false _ (ap not c.if-not-put_blank.false)) whole in
+    omega arith
+
+pub offset_bounds-table-first : goal.offset_bounds-table-first
+offset_bounds-table-first c =
+    let a = c.args in
+    let fits = T.product a.kind a.text.now a.at a.used a.table.now c.layout_of-layout.ensures (omega (arith, c.ranges.used)) in
+    omega arith
+
+pub bounds-table-first : goal.bounds-table-first
+bounds-table-first c =
+    let a = c.args in
+    let whole = R.is_whole _ _ a.text.now a.at _ _ _ c.row_into.ensures c.in-Whole.is in
+    T.in_table a.kind a.text.now a.at a.used a.table.now c.layout_of-layout.ensures c (not-false _ (ap not c.if-not-put_blank.false)) whole c.if-layout-eq0.false
+
+pub shape_of-table-else-layout-eq0 : goal.shape_of-table-else-layout-eq0
+shape_of-table-else-layout-eq0 c =
+    let a = c.args in
+    let whole = R.is_whole _ _ a.text.now a.at _ _ _ c.row_into.ensures c.in-Whole.is in
+    T.still-long a.kind a.text.now a.at a.used a.table.now c.layout_of-layout.ensures c (not-false _ (ap not c.if-not-put_blank.false)) whole _ _
+
+pub returns-else-layout-eq0 : goal.returns-else-layout-eq0
+returns-else-layout-eq0 c =
+    let a = c.args in
+    let whole = R.is_whole _ _ a.text.now a.at _ _ _ c.row_into.ensures c.in-Whole.is in
+    let small = T.count_small a.kind a.text.now a.at a.used a.table.now c.layout_of-layout.ensures c (not-false _ (ap not c.if-not-put_blank.false)) whole in
+    T.taken-led a.kind a.text.now a.at a.used a.table.now c.layout_of-layout.ensures c (not-false _ (ap not c.if-not-put_blank.false)) whole c.if-layout-eq0.false _ (reads c.in-Whole.count (omega arith))
+
+pub returns-in-Incomplete : goal.returns-in-Incomplete
+returns-in-Incomplete c =
+    let a = c.args in
+    T.no-vertex a.kind a.text.now a.at a.used a.table.now c.layout_of-layout.ensures c (not-false _ (ap not c.if-not-put_blank.false)) (R.is-not _ _ a.text.now a.at _ _ _ c.row_into.ensures c.in-Incomplete.is)
