@@ -79,7 +79,7 @@ module _ {used : Used} {t : Tables} {number : ℕ} (g j : ℕ) where
 
   pub found : {e : Element} {b : Body} → Looked false used t number e b → step_answer t e b g j ≡ cubic_at used t number g j
   unfolding cubic_at step_answer
-  found l = rw (l.given, l.element-is, l.body-is)
+  found l = rw (l.given, l.element-is, l.body_is)
 
   pub answered : {e : Element} {b : Body} → Looked false used t number e b → step_answer (curve-tables t) e b g j ≡ cubic_at used t number g j
   answered {e} {b} l = step-parts t e b g j ∙ found l

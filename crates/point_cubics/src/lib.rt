@@ -1,4 +1,6 @@
 // Points of cubic Bezier curves at the 64ths of a segment, from one table of weights.
+#![tactic(auto)]
+
 ghost use Rattle.std.specs.Prelude.{◌≡◌, []};
 ghost use Rattle.tables.specs.Tables.{tables};
 ghost use Rattle.sampler.specs.Answers.{point_answer};
