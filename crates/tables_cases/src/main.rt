@@ -1,45 +1,42 @@
 // Asking and storing on tables made by hand, with numbers that no reading gives.
-use libc::STDOUT_FILENO;
+#![tactic(auto)]
+
+use std::io;
 use tables::{Body, Corner, Used};
 
-fn put(bytes: &[u8]) {
-    io::write_all(STDOUT_FILENO, bytes);
+fn put_number(rt: &impl Print, n: u32) -> io::Result<()> {
+    print!(rt; "{n} ")
 }
 
-fn put_number(n: u32) {
-    io::print_decimal(STDOUT_FILENO, n as u64);
-    put(b" ");
+fn put_corner(rt: &impl Print, c: Corner) -> io::Result<()> {
+    put_number(rt, c.v)?;
+    put_number(rt, c.vt)?;
+    put_number(rt, c.vn)?;
+    println!(rt)
 }
 
-fn put_corner(c: Corner) {
-    put_number(c.v);
-    put_number(c.vt);
-    put_number(c.vn);
-    put(b"\n");
-}
-
-fn put_value(z: i32) {
+fn put_value(rt: &impl Print, z: i32) -> io::Result<()> {
     if z < 0 {
-        put(b"-");
+        print!(rt; "-")?;
     }
-    put_number(word_format::magnitude(z));
+    put_number(rt, word_format::magnitude(z))
 }
 
-fn put_body(b: Body) {
-    put_number(b.basis);
-    put_number(b.rational);
-    put_number(b.degree_u);
-    put_number(b.degree_v);
-    put_number(b.first_parameter);
-    put_number(b.count_u);
-    put_number(b.count_v);
-    put_number(b.first_loop);
-    put_number(b.loops);
-    put_value(b.start_u);
-    put_value(b.end_u);
-    put_value(b.start_v);
-    put_value(b.end_v);
-    put(b"\n");
+fn put_body(rt: &impl Print, b: Body) -> io::Result<()> {
+    put_number(rt, b.basis)?;
+    put_number(rt, b.rational)?;
+    put_number(rt, b.degree_u)?;
+    put_number(rt, b.degree_v)?;
+    put_number(rt, b.first_parameter)?;
+    put_number(rt, b.count_u)?;
+    put_number(rt, b.count_v)?;
+    put_number(rt, b.first_loop)?;
+    put_number(rt, b.loops)?;
+    put_value(rt, b.start_u)?;
+    put_value(rt, b.end_u)?;
+    put_value(rt, b.start_v)?;
+    put_value(rt, b.end_v)?;
+    println!(rt)
 }
 
 // Twelve numbers of corners, four elements and three bodies are used.
@@ -57,91 +54,100 @@ fn used() -> Used {
     }
 }
 
-fn ask_corner(elements: &[u32], corners: &[u32], element: u32, k: u32) {
-    put(b"corner ");
-    put_number(element);
-    put_number(k);
-    put(b"is ");
-    put_corner(table_asking::corner_of(used(), elements, corners, element, k));
+fn ask_corner(
+    rt: &impl Print,
+    elements: &[u32],
+    corners: &[u32],
+    element: u32,
+    k: u32,
+) -> io::Result<()> {
+    print!(rt; "corner ")?;
+    put_number(rt, element)?;
+    put_number(rt, k)?;
+    print!(rt; "is ")?;
+    put_corner(
+        rt,
+        table_asking::corner_of(used(), elements, corners, element, k),
+    )
 }
 
-fn ask_names(text: &[u8], elements: &[u32], element: u32) {
-    put(b"names ");
-    put_number(element);
-    put(b"are [");
-    put(table_asking::group_of(text, used(), elements, element));
-    put(b"] [");
-    put(table_asking::material_of(text, used(), elements, element));
-    put(b"]\n");
+fn ask_names(rt: &impl Print, text: &[u8], elements: &[u32], element: u32) -> io::Result<()> {
+    print!(rt; "names ")?;
+    put_number(rt, element)?;
+    print!(rt; "are [")?;
+    rt.write_all(table_asking::group_of(text, used(), elements, element))?;
+    print!(rt; "] [")?;
+    rt.write_all(table_asking::material_of(text, used(), elements, element))?;
+    println!(rt; "]")
 }
 
-fn corners(elements: &[u32], corners: &[u32]) {
-    ask_corner(elements, corners, 1, 0);
-    ask_corner(elements, corners, 1, 2);
-    ask_corner(elements, corners, 1, 3);
-    ask_corner(elements, corners, 1, 4294967295);
-    ask_corner(elements, corners, 2, 0);
-    ask_corner(elements, corners, 2, 1);
+fn corners(rt: &impl Print, elements: &[u32], corners: &[u32]) -> io::Result<()> {
+    ask_corner(rt, elements, corners, 1, 0)?;
+    ask_corner(rt, elements, corners, 1, 2)?;
+    ask_corner(rt, elements, corners, 1, 3)?;
+    ask_corner(rt, elements, corners, 1, 4294967295)?;
+    ask_corner(rt, elements, corners, 2, 0)?;
+    ask_corner(rt, elements, corners, 2, 1)
 }
 
-fn wild_corners(elements: &[u32], corners: &[u32]) {
-    ask_corner(elements, corners, 3, 0);
-    ask_corner(elements, corners, 3, 4294967294);
-    ask_corner(elements, corners, 0, 0);
-    ask_corner(elements, corners, 4, 0);
-    ask_corner(elements, corners, 5, 0);
-    ask_corner(elements, corners, 4294967295, 0);
+fn wild_corners(rt: &impl Print, elements: &[u32], corners: &[u32]) -> io::Result<()> {
+    ask_corner(rt, elements, corners, 3, 0)?;
+    ask_corner(rt, elements, corners, 3, 4294967294)?;
+    ask_corner(rt, elements, corners, 0, 0)?;
+    ask_corner(rt, elements, corners, 4, 0)?;
+    ask_corner(rt, elements, corners, 5, 0)?;
+    ask_corner(rt, elements, corners, 4294967295, 0)
 }
 
-fn names(text: &[u8], elements: &[u32]) {
-    ask_names(text, elements, 1);
-    ask_names(text, elements, 2);
-    ask_names(text, elements, 3);
-    ask_names(text, elements, 0);
-    ask_names(text, elements, 4);
-    ask_names(text, elements, 4294967295);
+fn names(rt: &impl Print, text: &[u8], elements: &[u32]) -> io::Result<()> {
+    ask_names(rt, text, elements, 1)?;
+    ask_names(rt, text, elements, 2)?;
+    ask_names(rt, text, elements, 3)?;
+    ask_names(rt, text, elements, 0)?;
+    ask_names(rt, text, elements, 4)?;
+    ask_names(rt, text, elements, 4294967295)
 }
 
-fn ask_body(bodies: &[u32], ranges: &[i32], body: u32) {
-    put(b"body ");
-    put_number(body);
-    put(b"is ");
-    put_body(table_asking::body_of(used(), bodies, ranges, body));
+fn ask_body(rt: &impl Print, bodies: &[u32], ranges: &[i32], body: u32) -> io::Result<()> {
+    print!(rt; "body ")?;
+    put_number(rt, body)?;
+    print!(rt; "is ")?;
+    put_body(rt, table_asking::body_of(used(), bodies, ranges, body))
 }
 
-fn bodies(bodies: &[u32], ranges: &[i32]) {
-    ask_body(bodies, ranges, 1);
-    ask_body(bodies, ranges, 2);
-    ask_body(bodies, ranges, 0);
-    ask_body(bodies, ranges, 3);
-    ask_body(bodies, ranges, 4);
-    ask_body(bodies, ranges, 4294967295);
+fn bodies(rt: &impl Print, bodies: &[u32], ranges: &[i32]) -> io::Result<()> {
+    ask_body(rt, bodies, ranges, 1)?;
+    ask_body(rt, bodies, ranges, 2)?;
+    ask_body(rt, bodies, ranges, 0)?;
+    ask_body(rt, bodies, ranges, 3)?;
+    ask_body(rt, bodies, ranges, 4)?;
+    ask_body(rt, bodies, ranges, 4294967295)
 }
 
-fn ask_stored(t: &mut [u32], at: usize) {
+fn ask_stored(rt: &impl Print, t: &mut [u32], at: usize) -> io::Result<()> {
     if table_store::put_u32(t, at, &[7, 8, 4294967295]) {
-        put(b"stored\n");
+        println!(rt; "stored")
     } else {
-        put(b"no room\n");
+        println!(rt; "no room")
     }
 }
 
-fn stores() {
+fn stores(rt: &impl Print) -> io::Result<()> {
     let mut t = [1u32; 4];
-    ask_stored(&mut t, 2);
-    ask_stored(&mut t, 18446744073709551615);
-    ask_stored(&mut t, 1);
-    put_number(t[0]);
-    put_number(t[1]);
-    put_number(t[2]);
-    put_number(t[3]);
+    ask_stored(rt, &mut t, 2)?;
+    ask_stored(rt, &mut t, 18446744073709551615)?;
+    ask_stored(rt, &mut t, 1)?;
+    put_number(rt, t[0])?;
+    put_number(rt, t[1])?;
+    put_number(rt, t[2])?;
+    put_number(rt, t[3])?;
     table_store::clear_u32(&mut t);
-    put_number(t[0]);
-    put_number(t[3]);
-    put(b"\n");
+    put_number(rt, t[0])?;
+    put_number(rt, t[3])?;
+    println!(rt)
 }
 
-fn main() {
+fn main(rt: HostRuntime) -> io::Result<()> {
     let text = b"g top left\nusemtl oak";
     // The fourth element is used, but its record passes what is lent.
     let elements: [u32; 35] = [
@@ -158,9 +164,9 @@ fn main() {
         1, 0, 1, 0, 0, 2, 0, 0, 0,
     ];
     let ends: [i32; 11] = [7, 2147483647, 0, 0, -5, 5, 0, 9, 1, 2, 0];
-    corners(&elements, &places);
-    wild_corners(&elements, &places);
-    names(text, &elements);
-    bodies(&records, &ends);
-    stores();
+    corners(&rt, &elements, &places)?;
+    wild_corners(&rt, &elements, &places)?;
+    names(&rt, text, &elements)?;
+    bodies(&rt, &records, &ends)?;
+    stores(&rt)
 }
