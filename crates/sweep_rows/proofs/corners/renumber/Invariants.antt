@@ -1,0 +1,11 @@
+use Rattle.sweep_rows.proofs.Renumbering.{RunsRenumbered, runs_none, runs-more, runs-all, run_fits}
+use Prim.Native.Nat.{◌-◌}
+use native.Mathlib.Omega.{arith}
+use borrow.Author.Rules.{rules}
+use Rattle.sweep_rows.proofs.corners.renumber.Given as goal
+
+abbrev pub invariant-loop-i : goal.invariant-loop-i
+invariant-loop-i l = RunsRenumbered l.used l.numbers l.elements l.initial.corners l.corners l.used.elements l.i
+
+abbrev pub decreases-loop-i : goal.decreases-loop-i
+decreases-loop-i l = l.used.elements - l.i
