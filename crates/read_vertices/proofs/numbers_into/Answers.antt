@@ -40,7 +40,7 @@ returns-then-not-put_i32 c =
     let l = c.loop-count in
     let met = W.met-word a.text.now c.loop-count.i c.skip_blanks.ensures c.in-Start.is in
     let value = W.is-value a.text.now c.in-Start.p c.quick_number_at.ensures c.in-Value.is in
-    W.stop-room a.most a.text.now a.at a.first a.table.now c.loop-count.i c.loop-count.count c.loop-count.table c.loop-count.invariant c.loop-count-test.true met value (fitted c.in-Value.known_told-in-Value-1-own.given.0.1) c (not-true _ (ap not c.if-not-put_i32.true))
+    W.stop-room a.most a.text.now a.at a.first a.table.now c.loop-count.i c.loop-count.count c.loop-count.table c.loop-count.invariant c.loop-count-test.true met value (fitted c.in-Value.known_told-in-Value-1-own.given.0.1) (c.put_i32.ensures.value, c.put_i32.ensures.values_after) (not-true _ (ap not c.if-not-put_i32.true))
 
 pub overflow_add-count : goal.overflow_add-count
 overflow_add-count c =
@@ -58,7 +58,7 @@ loop-count-preserved c =
     let l = c.loop-count in
     let met = W.met-word a.text.now c.loop-count.i c.skip_blanks.ensures c.in-Start.is in
     let value = W.is-value a.text.now c.in-Start.p c.quick_number_at.ensures c.in-Value.is in
-    W.turn a.most a.text.now a.at a.first a.table.now c.loop-count.i c.loop-count.count c.loop-count.table c.loop-count.invariant c.loop-count-test.true met value (fitted c.in-Value.known_told-in-Value-1-own.given.0.1) c (not-false _ (ap not c.if-not-put_i32.false))
+    W.turn a.most a.text.now a.at a.first a.table.now c.loop-count.i c.loop-count.count c.loop-count.table c.loop-count.invariant c.loop-count-test.true met value (fitted c.in-Value.known_told-in-Value-1-own.given.0.1) (c.put_i32.ensures.value, c.put_i32.ensures.values_after) (not-false _ (ap not c.if-not-put_i32.false))
 
 pub returns-in-Malformed : goal.returns-in-Malformed
 returns-in-Malformed c =

@@ -4,9 +4,9 @@ use borrow.Author.Rules.{rules}
 use Rattle.read_vertices.proofs.put_blank.Goals as goal
 
 pub returns-then-width-eq-V : goal.returns-then-width-eq-V
-returns-then-width-eq-V c = let width = c.if-width-eq-V.true in let both = rw width c in record { value = both.0; table_after = both.1 }
+returns-then-width-eq-V c = let width = c.if-width-eq-V.true in record { value = rw width c.put_i32.ensures.value; table_after = rw width c.put_i32.ensures.values_after }
 
 pub returns : goal.returns
 returns c =
     let width = ne_eqb c.args.width 4 c.if-width-eq-V.false in
-    let both = rw width c in record { value = both.0; table_after = both.1 }
+    record { value = rw width c.put_i32-2.ensures.value; table_after = rw width c.put_i32-2.ensures.values_after }

@@ -18,25 +18,25 @@ overflow_mul-first c =
 pub returns-then-not-put_blank : goal.returns-then-not-put_blank
 returns-then-not-put_blank c =
     let a = c.args in
-    T.no_room a.kind a.text.now a.at a.used a.table.now c.layout_of-layout.ensures c (not-true _ (ap not c.if-not-put_blank.true))
+    T.no_room a.kind a.text.now a.at a.used a.table.now c.layout_of-layout.ensures (c.put_blank.ensures.value, c.put_blank.ensures.table_after) (not-true _ (ap not c.if-not-put_blank.true))
 
 pub overflow_add-first : goal.overflow_add-first
 overflow_add-first c =
     let a = c.args in
-    let fits = T.inside a.kind a.text.now a.at a.used a.table.now c.layout_of-layout.ensures c (not-false _ (ap not c.if-not-put_blank.false)) in
+    let fits = T.inside a.kind a.text.now a.at a.used a.table.now c.layout_of-layout.ensures (c.put_blank.ensures.value, c.put_blank.ensures.table_after) (not-false _ (ap not c.if-not-put_blank.false)) in
     omega (arith, c.well_formed)
 
 pub returns-then-layout-eq0 : goal.returns-then-layout-eq0
 returns-then-layout-eq0 c =
     let a = c.args in
     let whole = R.is_whole _ _ a.text.now a.at _ _ _ c.row_into.ensures c.in-Whole.is in
-    T.taken-plain a.kind a.text.now a.at a.used a.table.now c.layout_of-layout.ensures c (not-false _ (ap not c.if-not-put_blank.false)) whole c.if-layout-eq0.true
+    T.taken-plain a.kind a.text.now a.at a.used a.table.now c.layout_of-layout.ensures (c.put_blank.ensures.value, c.put_blank.ensures.table_after) (not-false _ (ap not c.if-not-put_blank.false)) whole c.if-layout-eq0.true
 
 pub overflow_cast-table : goal.overflow_cast-table
 overflow_cast-table c =
     let a = c.args in
     let whole = R.is_whole _ _ a.text.now a.at _ _ _ c.row_into.ensures c.in-Whole.is in
-    let small = T.count_small a.kind a.text.now a.at a.used a.table.now c.layout_of-layout.ensures c (not-false _ (ap not c.if-not-put_blank.false)) whole in
+    let small = T.count_small a.kind a.text.now a.at a.used a.table.now c.layout_of-layout.ensures (c.put_blank.ensures.value, c.put_blank.ensures.table_after) (not-false _ (ap not c.if-not-put_blank.false)) whole in
     omega arith
 
 pub offset_bounds-table-first : goal.offset_bounds-table-first
@@ -49,22 +49,22 @@ pub bounds-table-first : goal.bounds-table-first
 bounds-table-first c =
     let a = c.args in
     let whole = R.is_whole _ _ a.text.now a.at _ _ _ c.row_into.ensures c.in-Whole.is in
-    T.in_table a.kind a.text.now a.at a.used a.table.now c.layout_of-layout.ensures c (not-false _ (ap not c.if-not-put_blank.false)) whole c.if-layout-eq0.false
+    T.in_table a.kind a.text.now a.at a.used a.table.now c.layout_of-layout.ensures (c.put_blank.ensures.value, c.put_blank.ensures.table_after) (not-false _ (ap not c.if-not-put_blank.false)) whole c.if-layout-eq0.false
 
 pub shape_of-table-else-layout-eq0 : goal.shape_of-table-else-layout-eq0
 shape_of-table-else-layout-eq0 c =
     let a = c.args in
     let whole = R.is_whole _ _ a.text.now a.at _ _ _ c.row_into.ensures c.in-Whole.is in
-    T.still-long a.kind a.text.now a.at a.used a.table.now c.layout_of-layout.ensures c (not-false _ (ap not c.if-not-put_blank.false)) whole _ _
+    T.still-long a.kind a.text.now a.at a.used a.table.now c.layout_of-layout.ensures (c.put_blank.ensures.value, c.put_blank.ensures.table_after) (not-false _ (ap not c.if-not-put_blank.false)) whole _ _
 
 pub returns-else-layout-eq0 : goal.returns-else-layout-eq0
 returns-else-layout-eq0 c =
     let a = c.args in
     let whole = R.is_whole _ _ a.text.now a.at _ _ _ c.row_into.ensures c.in-Whole.is in
-    let small = T.count_small a.kind a.text.now a.at a.used a.table.now c.layout_of-layout.ensures c (not-false _ (ap not c.if-not-put_blank.false)) whole in
-    T.taken-led a.kind a.text.now a.at a.used a.table.now c.layout_of-layout.ensures c (not-false _ (ap not c.if-not-put_blank.false)) whole c.if-layout-eq0.false _ (reads c.in-Whole.count (omega arith))
+    let small = T.count_small a.kind a.text.now a.at a.used a.table.now c.layout_of-layout.ensures (c.put_blank.ensures.value, c.put_blank.ensures.table_after) (not-false _ (ap not c.if-not-put_blank.false)) whole in
+    T.taken-led a.kind a.text.now a.at a.used a.table.now c.layout_of-layout.ensures (c.put_blank.ensures.value, c.put_blank.ensures.table_after) (not-false _ (ap not c.if-not-put_blank.false)) whole c.if-layout-eq0.false _ (reads c.in-Whole.count (omega arith))
 
 pub returns-in-Incomplete : goal.returns-in-Incomplete
 returns-in-Incomplete c =
     let a = c.args in
-    T.no-vertex a.kind a.text.now a.at a.used a.table.now c.layout_of-layout.ensures c (not-false _ (ap not c.if-not-put_blank.false)) (R.is-not _ _ a.text.now a.at _ _ _ c.row_into.ensures c.in-Incomplete.is)
+    T.no-vertex a.kind a.text.now a.at a.used a.table.now c.layout_of-layout.ensures (c.put_blank.ensures.value, c.put_blank.ensures.table_after) (not-false _ (ap not c.if-not-put_blank.false)) (R.is-not _ _ a.text.now a.at _ _ _ c.row_into.ensures c.in-Incomplete.is)
