@@ -1,4 +1,6 @@
 // The refusal of a line that was rejected, found by walking 01's order; once a file.
+#![tactic(auto)]
+
 ghost use Rattle.std.specs.Prelude.{◌≡◌, ◌≤◌, length};
 ghost use Rattle.text.specs.Rest.{rest_at};
 ghost use Rattle.keywords.specs.declared.Argument.TheVariants.{DirectionV};
