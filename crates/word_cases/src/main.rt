@@ -1,224 +1,221 @@
 // Pairs of words from standard input: the letter of a form, and a word with what it is in that form. What is read is written, and numbers are read back.
 // n number, r reference to one of 4, R to one of 4,294,967,295, p l f corner as on such a line with 4 v, 3 vt and 2 vn, d degree, s smoothing, g name.
-ghost use Rattle.std.specs.Prelude.{◌≤◌, ◌<◌, length};
+#![tactic(auto)]
+
+ghost use Rattle.std.specs.Prelude.{◌≤◌, ◌<◌, IfOk, length};
 
 use digits::name::Name;
 use digits::whole::Whole;
-use libc::STDOUT_FILENO;
 use references::corner::CornerWord;
 use references::reference::Reference;
+use std::io;
+use std::io::Read;
 use text::AfterBlanks;
 use word_numbers::Number;
 
-fn put(bytes: &[u8]) {
-    io::write_all(STDOUT_FILENO, bytes);
-}
-
-fn put_whole(n: u32) {
+fn put_whole(rt: &impl Print, n: u32) -> io::Result<()> {
     let mut out = [0u8; 64];
     let size = word_format::whole_length(n);
     if 64 < size {
-        return;
+        return Ok(());
     }
     word_format::write_whole(&mut out, 0, n);
-    put(&out[..size]);
+    rt.write_all(&out[..size])
 }
 
-fn put_corner(v: u32, vt: u32, vn: u32) {
+fn put_corner(rt: &impl Print, v: u32, vt: u32, vn: u32) -> io::Result<()> {
     let mut out = [0u8; 64];
     let size = word_format::corner_length(v, vt, vn);
     if 64 < size {
-        return;
+        return Ok(());
     }
     word_format::write_corner(&mut out, 0, v, vt, vn);
-    put(&out[..size]);
+    rt.write_all(&out[..size])
 }
 
 // Whether the word is that number.
-fn put_back(word: &[u8], value: i32) {
+fn put_back(rt: &impl Print, word: &[u8], value: i32) -> io::Result<()> {
     match word_numbers::number_at(word, 0) {
         Number::Value {
             value: read,
             end: _,
         } => {
             if read == value {
-                put(b", read back");
+                print!(rt; ", read back")?;
             }
+            Ok(())
         }
-        Number::Malformed => put(b", back 6"),
-        Number::OutOfRange => put(b", back 7"),
+        Number::Malformed => print!(rt; ", back 6"),
+        Number::OutOfRange => print!(rt; ", back 7"),
     }
 }
 
-fn put_number(value: i32) {
+fn put_number(rt: &impl Print, value: i32) -> io::Result<()> {
     let mut out = [0u8; 64];
     let size = word_format::number_length(value);
     if 64 < size {
-        return;
+        return Ok(());
     }
     word_format::write_number(&mut out, 0, value);
-    put(&out[..size]);
-    put_back(&out[..size], value);
+    rt.write_all(&out[..size])?;
+    put_back(rt, &out[..size], value)
 }
 
-fn number(text: &[u8], at: usize)
+fn number(rt: &impl Print, text: &[u8], at: usize) -> io::Result<()>
     requires { at ≤ length text.now }
 {
     match word_numbers::number_at(text, at) {
-        Number::Value { value, end: _ } => put_number(value),
-        Number::Malformed => put(b"refused 6"),
-        Number::OutOfRange => put(b"refused 7"),
+        Number::Value { value, end: _ } => put_number(rt, value),
+        Number::Malformed => print!(rt; "refused 6"),
+        Number::OutOfRange => print!(rt; "refused 7"),
     }
 }
 
-fn reference(text: &[u8], at: usize, count: u32)
+fn reference(rt: &impl Print, text: &[u8], at: usize, count: u32) -> io::Result<()>
     requires { at ≤ length text.now }
 {
     match references::reference::reference_at(text, at, count) {
-        Reference::Item { number, end: _ } => put_whole(number),
-        Reference::Malformed => put(b"refused 6"),
-        Reference::Missing => put(b"refused 8"),
+        Reference::Item { number, end: _ } => put_whole(rt, number),
+        Reference::Malformed => print!(rt; "refused 6"),
+        Reference::Missing => print!(rt; "refused 8"),
     }
 }
 
-fn corner(text: &[u8], at: usize, texture: bool, normal: bool)
+fn corner(rt: &impl Print, text: &[u8], at: usize, texture: bool, normal: bool) -> io::Result<()>
     requires { at ≤ length text.now }
 {
     match references::corner::corner_at(text, at, 4, 3, 2, texture, normal) {
         CornerWord::Of { v, vt, vn, end: _ } => {
-            put_whole(v);
-            put(b" ");
-            put_whole(vt);
-            put(b" ");
-            put_whole(vn);
-            put(b", ");
-            put_corner(v, vt, vn);
+            put_whole(rt, v)?;
+            print!(rt; " ")?;
+            put_whole(rt, vt)?;
+            print!(rt; " ")?;
+            put_whole(rt, vn)?;
+            print!(rt; ", ")?;
+            put_corner(rt, v, vt, vn)
         }
-        CornerWord::Malformed => put(b"refused 6"),
-        CornerWord::Missing => put(b"refused 8"),
+        CornerWord::Malformed => print!(rt; "refused 6"),
+        CornerWord::Missing => print!(rt; "refused 8"),
     }
 }
 
-fn degree(text: &[u8], at: usize)
+fn degree(rt: &impl Print, text: &[u8], at: usize) -> io::Result<()>
     requires { at ≤ length text.now }
 {
     match digits::whole::degree_at(text, at) {
-        Whole::Value { value, end: _ } => put_whole(value),
-        Whole::Malformed => put(b"refused 6"),
-        Whole::OutOfRange => put(b"refused 7"),
+        Whole::Value { value, end: _ } => put_whole(rt, value),
+        Whole::Malformed => print!(rt; "refused 6"),
+        Whole::OutOfRange => print!(rt; "refused 7"),
     }
 }
 
-fn smoothing(text: &[u8], at: usize)
+fn smoothing(rt: &impl Print, text: &[u8], at: usize) -> io::Result<()>
     requires { at ≤ length text.now }
 {
     let table = keywords::argument_table();
     match digits::whole::smoothing_at(text, at, &table) {
-        Whole::Value { value, end: _ } => put_whole(value),
-        Whole::Malformed => put(b"refused 6"),
-        Whole::OutOfRange => put(b"refused 7"),
+        Whole::Value { value, end: _ } => put_whole(rt, value),
+        Whole::Malformed => print!(rt; "refused 6"),
+        Whole::OutOfRange => print!(rt; "refused 7"),
     }
 }
 
-fn name(text: &[u8], at: usize)
+fn name(rt: &impl Print, text: &[u8], at: usize) -> io::Result<()>
     requires { at ≤ length text.now }
 {
     match digits::name::name_at(text, at) {
-        Name::Of { end: _ } => put(b"a name"),
-        Name::Malformed => put(b"refused 6"),
+        Name::Of { end: _ } => print!(rt; "a name"),
+        Name::Malformed => print!(rt; "refused 6"),
     }
 }
 
-fn put_form(form: u8, text: &[u8], at: usize)
+fn put_form(rt: &impl Print, form: u8, text: &[u8], at: usize) -> io::Result<()>
     requires { at ≤ length text.now }
 {
     match form {
-        b'n' => number(text, at),
-        b'r' => reference(text, at, 4),
-        b'R' => reference(text, at, 4_294_967_295),
-        b'p' => corner(text, at, false, false),
-        b'l' => corner(text, at, true, false),
-        b'f' => corner(text, at, true, true),
-        b'd' => degree(text, at),
-        b's' => smoothing(text, at),
-        b'g' => name(text, at),
-        _ => put(b"no form"),
+        b'n' => number(rt, text, at),
+        b'r' => reference(rt, text, at, 4),
+        b'R' => reference(rt, text, at, 4_294_967_295),
+        b'p' => corner(rt, text, at, false, false),
+        b'l' => corner(rt, text, at, true, false),
+        b'f' => corner(rt, text, at, true, true),
+        b'd' => degree(rt, text, at),
+        b's' => smoothing(rt, text, at),
+        b'g' => name(rt, text, at),
+        _ => print!(rt; "no form"),
     }
 }
 
 // A form's letter, which is kept for the word after it; or that word.
-fn put_word(form: u8, text: &[u8], start: usize, end: usize) -> u8
+fn put_word(rt: &impl Print, form: u8, text: &[u8], start: usize, end: usize) -> io::Result<u8>
     requires { (start ≤ end) × (end ≤ length text.now) }
 {
-    put(&text[start..end]);
+    rt.write_all(&text[start..end])?;
     if form == 0 {
-        put(b" ");
+        print!(rt; " ")?;
         if start < text.len() {
-            return text[start];
+            return Ok(text[start]);
         }
-        return 0;
+        return Ok(0);
     }
-    put(b": ");
-    put_form(form, text, start);
-    put(b"\n");
-    0
+    print!(rt; ": ")?;
+    put_form(rt, form, text, start)?;
+    println!(rt)?;
+    Ok(0)
 }
 
-fn show(text: &[u8]) {
+fn show(rt: &impl Print, text: &[u8]) -> io::Result<()> {
     let mut form: u8 = 0;
     let mut i: usize = 0;
     while i < text.len() {
         match text::skip_blanks(text, i) {
             AfterBlanks::Start(p) => {
                 i = text::word_end(text, p);
-                form = put_word(form, text, p, i);
+                form = put_word(rt, form, text, p, i)?;
             }
             AfterBlanks::End(q) => {
                 i = q;
             }
             AfterBlanks::Bad(_) => {
-                return;
+                return Ok(());
             }
         }
     }
+    Ok(())
 }
 
-fn written(value: i32) {
-    put_number(value);
-    put(b"\n");
+fn written(rt: &impl Print, value: i32) -> io::Result<()> {
+    put_number(rt, value)?;
+    println!(rt)
 }
 
 // Numbers that no word gives, and those about zero and about the range's ends.
-fn written_numbers() {
-    written(-2_147_483_648);
-    written(2_147_483_647);
-    written(-2_000_000_001);
-    written(2_000_000_001);
-    written(-2_000_000_000);
-    written(2_000_000_000);
-    written(-1);
-    written(0);
-    written(1);
-    written(-999_999);
-    written(1_000_000);
-    written(-10_000_000);
+fn written_numbers(rt: &impl Print) -> io::Result<()> {
+    written(rt, -2_147_483_648)?;
+    written(rt, 2_147_483_647)?;
+    written(rt, -2_000_000_001)?;
+    written(rt, 2_000_000_001)?;
+    written(rt, -2_000_000_000)?;
+    written(rt, 2_000_000_000)?;
+    written(rt, -1)?;
+    written(rt, 0)?;
+    written(rt, 1)?;
+    written(rt, -999_999)?;
+    written(rt, 1_000_000)?;
+    written(rt, -10_000_000)
 }
 
-fn main() {
+fn main(rt: HostRuntime) -> io::Result<()> {
     let mut buffer = [0u8; 8192];
-    let got = libc::read(0, &mut buffer);
-    if got < 0 {
-        return;
-    }
-    let n = io::count(got, &buffer);
-    show(&buffer[..n]);
-    written_numbers();
+    let n = rt.stdin().read(&mut buffer)?;
+    show(&rt, &buffer[..n])?;
+    written_numbers(&rt)?;
     // a word that is not there
-    number(b"", 0);
-    reference(b"", 0, 4);
-    corner(b"", 0, true, true);
-    degree(b"", 0);
-    smoothing(b"", 0);
-    name(b"", 0);
-    put(b"\n");
+    number(&rt, b"", 0)?;
+    reference(&rt, b"", 0, 4)?;
+    corner(&rt, b"", 0, true, true)?;
+    degree(&rt, b"", 0)?;
+    smoothing(&rt, b"", 0)?;
+    name(&rt, b"", 0)?;
+    println!(rt)
 }
