@@ -1,0 +1,13 @@
+use Prim.Native.Nat.{◌-◌}
+use native.Mathlib.Omega.{arith}
+use borrow.Author.Rules.{rules}
+use Rattle.tables.proofs.Bits.{fitted}
+use Rattle.read_bodies.proofs.Steps as S
+use Rattle.read_bodies.proofs.Closings as C
+use Rattle.read_bodies.proofs.closing.store.Given as goal
+
+abbrev pub invariant-loop-done : goal.invariant-loop-done
+invariant-loop-done l = C.Storing l.text l.at l.count l.asked l.initial.parameters l.first l.i l.done l.order l.parameters
+
+abbrev pub decreases-loop-done : goal.decreases-loop-done
+decreases-loop-done l = l.count - l.done

@@ -1,0 +1,9 @@
+-- The first loop part is the one that is asked for; the range is handed on.
+use mathlib.Core.Path.{refl}
+use mir.Facts.{to_z-of_z}
+use borrow.Author.Rules.{rules}
+use Rattle.read_bodies.proofs.closing.stored_body.Goals as goal
+
+pub returns : goal.returns
+returns c =
+    rw (c.first_part.ensures, to_z-of_z c.ranges.start-u, to_z-of_z c.ranges.end-u, to_z-of_z c.ranges.start-v, to_z-of_z c.ranges.end-v) refl
