@@ -13,25 +13,25 @@ use Rattle.read_bodies.proofs.Keeping as K
 use Rattle.read_bodies.proofs.closing.close_body.Goals as goal
 
 pub overflow_sub-used : goal.overflow_sub-used
-overflow_sub-used c = let some = c.before.before.pre.1.1.0 in omega arith
+overflow_sub-used c = let some = c.requires.le_bodies.0 in omega arith
 
 pub lent_body-opened-requires : goal.lent_body-opened-requires
 lent_body-opened-requires c =
-    let p = c.before.before.pre.1.1 in
+    let p = c.requires.le_bodies in
     let some = p.0 in
     let body = p.1 in
     let range = p.2 in
     (omega arith, omega arith)
 
 pub judge-requires : goal.judge-requires
-judge-requires c = let p = (c.requires.u_at_in_bounds, (c.requires.v_at_in_bounds, c.requires.le_bodies)) in record { u_at_in_bounds = p.0; v_at_in_bounds = p.1.0 }
+judge-requires c = record { u_at_in_bounds = c.requires.u_at_in_bounds; v_at_in_bounds = c.requires.v_at_in_bounds }
 
 pub returns-then-parameters-used : goal.returns-then-parameters-used
 returns-then-parameters-used c =
     let a = c.args in
-    let us = parm_of a.u-text.now a.body.u_at in
-    let vs = parm_of a.v-text.now a.body.v_at in
-    let b = open_body_in a.form a.body a.used a.u-text.now a.v-text.now a.ranges.now in
+    let us = parm_of a.u_text.now a.body.u_at in
+    let vs = parm_of a.v_text.now a.body.v_at in
+    let b = open_body_in a.form a.body a.used a.u_text.now a.v_text.now a.ranges.now in
     let range = K.range-of a.bodies.now a.ranges.now (a.used.bodies - 1) c.lent_body-opened.ensures in
     let said = K.judged-to a.form a.body.kind us vs a.body.controls c.judge.result (passed c.struct_told-1.given.1.1.1.1.1.1.1.1.1.0.1 range.0) (passed c.struct_told-2-1.given.1.1.1.1.1.1.1.1.1.1.0.1 range.1) (passed c.struct_told-3-1.given.1.1.1.1.1.1.1.1.1.1.1.0.1 range.2) (passed c.struct_told-4-1.given.1.1.1.1.1.1.1.1.1.1.1.1.0.1 range.3) c.judge.ensures.body_check_is in
     K.no-parameters a.form a.body a.used b a.bodies.now a.ranges.now a.parameters.now (K.has-passed b a.body.controls c.judge.result said c.in-Valid.is) (K.has-stored a.parameters.now _ a.used.parameters (us ++ vs) c.judge.result c.judge.ensures.stored_is c.in-Valid.is) c.if-parameters-used.true
@@ -48,9 +48,9 @@ store_range-requires c = let p = c.requires.le_bodies in (p.0, p.2)
 pub returns-in-Refused : goal.returns-in-Refused
 returns-in-Refused c =
     let a = c.args in
-    let us = parm_of a.u-text.now a.body.u_at in
-    let vs = parm_of a.v-text.now a.body.v_at in
-    let b = open_body_in a.form a.body a.used a.u-text.now a.v-text.now a.ranges.now in
+    let us = parm_of a.u_text.now a.body.u_at in
+    let vs = parm_of a.v_text.now a.body.v_at in
+    let b = open_body_in a.form a.body a.used a.u_text.now a.v_text.now a.ranges.now in
     let range = K.range-of a.bodies.now a.ranges.now (a.used.bodies - 1) c.lent_body-opened.ensures in
     let said = K.judged-to a.form a.body.kind us vs a.body.controls c.judge.result (passed c.struct_told-1.given.1.1.1.1.1.1.1.1.1.0.1 range.0) (passed c.struct_told-2-1.given.1.1.1.1.1.1.1.1.1.1.0.1 range.1) (passed c.struct_told-3-1.given.1.1.1.1.1.1.1.1.1.1.1.0.1 range.2) (passed c.struct_told-4-1.given.1.1.1.1.1.1.1.1.1.1.1.1.0.1 range.3) c.judge.ensures.body_check_is in
     K.not-kept a.form a.body a.used b a.bodies.now a.ranges.now a.parameters.now (K.is-refused b a.body.controls c.judge.result said c.in-Refused.is) (K.not-stored a.parameters.now _ a.used.parameters (us ++ vs) c.judge.result c.judge.ensures.stored_is c.in-Refused.is)
@@ -58,9 +58,9 @@ returns-in-Refused c =
 pub returns-else-parameters-used : goal.returns-else-parameters-used
 returns-else-parameters-used c =
     let a = c.args in
-    let us = parm_of a.u-text.now a.body.u_at in
-    let vs = parm_of a.v-text.now a.body.v_at in
-    let b = open_body_in a.form a.body a.used a.u-text.now a.v-text.now a.ranges.now in
+    let us = parm_of a.u_text.now a.body.u_at in
+    let vs = parm_of a.v_text.now a.body.v_at in
+    let b = open_body_in a.form a.body a.used a.u_text.now a.v_text.now a.ranges.now in
     let range = K.range-of a.bodies.now a.ranges.now (a.used.bodies - 1) c.lent_body-opened.ensures in
     let said = K.judged-to a.form a.body.kind us vs a.body.controls c.judge.result (passed c.struct_told-1.given.1.1.1.1.1.1.1.1.1.0.1 range.0) (passed c.struct_told-2-1.given.1.1.1.1.1.1.1.1.1.1.0.1 range.1) (passed c.struct_told-3-1.given.1.1.1.1.1.1.1.1.1.1.1.0.1 range.2) (passed c.struct_told-4-1.given.1.1.1.1.1.1.1.1.1.1.1.1.0.1 range.3) c.judge.ensures.body_check_is in
     K.kept a.form a.body a.used b a.bodies.now a.ranges.now a.parameters.now (K.has-passed b a.body.controls c.judge.result said c.in-Valid.is) (K.has-stored a.parameters.now _ a.used.parameters (us ++ vs) c.judge.result c.judge.ensures.stored_is c.in-Valid.is) c.if-parameters-used.false

@@ -6,4 +6,4 @@ use Rattle.read_bodies.proofs.closing.stored_body.Goals as goal
 
 pub returns : goal.returns
 returns c =
-    rw (c.first_part.ensures, to_z-of_z c.ranges.start-u, to_z-of_z c.ranges.end-u, to_z-of_z c.ranges.start-v, to_z-of_z c.ranges.end-v) refl
+    rw (c.first_part.ensures, to_z-of_z c.ranges.start_u, to_z-of_z c.ranges.end_u, to_z-of_z c.ranges.start_v, to_z-of_z c.ranges.end_v) refl

@@ -29,11 +29,11 @@ row c = row-counted Parameters (c.in-Ended.count + 1) c.parameter_rules-rules.en
 pub returns-then-not-counted : goal.returns-then-not-counted
 returns-then-not-counted c =
     let a = c.args in
-    P.row-few a.text.now a.at a.along-v (all-at-Then-not-counted c) (sym (not-true _ (ap not c.if-not-counted.true)) ∙ row c)
+    P.row-few a.text.now a.at a.along_v (all-at-Then-not-counted c) (sym (not-true _ (ap not c.if-not-counted.true)) ∙ row c)
 
 pub returns-in-Stopped : goal.returns-in-Stopped
 returns-in-Stopped c =
-    P.row-stopped c.args.text.now c.args.at c.args.along-v (S.counted-stopped c.args.text.now c.args.at c.count_numbers.result c.count_numbers.ensures c.in-Stopped.is)
+    P.row-stopped c.args.text.now c.args.at c.args.along_v (S.counted-stopped c.args.text.now c.args.at c.count_numbers.result c.count_numbers.ensures c.in-Stopped.is)
 
 all-at-Else-not-counted : (c : Else-not-counted) → AllNumbers c.args.text.now c.args.at c.in-Ended.count c.in-Ended.next
 all-at-Else-not-counted c = S.counted-ended c.args.text.now c.args.at _ c.count_numbers.ensures c.in-Ended.is
@@ -44,4 +44,4 @@ row-at-Else-not-counted c = row-counted Parameters (c.in-Ended.count + 1) c.para
 pub returns-else-not-counted : goal.returns-else-not-counted
 returns-else-not-counted c =
     let a = c.args in
-    P.row-taken a.text.now a.at a.along-v (all-at-Else-not-counted c) (sym (not-false _ (ap not c.if-not-counted.false)) ∙ row-at-Else-not-counted c)
+    P.row-taken a.text.now a.at a.along_v (all-at-Else-not-counted c) (sym (not-false _ (ap not c.if-not-counted.false)) ∙ row-at-Else-not-counted c)
