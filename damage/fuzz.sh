@@ -12,18 +12,21 @@ command -v clang > /dev/null && command -v valgrind > /dev/null ||
 
 tools=$(dirname "$(dirname "$(readlink -f "$(command -v rt)")")")/toolchain
 made=$PWD/target/damage
-rm -rf "$made/tools"
-mkdir -p "$made/tools/bin" "$made/corpus"
-ln -s "$tools/lib" "$made/tools/lib"
-for tool in "$tools"/bin/*; do ln -s "$tool" "$made/tools/bin/"; done
-rm "$made/tools/bin/clang"
-cat > "$made/tools/bin/clang" << END
+mkdir -p "$made/corpus"
+# Outside the repository: rt ci takes no link in it.
+wrapped=$(mktemp -d)
+trap 'rm -rf "$wrapped"' EXIT
+mkdir "$wrapped/bin"
+ln -s "$tools/lib" "$wrapped/lib"
+for tool in "$tools"/bin/*; do ln -s "$tool" "$wrapped/bin/"; done
+rm "$wrapped/bin/clang"
+cat > "$wrapped/bin/clang" << END
 #!/bin/sh
 cp module.bc "$made/module.bc"
 exec "$tools/bin/clang" "\$@"
 END
-chmod +x "$made/tools/bin/clang"
-python3 host/library.py --with "$made/tools" "$made/libkuhlabires.a" > "$made/library.log" || { cat "$made/library.log"; exit 1; }
+chmod +x "$wrapped/bin/clang"
+python3 host/library.py --with "$wrapped" "$made/libkuhlabires.a" > "$made/library.log" || { cat "$made/library.log"; exit 1; }
 
 target=--target=x86_64-unknown-linux-gnu
 "$tools/bin/clang" $target -Xclang -disable-llvm-passes -S -emit-llvm -x ir "$made/module.bc" -o "$made/module.ll"
