@@ -3,7 +3,7 @@
     python3 .ci/imports.py          lists them, and fails where there are any
     python3 .ci/imports.py --fix    takes them out (`rt fmt` then lays out what is left)
 
-What a file passes on (`pub use`) counts as used. An operator is used where one of its parts stands.
+What a file passes on (`pub use`) counts as used. An operator is used where one of its parts stands, a trait of std where one of its methods or macros does.
 """
 
 import re
@@ -14,6 +14,12 @@ ROOT = Path(__file__).resolve().parent.parent
 USE = re.compile(r"(?m)^ *(?:unfoldable )?(?:ghost )?use ([^\s{};]+?)(?:(?:\.|::)\{([^}]*)\})?(?: as ([^\s;]+))?;?$")
 # Words between what parts them: in a definition, where a colon or a point is a part of a name, and in code.
 TOKENS = [re.compile(r"«[^»]+»|\[\]|[^\s(){}\[\],;λ]+"), re.compile(r"[^\s(){}\[\],;λ.:]+"), re.compile(r"\w+")]
+
+TRAITS = {
+    "Read": {"read", "read_exact", "read_to_end", "read_to_string", "bytes", "take"},
+    "Write": {"write", "writeln", "write_all", "write_str", "write_fmt", "flush"},
+    "BufRead": {"read_line", "read_until", "lines", "split", "fill_buf", "consume"},
+}
 
 
 def files():
@@ -31,7 +37,7 @@ def tokens(text):
 
 def is_used(name, said):
     parts = [part for part in name.split("◌") if part]
-    return name in said or ("◌" in name and not name.startswith("«") and any(part in said for part in parts))
+    return name in said or not TRAITS.get(name, set()).isdisjoint(said) or ("◌" in name and not name.startswith("«") and any(part in said for part in parts))
 
 
 def kept(item, said):
