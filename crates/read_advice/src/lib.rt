@@ -1,4 +1,6 @@
 // What is told of a refusal besides its number and place: how many there are so far, the open body and what it asks; and what a keyword's rules ask.
+#![tactic(auto)]
+
 pub mod lines_before; // what the lines before a place say
 pub mod along; // the parameters along one direction of the open body
 

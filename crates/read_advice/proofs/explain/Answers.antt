@@ -1,6 +1,5 @@
 -- A text that is too long has no tally; of any other the lines before the place have.
 use Rattle.read_advice.proofs.Going.{tally-long}
-use borrow.Author.Rules.{rules}
 use Rattle.read_advice.proofs.explain.Goals as goal
 
 pub returns-then-text-gt16777216 : goal.returns-then-text-gt16777216

@@ -1,7 +1,6 @@
 -- A word that is found ends within the text.
 use native.Mathlib.Omega.{arith}
 use Rattle.text.proofs.Found.{word-found}
-use borrow.Author.Rules.{rules}
 use Rattle.read_advice.proofs.keyword_of.Goals as goal
 
 pub word_end-requires : goal.word_end-requires

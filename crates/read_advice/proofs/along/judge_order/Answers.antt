@@ -1,6 +1,4 @@
 -- The loop keeps its place within the text; each number takes one off those that are left.
-use Prim.Native.Nat.{◌-◌, ◌≤◌}
-use lib.ListN.{length}
 use native.Mathlib.Omega.{arith}
 use Rattle.read_bodies.proofs.Steps as S
 use borrow.Author.Rules.{rules}

@@ -1,8 +1,5 @@
 use Prim.Native.Nat.{◌-◌, ◌≤◌}
 use lib.ListN.{length}
-use native.Mathlib.Omega.{arith}
-use Rattle.read_bodies.proofs.Steps as S
-use borrow.Author.Rules.{rules}
 use Rattle.read_advice.proofs.along.judge_order.Given as goal
 
 abbrev pub invariant-loop-done : goal.invariant-loop-done

@@ -4,7 +4,6 @@ use mathlib.Core.Path.{ap, ◌∙◌}
 use borrow.Author.Tests.{ne_eqb}
 use native.Mathlib.Omega.{arith}
 use Rattle.basis.proofs.Products.{product, product-fits}
-use borrow.Author.Rules.{rules}
 use Rattle.read_advice.proofs.along.needed.Goals as goal
 
 pub overflow_mul-result : goal.overflow_mul-result

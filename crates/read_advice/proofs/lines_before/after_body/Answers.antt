@@ -2,7 +2,6 @@
 use mathlib.Core.Path.{ap, ◌∙◌}
 use Prim.Native.Nat.{ℕ}
 use Rattle.read_advice.specs.Tally.{opening}
-use borrow.Author.Rules.{rules}
 use Rattle.read_advice.proofs.lines_before.after_body.Goals as goal
 
 pub returns : goal.returns

@@ -1,6 +1,5 @@
 -- Each statement is told by its arm.
 use mathlib.Core.Path.{refl}
-use borrow.Author.Rules.{rules}
 use Rattle.read_advice.proofs.lines_before.after_line.Goals as goal
 
 pub returns-in-Vertex : goal.returns-in-Vertex

@@ -1,5 +1,4 @@
 -- By the arm.
-use borrow.Author.Rules.{rules}
 use Rattle.read_advice.proofs.lines_before.after_vertex.Goals as goal
 
 pub returns-in-Geometric : goal.returns-in-Geometric

@@ -1,7 +1,6 @@
 -- By the kind of the body.
 use mathlib.Core.Path.{refl}
 use borrow.Author.Tests.{ne_eqb}
-use borrow.Author.Rules.{rules}
 use Rattle.read_advice.proofs.lines_before.ending.Goals as goal
 
 pub returns-then-tally-eq-CURVE2 : goal.returns-then-tally-eq-CURVE2

@@ -1,9 +1,6 @@
 -- The loop keeps what was tallied with what is left (`Going`); each line takes bytes off what is left.
-use Prim.Native.Nat.{◌-◌}
-use lib.ListN.{length}
 use native.Mathlib.Omega.{arith}
 use Rattle.read_advice.proofs.Going as G
-use borrow.Author.Rules.{rules}
 use Rattle.read_advice.proofs.lines_before.said_before.Goals as goal
 
 pub loop-at-init : goal.loop-at-init

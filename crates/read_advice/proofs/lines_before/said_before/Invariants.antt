@@ -1,8 +1,6 @@
 use Prim.Native.Nat.{◌-◌}
 use lib.ListN.{length}
-use native.Mathlib.Omega.{arith}
 use Rattle.read_advice.proofs.Going as G
-use borrow.Author.Rules.{rules}
 use Rattle.read_advice.proofs.lines_before.said_before.Given as goal
 
 abbrev pub invariant-loop-at : goal.invariant-loop-at

@@ -3,7 +3,6 @@ use mathlib.Core.Path.{◌∙◌}
 use native.Mathlib.Omega.{arith}
 use Rattle.text.proofs.Found.{word-found, end-found, bad-found}
 use Rattle.read_advice.proofs.Going.{line-none, line-bad-first, line-said}
-use borrow.Author.Rules.{rules}
 use Rattle.read_advice.proofs.lines_before.with_line.Goals as goal
 
 pub word_end-end-requires : goal.word_end-end-requires
