@@ -9,7 +9,7 @@ use native.Mathlib.Omega.{arith}
 use lib.ListN.{length}
 use lib.Seq.{sets}
 use lib.IntN.{ℤ, pos}
-use Rattle.lists.specs.Lists.{flat, filled}
+use Rattle.lists.specs.Lists.{flat}
 use Rattle.lists.proofs.Tests.{test}
 use Rattle.text.specs.Words.{Word}
 use Rattle.text.specs.Rest.{rest_at, push}

@@ -1,4 +1,6 @@
 // The lines that stand inside a body, each from just after its keyword on: parm, trim, hole, and its end.
+#![tactic(auto)]
+
 ghost use Rattle.std.specs.Prelude.{◌≡◌, ◌+◌, ◌<◌};
 ghost use Rattle.keywords.specs.Lookup.{table_of_arguments};
 ghost use Rattle.model.specs.Parse.{parm};

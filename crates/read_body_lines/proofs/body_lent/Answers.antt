@@ -2,7 +2,6 @@
 use Prim.Native.Nat.{◌*◌}
 use mathlib.Core.Path.{refl}
 use borrow.Author.Tests.{le-leb, lt-leb}
-use borrow.Author.Rules.{rules}
 use Rattle.read_body_lines.proofs.body_lent.Goals as goal
 
 pub returns-then-bodies-used : goal.returns-then-bodies-used

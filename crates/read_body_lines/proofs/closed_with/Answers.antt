@@ -1,6 +1,5 @@
 -- By the count of curv2s.
 use mathlib.Core.Path.{refl}
-use borrow.Author.Rules.{rules}
 use Rattle.read_body_lines.proofs.closed_with.Goals as goal
 
 pub returns : goal.returns

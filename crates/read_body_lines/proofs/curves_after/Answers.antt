@@ -1,7 +1,6 @@
 -- By the kind.
 use mathlib.Core.Path.{refl}
 use borrow.Author.Tests.{eq-eqb, ne_eqb}
-use borrow.Author.Rules.{rules}
 use Rattle.read_body_lines.proofs.curves_after.Goals as goal
 
 pub returns-then-kind-eq-CURVE2 : goal.returns-then-kind-eq-CURVE2

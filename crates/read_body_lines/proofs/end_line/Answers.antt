@@ -7,7 +7,6 @@ use Rattle.model.specs.Parse.{ends}
 use Rattle.read_vertex_lines.proofs.Opened.{row-says, inside-some}
 use Rattle.read_body_lines.specs.OpenBody.{body_lent}
 use Rattle.read_body_lines.proofs.Ended.{end-asks, end-outside, end-unlent, end-uncounted, end_more, end-bad, end-sums, end-left, end-took}
-use borrow.Author.Rules.{rules}
 use mathlib.Core.Path.{ap}
 use mathlib.Core.Bool.{not}
 use Rattle.read_body_lines.proofs.end_line.Goals as goal

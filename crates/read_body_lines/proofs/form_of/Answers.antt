@@ -1,6 +1,5 @@
 -- By the kind.
 use Rattle.read_body_lines.proofs.Ended.{form-surface, form-curve}
-use borrow.Author.Rules.{rules}
 use Rattle.read_body_lines.proofs.form_of.Goals as goal
 
 pub returns-then-kind-eq-SURFACE : goal.returns-then-kind-eq-SURFACE

@@ -7,7 +7,6 @@ use Rattle.statements.specs.Numbered.{free_numbered}
 use Rattle.model.specs.Parse.{trim, rules_of}
 use Rattle.read_vertex_lines.proofs.Opened.{row-says}
 use Rattle.read_body_lines.proofs.Inner.{loop-shut, loop-sums, loop-gave, loop-took}
-use borrow.Author.Rules.{rules}
 use mathlib.Core.Path.{ap}
 use mathlib.Core.Bool.{not}
 use Rattle.read_body_lines.proofs.loop_line.Goals as goal

@@ -4,7 +4,6 @@ use borrow.Author.Tests.{not-true, not-false}
 use Rattle.model.specs.Parse.{parm}
 use Rattle.read_vertex_lines.proofs.Opened.{row-says}
 use Rattle.read_body_lines.proofs.Inner.{parm-outside, parm-gave, parm-took}
-use borrow.Author.Rules.{rules}
 use mathlib.Core.Path.{ap}
 use mathlib.Core.Bool.{not}
 use Rattle.read_body_lines.proofs.parm_line.Goals as goal
