@@ -1,53 +1,52 @@
 // The points of a run on a curve of an .obj file: the element's number and the steps are the arguments, the file is standard input.
+#![tactic(auto)]
+
 ghost use Rattle.std.specs.Prelude.{◌≤◌};
 
 use reader::ReadResult;
 use sampler::RunResult;
+use std::io::{Read, Write};
+use std::process::ExitCode;
+use std::rt::Env;
+use streams::Failure;
 use tables::Used;
 
-// Each of these answers whether it was written; where it was not, nothing more is.
-fn put_whole(n: u64) -> bool {
-    let mut text = [0u8; 20];
-    let k = io::decimal(n, &mut text);
-    streams::write_output(&text[..k])
+// Each of these writes it all or fails; where one failed, nothing more is written.
+fn put_whole(out: &mut impl Write, n: u64) -> Result<(), Failure> {
+    write!(out, "{n}").map_err(Failure::Output)
 }
 
 // A number of millionths with six places, by way of the bytes lent.
-fn put_written(bytes: &mut [u8], value: i32) -> bool {
+fn put_written(out: &mut impl Write, bytes: &mut [u8], value: i32) -> Result<(), Failure> {
     let n = word_format::number_length(value);
     if n <= bytes.len() {
         word_format::write_number(bytes, 0, value);
-        return streams::write_output(&bytes[0..n]);
+        streams::write_output(out, &bytes[0..n])?;
     }
-    false
+    Ok(())
 }
 
-fn put_number(value: i32, behind: &[u8]) -> bool {
+fn put_number(out: &mut impl Write, value: i32, behind: &[u8]) -> Result<(), Failure> {
     let mut bytes = [0u8; 16];
-    if put_written(&mut bytes, value) {
-        return streams::write_output(behind);
-    }
-    false
+    put_written(out, &mut bytes, value)?;
+    streams::write_output(out, behind)
 }
 
-// Points of `axes` numbers each, a line for each point; nothing more once a write has failed.
-fn put_points(points: &[i32], axes: usize) {
+// Points of `axes` numbers each, a line for each point.
+fn put_points(out: &mut impl Write, points: &[i32], axes: usize) -> Result<(), Failure> {
     let mut i: usize = 0;
     let mut axis: usize = 1;
     while i < points.len() {
         if axis < axes {
-            if !put_number(points[i], b" ") {
-                return;
-            }
+            put_number(out, points[i], b" ")?;
             axis += 1;
         } else {
-            if !put_number(points[i], b"\n") {
-                return;
-            }
+            put_number(out, points[i], b"\n")?;
             axis = 1;
         }
         i += 1;
     }
+    Ok(())
 }
 
 // The whole number that an argument says, at most 4,294,967,295; 0 where it says none.
@@ -74,42 +73,43 @@ fn least(a: u64, b: u64) -> u64
     if a < b { a } else { b }
 }
 
-fn put_refused(number: u32) -> bool {
-    if streams::write_output(b"refused ") {
-        return put_whole(number as u64);
-    }
-    false
+fn put_refused(out: &mut impl Write, number: u32) -> Result<(), Failure> {
+    streams::write_output(out, b"refused ")?;
+    put_whole(out, number as u64)
 }
 
-fn put_refusal(number: u32) {
-    if put_refused(number) {
-        streams::write_output(b"\n");
-    }
+fn put_refusal(out: &mut impl Write, number: u32) -> Result<(), Failure> {
+    put_refused(out, number)?;
+    streams::write_output(out, b"\n")
 }
 
-fn put_refusal_at(number: u32, place: usize) {
-    if put_refused(number) {
-        if streams::write_output(b" at ") {
-            if put_whole(place as u64) {
-                streams::write_output(b"\n");
-            }
-        }
-    }
+fn put_refusal_at(out: &mut impl Write, number: u32, place: usize) -> Result<(), Failure> {
+    put_refused(out, number)?;
+    streams::write_output(out, b" at ")?;
+    put_whole(out, place as u64)?;
+    streams::write_output(out, b"\n")
 }
 
 // A point of a run has as many numbers as there are numbers for each of its steps + 1 points.
-fn put_run(ran: RunResult, points: &[i32], steps: u32) {
+fn put_run(
+    out: &mut impl Write,
+    ran: RunResult,
+    points: &[i32],
+    steps: u32,
+) -> Result<(), Failure> {
     match ran {
         RunResult::Filled { numbers } => {
             if numbers <= points.len() {
-                put_points(&points[0..numbers], numbers / (steps as usize + 1));
+                put_points(out, &points[0..numbers], numbers / (steps as usize + 1))?;
             }
+            Ok(())
         }
-        RunResult::Refused { number } => put_refusal(number),
+        RunResult::Refused { number } => put_refusal(out, number),
     }
 }
 
 fn run(
+    out: &mut impl Write,
     used: Used,
     v: &[i32],
     vt: &[i32],
@@ -124,7 +124,7 @@ fn run(
     spans: &[i32],
     element: u32,
     steps: u32,
-) {
+) -> Result<(), Failure> {
     let mut points = [0i32; 196611];
     let ran = sampler::run_on_curve(
         used,
@@ -144,10 +144,10 @@ fn run(
         &mut points,
         0,
     );
-    put_run(ran, &points, steps);
+    put_run(out, ran, &points, steps)
 }
 
-fn run_on_text(text: &[u8], element: u32, steps: u32) {
+fn run_on_text(out: &mut impl Write, text: &[u8], element: u32, steps: u32) -> Result<(), Failure> {
     let mut v = [0i32; 16384];
     let mut vt = [0i32; 16384];
     let mut vn = [0i32; 16384];
@@ -173,8 +173,9 @@ fn run_on_text(text: &[u8], element: u32, steps: u32) {
         &mut loops,
         &mut spans,
     ) {
-        ReadResult::Refused { number, place } => put_refusal_at(number, place),
+        ReadResult::Refused { number, place } => put_refusal_at(out, number, place),
         ReadResult::Read(used) => run(
+            out,
             used,
             &v,
             &vt,
@@ -193,27 +194,34 @@ fn run_on_text(text: &[u8], element: u32, steps: u32) {
     }
 }
 
-fn argument(i: usize) -> u32 {
-    let mut buffer = io::buffer();
-    let n = os::arg(i, &mut buffer);
-    whole_of(&buffer[..n])
+// An argument that is not there, or is longer than 4,096 bytes, says no number.
+fn argument(rt: &impl Env, i: usize) -> u32 {
+    let mut buffer = [0u8; 4096];
+    match rt.arg(i, &mut buffer) {
+        Ok(n) => whole_of(&buffer[..n]),
+        Err(_) => 0,
+    }
 }
 
 // The room is one byte more than is taken, to see that a text is longer. Nothing is printed where the input could not be read.
-fn run_on_input(input: &mut [u8], element: u32, steps: u32) {
-    let read = streams::read_input(input);
-    if read.failed {
-        return;
-    }
-    let count = read.count;
+fn run_on_input(
+    input: &mut impl Read,
+    out: &mut impl Write,
+    text: &mut [u8],
+    element: u32,
+    steps: u32,
+) -> Result<(), Failure> {
+    let count = streams::read_input(input, text)?;
     if 65536 < count {
-        put_refusal_at(1, 0);
-        return;
+        return put_refusal_at(out, 1, 0);
     }
-    run_on_text(&input[..count], element, steps);
+    run_on_text(out, &text[..count], element, steps)
 }
 
-fn main() {
-    let mut input = [0u8; 65537];
-    run_on_input(&mut input, argument(1), argument(2));
+fn main(rt: HostRuntime) -> ExitCode {
+    let mut text = [0u8; 65537];
+    let element = argument(&rt, 1);
+    let steps = argument(&rt, 2);
+    let ran = run_on_input(&mut rt.stdin(), &mut rt.stdout(), &mut text, element, steps);
+    streams::ended(&rt, ran)
 }
