@@ -1,4 +1,6 @@
 // What a type asks along one direction of a body: how many controls, in what order its parameters stand, and which range they allow.
+#![tactic(auto)]
+
 ghost use Rattle.std.specs.Prelude.{◌≡◌, true, ◌+◌, ◌*◌, ◌≤◌, eqb, length};
 ghost use Rattle.tables.specs.Bodies.{enough, controls, low, high, in_order, curve_count, surface_count, basis_of};
 ghost use Rattle.basis.specs.Widest.{widest};

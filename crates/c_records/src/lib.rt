@@ -1,4 +1,6 @@
 // The answers as C and Rust get them: each case of an answer as a record of numbers; and a choice that they name by a number.
+#![tactic(auto)]
+
 ghost use Rattle.std.specs.Prelude.{◌≡◌};
 ghost use Rattle.model.specs.Layout.{none_used};
 ghost use Rattle.reader.specs.Reading.{read_outcome};

@@ -1,4 +1,6 @@
 // What C and Rust ask of the tables: an element and a body as records of numbers, the element of a curv2's number, and where a name stands.
+#![tactic(auto)]
+
 ghost use Rattle.std.specs.Prelude.{◌≡◌};
 ghost use Rattle.c_tables.specs.Parts.{text_part_in};
 

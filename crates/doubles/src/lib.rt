@@ -1,4 +1,6 @@
 // Whole numbers as doubles, and the rounding rule guessed in them: a guess is kept only where it is certain.
+#![tactic(auto)]
+
 ghost use Rattle.std.specs.Prelude.{◌≡◌, nat_abs, ◌-ℤ◌, ◌≤ℤ◌, ◌<ℤ◌};
 ghost use Rattle.rounding.specs.Range.{InRange};
 ghost use Rattle.doubles.specs.Doubles.{Encoding, encode, decode, weight_of, blend};

@@ -1,4 +1,6 @@
 // The functions that C and Rust link: each hands the lent slices on and gives the answer as a record of numbers.
+#![tactic(auto)]
+
 ghost use Rattle.std.specs.Prelude.{◌≡◌, length};
 ghost use Rattle.std.proofs.lemmas.List.Edits.{sets};
 ghost use Rattle.spellings.specs.Rows.{spelling_at, fitting};

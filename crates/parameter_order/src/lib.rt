@@ -1,4 +1,6 @@
 // The parameters along one direction, judged one after the other: by the reader from a parm line's words, by the test of records from the table.
+#![tactic(auto)]
+
 ghost use Rattle.std.specs.Prelude.{◌≡◌, ◌-◌, cond, ◌&&◌, leb};
 ghost use Rattle.std.specs.Int.Signed.{lt_z};
 ghost use Rattle.parameter_order.specs.Stepping.{requirement_of, fresh, too_often, followed, step_of, walked, holds_in};

@@ -1,1 +1,3 @@
+#![tactic(auto)]
+
 // Q-8, the head stays inside the block: theorems on what the sampler's entry points promise. No code.

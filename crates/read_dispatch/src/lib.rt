@@ -1,4 +1,6 @@
 // The line at a place: its statement found and its words taken, or its refusal.
+#![tactic(auto)]
+
 mod families; // statements by the function that takes their line
 mod by_family; // a line's function by its family
 mod keys; // what stands first in a line

@@ -1,4 +1,6 @@
 // Elements: the corners of a line into a table, the lines of p, l and f, and below them those of curv, curv2 and surf.
+#![tactic(auto)]
+
 pub mod body;
 
 ghost use Rattle.std.specs.Prelude.{◌≡◌, cond, ◌+◌, ◌*◌, ◌≤◌, ◌<◌, leb, length, drop};

@@ -1,4 +1,6 @@
 // How many entries of each table a text can need: one pass over its bytes, before it is read.
+#![tactic(auto)]
+
 ghost use Rattle.std.specs.Prelude.{◌≡◌, ◌+◌, ◌*◌, ◌-◌, ◌≤◌, ◌<◌, length};
 ghost use Rattle.text.specs.Rest.{rest_at};
 ghost use Rattle.keywords.specs.Lookup.{table_of_keywords};

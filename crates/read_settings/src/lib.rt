@@ -1,4 +1,6 @@
 // cstype, deg, g, s and usemtl: lines that set what is in force.
+#![tactic(auto)]
+
 pub mod words; // the words of such a line
 
 ghost use Rattle.std.specs.Prelude.{◌≡◌, ◌≤◌, length};

@@ -1,5 +1,7 @@
 // A line whose keyword is known, taken from just after it on: what is in force after it, and its records in the lent tables. Here are the lines of v, vt, vn and
 // vp.
+#![tactic(auto)]
+
 ghost use Rattle.std.specs.Prelude.{◌≡◌, ◌+◌, ◌≤◌, length};
 ghost use Rattle.read_vertex_lines.specs.Bounds.{InBounds};
 ghost use Rattle.tables.specs.VertexTables.{vertex_tables};

@@ -1,4 +1,6 @@
 // The numbers of a line into a table, and the four kinds of vertices.
+#![tactic(auto)]
+
 ghost use Rattle.std.specs.Prelude.{◌≡◌, cond, ◌+◌, ◌≤◌, leb, length};
 ghost use Rattle.std.proofs.lemmas.List.Edits.{sets};
 ghost use Rattle.read_vertices.specs.Into.{NumbersIs, RowIs};

@@ -1,4 +1,6 @@
 // Reading a text into lent tables.
+#![tactic(auto)]
+
 ghost use Rattle.std.specs.Prelude.{◌≡◌};
 ghost use Rattle.tables.specs.Tables.{tables};
 ghost use Rattle.read_lines.specs.Answered.{read_answer};

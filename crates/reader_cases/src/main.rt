@@ -1,5 +1,7 @@
 // Texts, and what reading each comes to in tables of 16,384 entries. A case is a line and then the text: the text's length, and what the case shows, which is
 // written again before the answer.
+#![tactic(auto)]
+
 ghost use Rattle.std.specs.Prelude.{◌≤◌, ◌<◌, length};
 
 use case_files::{least, line_end, number_at};

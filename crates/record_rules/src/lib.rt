@@ -1,4 +1,6 @@
 // Refusal 15: whether one element's records, and every vertex that they name, obey the rules and lie within the used and the lent entries.
+#![tactic(auto)]
+
 ghost use Rattle.std.specs.Prelude.{◌≡◌, ◌&&◌, [], leb};
 ghost use Rattle.tables.specs.Tables.{tables};
 ghost use Rattle.tables.specs.Records.{surface_kind};

@@ -1,4 +1,6 @@
 // The one rounding rule, on millionths.
+#![tactic(auto)]
+
 ghost use Rattle.std.specs.Prelude.{◌≡◌, ◌*◌, ◌^◌, ◌≤◌, ◌<◌, pos, nat_abs, ◌-ℤ◌, ◌*ℤ◌};
 ghost use Rattle.lists.specs.Signs.{with_sign};
 ghost use Rattle.rounding.specs.Round.{between, rounded, nearest};

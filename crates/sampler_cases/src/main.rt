@@ -1,6 +1,8 @@
 // Texts, and the points on each of their elements, in tables of 16,384 entries. A case is a line and then the text: the text's length, the steps of a run, a
 // number of element, and what the case shows, which is written again before the answers for that number and the next two. The parameters asked for are the first two numbers of the text's first vn, the tolerance of a polyline is its third.
 // The step of a cubic is that of segment 0 whose number is the run's steps.
+#![tactic(auto)]
+
 ghost use Rattle.std.specs.Prelude.{◌≤◌, ◌<◌, length};
 
 use case_files::{least, line_end, number_at};

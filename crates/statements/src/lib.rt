@@ -1,4 +1,6 @@
 // The statements of a file, one enumeration for all that tell them apart, and what each asks of its line.
+#![tactic(auto)]
+
 pub mod rows; // a row of rules for each statement
 pub mod rules; // what a row is made of, and the tests by it
 

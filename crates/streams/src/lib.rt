@@ -1,7 +1,7 @@
 // Standard input read to its end, and standard output written whole. A call that fails is told apart from the end of the input and said on standard error.
 #![tactic(auto)]
 
-ghost use Rattle.std.specs.Prelude.{◌≡◌, ◌≤◌, ◌<◌, IfOk, OnOk, length, take};
+ghost use Rattle.std.specs.Prelude.{◌<◌, IfOk, OnOk, length, take};
 ghost use Rattle.std.specs.Io.KnownBytes.{Appends, Consumes, IsAtEnd};
 ghost use Rattle.streams.specs.Counts.{IsPrefixLen};
 

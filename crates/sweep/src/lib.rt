@@ -1,4 +1,6 @@
 // The retention sweep (Q-6): every v, vt, vn and vp that no corner names is removed, the gaps are closed and the corners renumbered.
+#![tactic(auto)]
+
 ghost use Rattle.std.specs.Prelude.{◌≡◌, ◌≤◌};
 ghost use Rattle.tables.specs.Tables.{tables};
 ghost use Rattle.sweep.specs.Swept.{sweep_answer, sweep_into};

@@ -1,4 +1,6 @@
 // Which records of one kind the corners name, and their new numbers.
+#![tactic(auto)]
+
 ghost use Rattle.std.specs.Prelude.{◌≡◌, cond, ◌+◌, ◌≤◌, eqb, length, get_or, set};
 ghost use Rattle.sweep_marks.specs.Counting.{kept_upto, new_numbers};
 ghost use Rattle.sweep_marks.specs.Marks.{kind_of, place_of, mark_number, mark_every, mark_element, mark_elements, marked_in};

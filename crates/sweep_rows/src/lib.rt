@@ -1,4 +1,6 @@
 // The records of one kind that no corner names removed from their table, and the corners renumbered.
+#![tactic(auto)]
+
 ghost use Rattle.std.specs.Prelude.{◌≡◌, ◌++◌, ◌+◌, ◌*◌, ◌≤◌, pos, length, take, drop};
 ghost use Rattle.lists.specs.Lists.{filled};
 ghost use Rattle.sweep_marks.specs.Counting.{kept_upto, new_numbers, kept_rows};

@@ -1,4 +1,6 @@
 // Asking for a record by its number, or at an index: zeros where there is none.
+#![tactic(auto)]
+
 ghost use Rattle.std.specs.Prelude.{◌≡◌, ◌+◌, ◌*◌, ◌≤◌, ◌&&◌, leb, length};
 ghost use Rattle.tables.specs.Records.{body_width, range_width, element_in, body_in};
 ghost use Rattle.tables.specs.Asking.{held, asked_element, body_held, asked_body, corner_with, asked_corner, part_of, asked_group, asked_material};

@@ -1,4 +1,6 @@
 // Refusal 15 of whole tables (Q-6): every record held against the rules, and every run against the one before it.
+#![tactic(auto)]
+
 ghost use Rattle.std.specs.Prelude.{◌≡◌, ◌*◌, ◌≤◌, leb};
 ghost use Rattle.tables.specs.Tables.{tables};
 ghost use Rattle.table_rules.specs.Whole.{lent_all, whole_obeys};

@@ -1,4 +1,6 @@
 // Clearing the lent tables, and storing a record's numbers.
+#![tactic(auto)]
+
 ghost use Rattle.std.specs.Prelude.{◌≡◌, cond, ◌+◌, leb, pos, length, replicate};
 ghost use Rattle.std.proofs.lemmas.List.Edits.{sets};
 ghost use Rattle.tables.specs.VertexTables.{vertex_tables, vertex_zeros};

@@ -1,4 +1,6 @@
 // The lent tables: how many records of each kind are used, and where the numbers of a record stand.
+#![tactic(auto)]
+
 ghost use Rattle.std.specs.Prelude.{◌≡◌, ◌+◌, ◌*◌, ◌^◌, ◌≤◌, pos, leb, length, get_or};
 ghost use Rattle.tables.specs.Records.{element_width, body_width, range_width, corner_width, number_at, element_in, body_in, corner_start, corner_place, corners_length, corners_end, corner_in};
 ghost use Rattle.tables.specs.Rows.{corner_numbers, element_numbers, body_numbers, range_numbers, HoldsFrom};

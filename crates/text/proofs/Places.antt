@@ -15,7 +15,7 @@ use Rattle.lists.proofs.Tests.{test}
 use Rattle.text.specs.Bytes.{is_word, is_blank, lf, line_end}
 use Rattle.text.specs.Tokens.{starts_word}
 use Rattle.text.specs.Lines.{gap, word, join, look, refused, ending}
-use Rattle.text.specs.Words.{word_of, words}
+use Rattle.text.specs.Words.{word_of}
 use Rattle.text.specs.Rest.{Rest, rest_at, push, word_at, end_of, WordMet, EndMet, BadMet, JoinMet, break_of}
 use Rattle.text.proofs.Walk as W
 

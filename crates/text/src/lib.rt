@@ -1,4 +1,6 @@
 // Bytes, joined lines and words.
+#![tactic(auto)]
+
 ghost use Rattle.std.specs.Prelude.{◌≡◌, ◌+◌, ◌≤◌, ◌<◌, length, get_or, drop, true, false};
 ghost use Rattle.text.specs.Bytes.{is_blank, is_word, lf};
 ghost use Rattle.text.specs.Tokens.{starts_word};

@@ -1,4 +1,6 @@
 // A text read into lent tables, and its tidy text written into a lent buffer: 01, "The tidy text".
+#![tactic(auto)]
+
 ghost use Rattle.std.specs.Prelude.{◌≡◌};
 ghost use Rattle.tables.specs.Tables.{tables};
 ghost use Rattle.tidy_writer.specs.TidyFrom.{tidy_from};

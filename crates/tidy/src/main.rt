@@ -1,4 +1,6 @@
 // The tidy text of an .obj file, from standard input to standard output, or its refusal. What is printed is `tidy_output`'s.
+#![tactic(auto)]
+
 fn put_front(out: &[u8], count: usize) {
     if count <= out.len() {
         streams::write_output(&out[0..count]);

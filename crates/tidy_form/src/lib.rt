@@ -1,4 +1,6 @@
 // The tidy text of a file, as definitions, and the theorems on reading it back. The code is the choice that a caller names.
+#![tactic(auto)]
+
 ghost use Rattle.std.specs.Prelude.{◌≡◌, ◌≤◌, take, drop};
 ghost use Rattle.tidy_form.specs.Printed.{weighted};
 

@@ -1,4 +1,6 @@
 // What the program `tidy` prints for its input: 01, "The tidy text".
+#![tactic(auto)]
+
 ghost use Rattle.std.specs.Prelude.{◌≡◌, ◌≤◌, min, length};
 ghost use Rattle.tables.specs.Tables.{tables};
 ghost use Rattle.tidy_words.specs.Emitting.{Emitted};

@@ -1,4 +1,6 @@
 // One word of the tidy text or one byte between words, stored where there is room. Each answers the place after what it wrote, 16,777,217 for all that are too far.
+#![tactic(auto)]
+
 ghost use Rattle.std.specs.Prelude.{◌≡◌, [], ◌∷◌, ◌+◌, min};
 ghost use Rattle.references.specs.Written.{written_whole, written_number, written_corner};
 ghost use Rattle.keywords.specs.Keywords.{keyword_of};

@@ -1,4 +1,6 @@
 // The tidy text, written from the tables: 01, "The tidy text".
+#![tactic(auto)]
+
 pub mod body;
 pub mod element;
 pub mod elements;

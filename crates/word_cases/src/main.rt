@@ -2,7 +2,7 @@
 // n number, r reference to one of 4, R to one of 4,294,967,295, p l f corner as on such a line with 4 v, 3 vt and 2 vn, d degree, s smoothing, g name.
 #![tactic(auto)]
 
-ghost use Rattle.std.specs.Prelude.{◌≤◌, ◌<◌, IfOk, length};
+ghost use Rattle.std.specs.Prelude.{◌≤◌, ◌<◌, length};
 
 use digits::name::Name;
 use digits::whole::Whole;

@@ -1,4 +1,6 @@
 // The words of the tidy text, each measured and written: 01, "The tidy text".
+#![tactic(auto)]
+
 ghost use Rattle.std.specs.Prelude.{◌≡◌, [], ◌∷◌, ◌+◌, ◌≤◌, ◌<◌, nat_abs, length};
 ghost use Rattle.std.proofs.lemmas.List.Edits.{sets};
 ghost use Rattle.references.specs.Written.{full, written_whole, written_millionths, written_number, written_corner};

@@ -1,5 +1,4 @@
 -- Each type by its own test; products of numbers of 32 bits fit.
-use borrow.Author.Rules.{rules}
 use Prim.Native.Nat.{◌+◌, ◌-◌}
 use borrow.Author.Tests.{ne_eqb}
 use Rattle.basis.proofs.Products.{product, product-fits}

@@ -1,5 +1,4 @@
 -- Enough controls, then their number.
-use borrow.Author.Rules.{rules}
 use Rattle.tables.specs.Bodies.{curve_count}
 use Rattle.basis.proofs.Tests.{failed, passed}
 use mathlib.Core.Path.{ap}

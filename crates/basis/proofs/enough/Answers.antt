@@ -1,5 +1,4 @@
 -- A bspline by its own rule; the others always.
-use borrow.Author.Rules.{rules}
 use mathlib.Core.Path.{sym}
 use Rattle.basis.proofs.Basis.{enough-other, enough-knots}
 use Rattle.basis.proofs.enough.Goals as goal

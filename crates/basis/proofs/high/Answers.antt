@@ -1,5 +1,4 @@
 -- A bspline's at knot k; the others' at the last parameter.
-use borrow.Author.Rules.{rules}
 use mathlib.Core.Path.{sym}
 use lib.ListN.{length}
 use Rattle.tables.proofs.Bits.{fitted}

@@ -2,7 +2,6 @@
 use mathlib.Core.Path.{◌∙◌}
 use native.Mathlib.Omega.{arith}
 use mir.Facts.{to_z-of_z}
-use borrow.Author.Rules.{rules}
 use Rattle.basis.proofs.Walks.{walk-holds}
 use Rattle.basis.proofs.in_order.Goals as goal
 

@@ -1,5 +1,4 @@
 -- A factor past the number makes the product 0 or past it; two that are not past it fit.
-use borrow.Author.Rules.{rules}
 use mathlib.Core.Path.{sym}
 use native.Mathlib.Nat.{mul_comm}
 use Rattle.basis.proofs.Products.{product-fits}

@@ -1,5 +1,4 @@
 -- Enough controls each way, then their product.
-use borrow.Author.Rules.{rules}
 use Rattle.tables.specs.Bodies.{surface_count}
 use Rattle.basis.proofs.Tests.{failed, passed}
 use mathlib.Core.Path.{ap}

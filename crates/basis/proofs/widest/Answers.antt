@@ -1,5 +1,4 @@
 -- Only a curv2 is asked, and of it both ends.
-use borrow.Author.Rules.{rules}
 use borrow.Author.Tests.{not-true, not-false}
 use mir.Facts.{to_z-of_z}
 use Rattle.basis.specs.Widest.{widest}

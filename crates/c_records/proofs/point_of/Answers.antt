@@ -1,7 +1,6 @@
 -- Each case of the answer by its own line of the definition.
 use Rattle.tables.proofs.Bits.{fitted}
 use Rattle.c_records.proofs.Points.{space-in, plane-in, refused-in}
-use borrow.Author.Rules.{rules}
 use Rattle.c_records.proofs.point_of.Goals as goal
 
 pub returns-in-Space : goal.returns-in-Space

@@ -1,6 +1,5 @@
 -- Each case of the answer by its own line of the definition.
 use Rattle.c_records.proofs.Readings.{read-in, stopped-in}
-use borrow.Author.Rules.{rules}
 use Rattle.c_records.proofs.read_of.Goals as goal
 
 pub returns-in-Read : goal.returns-in-Read

@@ -1,6 +1,5 @@
 -- Each case of the answer by its own line of the definition.
 use Rattle.c_records.proofs.Points.{filled_in, unfilled-in}
-use borrow.Author.Rules.{rules}
 use Rattle.c_records.proofs.run_of.Goals as goal
 
 pub returns-in-Filled : goal.returns-in-Filled

@@ -1,6 +1,5 @@
 -- Each case of the answer by its own line of the definition.
 use Rattle.c_records.proofs.Sweeps.{swept-in, unswept-in}
-use borrow.Author.Rules.{rules}
 use Rattle.c_records.proofs.sweep_of.Goals as goal
 
 pub returns-in-Swept : goal.returns-in-Swept

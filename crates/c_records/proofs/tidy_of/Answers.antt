@@ -1,6 +1,5 @@
 -- Each case of the answer by its own line of the definition.
 use Rattle.c_records.proofs.Tidyings.{written_in, long-in, stopped-in}
-use borrow.Author.Rules.{rules}
 use Rattle.c_records.proofs.tidy_of.Goals as goal
 
 pub returns-in-Written : goal.returns-in-Written

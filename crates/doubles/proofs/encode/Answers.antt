@@ -1,5 +1,4 @@
 -- A number in range is kept by its sum with the anchor (`encode-sum`).
-use borrow.Author.Rules.{rules}
 use Rattle.rounding.proofs.Bits.{read-back-small}
 use Rattle.doubles.proofs.Whole.{encode-sum}
 use Rattle.doubles.proofs.encode.Goals as goal

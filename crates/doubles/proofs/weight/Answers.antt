@@ -1,5 +1,4 @@
 -- Both ways are whole numbers that a double holds (`way_up`).
-use borrow.Author.Rules.{rules}
 use mathlib.Core.Path.{ap₂}
 use lib.Ieee.{binary64, div}
 use Rattle.rounding.proofs.Bits.{read-back-small}

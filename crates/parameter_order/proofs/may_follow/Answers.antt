@@ -1,5 +1,4 @@
 -- By the index, then by the values, then by the type.
-use borrow.Author.Rules.{rules}
 use Rattle.parameter_order.proofs.Stepped.{the-first, greater, equal, not-greater}
 use mir.Facts.{to_z-of_z}
 use mathlib.Core.Path.{ap, ◌∙◌}

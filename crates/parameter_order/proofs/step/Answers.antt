@@ -1,5 +1,4 @@
 -- Field by field.
-use borrow.Author.Rules.{rules}
 use mir.Facts.{to_z-of_z}
 use Rattle.rounding.proofs.Bits.{read-back-given}
 use mathlib.Core.Path.{refl, ◌∙◌}

@@ -1,5 +1,4 @@
 -- Each test that answers alone, then the values.
-use borrow.Author.Rules.{rules}
 use Rattle.parameter_order.proofs.Stepped.{no-knots, no_more, past_end, by_value}
 use mir.Facts.{to_z-of_z}
 use native.Mathlib.Omega.{arith}

@@ -1,11 +1,7 @@
 -- The invariant: what is left leads to what all of it comes to.
 use native.Mathlib.Omega.{arith}
 use Rattle.rounding.proofs.Bits.{read-back-given}
-use borrow.Author.Rules.{rules}
-use mathlib.Core.Path.{◌≡◌, refl}
-use Prim.Native.Nat.{◌-◌, ◌≤◌}
-use lib.ListN.{length, drop}
-use Rattle.parameter_order.specs.Stepping.{walk_from, walked}
+use mathlib.Core.Path.{refl}
 use Rattle.parameter_order.proofs.Walks.{walk-on, walk-over}
 use Rattle.parameter_order.proofs.walk.Goals as goal
 

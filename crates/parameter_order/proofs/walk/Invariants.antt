@@ -1,11 +1,7 @@
-use native.Mathlib.Omega.{arith}
-use Rattle.rounding.proofs.Bits.{read-back-given}
-use borrow.Author.Rules.{rules}
-use mathlib.Core.Path.{◌≡◌, refl}
+use mathlib.Core.Path.{◌≡◌}
 use Prim.Native.Nat.{◌-◌, ◌≤◌}
 use lib.ListN.{length, drop}
 use Rattle.parameter_order.specs.Stepping.{walk_from, walked}
-use Rattle.parameter_order.proofs.Walks.{walk-on, walk-over}
 use Rattle.parameter_order.proofs.walk.Given as goal
 
 abbrev pub invariant-loop-i : goal.invariant-loop-i

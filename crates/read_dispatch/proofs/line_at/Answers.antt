@@ -1,5 +1,4 @@
 -- The key, and the line by it.
-use borrow.Author.Rules.{rules}
 use Rattle.read_dispatch.proofs.line_at.Goals as goal
 
 pub line_with-requires : goal.line_with-requires

@@ -2,7 +2,6 @@
 use native.Mathlib.Omega.{arith}
 use Rattle.tables.specs.Tables.{tables}
 use Rattle.read_dispatch.proofs.Sorted.{key-word, key-end, key-bad, keyword-bounds, line-empty, line-bad, line_taken, line-refuses, line-gave-up}
-use borrow.Author.Rules.{rules}
 use Rattle.read_dispatch.proofs.line_with.Goals as goal
 
 pub take_line-requires : goal.take_line-requires

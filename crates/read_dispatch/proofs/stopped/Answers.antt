@@ -1,6 +1,5 @@
 -- By the answer, each case computes.
 use mathlib.Core.Path.{refl}
-use borrow.Author.Rules.{rules}
 use Rattle.read_dispatch.proofs.stopped.Goals as goal
 
 pub returns-in-Refused : goal.returns-in-Refused

@@ -1,5 +1,4 @@
 -- By the answers of `reference_at`: the control is the reference, in the first place.
-use borrow.Author.Rules.{rules}
 use Rattle.read_elements.proofs.Walking.{control-ended}
 use Rattle.references.specs.Reference.{reference_of}
 use Rattle.text.specs.Words.{word_of}

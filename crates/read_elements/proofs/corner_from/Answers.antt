@@ -1,5 +1,4 @@
 -- By the two forms: each answer is that of the reader called.
-use borrow.Author.Rules.{rules}
 use Rattle.read_elements.proofs.corner_from.Goals as goal
 
 pub returns-in-Vertex : goal.returns-in-Vertex

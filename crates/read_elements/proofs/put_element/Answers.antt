@@ -1,7 +1,6 @@
 -- The row is the element's.
 use Prim.Native.Nat.{◌*◌}
 use Rattle.table_store.proofs.Stores.{put_of}
-use borrow.Author.Rules.{rules}
 use Rattle.read_elements.proofs.put_element.Goals as goal
 
 pub returns : goal.returns

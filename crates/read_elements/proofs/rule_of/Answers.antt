@@ -7,7 +7,6 @@ use Rattle.model.specs.Parse.{parts, fewest}
 use Rattle.model.specs.Layout.{shape_number}
 use Rattle.read_elements.specs.declared.CornerForm.TheVariants.{Vertex}
 use Rattle.read_elements.specs.Elements.{rule_of}
-use borrow.Author.Rules.{rules}
 use Rattle.read_elements.proofs.rule_of.Goals as goal
 
 rule-is : (k : Shape) {p : Parts} {a b : ℕ} → p ≡ parts k → a ≡ shape_number k → b ≡ fewest k → record { kind = a; fewest = b; form = Vertex p.vt p.vn } ≡ rule_of k

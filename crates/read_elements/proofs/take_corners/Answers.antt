@@ -6,7 +6,6 @@ use native.Mathlib.Omega.{arith}
 use lib.Seq.{sets}
 use Rattle.tables.specs.Rows.{element_numbers}
 use Rattle.tables.specs.declared.Element as Record
-use borrow.Author.Rules.{rules}
 use Rattle.read_elements.proofs.Taking as T
 use Rattle.read_elements.proofs.take_corners.Goals as goal
 

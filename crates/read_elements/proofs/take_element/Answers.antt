@@ -1,5 +1,4 @@
 -- By the rule of its shape.
-use borrow.Author.Rules.{rules}
 use Rattle.read_elements.proofs.take_element.Goals as goal
 
 pub returns : goal.returns

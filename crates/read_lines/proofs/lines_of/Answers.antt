@@ -4,7 +4,6 @@ use Rattle.tables.specs.Tables.{tables}
 use Rattle.tables.proofs.Groups.{vertex-rooms-eq, element-rooms-eq, body-rooms-eq}
 use Rattle.model.proofs.Rooms.{rooms-eq}
 use Rattle.read_lines.proofs.Cleared.{all_read, all-refused}
-use borrow.Author.Rules.{rules}
 use Rattle.read_lines.proofs.lines_of.Goals as goal
 
 pub returns-in-Read : goal.returns-in-Read

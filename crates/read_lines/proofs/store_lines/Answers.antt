@@ -1,13 +1,10 @@
 -- What is left comes to what all comes to: `Reached`, a turn for each line.
-use Prim.Native.Nat.{◌-◌}
 use mathlib.Core.Path.{ap, ◌∙◌}
-use lib.ListN.{length}
-use borrow.Author.Rules.{rules}
 use Rattle.tables.specs.Tables.{tables}
 use Rattle.model.specs.Room.{Rooms}
 use Rattle.tables.proofs.Groups.{vertex-rooms-eq, element-rooms-eq, body-rooms-eq}
 use Rattle.model.proofs.Rooms.{rooms-eq}
-use Rattle.read_lines.proofs.Loop.{Reached, reached-start, reached-next, reached-stop, reached-open, reached-end}
+use Rattle.read_lines.proofs.Loop.{reached-start, reached-next, reached-stop, reached-open, reached-end}
 use Rattle.read_lines.proofs.store_lines.Goals as goal
 
 pub loop-at-init : goal.loop-at-init

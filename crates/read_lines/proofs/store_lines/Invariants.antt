@@ -1,12 +1,7 @@
 use Prim.Native.Nat.{◌-◌}
-use mathlib.Core.Path.{ap, ◌∙◌}
 use lib.ListN.{length}
-use borrow.Author.Rules.{rules}
 use Rattle.tables.specs.Tables.{tables}
-use Rattle.model.specs.Room.{Rooms}
-use Rattle.tables.proofs.Groups.{vertex-rooms-eq, element-rooms-eq, body-rooms-eq}
-use Rattle.model.proofs.Rooms.{rooms-eq}
-use Rattle.read_lines.proofs.Loop.{Reached, reached-start, reached-next, reached-stop, reached-open, reached-end}
+use Rattle.read_lines.proofs.Loop.{Reached}
 use Rattle.read_lines.proofs.store_lines.Given as goal
 
 abbrev pub invariant-loop-at : goal.invariant-loop-at

@@ -1,6 +1,5 @@
 -- No sum passes what both come to.
 use native.Mathlib.Omega.{arith}
-use borrow.Author.Rules.{rules}
 use Rattle.read_rooms.proofs.both.Goals as goal
 
 pub overflow_add-result-7 : goal.overflow_add-result-7

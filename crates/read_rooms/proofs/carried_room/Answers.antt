@@ -3,7 +3,6 @@ use Prim.Native.Nat.{ℕ, ◌-◌}
 use mathlib.Core.Path.{sym, ap, ◌∙◌}
 use Rattle.statements.specs.declared.Carried.{Carried}
 use Rattle.read_rooms.specs.Rooms.{element_room, body_room, carried_room}
-use borrow.Author.Rules.{rules}
 use Rattle.read_rooms.proofs.carried_room.Goals as goal
 
 pub returns-in-Vertex : goal.returns-in-Vertex

@@ -1,7 +1,6 @@
 -- By the kind, each case computes.
 use mathlib.Core.Path.{sym, ap, ◌∙◌}
 use Rattle.read_rooms.specs.Rooms.{kind_room}
-use borrow.Author.Rules.{rules}
 use Rattle.read_rooms.proofs.kind_room.Goals as goal
 
 pub returns-in-Geometric : goal.returns-in-Geometric

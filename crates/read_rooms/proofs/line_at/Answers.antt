@@ -6,7 +6,6 @@ use Rattle.text.proofs.Found.{word-found, end-found, bad-found}
 use Rattle.text.proofs.Scans.{scan_good}
 use Rattle.read_rooms.proofs.Words.{rest-few}
 use Rattle.read_rooms.proofs.Going.{line-none, line-bad-first, line-counted, line-stopped}
-use borrow.Author.Rules.{rules}
 use Rattle.read_rooms.proofs.line_at.Goals as goal
 
 pub word_end-requires : goal.word_end-requires

@@ -2,7 +2,6 @@
 use mathlib.Core.Path.{sym, ap, ◌∙◌}
 use Rattle.statements.specs.declared.Statement.{Statement}
 use Rattle.read_rooms.specs.Rooms.{room_for}
-use borrow.Author.Rules.{rules}
 use Rattle.read_rooms.proofs.room_for.Goals as goal
 
 pub returns-in-Carried : goal.returns-in-Carried

@@ -1,5 +1,4 @@
 -- A text that is too long needs none; any other is counted line by line.
-use borrow.Author.Rules.{rules}
 use Rattle.read_rooms.proofs.Going.{rooms-long}
 use Rattle.read_rooms.proofs.rooms_of.Goals as goal
 

@@ -1,7 +1,4 @@
 -- The loop keeps what was counted with what is left (`Going`); each line takes bytes off what is left.
-use Prim.Native.Nat.{◌-◌}
-use lib.ListN.{length}
-use borrow.Author.Rules.{rules}
 use Rattle.read_rooms.proofs.Going as G
 use Rattle.read_rooms.proofs.rooms_of_lines.Goals as goal
 

@@ -1,6 +1,5 @@
 use Prim.Native.Nat.{◌-◌}
 use lib.ListN.{length}
-use borrow.Author.Rules.{rules}
 use Rattle.read_rooms.proofs.Going as G
 use Rattle.read_rooms.proofs.rooms_of_lines.Given as goal
 

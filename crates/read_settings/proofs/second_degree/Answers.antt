@@ -1,7 +1,6 @@
 -- By the count.
 use mathlib.Core.Path.{refl}
 use borrow.Author.Tests.{eq-eqb, ne_eqb}
-use borrow.Author.Rules.{rules}
 use Rattle.read_settings.proofs.second_degree.Goals as goal
 
 pub returns-then-count-eq1 : goal.returns-then-count-eq1

@@ -2,7 +2,6 @@
 use mathlib.Core.Path.{ap, ◌∙◌}
 use Rattle.read_settings.specs.Steps.{typed}
 use Rattle.read_settings.proofs.Lines as L
-use borrow.Author.Rules.{rules}
 use Rattle.read_settings.proofs.with_type.Goals as goal
 
 pub returns-then-basis-eq0 : goal.returns-then-basis-eq0

@@ -1,6 +1,5 @@
 -- By the kind, each case computes.
 use mathlib.Core.Path.{refl}
-use borrow.Author.Rules.{rules}
 use Rattle.read_vertex_lines.proofs.counted.Goals as goal
 
 pub returns-in-Geometric : goal.returns-in-Geometric

@@ -2,7 +2,6 @@
 use Rattle.tables.specs.VertexTables.{vertex_tables}
 use Rattle.model.specs.Model.{geometric, texture, normal, parametric}
 use Rattle.read_vertex_lines.proofs.Stepped.{into}
-use borrow.Author.Rules.{rules}
 use Rattle.read_vertex_lines.proofs.vertex_into.Goals as goal
 
 pub returns-in-Geometric : goal.returns-in-Geometric

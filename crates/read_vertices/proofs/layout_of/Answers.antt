@@ -1,6 +1,5 @@
 -- By the kind: the count is its row's, and the rest computes.
 use Rattle.read_vertices.proofs.Layouts.{layout_is}
-use borrow.Author.Rules.{rules}
 use Rattle.read_vertices.proofs.layout_of.Goals as goal
 
 pub returns-in-Geometric : goal.returns-in-Geometric

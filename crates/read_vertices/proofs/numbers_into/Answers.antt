@@ -1,8 +1,7 @@
 -- The loop keeps the numbers stored so far with the rest of the line (`Walking`); each turn leaves one number fewer to ask for.
-use Prim.Native.Nat.{◌-◌, ◌^◌}
+use Prim.Native.Nat.{◌^◌}
 use lib.ListN.{length}
 use native.Mathlib.Omega.{arith}
-use borrow.Author.Rules.{rules}
 use borrow.Author.Tests.{not-true, not-false}
 use Rattle.tables.proofs.Bits.{fitted}
 use Rattle.read_vertices.proofs.Walking as W

@@ -1,12 +1,5 @@
-use Prim.Native.Nat.{◌-◌, ◌^◌}
-use lib.ListN.{length}
-use native.Mathlib.Omega.{arith}
-use borrow.Author.Rules.{rules}
-use borrow.Author.Tests.{not-true, not-false}
-use Rattle.tables.proofs.Bits.{fitted}
+use Prim.Native.Nat.{◌-◌}
 use Rattle.read_vertices.proofs.Walking as W
-use mathlib.Core.Path.{ap}
-use mathlib.Core.Bool.{not}
 use Rattle.read_vertices.proofs.numbers_into.Given as goal
 
 abbrev pub invariant-loop-count : goal.invariant-loop-count

@@ -1,6 +1,5 @@
 -- By the width, each case is one put.
 use borrow.Author.Tests.{ne_eqb}
-use borrow.Author.Rules.{rules}
 use Rattle.read_vertices.proofs.put_blank.Goals as goal
 
 pub returns-then-width-eq-V : goal.returns-then-width-eq-V

@@ -1,7 +1,6 @@
 -- What `numbers_into` found is closed and long enough, or not (`Rows`).
 use Rattle.read_vertices.proofs.Walking as W
 use Rattle.read_vertices.proofs.Rows as R
-use borrow.Author.Rules.{rules}
 use Rattle.read_vertices.proofs.row_into.Goals as goal
 
 pub returns-then-count-least : goal.returns-then-count-least

@@ -4,7 +4,6 @@ use borrow.Author.Tests.{not-true, not-false}
 use Rattle.word_numbers.proofs.Signs.{reads}
 use Rattle.read_vertices.proofs.Rows as R
 use Rattle.read_vertices.proofs.Taking as T
-use borrow.Author.Rules.{rules}
 use mathlib.Core.Path.{ap}
 use mathlib.Core.Bool.{not}
 use Rattle.read_vertices.proofs.take_vertex.Goals as goal

@@ -3,7 +3,6 @@ use mathlib.Core.Path.{◌∙◌}
 use Rattle.tables.specs.Tables.{tables}
 use Rattle.read_lines.proofs.Cleared.{cleared-blank}
 use Rattle.reader.proofs.Whole.{read-too-long, read_whole}
-use borrow.Author.Rules.{rules}
 use Rattle.reader.proofs.read.Goals as goal
 
 pub returns-then-text-gt16777216 : goal.returns-then-text-gt16777216

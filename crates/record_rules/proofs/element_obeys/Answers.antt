@@ -1,5 +1,4 @@
 -- The element's own numbers, then its corners by their own test.
-use borrow.Author.Rules.{rules}
 use borrow.Author.Tests.{le-leb, lt-leb}
 use Rattle.record_rules.proofs.element_obeys.Goals as goal
 

@@ -7,7 +7,6 @@ use Rattle.record_rules.proofs.Bodied.{outline}
 use Rattle.record_rules.proofs.OneBody.{corners-lent, record-lent}
 use Rattle.basis.proofs.Tests.{failed, passed}
 use Rattle.record_rules.specs.Rules.{records_obey}
-use borrow.Author.Rules.{rules}
 use mathlib.Core.Path.{ap}
 use mathlib.Core.Bool.{not}
 use Rattle.record_rules.proofs.records_obey.Goals as goal

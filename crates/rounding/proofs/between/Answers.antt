@@ -1,5 +1,4 @@
 -- The sum's size is at most that of the larger number times d, so every step fits, and the sum is rounded.
-use borrow.Author.Rules.{rules}
 use mathlib.Core.Path.{◌≡◌}
 use Prim.Native.Nat.{◌*◌, ◌≤◌}
 use native.Mathlib.Omega.{arith}

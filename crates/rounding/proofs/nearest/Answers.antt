@@ -1,5 +1,4 @@
 -- A quotient at most b comes of a number at most b times the divisor (`nearest-le`).
-use borrow.Author.Rules.{rules}
 use mathlib.Core.Path.{refl}
 use Rattle.rounding.proofs.Rounding.{nearest-le}
 use Rattle.rounding.proofs.nearest.Goals as goal

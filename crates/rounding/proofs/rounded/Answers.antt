@@ -1,5 +1,4 @@
 -- The sign and the size of a number make the rounded one (`rounded-signed`).
-use borrow.Author.Rules.{rules}
 use mathlib.Core.Path.{◌∙◌}
 use native.Mathlib.Omega.{arith}
 use mir.Syntax.{w32}

@@ -1,5 +1,4 @@
 -- Below zero `-n` is the size, from zero up n is (`minus`, `plus`).
-use borrow.Author.Rules.{rules}
 use mathlib.Core.Path.{◌≡◌, refl}
 use mathlib.Core.Bool.{true, false}
 use native.Mathlib.Omega.{arith}

@@ -1,5 +1,4 @@
 -- The product's size is the product of the sizes, which fits 64 bits (`abs-*`).
-use borrow.Author.Rules.{rules}
 use mathlib.Core.Path.{refl}
 use Prim.Native.Nat.{◌*◌, ◌≤◌}
 use native.Mathlib.Omega.{arith}

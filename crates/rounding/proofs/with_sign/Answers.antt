@@ -1,5 +1,4 @@
 -- The number fits, so its bits are read back (`fits_signed`, `negated`).
-use borrow.Author.Rules.{rules}
 use mathlib.Core.Path.{refl}
 use mathlib.Core.Bool.{true}
 use native.Mathlib.Omega.{arith}

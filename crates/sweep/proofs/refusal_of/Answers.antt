@@ -2,7 +2,6 @@
 use Rattle.basis.proofs.Tests.{failed, passed}
 use borrow.Author.Tests.{le-leb, lt-leb}
 use Rattle.sweep.specs.Vertices.{sweep_refusal}
-use borrow.Author.Rules.{rules}
 use mathlib.Core.Path.{ap}
 use mathlib.Core.Bool.{not}
 use Rattle.sweep.proofs.refusal_of.Goals as goal

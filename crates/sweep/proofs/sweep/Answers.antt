@@ -1,7 +1,6 @@
 -- A refusal leaves everything as it was; else the passes one after the other, each by what it ensures.
 use Rattle.sweep.proofs.Answering.{Passed, passed, refused-is, swept-is, fewer-left, lent, vertices-lent, corners-lent, rest-lent}
 use Rattle.tables.specs.Tables.{Tables, tables}
-use borrow.Author.Rules.{rules}
 use Rattle.sweep.proofs.sweep.Goals as goal
 use Rattle.sweep.proofs.sweep.Goals.{After-clear_rest-arg-7-1, After-dropped_of, After-renumber-arg-1, After-spans-1, After-sweep_vertices-arg-5-1, Then-number-ne0}
 

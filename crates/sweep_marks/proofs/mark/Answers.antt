@@ -1,7 +1,6 @@
 -- A store of 1 at the record, if there is an entry for it.
 use Rattle.sweep_marks.proofs.Marking.{mark-within, mark-outside}
 use native.Mathlib.Omega.{arith}
-use borrow.Author.Rules.{rules}
 use Rattle.sweep_marks.proofs.mark.Goals as goal
 
 pub returns-then-at-marks : goal.returns-then-at-marks

@@ -1,7 +1,6 @@
 -- The numbers in the place of that kind, where it has one.
 use Rattle.sweep_marks.proofs.Marking.{element-none, element-some}
 use Rattle.sweep_marks.specs.Marks.{kind_of}
-use borrow.Author.Rules.{rules}
 use Rattle.sweep_marks.proofs.mark_element.Goals as goal
 
 pub returns-then-place-eq3 : goal.returns-then-place-eq3

@@ -1,11 +1,9 @@
 -- The invariant: the marks of the elements passed.
-use Rattle.sweep_marks.proofs.Marking.{Reached, reached-more, reached-all, elements-more, length-elements}
-use Rattle.sweep_marks.specs.Marks.{kind_of, mark_elements}
-use Prim.Native.Nat.{◌-◌}
+use Rattle.sweep_marks.proofs.Marking.{reached-more, reached-all, elements-more, length-elements}
+use Rattle.sweep_marks.specs.Marks.{kind_of}
 use native.Mathlib.Omega.{arith}
 use mathlib.Core.Path.{refl, ap, ◌∙◌}
 use lib.ListN.{length}
-use borrow.Author.Rules.{rules}
 use Rattle.sweep_marks.proofs.mark_elements.Goals as goal
 
 pub loop-i-init : goal.loop-i-init

@@ -1,10 +1,6 @@
-use Rattle.sweep_marks.proofs.Marking.{Reached, reached-more, reached-all, elements-more, length-elements}
+use Rattle.sweep_marks.proofs.Marking.{Reached}
 use Rattle.sweep_marks.specs.Marks.{kind_of, mark_elements}
 use Prim.Native.Nat.{◌-◌}
-use native.Mathlib.Omega.{arith}
-use mathlib.Core.Path.{refl, ap, ◌∙◌}
-use lib.ListN.{length}
-use borrow.Author.Rules.{rules}
 use Rattle.sweep_marks.proofs.mark_elements.Given as goal
 
 abbrev pub invariant-loop-i : goal.invariant-loop-i

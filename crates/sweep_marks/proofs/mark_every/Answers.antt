@@ -1,11 +1,8 @@
 -- The invariant: the marks of the numbers passed.
-use Prim.Native.Nat.{◌-◌}
 use mathlib.Core.Path.{refl, ap, ◌∙◌}
 use native.Mathlib.Omega.{arith}
 use lib.ListN.{length}
-use Rattle.sweep_marks.specs.Marks.{mark_every}
-use Rattle.sweep_marks.proofs.Marking.{Reached, reached-more, reached-all, every_more, length-every}
-use borrow.Author.Rules.{rules}
+use Rattle.sweep_marks.proofs.Marking.{reached-more, reached-all, every_more, length-every}
 use Rattle.sweep_marks.proofs.mark_every.Goals as goal
 
 pub loop-j-init : goal.loop-j-init

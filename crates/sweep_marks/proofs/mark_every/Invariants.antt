@@ -1,10 +1,6 @@
 use Prim.Native.Nat.{◌-◌}
-use mathlib.Core.Path.{refl, ap, ◌∙◌}
-use native.Mathlib.Omega.{arith}
-use lib.ListN.{length}
 use Rattle.sweep_marks.specs.Marks.{mark_every}
-use Rattle.sweep_marks.proofs.Marking.{Reached, reached-more, reached-all, every_more, length-every}
-use borrow.Author.Rules.{rules}
+use Rattle.sweep_marks.proofs.Marking.{Reached}
 use Rattle.sweep_marks.proofs.mark_every.Given as goal
 
 abbrev pub invariant-loop-j : goal.invariant-loop-j

@@ -1,5 +1,4 @@
 use Rattle.sweep_marks.proofs.Numbering.{mark-stays, mark-numbered}
-use borrow.Author.Rules.{rules}
 use Rattle.sweep_marks.proofs.number_mark.Goals as goal
 
 pub returns-then-marks-i-eq0 : goal.returns-then-marks-i-eq0

@@ -1,9 +1,6 @@
 -- The invariant: the entries passed are numbers, the rest are marks.
-use Rattle.sweep_marks.proofs.Numbering.{Numbered, numbered-none, numbered_more, numbered-all, numbered-most}
-use Prim.Native.Nat.{◌-◌}
+use Rattle.sweep_marks.proofs.Numbering.{numbered-none, numbered_more, numbered-all, numbered-most}
 use native.Mathlib.Omega.{arith}
-use lib.ListN.{length}
-use borrow.Author.Rules.{rules}
 use Rattle.sweep_marks.proofs.number_marks.Goals as goal
 
 pub loop-i-init : goal.loop-i-init

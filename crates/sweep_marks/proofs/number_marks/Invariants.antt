@@ -1,8 +1,6 @@
-use Rattle.sweep_marks.proofs.Numbering.{Numbered, numbered-none, numbered_more, numbered-all, numbered-most}
+use Rattle.sweep_marks.proofs.Numbering.{Numbered}
 use Prim.Native.Nat.{◌-◌}
-use native.Mathlib.Omega.{arith}
 use lib.ListN.{length}
-use borrow.Author.Rules.{rules}
 use Rattle.sweep_marks.proofs.number_marks.Given as goal
 
 abbrev pub invariant-loop-i : goal.invariant-loop-i

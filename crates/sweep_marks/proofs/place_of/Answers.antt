@@ -3,7 +3,6 @@ use mathlib.Core.Path.{sym, ap, ◌∙◌}
 use Rattle.sweep_marks.specs.Marks.{kind_of, place_of}
 use Rattle.sweep_marks.specs.declared.VertexTable.{VertexTable}
 use native.Mathlib.Omega.{arith}
-use borrow.Author.Rules.{rules}
 use Rattle.sweep_marks.proofs.place_of.Goals as goal
 
 pub returns-then-kind-eq-CURVE2 : goal.returns-then-kind-eq-CURVE2

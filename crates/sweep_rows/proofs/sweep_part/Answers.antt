@@ -2,7 +2,6 @@
 use Rattle.sweep_rows.proofs.Sweeping.{lent_alike, part-long, part-swept}
 use Rattle.sweep_marks.specs.Marks.{kind_of, named_in_tables}
 use native.Mathlib.Omega.{arith}
-use borrow.Author.Rules.{rules}
 use Rattle.sweep_rows.proofs.sweep_part.Goals as goal
 
 pub sweep_table-requires : goal.sweep_table-requires

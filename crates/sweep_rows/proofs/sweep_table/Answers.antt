@@ -2,7 +2,6 @@
 use Rattle.sweep_rows.proofs.Sweeping.{kept-is, numbers-are, numbers-long, rows_are, lent_alike}
 use Rattle.sweep_marks.specs.Marks.{kind_of}
 use lib.ListN.{length}
-use borrow.Author.Rules.{rules}
 use Rattle.sweep_rows.proofs.sweep_table.Goals as goal
 
 pub move_rows-requires : goal.move_rows-requires

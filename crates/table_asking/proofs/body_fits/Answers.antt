@@ -1,7 +1,6 @@
 -- Each test in turn.
 use mathlib.Core.Path.{refl}
 use borrow.Author.Tests.{le-leb, lt-leb}
-use borrow.Author.Rules.{rules}
 use Rattle.table_asking.proofs.body_fits.Goals as goal
 
 pub returns-then-index-bodies : goal.returns-then-index-bodies

@@ -1,7 +1,6 @@
 -- What `has_body` answers opens the definition's two cases.
 use mathlib.Core.Path.{sym, ◌∙◌}
 use Rattle.tables.proofs.Asked.{body-first, body-whole, body-held, body-none}
-use borrow.Author.Rules.{rules}
 use Rattle.table_asking.proofs.body_of.Goals as goal
 
 pub overflow_sub-body : goal.overflow_sub-body

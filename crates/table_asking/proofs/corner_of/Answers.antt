@@ -1,6 +1,5 @@
 -- The element's record, and then its corner: the definition's own two steps.
 use Rattle.tables.proofs.Asked.{corner-asked}
-use borrow.Author.Rules.{rules}
 use Rattle.table_asking.proofs.corner_of.Goals as goal
 
 pub returns : goal.returns

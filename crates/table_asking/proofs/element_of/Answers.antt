@@ -3,7 +3,6 @@ use mathlib.Core.Path.{sym, ◌∙◌}
 use native.Mathlib.Omega.{arith}
 use lib.ListN.{length}
 use Rattle.tables.proofs.Asked.{held_first, held_whole, element-held, element-none}
-use borrow.Author.Rules.{rules}
 use Rattle.table_asking.proofs.element_of.Goals as goal
 
 pub overflow_sub-element : goal.overflow_sub-element

@@ -1,6 +1,5 @@
 -- The element's record, and then the run that it names: the definition's own two steps.
 use Rattle.tables.proofs.Asked.{group-asked}
-use borrow.Author.Rules.{rules}
 use Rattle.table_asking.proofs.group_of.Goals as goal
 
 pub returns : goal.returns

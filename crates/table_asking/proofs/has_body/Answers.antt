@@ -1,6 +1,5 @@
 -- What `is_held` answers opens the definition's two cases.
 use Rattle.tables.proofs.Asked.{body-unheld, body-ranged}
-use borrow.Author.Rules.{rules}
 use Rattle.table_asking.proofs.has_body.Goals as goal
 
 pub returns-then-is_held : goal.returns-then-is_held

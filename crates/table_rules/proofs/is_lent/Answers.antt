@@ -1,7 +1,6 @@
 -- The product of two 32-bit numbers fits.
 use native.Mathlib.Omega.{arith}
 use Rattle.tables.proofs.Asked.{product}
-use borrow.Author.Rules.{rules}
 use Rattle.table_rules.proofs.is_lent.Goals as goal
 
 pub overflow_mul-result : goal.overflow_mul-result

@@ -1,6 +1,5 @@
 -- Each table by its own test, and the tests by group.
 use Rattle.table_rules.proofs.Lent.{in_a_row}
-use borrow.Author.Rules.{rules}
 use Rattle.table_rules.proofs.lent_all.Goals as goal
 
 pub returns : goal.returns

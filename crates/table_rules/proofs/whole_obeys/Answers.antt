@@ -3,7 +3,6 @@ use Rattle.basis.proofs.Tests.{failed, passed}
 use Rattle.tables.specs.Tables.{Tables, tables}
 use Rattle.table_rules.specs.Whole.{vertices_obey, whole_obeys}
 use Rattle.table_rules.proofs.Lent.{lent-facts}
-use borrow.Author.Rules.{rules}
 use mathlib.Core.Path.{ap}
 use mathlib.Core.Bool.{not}
 use Rattle.table_rules.proofs.whole_obeys.Goals as goal

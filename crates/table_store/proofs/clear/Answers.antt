@@ -1,6 +1,5 @@
 -- Each group is cleared by its own call: three equations make the one of the tables.
 use Rattle.tables.proofs.Groups.{tables-eq}
-use borrow.Author.Rules.{rules}
 use Rattle.table_store.proofs.clear.Goals as goal
 
 pub returns : goal.returns

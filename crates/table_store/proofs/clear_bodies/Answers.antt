@@ -1,6 +1,5 @@
 -- Each table is cleared by its own call.
 use Rattle.tables.proofs.Groups.{body-tables-eq}
-use borrow.Author.Rules.{rules}
 use Rattle.table_store.proofs.clear_bodies.Goals as goal
 
 pub returns : goal.returns

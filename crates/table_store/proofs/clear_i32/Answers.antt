@@ -1,9 +1,7 @@
 -- After i turns the first i numbers are zeros and the rest as lent: `Cleared`.
-use Prim.Native.Nat.{◌-◌}
 use borrow.Author.Rules.{rules}
-use lib.ListN.{length}
 use lib.IntN.{pos}
-use Rattle.table_store.proofs.Clearing.{Cleared, cleared-none, cleared_more, cleared-all}
+use Rattle.table_store.proofs.Clearing.{cleared-none, cleared_more, cleared-all}
 use Rattle.table_store.proofs.clear_i32.Goals as goal
 
 pub loop-i-init : goal.loop-i-init

@@ -1,8 +1,7 @@
 use Prim.Native.Nat.{◌-◌}
-use borrow.Author.Rules.{rules}
 use lib.ListN.{length}
 use lib.IntN.{pos}
-use Rattle.table_store.proofs.Clearing.{Cleared, cleared-none, cleared_more, cleared-all}
+use Rattle.table_store.proofs.Clearing.{Cleared}
 use Rattle.table_store.proofs.clear_i32.Given as goal
 
 abbrev pub invariant-loop-i : goal.invariant-loop-i

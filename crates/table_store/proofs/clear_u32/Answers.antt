@@ -1,8 +1,6 @@
 -- After i turns the first i numbers are zeros and the rest as lent: `Cleared`.
-use Prim.Native.Nat.{◌-◌}
 use borrow.Author.Rules.{rules}
-use lib.ListN.{length}
-use Rattle.table_store.proofs.Clearing.{Cleared, cleared-none, cleared_more, cleared-all}
+use Rattle.table_store.proofs.Clearing.{cleared-none, cleared_more, cleared-all}
 use Rattle.table_store.proofs.clear_u32.Goals as goal
 
 pub loop-i-init : goal.loop-i-init

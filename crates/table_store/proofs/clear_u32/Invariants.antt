@@ -1,7 +1,6 @@
 use Prim.Native.Nat.{◌-◌}
-use borrow.Author.Rules.{rules}
 use lib.ListN.{length}
-use Rattle.table_store.proofs.Clearing.{Cleared, cleared-none, cleared_more, cleared-all}
+use Rattle.table_store.proofs.Clearing.{Cleared}
 use Rattle.table_store.proofs.clear_u32.Given as goal
 
 abbrev pub invariant-loop-i : goal.invariant-loop-i

@@ -1,10 +1,8 @@
 -- After i turns the row's first i numbers are stored from `at` on: `StoredTo`.
-use Prim.Native.Nat.{◌-◌}
 use borrow.Author.Rules.{rules}
-use lib.ListN.{length}
 use lib.IntN.{pos}
 use Rattle.tables.proofs.Bits.{fitted}
-use Rattle.table_store.proofs.Stores.{StoredTo, stored-none, stored_more, put-stored, put_refused}
+use Rattle.table_store.proofs.Stores.{stored-none, stored_more, put-stored, put_refused}
 use Rattle.table_store.proofs.put_i32.Goals as goal
 
 pub returns-then-values-at : goal.returns-then-values-at

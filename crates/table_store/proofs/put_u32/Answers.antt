@@ -1,9 +1,7 @@
 -- After i turns the row's first i numbers are stored from `at` on: `StoredTo`.
-use Prim.Native.Nat.{◌-◌}
 use borrow.Author.Rules.{rules}
-use lib.ListN.{length}
 use mathlib.Core.Path.{refl}
-use Rattle.table_store.proofs.Stores.{StoredTo, stored-none, stored_more, put-stored, put_refused}
+use Rattle.table_store.proofs.Stores.{stored-none, stored_more, put-stored, put_refused}
 use Rattle.table_store.proofs.put_u32.Goals as goal
 
 pub returns-then-numbers-at : goal.returns-then-numbers-at

@@ -1,6 +1,5 @@
 -- One number, from the corner's place on.
 use mathlib.Core.Path.{refl}
-use borrow.Author.Rules.{rules}
 use Rattle.tables.proofs.corner_number.Goals as goal
 
 pub returns : goal.returns

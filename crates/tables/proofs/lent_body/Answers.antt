@@ -1,7 +1,6 @@
 -- The record's numbers, and the range's, stand one after the other from its first on.
 use Rattle.tables.proofs.Asked.{body-lent}
 use Rattle.tables.proofs.Bits.{fitted}
-use borrow.Author.Rules.{rules}
 use Rattle.tables.proofs.lent_body.Goals as goal
 
 pub returns : goal.returns

@@ -1,6 +1,5 @@
 -- Three numbers, one after the other, from the corner's place on.
 use mathlib.Core.Path.{refl}
-use borrow.Author.Rules.{rules}
 use Rattle.tables.proofs.lent_corner_from.Goals as goal
 
 pub returns : goal.returns

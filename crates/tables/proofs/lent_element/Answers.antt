@@ -1,7 +1,6 @@
 -- The record's numbers stand one after the other from its first on.
 use mathlib.Core.Path.{refl}
 use native.Mathlib.Nat.{add-zero}
-use borrow.Author.Rules.{rules}
 use Rattle.tables.proofs.lent_element.Goals as goal
 
 pub returns : goal.returns

@@ -1,8 +1,6 @@
 -- After i turns the row's first i numbers are the table's from `at` on: `Copied`.
-use Prim.Native.Nat.{◌-◌}
 use borrow.Author.Rules.{rules}
-use lib.ListN.{length}
-use Rattle.tables.proofs.Rows.{Copied, copied_none, copied_more, copied_all}
+use Rattle.tables.proofs.Rows.{copied_none, copied_more, copied_all}
 use Rattle.tables.proofs.numbers_from.Goals as goal
 
 pub loop-i-init : goal.loop-i-init

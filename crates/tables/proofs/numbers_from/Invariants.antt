@@ -1,7 +1,6 @@
 use Prim.Native.Nat.{◌-◌}
-use borrow.Author.Rules.{rules}
 use lib.ListN.{length}
-use Rattle.tables.proofs.Rows.{Copied, copied_none, copied_more, copied_all}
+use Rattle.tables.proofs.Rows.{Copied}
 use Rattle.tables.proofs.numbers_from.Given as goal
 
 abbrev pub invariant-loop-i : goal.invariant-loop-i

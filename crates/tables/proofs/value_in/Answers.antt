@@ -1,7 +1,6 @@
 -- Past a list's end the default is read.
 use mathlib.Core.Path.{sym}
 use native.Mathlib.Omega.{arith}
-use borrow.Author.Rules.{rules}
 use lib.IntN.{pos}
 use lib.ListN.{get_or-eq_default}
 use Rattle.tables.proofs.value_in.Goals as goal

@@ -1,10 +1,8 @@
 -- After i turns the row's first i numbers are the table's from `at` on: `Copied`.
-use Prim.Native.Nat.{◌-◌}
 use borrow.Author.Rules.{rules}
-use lib.ListN.{length}
 use lib.IntN.{pos}
 use Rattle.tables.proofs.Bits.{passed}
-use Rattle.tables.proofs.Rows.{Copied, copied_none, copied_more, copied_all}
+use Rattle.tables.proofs.Rows.{copied_none, copied_more, copied_all}
 use Rattle.tables.proofs.values_from.Goals as goal
 
 pub loop-i-init : goal.loop-i-init

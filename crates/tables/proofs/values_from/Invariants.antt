@@ -1,9 +1,7 @@
 use Prim.Native.Nat.{◌-◌}
-use borrow.Author.Rules.{rules}
 use lib.ListN.{length}
 use lib.IntN.{pos}
-use Rattle.tables.proofs.Bits.{passed}
-use Rattle.tables.proofs.Rows.{Copied, copied_none, copied_more, copied_all}
+use Rattle.tables.proofs.Rows.{Copied}
 use Rattle.tables.proofs.values_from.Given as goal
 
 abbrev pub invariant-loop-i : goal.invariant-loop-i

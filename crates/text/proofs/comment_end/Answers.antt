@@ -1,7 +1,4 @@
 -- The loop keeps the rest of the comment (`InComment`); each turn takes a byte off what is left.
-use Prim.Native.Nat.{◌-◌}
-use lib.ListN.{length}
-use borrow.Author.Rules.{rules}
 use Rattle.text.proofs.Loops as L
 use Rattle.text.proofs.comment_end.Goals as goal
 

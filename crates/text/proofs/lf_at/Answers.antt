@@ -1,5 +1,4 @@
 -- `drop` at a place within the text or past it.
-use borrow.Author.Rules.{rules}
 use Rattle.text.proofs.Places as P
 use Rattle.text.proofs.lf_at.Goals as goal
 

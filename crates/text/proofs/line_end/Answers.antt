@@ -1,6 +1,5 @@
 -- The tests of `line_end`, one by one.
 use mathlib.Core.Path.{sym, ◌∙◌}
-use borrow.Author.Rules.{rules}
 use Rattle.text.proofs.Places as P
 use Rattle.text.proofs.line_end.Goals as goal
 

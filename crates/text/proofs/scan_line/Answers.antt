@@ -1,7 +1,5 @@
 -- The loop keeps the words found so far with the rest of the line (`Scanning`); each word takes bytes off what is left.
 use mathlib.Core.Path.{refl}
-use Prim.Native.Nat.{◌-◌}
-use lib.ListN.{length}
 use native.Mathlib.Omega.{arith}
 use borrow.Author.Rules.{rules}
 use Rattle.text.proofs.Found as F

@@ -1,9 +1,6 @@
 -- The loop keeps the rest of the line (`InBlanks`): a blank or a join takes bytes off what is left, and one law says what else can stand there.
 use mathlib.Core.Path.{refl, sym, ◌∙◌}
-use Prim.Native.Nat.{◌-◌}
-use lib.ListN.{length}
 use native.Mathlib.Omega.{arith}
-use borrow.Author.Rules.{rules}
 use Rattle.text.proofs.Places as P
 use Rattle.text.proofs.Loops as L
 use Rattle.text.proofs.skip_blanks.Goals as goal

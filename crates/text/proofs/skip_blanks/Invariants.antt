@@ -1,9 +1,5 @@
-use mathlib.Core.Path.{refl, sym, ◌∙◌}
 use Prim.Native.Nat.{◌-◌}
 use lib.ListN.{length}
-use native.Mathlib.Omega.{arith}
-use borrow.Author.Rules.{rules}
-use Rattle.text.proofs.Places as P
 use Rattle.text.proofs.Loops as L
 use Rattle.text.proofs.skip_blanks.Given as goal
 

@@ -1,6 +1,5 @@
 -- What `is_word` ensures, and a test.
 use mathlib.Core.Path.{refl, sym}
-use borrow.Author.Rules.{rules}
 use Rattle.text.proofs.starts_word.Goals as goal
 
 pub returns-then-is_word : goal.returns-then-is_word

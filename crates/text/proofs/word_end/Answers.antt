@@ -1,8 +1,5 @@
 -- The loop keeps where the word ends (`InWord`); each turn takes a byte off what is left.
 use mathlib.Core.Path.{refl}
-use Prim.Native.Nat.{◌-◌}
-use lib.ListN.{length}
-use borrow.Author.Rules.{rules}
 use Rattle.text.proofs.Loops as L
 use Rattle.text.proofs.word_end.Goals as goal
 

@@ -1,7 +1,6 @@
 -- The reader's answer: the tables it read, from which the tidy text is written, or its refusal.
 use Rattle.tables.specs.Tables.{tables}
 use Rattle.tidier.proofs.Answers.{tidied-read, tidied-refused}
-use borrow.Author.Rules.{rules}
 use Rattle.tidier.proofs.tidy.Goals as goal
 
 pub returns-in-Read : goal.returns-in-Read

@@ -2,7 +2,6 @@
 use Rattle.tables.specs.Tables.{tables}
 use Rattle.tidy_writer.specs.TidyFrom.{tidy_from}
 use Rattle.tidier.proofs.Answers.{past-buffer, past-longest, written-whole}
-use borrow.Author.Rules.{rules}
 use Rattle.tidier.proofs.write_whole.Goals as goal
 
 pub returns-then-out-length : goal.returns-then-out-length

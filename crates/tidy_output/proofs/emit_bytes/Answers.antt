@@ -1,9 +1,7 @@
 -- What is left of the bytes comes to all of them.
-use Prim.Native.Nat.{◌-◌}
-use lib.ListN.{length, drop, drop_of_length-le}
-use borrow.Author.Rules.{rules}
+use lib.ListN.{drop_of_length-le}
 use Rattle.text.proofs.Places.{here}
-use Rattle.tidy_words.proofs.Emissions.{Left, left-start, left-turn, left-ends, emitted-whole}
+use Rattle.tidy_words.proofs.Emissions.{left-start, left-turn, left-ends, emitted-whole}
 use Rattle.tidy_output.proofs.emit_bytes.Goals as goal
 
 pub loop-i-init : goal.loop-i-init

@@ -1,8 +1,6 @@
 use Prim.Native.Nat.{◌-◌}
-use lib.ListN.{length, drop, drop_of_length-le}
-use borrow.Author.Rules.{rules}
-use Rattle.text.proofs.Places.{here}
-use Rattle.tidy_words.proofs.Emissions.{Left, left-start, left-turn, left-ends, emitted-whole}
+use lib.ListN.{length, drop}
+use Rattle.tidy_words.proofs.Emissions.{Left}
 use Rattle.tidy_output.proofs.emit_bytes.Given as goal
 
 abbrev pub invariant-loop-i : goal.invariant-loop-i

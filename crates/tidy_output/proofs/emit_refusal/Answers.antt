@@ -2,7 +2,6 @@
 use native.Mathlib.Omega.{arith}
 use Rattle.tidy_output.specs.Output.{refusal_line}
 use Rattle.tidy_words.proofs.Emissions.{emitted_then, emitted-whole, emitted-spaced}
-use borrow.Author.Rules.{rules}
 use Rattle.tidy_output.proofs.emit_refusal.Goals as goal
 
 pub emit_bytes-third-requires : goal.emit_bytes-third-requires

@@ -1,6 +1,5 @@
 -- Each answer by itself.
 use Rattle.tidy_output.proofs.Prints.{text-answer, long-answer, refused-answer}
-use borrow.Author.Rules.{rules}
 use Rattle.tidy_output.proofs.print_answer.Goals as goal
 
 pub returns-in-Written : goal.returns-in-Written

@@ -1,6 +1,5 @@
 -- The length first, then the line where it has room.
 use Rattle.tidy_output.proofs.Prints.{refusal-roomless, refusal-printed}
-use borrow.Author.Rules.{rules}
 use Rattle.tidy_output.proofs.print_refusal.Goals as goal
 
 pub returns-then-out-refusal_length : goal.returns-then-out-refusal_length

@@ -1,7 +1,6 @@
 -- What is printed for the answer of tidying, or for 1 at 0.
 use Rattle.tables.specs.Tables.{tables}
 use Rattle.tidy_output.proofs.Prints.{output-long, output-short}
-use borrow.Author.Rules.{rules}
 use Rattle.tidy_output.proofs.tidy_output.Goals as goal
 
 pub returns-then-input-gt65536 : goal.returns-then-input-gt65536

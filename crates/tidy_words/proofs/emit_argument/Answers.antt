@@ -2,7 +2,6 @@
 use native.Mathlib.Omega.{arith}
 use Rattle.keywords.specs.Arguments.{argument_bytes}
 use Rattle.tidy_words.proofs.Emissions.{whole_room, whole-roomless}
-use borrow.Author.Rules.{rules}
 use Rattle.tidy_words.proofs.emit_argument.Goals as goal
 
 pub returns-then-end-room_in : goal.returns-then-end-room_in

@@ -3,7 +3,6 @@ use mathlib.Core.Path.{refl}
 use mathlib.Core.List.{[], ◌∷◌}
 use native.Mathlib.Omega.{arith}
 use Rattle.tidy_words.proofs.Emissions.{whole_room, whole-roomless}
-use borrow.Author.Rules.{rules}
 use Rattle.tidy_words.proofs.emit_byte.Goals as goal
 
 pub returns-then-end-room_in : goal.returns-then-end-room_in

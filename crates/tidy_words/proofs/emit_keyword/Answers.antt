@@ -2,7 +2,6 @@
 use native.Mathlib.Omega.{arith}
 use Rattle.keywords.specs.Keywords.{keyword_of}
 use Rattle.tidy_words.proofs.Emissions.{whole_room, whole-roomless}
-use borrow.Author.Rules.{rules}
 use Rattle.tidy_words.proofs.emit_keyword.Goals as goal
 
 pub returns-then-end-room_in : goal.returns-then-end-room_in

@@ -5,7 +5,6 @@ use mir.Facts.{to_z-of_z}
 use Rattle.references.specs.Written.{written_number}
 use mathlib.Core.Path.{◌≡◌}
 use Rattle.tidy_words.proofs.Emissions.{whole_room, whole-roomless}
-use borrow.Author.Rules.{rules}
 use Rattle.tidy_words.proofs.emit_number.Goals as goal
 use Rattle.tidy_words.proofs.emit_number.Goals.{After-slice_known-then-end-room_in-1, Else-end-room_in}
 

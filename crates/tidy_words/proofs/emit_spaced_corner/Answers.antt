@@ -1,7 +1,6 @@
 -- The space, and the word.
 use Rattle.references.specs.Written.{written_corner}
 use Rattle.tidy_words.proofs.Emissions.{space-then}
-use borrow.Author.Rules.{rules}
 use Rattle.tidy_words.proofs.emit_spaced_corner.Goals as goal
 
 pub returns : goal.returns

@@ -2,7 +2,6 @@
 use mir.Facts.{to_z-of_z}
 use Rattle.references.specs.Written.{written_number}
 use Rattle.tidy_words.proofs.Emissions.{space-then}
-use borrow.Author.Rules.{rules}
 use Rattle.tidy_words.proofs.emit_spaced_number.Goals as goal
 
 pub returns : goal.returns

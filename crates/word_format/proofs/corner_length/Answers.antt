@@ -1,7 +1,6 @@
 -- The vertex and what stands after it.
 use mathlib.Core.Path.{ap}
 use native.Mathlib.Omega.{arith}
-use borrow.Author.Rules.{rules}
 use lib.ListN.{length, length-append}
 use Rattle.references.specs.Written.{written_whole}
 use Rattle.word_format.specs.Parts.{written_parts}

@@ -1,7 +1,6 @@
 -- By the parts that are there.
 use mathlib.Core.Path.{sym, ap}
 use native.Mathlib.Omega.{arith}
-use borrow.Author.Rules.{rules}
 use lib.ListN.{length, length-append}
 use Rattle.word_format.specs.Parts.{written_part}
 use Rattle.word_format.proofs.Corners.{whole-few, alone, with-texture, with-normal, with-both}

@@ -1,10 +1,7 @@
 use Prim.Native.Nat.{◌+◌, ◌≤◌}
 use mathlib.Core.Path.{◌≡◌}
-use native.Mathlib.Omega.{arith}
 use lib.ListN.{length}
 use Rattle.references.specs.Written.{written_whole}
-use Rattle.references.proofs.WholesBack.{written-few, written-some}
-use Rattle.word_format.proofs.Digits.{whole-one, whole-more}
 use Rattle.word_format.proofs.whole_length.Given as goal
 
 abbrev pub invariant-loop-m : goal.invariant-loop-m

@@ -1,5 +1,4 @@
 -- The vertex, then what stands after it.
-use borrow.Author.Rules.{rules}
 use Rattle.references.specs.Written.{written_whole, written_corner}
 use Rattle.word_format.specs.Parts.{written_parts}
 use Rattle.word_format.proofs.Stores.{first-room, rest-room, both_stored}

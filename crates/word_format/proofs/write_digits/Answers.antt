@@ -1,7 +1,7 @@
 -- From the back: the digits that are left, stored, come to what all of them come to.
 use mathlib.Core.Path.{refl}
 use native.Mathlib.Omega.{arith}
-use Rattle.word_format.proofs.Digits.{Digits, next-digit, all_digits}
+use Rattle.word_format.proofs.Digits.{next-digit, all_digits}
 use Rattle.word_format.proofs.write_digits.Goals as goal
 
 pub loop-left-init : goal.loop-left-init

@@ -1,6 +1,4 @@
-use mathlib.Core.Path.{refl}
-use native.Mathlib.Omega.{arith}
-use Rattle.word_format.proofs.Digits.{Digits, next-digit, all_digits}
+use Rattle.word_format.proofs.Digits.{Digits}
 use Rattle.word_format.proofs.write_digits.Given as goal
 
 abbrev pub invariant-loop-left : goal.invariant-loop-left

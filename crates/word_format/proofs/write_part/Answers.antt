@@ -1,7 +1,6 @@
 -- A slash, then the number.
 use mathlib.Core.Path.{refl}
 use mathlib.Core.List.{[], ◌∷◌}
-use borrow.Author.Rules.{rules}
 use Rattle.references.specs.Written.{written_whole}
 use Rattle.word_format.specs.Parts.{written_part}
 use Rattle.word_format.proofs.Stores.{both_stored}

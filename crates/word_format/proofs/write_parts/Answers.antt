@@ -2,7 +2,6 @@
 use mathlib.Core.Path.{◌≡◌, refl}
 use mathlib.Core.List.{[], ◌∷◌, ◌++◌}
 use native.Mathlib.Omega.{arith}
-use borrow.Author.Rules.{rules}
 use Rattle.word_format.specs.Parts.{written_part, written_parts}
 use Rattle.word_format.proofs.Stores.{first-room, rest-room, both_stored}
 use Rattle.word_format.proofs.Corners.{alone, with-texture, with-normal, with-both}

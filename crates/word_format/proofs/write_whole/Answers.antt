@@ -1,7 +1,6 @@
 -- As many digits as the number has are the number itself.
 use Prim.Native.Nat.{ℕ, ◌+◌}
 use mathlib.Core.Path.{ap, ◌∙◌}
-use borrow.Author.Rules.{rules}
 use lib.Seq.{sets}
 use Rattle.references.specs.Written.{full}
 use Rattle.word_format.proofs.Digits.{whole-full}

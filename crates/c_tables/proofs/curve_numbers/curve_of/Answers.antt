@@ -1,12 +1,8 @@
 -- The invariant: the curv2 elements below i are counted, and none of them is the one looked for.
 use mathlib.Core.Path.{◌≡◌, refl, sym, ap, ◌∙◌}
-use mathlib.Core.Logic.{⊎_elim}
-use Prim.Native.Nat.{◌+◌, ◌-◌, ◌≤◌}
 use native.Mathlib.Omega.{arith}
-use Rattle.record_rules.specs.Rules.{curves_among}
 use Rattle.c_tables.specs.CurveNumbers.{curve_among}
 use Rattle.c_tables.proofs.CurveNumbers.{found, other-curve, no-curve, of-whole}
-use borrow.Author.Rules.{rules}
 use Rattle.c_tables.proofs.curve_numbers.curve_of.Goals as goal
 use Rattle.c_tables.proofs.curve_numbers.curve_of.Goals.{then-kind_in-eq-CURVE2+else-seen-curve, else-kind_in-eq-CURVE2}
 

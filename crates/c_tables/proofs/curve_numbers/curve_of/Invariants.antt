@@ -1,11 +1,7 @@
-use mathlib.Core.Path.{◌≡◌, refl, sym, ap, ◌∙◌}
-use mathlib.Core.Logic.{⊎_elim}
-use Prim.Native.Nat.{◌+◌, ◌-◌, ◌≤◌}
-use native.Mathlib.Omega.{arith}
+use mathlib.Core.Path.{◌≡◌}
+use Prim.Native.Nat.{◌-◌, ◌≤◌}
 use Rattle.record_rules.specs.Rules.{curves_among}
 use Rattle.c_tables.specs.CurveNumbers.{curve_among}
-use Rattle.c_tables.proofs.CurveNumbers.{found, other-curve, no-curve, of-whole}
-use borrow.Author.Rules.{rules}
 use Rattle.c_tables.proofs.curve_numbers.curve_of.Given as goal
 
 abbrev pub invariant-loop-i : goal.invariant-loop-i

@@ -4,7 +4,6 @@ use mathlib.Core.Path.{ap, ◌∙◌}
 use mathlib.Core.List.{◌++◌}
 use lib.Seq.{sets}
 use native.Mathlib.Omega.{arith}
-use borrow.Author.Rules.{rules}
 use Rattle.tables.specs.Rows.{body_numbers, range_numbers}
 use Rattle.tables.specs.declared.Body as Record
 use Rattle.read_bodies.specs.Closing.{parm_of, open_body_in}

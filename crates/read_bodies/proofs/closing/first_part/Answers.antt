@@ -1,6 +1,5 @@
 -- By the test.
 use mathlib.Core.Path.{refl}
-use borrow.Author.Rules.{rules}
 use borrow.Author.Tests.{ne_eqb}
 use Rattle.read_bodies.proofs.closing.first_part.Goals as goal
 

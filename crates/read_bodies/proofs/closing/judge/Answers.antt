@@ -2,7 +2,6 @@
 use mathlib.Core.Path.{refl}
 use native.Mathlib.Omega.{arith}
 use mir.Facts.{to_z-of_z}
-use borrow.Author.Rules.{rules}
 use Rattle.basis.proofs.Tests.{failed, passed}
 use Rattle.read_bodies.specs.Closing.{parm_of}
 use Rattle.read_bodies.proofs.Closings as C

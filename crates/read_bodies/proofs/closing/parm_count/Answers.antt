@@ -1,6 +1,5 @@
 -- No place, or the count of the numbers there.
 use native.Mathlib.Omega.{arith}
-use borrow.Author.Rules.{rules}
 use Rattle.read_bodies.proofs.Steps as S
 use Rattle.read_bodies.proofs.Closings as C
 use Rattle.read_bodies.proofs.closing.parm_count.Goals as goal

@@ -1,6 +1,5 @@
 -- Along u, then along v where there is one (`Closings`).
 use mir.Facts.{to_z-of_z}
-use borrow.Author.Rules.{rules}
 use Rattle.tables.proofs.Bits.{fitted, passed}
 use Rattle.basis.proofs.Tests as T
 use Rattle.read_bodies.proofs.Closings as C

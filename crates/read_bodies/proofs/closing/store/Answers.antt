@@ -1,5 +1,4 @@
 -- The loop keeps the numbers stored and judged so far, and that those left are the first of those left in the line (`Storing`).
-use Prim.Native.Nat.{◌-◌}
 use native.Mathlib.Omega.{arith}
 use borrow.Author.Rules.{rules}
 use Rattle.tables.proofs.Bits.{fitted}

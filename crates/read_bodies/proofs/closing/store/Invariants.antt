@@ -1,8 +1,4 @@
 use Prim.Native.Nat.{◌-◌}
-use native.Mathlib.Omega.{arith}
-use borrow.Author.Rules.{rules}
-use Rattle.tables.proofs.Bits.{fitted}
-use Rattle.read_bodies.proofs.Steps as S
 use Rattle.read_bodies.proofs.Closings as C
 use Rattle.read_bodies.proofs.closing.store.Given as goal
 

@@ -3,7 +3,6 @@ use Prim.Native.Nat.{◌*◌, ◌-◌}
 use Rattle.table_store.proofs.Stores.{put_of}
 use Rattle.tables.specs.Rows.{body_numbers}
 use Rattle.read_bodies.proofs.Keeping as K
-use borrow.Author.Rules.{rules}
 use Rattle.read_bodies.proofs.closing.store_record.Goals as goal
 
 pub returns : goal.returns

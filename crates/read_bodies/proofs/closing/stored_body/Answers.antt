@@ -1,7 +1,6 @@
 -- The first loop part is the one that is asked for; the range is handed on.
 use mathlib.Core.Path.{refl}
 use mir.Facts.{to_z-of_z}
-use borrow.Author.Rules.{rules}
 use Rattle.read_bodies.proofs.closing.stored_body.Goals as goal
 
 pub returns : goal.returns

@@ -1,7 +1,6 @@
 -- The three answers of `skip_blanks`; at a word, what it says as a reference.
 use mathlib.Core.Path.{ap}
 use native.Mathlib.Omega.{arith}
-use borrow.Author.Rules.{rules}
 use Rattle.read_bodies.proofs.Steps as S
 use Rattle.read_bodies.proofs.Parts as L
 use Rattle.references.specs.Answers.{said_reference}

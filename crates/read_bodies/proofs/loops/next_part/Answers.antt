@@ -1,5 +1,4 @@
 -- Two numbers and a curv2, or where they stop.
-use borrow.Author.Rules.{rules}
 use Rattle.read_bodies.proofs.Steps as S
 use Rattle.read_bodies.proofs.Parts as L
 use Rattle.tables.proofs.Bits.{fitted}

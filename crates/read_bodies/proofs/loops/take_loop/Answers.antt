@@ -1,11 +1,8 @@
 -- The loop keeps the parts done, stored, and what is left of the line (`Looping`); each part takes bytes off it.
 use mathlib.Core.Path.{refl, sym, ◌∙◌}
 use native.Mathlib.Omega.{arith}
-use borrow.Author.Rules.{rules}
 use Rattle.read_bodies.proofs.Parts as L
 use Rattle.read_bodies.proofs.Looping as K
-use Prim.Native.Nat.{◌-◌}
-use lib.ListN.{length}
 use mathlib.Core.List.{[], ◌∷◌}
 use mir.Syntax.{w32}
 use mir.Val.{to_z, of_z}

@@ -1,18 +1,6 @@
-use mathlib.Core.Path.{refl, sym, ◌∙◌}
-use native.Mathlib.Omega.{arith}
-use borrow.Author.Rules.{rules}
-use Rattle.read_bodies.proofs.Parts as L
 use Rattle.read_bodies.proofs.Looping as K
 use Prim.Native.Nat.{◌-◌}
 use lib.ListN.{length}
-use mathlib.Core.List.{[], ◌∷◌}
-use mir.Syntax.{w32}
-use mir.Val.{to_z, of_z}
-use borrow.Author.Tests.{not-true, not-false}
-use Rattle.table_store.proofs.Stores.{put_of}
-use Rattle.tables.proofs.Bits.{fitted}
-use mathlib.Core.Path.{ap}
-use mathlib.Core.Bool.{not}
 use Rattle.read_bodies.proofs.loops.take_loop.Given as goal
 
 abbrev pub invariant-loop-q : goal.invariant-loop-q

@@ -1,7 +1,5 @@
 -- The loop keeps the numbers and words passed (`Counting`); each word takes bytes off what is left.
-use Prim.Native.Nat.{◌-◌}
 use native.Mathlib.Omega.{arith}
-use lib.ListN.{length}
 use borrow.Author.Rules.{rules}
 use Rattle.read_bodies.proofs.Steps as S
 use Rattle.read_bodies.proofs.numbers.count_each.Goals as goal

@@ -1,10 +1,9 @@
 -- Sixteen numbers are a turn of `Counting`, and their words are what is less (`Walks`).
-use mathlib.Core.Path.{◌≡◌, refl, ap, ◌∙◌}
+use mathlib.Core.Path.{refl, ap, ◌∙◌}
 use native.Mathlib.Omega.{arith}
 use lib.ListN.{length}
 use lib.Seq.{length-sets}
 use borrow.Author.Rules.{rules}
-use Rattle.text.specs.Rest.{rest_at}
 use Rattle.read_bodies.proofs.Steps as S
 use Rattle.read_bodies.proofs.Walks as W
 use Rattle.read_bodies.proofs.numbers.count_numbers.Goals as goal

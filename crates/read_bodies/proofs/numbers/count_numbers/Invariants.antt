@@ -1,11 +1,7 @@
-use mathlib.Core.Path.{◌≡◌, refl, ap, ◌∙◌}
-use native.Mathlib.Omega.{arith}
+use mathlib.Core.Path.{◌≡◌}
 use lib.ListN.{length}
-use lib.Seq.{length-sets}
-use borrow.Author.Rules.{rules}
 use Rattle.text.specs.Rest.{rest_at}
 use Rattle.read_bodies.proofs.Steps as S
-use Rattle.read_bodies.proofs.Walks as W
 use Rattle.read_bodies.proofs.numbers.count_numbers.Given as goal
 
 abbrev pub invariant-loop-more : goal.invariant-loop-more

@@ -4,7 +4,6 @@ use native.Mathlib.Omega.{arith}
 use Rattle.word_numbers.specs.Answers.{said_number}
 use Rattle.tables.proofs.Bits.{fitted}
 use Rattle.read_bodies.proofs.Steps as S
-use borrow.Author.Rules.{rules}
 use Rattle.read_bodies.proofs.numbers.next_number.Goals as goal
 
 pub number_at-requires : goal.number_at-requires

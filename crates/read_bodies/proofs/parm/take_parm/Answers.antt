@@ -1,7 +1,6 @@
 -- The direction at the first word, then the row.
 use mathlib.Core.Path.{ap}
 use native.Mathlib.Omega.{arith}
-use borrow.Author.Rules.{rules}
 use Rattle.read_bodies.proofs.Steps as S
 use Rattle.read_bodies.proofs.Parms as P
 use mathlib.Core.Bool.{Bool, true, false, or-true, ◌||◌}

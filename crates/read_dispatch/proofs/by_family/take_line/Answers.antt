@@ -6,7 +6,6 @@ use Rattle.tables.specs.VertexTables.{vertex_tables}
 use Rattle.read_state.specs.Changed.{with_vertices}
 use Rattle.read_vertex_lines.specs.declared.Step.TheVariants.{Rejected}
 use Rattle.read_dispatch.proofs.Sorted.{family-step}
-use borrow.Author.Rules.{rules}
 use Rattle.read_dispatch.proofs.by_family.take_line.Goals as goal
 
 pub returns-in-Vertex : goal.returns-in-Vertex

@@ -1,7 +1,6 @@
 -- Each answer of `skip_blanks`; at a word, what it is as a keyword.
 use Rattle.keywords.proofs.Keywords.{keyword-is}
 use Rattle.text.proofs.Found.{word-found, end-found, bad-found}
-use borrow.Author.Rules.{rules}
 use Rattle.read_dispatch.proofs.keys.key_at.Goals as goal
 
 pub returns-in-End : goal.returns-in-End

@@ -3,7 +3,6 @@ use mathlib.Core.Path.{◌∙◌}
 use Rattle.statements.specs.declared.Statement.TheVariants.{Unknown}
 use Rattle.spellings.proofs.Rows.{kind-in, kind-none}
 use Rattle.keywords.proofs.Keywords.{laid}
-use borrow.Author.Rules.{rules}
 use Rattle.read_dispatch.proofs.keys.row_letter.Goals as goal
 
 pub returns-then-row-lt-KEYWORD_ROWS : goal.returns-then-row-lt-KEYWORD_ROWS

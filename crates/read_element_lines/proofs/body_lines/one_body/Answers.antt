@@ -2,7 +2,6 @@
 use mathlib.Core.Path.{refl, ap}
 use native.Mathlib.Omega.{arith}
 use Rattle.tables.specs.declared.Used.{Used}
-use borrow.Author.Rules.{rules}
 use Rattle.read_element_lines.proofs.body_lines.one_body.Goals as goal
 
 pub overflow_add-used : goal.overflow_add-used

@@ -1,6 +1,5 @@
 -- By the answer, each case computes.
 use mathlib.Core.Path.{refl}
-use borrow.Author.Rules.{rules}
 use Rattle.read_element_lines.proofs.setting_lines.form_step.Goals as goal
 
 pub returns-in-Accepted : goal.returns-in-Accepted

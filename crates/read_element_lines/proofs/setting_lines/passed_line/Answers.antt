@@ -1,7 +1,6 @@
 -- By the laws of a line that is passed over.
 use mathlib.Core.Path.{sym, ◌∙◌}
 use Rattle.read_element_lines.proofs.Quiet.{passed-line, passed-bad}
-use borrow.Author.Rules.{rules}
 use Rattle.read_element_lines.proofs.setting_lines.passed_line.Goals as goal
 
 pub returns-in-Good : goal.returns-in-Good

@@ -1,10 +1,4 @@
-use mathlib.Core.Path.{refl, sym, ◌∙◌}
-use native.Mathlib.Omega.{arith}
-use borrow.Author.Rules.{rules}
-use borrow.Author.Tests.{not-true, not-false}
-use Rattle.read_elements.proofs.Bodies.{WidesLeft, wides-stop, wides-turn, wides-end}
-use mathlib.Core.Path.{ap}
-use mathlib.Core.Bool.{not}
+use Rattle.read_elements.proofs.Bodies.{WidesLeft}
 use Rattle.read_elements.proofs.body.all_wide.Given as goal
 
 abbrev pub invariant-loop-left : goal.invariant-loop-left

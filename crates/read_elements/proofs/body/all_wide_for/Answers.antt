@@ -1,6 +1,5 @@
 -- By the three kinds.
 use mathlib.Core.Path.{refl}
-use borrow.Author.Rules.{rules}
 use Rattle.read_elements.proofs.body.all_wide_for.Goals as goal
 
 pub returns-in-Curve : goal.returns-in-Curve

@@ -2,7 +2,6 @@
 use Prim.Native.Nat.{◌+◌, ◌*◌}
 use mathlib.Core.Path.{refl}
 use borrow.Author.Tests.{le-leb, lt-leb}
-use borrow.Author.Rules.{rules}
 use Rattle.read_elements.proofs.body.body_room.Goals as goal
 
 pub returns-then-bodies-n : goal.returns-then-bodies-n

@@ -1,6 +1,5 @@
 -- By the form.
 use mathlib.Core.Path.{refl}
-use borrow.Author.Rules.{rules}
 use Rattle.read_elements.proofs.body.corner_form.Goals as goal
 
 pub returns-in-Corner : goal.returns-in-Corner

@@ -1,7 +1,6 @@
 -- By the tests on the way and the three kinds.
 use mathlib.Core.Path.{sym}
 use Rattle.read_elements.proofs.Bodies.{no-degree, one-degree, two-degrees}
-use borrow.Author.Rules.{rules}
 use Rattle.read_elements.proofs.body.degrees_in.Goals as goal
 
 pub returns-then-form-eq0 : goal.returns-then-form-eq0

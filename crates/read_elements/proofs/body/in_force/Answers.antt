@@ -1,7 +1,6 @@
 -- By the tests on the way.
 use mathlib.Core.Path.{refl}
 use borrow.Author.Tests.{eq-eqb, ne_eqb}
-use borrow.Author.Rules.{rules}
 use Rattle.read_elements.proofs.body.in_force.Goals as goal
 
 pub returns-then-form-eq0 : goal.returns-then-form-eq0

@@ -8,7 +8,6 @@ use lib.IntN.{ℤ, pos}
 use lib.ListN.{get_or}
 use lib.Signed.{lt_z}
 use Rattle.tables.proofs.Bits.{passed}
-use borrow.Author.Rules.{rules}
 use Rattle.read_elements.proofs.body.is_wide.Goals as goal
 
 pub returns-then-number-eq0 : goal.returns-then-number-eq0

@@ -1,6 +1,5 @@
 -- The rule, by the kind's number and the row's count and form.
 use mathlib.Core.Path.{refl}
-use borrow.Author.Rules.{rules}
 use Rattle.read_elements.proofs.body.rule_for.Goals as goal
 
 pub returns : goal.returns

@@ -1,7 +1,6 @@
 -- By what storing the corners and the record answered, and whether the controls are wide.
 use mathlib.Core.Path.{sym, ◌∙◌}
 use Rattle.read_elements.proofs.Controls as C
-use borrow.Author.Rules.{rules}
 use Rattle.read_elements.proofs.body.take_controls.Goals as goal
 
 pub all_wide_for-requires : goal.all_wide_for-requires

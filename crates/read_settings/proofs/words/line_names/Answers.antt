@@ -5,7 +5,6 @@ use Rattle.text.proofs.Found as F
 use Rattle.read_settings.specs.Words.{names_read}
 use Rattle.read_settings.proofs.Lines as L
 use Rattle.read_settings.proofs.Runs as R
-use borrow.Author.Rules.{rules}
 use Rattle.read_settings.proofs.words.line_names.Goals as goal
 
 pub names_from-requires : goal.names_from-requires

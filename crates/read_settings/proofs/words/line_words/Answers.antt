@@ -5,7 +5,6 @@ use Rattle.text.specs.Rest.{Rest, rest_at, push, word_at}
 use Rattle.text.proofs.Found as F
 use Rattle.read_settings.specs.Words.{SettingLineIs}
 use Rattle.read_settings.proofs.Lines as L
-use borrow.Author.Rules.{rules}
 use Rattle.read_settings.proofs.words.line_words.Goals as goal
 
 pub word_end-requires : goal.word_end-requires

@@ -1,6 +1,5 @@
 -- The loop keeps the run of the names that are left (`Running`); each name takes bytes off what is left.
-use Prim.Native.Nat.{◌-◌}
-use lib.ListN.{length, drop}
+use lib.ListN.{drop}
 use native.Mathlib.Omega.{arith}
 use borrow.Author.Rules.{rules}
 use Rattle.text.specs.Words.{word_of}

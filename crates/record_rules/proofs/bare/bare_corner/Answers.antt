@@ -1,6 +1,5 @@
 -- The vertex, then the two numbers that are to be 0.
 use Rattle.basis.proofs.Tests.{failed, passed}
-use borrow.Author.Rules.{rules}
 use mathlib.Core.Path.{ap}
 use mathlib.Core.Bool.{not}
 use Rattle.record_rules.proofs.bare.bare_corner.Goals as goal

@@ -1,13 +1,10 @@
 -- The invariant: the corners are lent, and each corner passed obeys.
 use mathlib.Core.Path.{◌≡◌, refl, sym}
 use mathlib.Core.Bool.{true}
-use Prim.Native.Nat.{◌-◌, ◌≤◌}
 use native.Mathlib.Omega.{arith}
-use Rattle.record_rules.specs.Numbers.{all_below}
 use Rattle.basis.proofs.Tests.{failed, passed}
 use Rattle.record_rules.proofs.Below.{below_more}
 use Rattle.record_rules.proofs.EachBare.{at_bare, bare-here, bare-fails, bare-holds}
-use borrow.Author.Rules.{rules}
 use mathlib.Core.Path.{ap}
 use mathlib.Core.Bool.{not}
 use Rattle.record_rules.proofs.bare.each_bare.Goals as goal

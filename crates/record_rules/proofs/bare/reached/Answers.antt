@@ -2,7 +2,6 @@
 use borrow.Author.Tests.{le-leb, lt-leb}
 use Rattle.tables.proofs.Bits.{fitted}
 use Rattle.record_rules.specs.Bare.{reached_obeys}
-use borrow.Author.Rules.{rules}
 use Rattle.record_rules.proofs.bare.reached.Goals as goal
 
 pub returns-then-number-lt1 : goal.returns-then-number-lt1

@@ -3,7 +3,6 @@ use Rattle.record_rules.specs.Bodies.{curve_obeys}
 use Rattle.tables.proofs.Bits.{fitted}
 use Rattle.basis.proofs.Tests.{failed, passed}
 use Rattle.basis.proofs.Basis.{curve-enough}
-use borrow.Author.Rules.{rules}
 use mathlib.Core.Path.{ap}
 use mathlib.Core.Bool.{not}
 use Rattle.record_rules.proofs.bodies.curve_obeys.Goals as goal

@@ -3,7 +3,6 @@ use Rattle.record_rules.specs.Bodies.{directions_obey}
 use Rattle.tables.proofs.Bits.{fitted}
 use Rattle.basis.proofs.Tests.{failed, passed}
 use Rattle.basis.proofs.Basis.{surface-enough-u, surface-enough-v}
-use borrow.Author.Rules.{rules}
 use mathlib.Core.Path.{ap}
 use mathlib.Core.Bool.{not}
 use Rattle.record_rules.proofs.bodies.directions_obey.Goals as goal

@@ -1,5 +1,4 @@
 -- The run against the used entries, then against the lent ones, then each direction's count.
-use borrow.Author.Rules.{rules}
 use borrow.Author.Tests.{le-leb, lt-leb}
 use Rattle.record_rules.specs.Directions.{parameters_obey}
 use Rattle.basis.proofs.Tests.{failed, passed}

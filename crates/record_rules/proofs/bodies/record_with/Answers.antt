@@ -10,7 +10,6 @@ use Rattle.record_rules.specs.Bodies.{record_obeys}
 use Rattle.basis.proofs.Tests.{failed, passed}
 use native.Mathlib.Omega.{arith}
 use Rattle.record_rules.proofs.OneBody.{Run, run-facts, run-v}
-use borrow.Author.Rules.{rules}
 use mathlib.Core.Path.{ap}
 use mathlib.Core.Bool.{not}
 use Rattle.record_rules.proofs.bodies.record_with.Goals as goal

@@ -6,7 +6,6 @@ use Rattle.tables.specs.Tables.{tables}
 use Rattle.record_rules.specs.Bodies.{surface_obeys}
 use Rattle.basis.proofs.Tests.{failed, passed}
 use Rattle.record_rules.proofs.OneBody.{loops-lent}
-use borrow.Author.Rules.{rules}
 use mathlib.Core.Path.{ap}
 use mathlib.Core.Bool.{not}
 use Rattle.record_rules.proofs.bodies.surface_obeys.Goals as goal

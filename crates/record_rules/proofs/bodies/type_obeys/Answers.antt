@@ -1,5 +1,4 @@
 -- Each number by its own test.
-use borrow.Author.Rules.{rules}
 use borrow.Author.Tests.{le-leb, lt-leb}
 use Rattle.record_rules.specs.Directions.{type_obeys}
 use Rattle.basis.proofs.Tests.{failed, passed}

@@ -1,5 +1,4 @@
 -- A missing number, and one that is there, each beside the first corner's.
-use borrow.Author.Rules.{rules}
 use borrow.Author.Tests.{eq-eqb, ne_eqb, not-true, not-false}
 use Rattle.record_rules.specs.Corners.{attribute_obeys}
 use mathlib.Core.Path.{ap}

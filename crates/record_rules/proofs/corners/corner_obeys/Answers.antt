@@ -1,5 +1,4 @@
 -- The three numbers of a corner, each by its own test.
-use borrow.Author.Rules.{rules}
 use Rattle.record_rules.specs.Corners.{corner_obeys}
 use Rattle.basis.proofs.Tests.{failed, passed}
 use mathlib.Core.Path.{ap}

@@ -1,5 +1,4 @@
 -- The run's end against the used and the lent entries, the least count, then the corners, by the shorter walk where they name a v alone.
-use borrow.Author.Rules.{rules}
 use borrow.Author.Tests.{le-leb, lt-leb}
 use mathlib.Core.Path.{◌≡◌, sym, ◌∙◌}
 use mathlib.Core.List.{[]}

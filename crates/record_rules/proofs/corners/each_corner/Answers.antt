@@ -1,12 +1,9 @@
 -- The invariant: the first corner is read, and each corner passed obeys.
-use borrow.Author.Rules.{rules}
 use mathlib.Core.Path.{◌≡◌, refl, sym}
 use mathlib.Core.Bool.{true}
 use mathlib.Core.List.{[]}
-use Prim.Native.Nat.{◌-◌, ◌≤◌}
 use Rattle.tables.specs.Tables.{Tables, tables}
 use Rattle.tables.specs.Records.{corner_at}
-use Rattle.record_rules.specs.Numbers.{all_below}
 use Rattle.basis.proofs.Tests.{failed, passed}
 use Rattle.record_rules.proofs.Below.{below_more}
 use Rattle.record_rules.proofs.EachCorner.{at_corner, corner-here, each-fails, each_holds}

@@ -1,17 +1,11 @@
-use borrow.Author.Rules.{rules}
-use mathlib.Core.Path.{◌≡◌, refl, sym}
+use mathlib.Core.Path.{◌≡◌}
 use mathlib.Core.Bool.{true}
 use mathlib.Core.List.{[]}
 use Prim.Native.Nat.{◌-◌, ◌≤◌}
-use Rattle.tables.specs.Tables.{Tables, tables}
+use Rattle.tables.specs.Tables.{tables}
 use Rattle.tables.specs.Records.{corner_at}
 use Rattle.record_rules.specs.Numbers.{all_below}
-use Rattle.basis.proofs.Tests.{failed, passed}
-use Rattle.record_rules.proofs.Below.{below_more}
-use Rattle.record_rules.proofs.EachCorner.{at_corner, corner-here, each-fails, each_holds}
-use native.Mathlib.Omega.{arith}
-use mathlib.Core.Path.{ap}
-use mathlib.Core.Bool.{not}
+use Rattle.record_rules.proofs.EachCorner.{at_corner}
 use Rattle.record_rules.proofs.corners.each_corner.Given as goal
 
 abbrev pub invariant-loop-k : goal.invariant-loop-k

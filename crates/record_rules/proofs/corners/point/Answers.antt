@@ -1,5 +1,4 @@
 -- A curv2 names a vp, every other kind a v.
-use borrow.Author.Rules.{rules}
 use borrow.Author.Tests.{eq-eqb, ne_eqb}
 use Rattle.record_rules.specs.Corners.{point_obeys}
 use Rattle.record_rules.proofs.corners.point.Goals as goal

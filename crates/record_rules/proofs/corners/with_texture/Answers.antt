@@ -1,5 +1,4 @@
 -- A line, or a kind that has normals too.
-use borrow.Author.Rules.{rules}
 use borrow.Author.Tests.{eq-eqb, ne_eqb}
 use Rattle.record_rules.specs.Corners.{with_texture}
 use Rattle.record_rules.proofs.corners.with_texture.Goals as goal

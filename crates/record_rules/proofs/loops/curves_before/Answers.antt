@@ -1,8 +1,5 @@
 -- The invariant: the curv2 elements below i are counted, and there are at most i.
-use borrow.Author.Rules.{rules}
 use mathlib.Core.Path.{◌≡◌, refl, ◌∙◌}
-use Prim.Native.Nat.{◌-◌, ◌≤◌}
-use Rattle.record_rules.specs.Rules.{curves_among}
 use Rattle.record_rules.proofs.OneBody.{curves-more, curves-past}
 use native.Mathlib.Omega.{arith}
 use Rattle.record_rules.proofs.loops.curves_before.Goals as goal

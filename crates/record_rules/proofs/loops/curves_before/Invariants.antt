@@ -1,9 +1,6 @@
-use borrow.Author.Rules.{rules}
-use mathlib.Core.Path.{◌≡◌, refl, ◌∙◌}
+use mathlib.Core.Path.{◌≡◌}
 use Prim.Native.Nat.{◌-◌, ◌≤◌}
 use Rattle.record_rules.specs.Rules.{curves_among}
-use Rattle.record_rules.proofs.OneBody.{curves-more, curves-past}
-use native.Mathlib.Omega.{arith}
 use Rattle.record_rules.proofs.loops.curves_before.Given as goal
 
 abbrev pub invariant-loop-i : goal.invariant-loop-i

@@ -1,5 +1,4 @@
 -- By the test of the number of parts.
-use borrow.Author.Rules.{rules}
 use borrow.Author.Tests.{eq-eqb, ne_eqb}
 use Rattle.record_rules.proofs.loops.curves_for.Goals as goal
 

@@ -1,10 +1,8 @@
 -- The invariant: each part passed obeys.
-use mathlib.Core.Path.{◌≡◌, refl, sym}
+use mathlib.Core.Path.{refl, sym}
 use mathlib.Core.Bool.{true}
 use mathlib.Core.List.{[]}
-use Prim.Native.Nat.{◌-◌, ◌≤◌}
 use Rattle.tables.specs.Tables.{tables}
-use Rattle.record_rules.specs.Numbers.{all_below}
 use Rattle.basis.proofs.Tests.{failed, passed}
 use Rattle.record_rules.proofs.Below.{below_more}
 use Rattle.record_rules.proofs.EachPart.{at_part, part-fails, part-holds}

@@ -1,15 +1,10 @@
-use mathlib.Core.Path.{◌≡◌, refl, sym}
+use mathlib.Core.Path.{◌≡◌}
 use mathlib.Core.Bool.{true}
 use mathlib.Core.List.{[]}
 use Prim.Native.Nat.{◌-◌, ◌≤◌}
 use Rattle.tables.specs.Tables.{tables}
 use Rattle.record_rules.specs.Numbers.{all_below}
-use Rattle.basis.proofs.Tests.{failed, passed}
-use Rattle.record_rules.proofs.Below.{below_more}
-use Rattle.record_rules.proofs.EachPart.{at_part, part-fails, part-holds}
-use native.Mathlib.Omega.{arith}
-use mathlib.Core.Path.{ap}
-use mathlib.Core.Bool.{not}
+use Rattle.record_rules.proofs.EachPart.{at_part}
 use Rattle.record_rules.proofs.loops.each_part.Given as goal
 
 abbrev pub invariant-loop-k : goal.invariant-loop-k

@@ -1,5 +1,4 @@
 -- No parts, or a run of them within the used and the lent entries.
-use borrow.Author.Rules.{rules}
 use borrow.Author.Tests.{le-leb, lt-leb, eq-eqb, ne_eqb}
 use Rattle.record_rules.specs.Loops.{loops_obey}
 use Rattle.record_rules.proofs.loops.loops_with.Goals as goal

@@ -1,6 +1,5 @@
 -- Each of the four by the callee's test.
 use mir.Facts.{to_z-of_z}
-use borrow.Author.Rules.{rules}
 use Rattle.record_rules.proofs.numbers.four_in_range.Goals as goal
 
 pub returns : goal.returns

@@ -1,15 +1,9 @@
 -- The invariant: each number passed is in range.
-use mathlib.Core.Path.{◌≡◌, refl}
-use mathlib.Core.Bool.{true}
-use Prim.Native.Nat.{◌+◌, ◌-◌, ◌≤◌}
-use lib.ListN.{get_or}
-use lib.IntN.{pos}
-use Rattle.record_rules.specs.Numbers.{in_range, all_below}
+use mathlib.Core.Path.{refl}
 use Rattle.tables.proofs.Bits.{fitted}
 use Rattle.basis.proofs.Tests.{passed}
 use Rattle.record_rules.proofs.Runs.{four-more}
 use native.Mathlib.Omega.{arith}
-use borrow.Author.Rules.{rules}
 use mathlib.Core.Path.{ap}
 use mathlib.Core.Bool.{not}
 use Rattle.record_rules.proofs.numbers.fours_in_range.Goals as goal

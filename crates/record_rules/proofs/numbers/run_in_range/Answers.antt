@@ -1,16 +1,15 @@
 -- The invariant: the run is lent, and each number passed is in range.
-use mathlib.Core.Path.{◌≡◌, sym}
+use mathlib.Core.Path.{sym}
 use mathlib.Core.Bool.{true}
-use Prim.Native.Nat.{◌+◌, ◌-◌, ◌≤◌}
-use lib.ListN.{length, get_or}
+use Prim.Native.Nat.{◌+◌}
+use lib.ListN.{get_or}
 use lib.IntN.{pos}
-use Rattle.record_rules.specs.Numbers.{in_range, all_below}
+use Rattle.record_rules.specs.Numbers.{in_range}
 use Rattle.tables.proofs.Bits.{fitted}
 use Rattle.basis.proofs.Tests.{failed, passed}
 use Rattle.record_rules.proofs.Below.{below_more}
 use Rattle.record_rules.proofs.Runs.{run_short, run-fails, run_holds}
 use native.Mathlib.Omega.{arith}
-use borrow.Author.Rules.{rules}
 use mathlib.Core.Path.{ap}
 use mathlib.Core.Bool.{not}
 use Rattle.record_rules.proofs.numbers.run_in_range.Goals as goal

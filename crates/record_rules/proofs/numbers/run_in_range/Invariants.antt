@@ -1,17 +1,9 @@
-use mathlib.Core.Path.{◌≡◌, sym}
+use mathlib.Core.Path.{◌≡◌}
 use mathlib.Core.Bool.{true}
 use Prim.Native.Nat.{◌+◌, ◌-◌, ◌≤◌}
 use lib.ListN.{length, get_or}
 use lib.IntN.{pos}
 use Rattle.record_rules.specs.Numbers.{in_range, all_below}
-use Rattle.tables.proofs.Bits.{fitted}
-use Rattle.basis.proofs.Tests.{failed, passed}
-use Rattle.record_rules.proofs.Below.{below_more}
-use Rattle.record_rules.proofs.Runs.{run_short, run-fails, run_holds}
-use native.Mathlib.Omega.{arith}
-use borrow.Author.Rules.{rules}
-use mathlib.Core.Path.{ap}
-use mathlib.Core.Bool.{not}
 use Rattle.record_rules.proofs.numbers.run_in_range.Given as goal
 
 abbrev pub invariant-loop-k : goal.invariant-loop-k

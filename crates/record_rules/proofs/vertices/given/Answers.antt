@@ -1,5 +1,4 @@
 -- The count given decides which of the two defaults are asked.
-use borrow.Author.Rules.{rules}
 use mathlib.Core.Path.{sym, ◌∙◌}
 use mir.Facts.{to_z-of_z}
 use Rattle.basis.proofs.Tests.{failed, passed}

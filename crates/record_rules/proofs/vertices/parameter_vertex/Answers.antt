@@ -1,5 +1,4 @@
 -- What the vertex's test says of its entries lends the read.
-use borrow.Author.Rules.{rules}
 use Rattle.record_rules.specs.Vertices.{parameter_vertex_obeys}
 use Rattle.tables.proofs.Bits.{fitted}
 use Rattle.basis.proofs.Tests.{failed, passed}

@@ -1,5 +1,4 @@
 -- Each test in turn; the run is the callee's.
-use borrow.Author.Rules.{rules}
 use borrow.Author.Tests.{le-leb, lt-leb}
 use Rattle.record_rules.specs.Vertices.{vertex_obeys}
 use Rattle.basis.proofs.Products.{product-fits}

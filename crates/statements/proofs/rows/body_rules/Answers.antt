@@ -2,7 +2,6 @@
 use mathlib.Core.Path.{refl}
 use native.Mathlib.Omega.{arith}
 use Rattle.statements.proofs.RowLaws.{few_words}
-use borrow.Author.Rules.{rules}
 use Rattle.statements.proofs.rows.body_rules.Goals as goal
 
 pub overflow_add-result : goal.overflow_add-result

@@ -1,6 +1,5 @@
 -- The row, by the words and the parts that it is made of.
 use mathlib.Core.Path.{refl}
-use borrow.Author.Rules.{rules}
 use Rattle.statements.proofs.rows.element_rules.Goals as goal
 
 pub returns : goal.returns

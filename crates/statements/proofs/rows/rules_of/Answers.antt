@@ -1,7 +1,6 @@
 -- Each statement is told by its arm, and its row made by the call there.
 use mathlib.Core.Path.{sym, ap, ◌∙◌}
 use Rattle.statements.specs.Rules.{rules_of}
-use borrow.Author.Rules.{rules}
 use Rattle.statements.proofs.rows.rules_of.Goals as goal
 
 pub returns-in-Vertex : goal.returns-in-Vertex

@@ -1,6 +1,5 @@
 -- The row, by the count of its words.
 use mathlib.Core.Path.{refl}
-use borrow.Author.Rules.{rules}
 use Rattle.statements.proofs.rows.vertex_rules.Goals as goal
 
 pub returns : goal.returns

@@ -1,7 +1,6 @@
 -- By the arm, and by the kind.
 use mathlib.Core.Path.{refl}
 use Rattle.statements.proofs.RowLaws.{outside-kind, body-kind, surface-kind, curve-kind}
-use borrow.Author.Rules.{rules}
 use Rattle.statements.proofs.rules.allowed.Goals as goal
 
 pub returns-then-kind-eq0 : goal.returns-then-kind-eq0

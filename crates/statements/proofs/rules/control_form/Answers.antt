@@ -1,6 +1,5 @@
 -- By the arm.
 use mathlib.Core.Path.{refl}
-use borrow.Author.Rules.{rules}
 use Rattle.statements.proofs.rules.control_form.Goals as goal
 
 pub returns-in-Curve : goal.returns-in-Curve

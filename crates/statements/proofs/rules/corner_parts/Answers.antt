@@ -1,6 +1,5 @@
 -- By the arm.
 use mathlib.Core.Path.{refl}
-use borrow.Author.Rules.{rules}
 use Rattle.statements.proofs.rules.corner_parts.Goals as goal
 
 pub returns-in-Point : goal.returns-in-Point

@@ -3,7 +3,6 @@ use mathlib.Core.Path.{◌≡◌, refl}
 use borrow.Author.Tests.{eq-eqb, ne_eqb, lt-ltb, le-ltb}
 use native.Mathlib.Omega.{arith}
 use Prim.Native.Nat.{◌+◌}
-use borrow.Author.Rules.{rules}
 use Rattle.statements.proofs.rules.form_at.Goals as goal
 
 pub returns-then-index-range : goal.returns-then-index-range

@@ -1,5 +1,4 @@
 -- Each table by its own call.
-use borrow.Author.Rules.{rules}
 use Rattle.sweep.proofs.rest.clear_rest.Goals as goal
 
 pub clear_rest_i32-requires-2 : goal.clear_rest_i32-requires-2

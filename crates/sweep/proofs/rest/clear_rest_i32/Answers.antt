@@ -1,7 +1,6 @@
 -- The part after the used ones is cleared and put back.
 use Rattle.sweep_rows.proofs.Stored.{rest-cleared}
 use lib.IntN.{pos}
-use borrow.Author.Rules.{rules}
 use Rattle.sweep.proofs.rest.clear_rest_i32.Goals as goal
 
 pub returns : goal.returns

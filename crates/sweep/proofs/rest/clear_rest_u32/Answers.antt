@@ -1,6 +1,5 @@
 -- The part after the used ones is cleared and put back.
 use Rattle.sweep_rows.proofs.Stored.{rest-cleared}
-use borrow.Author.Rules.{rules}
 use Rattle.sweep.proofs.rest.clear_rest_u32.Goals as goal
 
 pub returns : goal.returns

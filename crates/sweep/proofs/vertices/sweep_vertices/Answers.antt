@@ -3,7 +3,6 @@ use Rattle.sweep.proofs.Fronts.{vertices-swept}
 use Rattle.tables.specs.Tables.{tables}
 use mathlib.Core.List.{[]}
 use native.Mathlib.Omega.{arith}
-use borrow.Author.Rules.{rules}
 use Rattle.sweep.proofs.vertices.sweep_vertices.Goals as goal
 
 pub sweep_part-kept_vp-requires : goal.sweep_part-kept_vp-requires

@@ -2,7 +2,6 @@ use Rattle.sweep_rows.proofs.Renumbering.{corner-of}
 use Prim.Native.Nat.{ℕ}
 use mathlib.Core.Path.{◌∙◌, ap}
 use Rattle.sweep_marks.specs.Marks.{number_listed, corner_by}
-use borrow.Author.Rules.{rules}
 use Rattle.sweep_rows.proofs.corners.corner_by.Goals as goal
 
 pub returns : goal.returns

@@ -1,6 +1,5 @@
 -- 0 stays 0; a number is looked up from its base on.
 use Rattle.sweep_rows.proofs.Renumbering.{number_past}
-use borrow.Author.Rules.{rules}
 use Rattle.sweep_rows.proofs.corners.number_of.Goals as goal
 
 pub returns : goal.returns

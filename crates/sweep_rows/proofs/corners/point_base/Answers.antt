@@ -1,7 +1,6 @@
 -- A curv2 names a vp, every other kind a v.
 use borrow.Author.Tests.{eq-eqb, ne_eqb}
 use native.Mathlib.Omega.{arith}
-use borrow.Author.Rules.{rules}
 use Rattle.sweep_rows.proofs.corners.point_base.Goals as goal
 
 pub returns-then-kind-eq-CURVE2 : goal.returns-then-kind-eq-CURVE2

@@ -1,8 +1,6 @@
 -- The invariant: the corners of the elements passed have their new numbers, and those to come are as lent.
-use Rattle.sweep_rows.proofs.Renumbering.{RunsRenumbered, runs_none, runs-more, runs-all, run_fits}
-use Prim.Native.Nat.{◌-◌}
+use Rattle.sweep_rows.proofs.Renumbering.{runs_none, runs-more, runs-all, run_fits}
 use native.Mathlib.Omega.{arith}
-use borrow.Author.Rules.{rules}
 use Rattle.sweep_rows.proofs.corners.renumber.Goals as goal
 
 pub loop-i-init : goal.loop-i-init

@@ -1,7 +1,5 @@
-use Rattle.sweep_rows.proofs.Renumbering.{RunsRenumbered, runs_none, runs-more, runs-all, run_fits}
+use Rattle.sweep_rows.proofs.Renumbering.{RunsRenumbered}
 use Prim.Native.Nat.{◌-◌}
-use native.Mathlib.Omega.{arith}
-use borrow.Author.Rules.{rules}
 use Rattle.sweep_rows.proofs.corners.renumber.Given as goal
 
 abbrev pub invariant-loop-i : goal.invariant-loop-i

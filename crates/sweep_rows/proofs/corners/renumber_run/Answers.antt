@@ -1,9 +1,7 @@
 -- The invariant: the corners passed have their new numbers, and those to come are as lent.
-use Rattle.sweep_rows.proofs.Renumbering.{Renumbered, renumbered-none, renumbered-more, renumbered-all}
-use Prim.Native.Nat.{◌-◌}
+use Rattle.sweep_rows.proofs.Renumbering.{renumbered-none, renumbered-more, renumbered-all}
 use native.Mathlib.Omega.{arith}
 use Rattle.table_store.proofs.Stores.{put_of}
-use borrow.Author.Rules.{rules}
 use Rattle.sweep_rows.proofs.corners.renumber_run.Goals as goal
 
 pub loop-j-init : goal.loop-j-init

@@ -1,8 +1,5 @@
-use Rattle.sweep_rows.proofs.Renumbering.{Renumbered, renumbered-none, renumbered-more, renumbered-all}
+use Rattle.sweep_rows.proofs.Renumbering.{Renumbered}
 use Prim.Native.Nat.{◌-◌}
-use native.Mathlib.Omega.{arith}
-use Rattle.table_store.proofs.Stores.{put_of}
-use borrow.Author.Rules.{rules}
 use Rattle.sweep_rows.proofs.corners.renumber_run.Given as goal
 
 abbrev pub invariant-loop-j : goal.invariant-loop-j

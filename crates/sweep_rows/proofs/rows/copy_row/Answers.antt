@@ -1,8 +1,6 @@
 use Rattle.tables.proofs.Bits.{fitted}
-use Rattle.sweep_rows.proofs.Moving.{Copied, copied_none, copied_more, copied_all}
-use Prim.Native.Nat.{◌-◌}
+use Rattle.sweep_rows.proofs.Moving.{copied_none, copied_more, copied_all}
 use native.Mathlib.Omega.{arith}
-use borrow.Author.Rules.{rules}
 use Rattle.sweep_rows.proofs.rows.copy_row.Goals as goal
 
 pub loop-j-init : goal.loop-j-init

@@ -1,8 +1,5 @@
-use Rattle.tables.proofs.Bits.{fitted}
-use Rattle.sweep_rows.proofs.Moving.{Copied, copied_none, copied_more, copied_all}
+use Rattle.sweep_rows.proofs.Moving.{Copied}
 use Prim.Native.Nat.{◌-◌}
-use native.Mathlib.Omega.{arith}
-use borrow.Author.Rules.{rules}
 use Rattle.sweep_rows.proofs.rows.copy_row.Given as goal
 
 abbrev pub invariant-loop-j : goal.invariant-loop-j

@@ -2,7 +2,6 @@
 use Rattle.sweep_rows.proofs.Moving.{row_stays, row-moves}
 use native.Mathlib.Nat.{mul-le-mul_left}
 use native.Mathlib.Omega.{arith}
-use borrow.Author.Rules.{rules}
 use Rattle.sweep_rows.proofs.rows.move_row.Goals as goal
 
 pub returns-then-number-eq0 : goal.returns-then-number-eq0

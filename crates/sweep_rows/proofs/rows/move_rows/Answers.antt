@@ -1,11 +1,9 @@
 use Rattle.sweep_rows.proofs.Stored.{part-cleared}
 use mathlib.Core.Path.{◌∙◌}
 use lib.IntN.{pos}
-use Rattle.sweep_rows.proofs.Moving.{Moved, moved_none, moved_more, moved-most, moved-within, moved-fits, moved_all}
-use Prim.Native.Nat.{◌-◌, ◌*◌}
+use Rattle.sweep_rows.proofs.Moving.{moved_none, moved_more, moved-most, moved-within, moved-fits, moved_all}
+use Prim.Native.Nat.{◌*◌}
 use native.Mathlib.Omega.{arith}
-use lib.ListN.{length}
-use borrow.Author.Rules.{rules}
 use Rattle.sweep_rows.proofs.rows.move_rows.Goals as goal
 
 pub loop-i-init : goal.loop-i-init

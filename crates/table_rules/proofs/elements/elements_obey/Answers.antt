@@ -1,6 +1,6 @@
 -- The invariant: every element passed obeys and follows on, and the counts and ends are those of the elements passed.
 use mathlib.Core.Path.{◌≡◌, sym, ◌∙◌}
-use Prim.Native.Nat.{◌-◌, ◌*◌, ◌≤◌, ◌<◌}
+use Prim.Native.Nat.{◌*◌, ◌≤◌, ◌<◌}
 use native.Mathlib.Omega.{arith}
 use lib.ListN.{length}
 use Rattle.tables.specs.Tables.{Tables, tables}
@@ -8,7 +8,6 @@ use Rattle.basis.proofs.Tests.{failed, passed}
 use Rattle.record_rules.specs.Rules.{records_obey}
 use Rattle.record_rules.proofs.Records.{records-lent}
 use Rattle.table_rules.proofs.Pass.{Passed, starts, breaks, leaves-gap, goes_on, ends_with}
-use borrow.Author.Rules.{rules}
 use mathlib.Core.Path.{ap}
 use mathlib.Core.Bool.{not}
 use Rattle.table_rules.proofs.elements.elements_obey.Goals as goal

@@ -1,6 +1,5 @@
 -- By the tests in turn.
 use borrow.Author.Tests.{eq-eqb, ne_eqb}
-use borrow.Author.Rules.{rules}
 use Rattle.table_rules.proofs.ends.body_follows.Goals as goal
 
 pub returns-then-body-ends : goal.returns-then-body-ends

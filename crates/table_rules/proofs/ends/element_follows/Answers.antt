@@ -1,7 +1,6 @@
 -- By the tests in turn.
 use borrow.Author.Tests.{le-leb, lt-leb, eq-eqb, ne_eqb}
 use native.Mathlib.Numerals.{add-one}
-use borrow.Author.Rules.{rules}
 use Rattle.table_rules.proofs.ends.element_follows.Goals as goal
 
 pub returns-then-first-end : goal.returns-then-first-end

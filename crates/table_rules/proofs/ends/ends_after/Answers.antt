@@ -1,7 +1,6 @@
 -- With a body or without one; the sums are far below 2 ^ 64.
 use borrow.Author.Tests.{le-leb, lt-leb}
 use native.Mathlib.Numerals.{add-one}
-use borrow.Author.Rules.{rules}
 use Rattle.table_rules.proofs.ends.ends_after.Goals as goal
 
 pub returns-then-element-le-FACE : goal.returns-then-element-le-FACE

@@ -3,7 +3,6 @@ use mathlib.Core.Path.{◌∙◌}
 use native.Mathlib.Omega.{arith}
 use Rattle.tables.proofs.Asked.{product}
 use Rattle.table_rules.proofs.AllNumbers.{numbers-are}
-use borrow.Author.Rules.{rules}
 use Rattle.table_rules.proofs.vertices.numbers_obey.Goals as goal
 
 pub overflow_mul-width : goal.overflow_mul-width

@@ -1,16 +1,10 @@
 -- The invariant: each vp passed obeys.
-use mathlib.Core.Path.{◌≡◌, refl, sym}
-use mathlib.Core.Bool.{Bool, true}
-use mathlib.Core.List.{List}
-use Prim.Native.Nat.{ℕ, suc, ◌-◌, ◌≤◌}
+use mathlib.Core.Path.{refl, sym}
+use mathlib.Core.Bool.{true}
 use native.Mathlib.Numerals.{add-one}
 use native.Mathlib.Omega.{arith}
-use lib.IntN.{ℤ}
-use Rattle.record_rules.specs.Numbers.{all_below}
-use Rattle.record_rules.specs.Vertices.{parameter_vertex_obeys}
 use Rattle.record_rules.proofs.Below.{below_more, below_fails, below-ends}
 use Rattle.basis.proofs.Tests.{failed, passed}
-use borrow.Author.Rules.{rules}
 use mathlib.Core.Path.{ap}
 use mathlib.Core.Bool.{not}
 use Rattle.table_rules.proofs.vertices.parameter_vertices_obey.Invariants.{at_vertex}

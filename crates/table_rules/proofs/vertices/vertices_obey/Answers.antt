@@ -1,6 +1,5 @@
 -- Each kind by its own test.
 use Rattle.table_rules.specs.Whole.{vertices_obey}
-use borrow.Author.Rules.{rules}
 use Rattle.table_rules.proofs.vertices.vertices_obey.Goals as goal
 
 pub returns : goal.returns

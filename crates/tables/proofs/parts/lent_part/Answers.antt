@@ -2,7 +2,6 @@
 use mathlib.Core.Path.{refl}
 use native.Mathlib.Nat.{add-zero}
 use Rattle.tables.proofs.Bits.{fitted}
-use borrow.Author.Rules.{rules}
 use Rattle.tables.proofs.parts.lent_part.Goals as goal
 
 pub returns : goal.returns

@@ -2,7 +2,6 @@
 use mathlib.Core.Path.{refl}
 use native.Mathlib.Nat.{add-zero}
 use Rattle.tables.proofs.Bits.{passed}
-use borrow.Author.Rules.{rules}
 use Rattle.tables.proofs.parts.part_at.Goals as goal
 
 pub returns : goal.returns

@@ -5,7 +5,6 @@ use native.Mathlib.Omega.{arith}
 use lib.ListN.{get_or}
 use lib.IntN.{pos}
 use Rattle.tables.proofs.Bits.{passed}
-use borrow.Author.Rules.{rules}
 use Rattle.tables.proofs.vertices.given_at.Goals as goal
 
 pub returns : goal.returns

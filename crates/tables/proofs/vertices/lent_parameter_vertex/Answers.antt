@@ -2,7 +2,6 @@
 use mathlib.Core.Path.{refl}
 use native.Mathlib.Nat.{add-zero}
 use Rattle.tables.proofs.Bits.{fitted}
-use borrow.Author.Rules.{rules}
 use Rattle.tables.proofs.vertices.lent_parameter_vertex.Goals as goal
 
 pub returns : goal.returns

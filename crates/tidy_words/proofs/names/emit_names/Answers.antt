@@ -1,6 +1,5 @@
 -- The words of the part, by `part_of` and `emit_words`.
 use Rattle.tidy_words.proofs.NamesLeft.{names-emitted}
-use borrow.Author.Rules.{rules}
 use Rattle.tidy_words.proofs.names.emit_names.Goals as goal
 
 pub returns : goal.returns

@@ -4,7 +4,6 @@ use lib.ListN.{drop}
 use native.Mathlib.Omega.{arith}
 use Rattle.text.specs.Words.{word_of}
 use Rattle.tidy_words.proofs.Emissions.{whole_room, whole-roomless}
-use borrow.Author.Rules.{rules}
 use Rattle.tidy_words.proofs.names.emit_word.Goals as goal
 
 pub returns-then-end-room_in : goal.returns-then-end-room_in

@@ -1,10 +1,7 @@
 -- What is left of the names comes to all of them (`NamesLeft`); each word takes bytes off what is left.
-use Prim.Native.Nat.{◌-◌}
-use lib.ListN.{length}
 use native.Mathlib.Omega.{arith}
 use Rattle.tidy_words.proofs.Emissions.{emitted-whole}
-use borrow.Author.Rules.{rules}
-use Rattle.tidy_words.proofs.NamesLeft.{NamesLeft, names-start, names-done, names-turn}
+use Rattle.tidy_words.proofs.NamesLeft.{names-start, names-done, names-turn}
 use Rattle.tidy_words.proofs.names.emit_words.Goals as goal
 
 pub loop-at-init : goal.loop-at-init

@@ -3,7 +3,6 @@ use mathlib.Core.Path.{ap}
 use Rattle.text.specs.Rest.{Rest}
 use Rattle.text.proofs.Found as F
 use Rattle.tidy_words.proofs.Naming.{next_start, next-none}
-use borrow.Author.Rules.{rules}
 use Rattle.tidy_words.proofs.names.next_word.Goals as goal
 
 pub returns-in-Start : goal.returns-in-Start

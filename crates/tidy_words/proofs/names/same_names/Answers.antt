@@ -5,7 +5,6 @@ use Rattle.tables.specs.declared.NameRun.{NameRun}
 use Rattle.tidy_form.specs.Agree.{words_at}
 use Rattle.tidy_words.specs.Naming.{same_bytes}
 use Rattle.tidy_words.proofs.Naming.{bytes-refl, names_same}
-use borrow.Author.Rules.{rules}
 use Rattle.tidy_words.proofs.names.same_names.Goals as goal
 
 pub returns-then-run-other-2 : goal.returns-then-run-other-2

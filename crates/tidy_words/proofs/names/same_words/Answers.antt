@@ -1,8 +1,5 @@
 -- What is left of the two parts is the same exactly when all of them is (`Comparing`); each word takes bytes off what is left.
-use Prim.Native.Nat.{◌-◌}
-use lib.ListN.{length}
 use native.Mathlib.Omega.{arith}
-use borrow.Author.Rules.{rules}
 use Rattle.tidy_words.proofs.Naming as N
 use Rattle.tidy_words.proofs.names.same_words.Goals as goal
 

@@ -1,7 +1,5 @@
 use Prim.Native.Nat.{◌-◌}
 use lib.ListN.{length}
-use native.Mathlib.Omega.{arith}
-use borrow.Author.Rules.{rules}
 use Rattle.tidy_words.proofs.Naming as N
 use Rattle.tidy_words.proofs.names.same_words.Given as goal
 

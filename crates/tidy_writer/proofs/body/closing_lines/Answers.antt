@@ -3,7 +3,6 @@ use mathlib.Core.List.{[], ◌∷◌}
 use Rattle.tidy_writer.specs.Rows.{parameter_lines, body_loops, end_line}
 use Rattle.tidy_words.proofs.Emissions.{emitted_then, emitted-is, emitted-whole}
 use Rattle.tidy_writer.proofs.Turns.{one_line, three-lines}
-use borrow.Author.Rules.{rules}
 use Rattle.tidy_writer.proofs.body.closing_lines.Goals as goal
 
 pub returns : goal.returns

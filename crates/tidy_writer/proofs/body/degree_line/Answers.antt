@@ -8,7 +8,6 @@ use Rattle.keywords.specs.Keywords.{keyword_of}
 use Rattle.statements.specs.declared.Carried.TheVariants.{Degree}
 use Rattle.tidy_words.proofs.Emissions.{emitted_then, emitted-is, emitted-spaced, emitted-whole}
 use Rattle.tidy_writer.proofs.Turns.{emitted-line, spaced-one, spaced-two, degree-one, degree-two}
-use borrow.Author.Rules.{rules}
 use Rattle.tidy_writer.proofs.body.degree_line.Goals as goal
 
 pub returns-then-body-eq0 : goal.returns-then-body-eq0

@@ -6,7 +6,6 @@ use Rattle.tidy_form.specs.Printed.{degree_words}
 use Rattle.tidy_writer.specs.Rows.{type_words}
 use Rattle.tidy_words.proofs.Emissions.{emitted_then, emitted-is}
 use Rattle.tidy_writer.proofs.Turns.{two-lines}
-use borrow.Author.Rules.{rules}
 use Rattle.tidy_writer.proofs.body.form_lines.Goals as goal
 
 pub returns : goal.returns

@@ -9,7 +9,6 @@ use Rattle.tables.specs.Records.{body_in}
 use Rattle.tidy_writer.specs.Rows.{body_index, form_lines, element_words, parameter_lines, body_loops, end_line}
 use Rattle.tidy_words.proofs.Emissions.{emitted_then, emitted-is}
 use Rattle.tidy_writer.proofs.ElementTurns.{own-plain, own_body}
-use borrow.Author.Rules.{rules}
 use Rattle.tidy_writer.proofs.body.own_lines.Goals as goal
 use Rattle.tidy_writer.proofs.body.own_lines.Goals.{After-slice_known-4-1, After-slice_known-then-element-lt-CURVE-1}
 

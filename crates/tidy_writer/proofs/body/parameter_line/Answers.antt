@@ -8,7 +8,6 @@ use Rattle.keywords.specs.Arguments.{argument_bytes}
 use Rattle.statements.specs.declared.Carried.TheVariants.{Parameters}
 use Rattle.tidy_words.proofs.Emissions.{emitted_then, emitted-spaced, emitted-whole}
 use Rattle.tidy_writer.proofs.Turns.{emitted-line}
-use borrow.Author.Rules.{rules}
 use Rattle.tidy_writer.proofs.body.parameter_line.Goals as goal
 
 pub emit_numbers-end-requires : goal.emit_numbers-end-requires

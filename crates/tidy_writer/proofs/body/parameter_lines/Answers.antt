@@ -10,7 +10,6 @@ use Rattle.keywords.specs.declared.Argument.TheVariants.{DirectionU, DirectionV}
 use Rattle.tidy_writer.specs.Rows.{parameter_line}
 use Rattle.tidy_words.proofs.Emissions.{emitted_then, emitted-is}
 use Rattle.tidy_writer.proofs.Turns.{one_line, two-lines}
-use borrow.Author.Rules.{rules}
 use Rattle.tidy_writer.proofs.body.parameter_lines.Goals as goal
 
 pub returns-then-kind-eq-SURFACE : goal.returns-then-kind-eq-SURFACE

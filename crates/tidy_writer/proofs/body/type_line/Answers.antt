@@ -14,7 +14,6 @@ use Rattle.statements.specs.declared.Carried.TheVariants.{BodyType}
 use Rattle.tidy_writer.specs.Rows.{basis_argument}
 use Rattle.tidy_words.proofs.Emissions.{emitted_then, emitted-is, emitted-spaced, emitted-whole}
 use Rattle.tidy_writer.proofs.Turns.{emitted-line, spaced-one, spaced-two}
-use borrow.Author.Rules.{rules}
 use Rattle.tidy_writer.proofs.body.type_line.Goals as goal
 
 pub returns-then-body-eq1 : goal.returns-then-body-eq1

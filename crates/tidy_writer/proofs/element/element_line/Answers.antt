@@ -10,7 +10,6 @@ use Rattle.tidy_writer.specs.Rows.{kind_keyword, range_count, stored_corners}
 use Rattle.tables.proofs.Bits.{fitted}
 use Rattle.tidy_words.proofs.Emissions.{emitted_then, emitted-is, emitted-whole}
 use Rattle.tidy_writer.proofs.Turns.{emitted-line, spaced-append}
-use borrow.Author.Rules.{rules}
 use Rattle.tidy_writer.proofs.element.element_line.Goals as goal
 
 pub emit_numbers-first-requires : goal.emit_numbers-first-requires

@@ -1,6 +1,5 @@
 -- What is left of the corners comes to all of them.
-use borrow.Author.Rules.{rules}
-use Prim.Native.Nat.{ℕ, ◌+◌, ◌<◌}
+use Prim.Native.Nat.{ℕ, ◌<◌}
 use mathlib.Core.Path.{◌≡◌, subst}
 use mathlib.Core.List.{map}
 use native.Mathlib.Omega.{arith}

@@ -1,15 +1,12 @@
-use borrow.Author.Rules.{rules}
-use Prim.Native.Nat.{ℕ, ◌+◌, ◌<◌}
-use mathlib.Core.Path.{◌≡◌, subst}
+use Prim.Native.Nat.{◌+◌}
+use mathlib.Core.Path.{◌≡◌}
 use mathlib.Core.List.{map}
-use native.Mathlib.Omega.{arith}
 use lib.ListN.{drop}
 use Rattle.references.specs.Written.{written_corner}
 use Rattle.tables.specs.Records.{corner_place}
 use Rattle.tidy_words.specs.Emitting.{spaced}
 use Rattle.tidy_writer.specs.Rows.{stored_corners}
-use Rattle.tidy_words.proofs.Emissions.{Left, left-start, left-turn, left-ends, emitted-spaced}
-use Rattle.tidy_writer.proofs.Turns.{corner-turn, corners-none}
+use Rattle.tidy_words.proofs.Emissions.{Left}
 use Rattle.tidy_writer.proofs.element.emit_corners.Given as goal
 
 abbrev pub invariant-loop-left : goal.invariant-loop-left

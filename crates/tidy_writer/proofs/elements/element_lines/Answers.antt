@@ -8,7 +8,6 @@ use Rattle.tidy_writer.specs.Rows.{own_lines}
 use Rattle.tidy_writer.specs.TidyFrom.{names_lines}
 use Rattle.tidy_words.proofs.Emissions.{emitted_then, emitted-is}
 use Rattle.tidy_writer.proofs.Turns.{lines-append}
-use borrow.Author.Rules.{rules}
 use Rattle.tidy_writer.proofs.elements.element_lines.Goals as goal
 
 pub names_lines-own-requires : goal.names_lines-own-requires

@@ -1,8 +1,7 @@
 -- What is left of the elements comes to all of them.
-use borrow.Author.Rules.{rules}
-use Prim.Native.Nat.{◌+◌, ◌<◌, ◌≤◌}
+use Prim.Native.Nat.{◌<◌}
 use native.Mathlib.Omega.{arith}
-use Rattle.tidy_words.proofs.Emissions.{Left, left-start, left-turn, left-ends}
+use Rattle.tidy_words.proofs.Emissions.{left-start, left-turn, left-ends}
 use Rattle.tidy_writer.proofs.ElementTurns.{onward, elements-turn, elements-none}
 use Rattle.tidy_writer.proofs.elements.elements_lines.Goals as goal
 

@@ -1,8 +1,6 @@
-use borrow.Author.Rules.{rules}
-use Prim.Native.Nat.{◌+◌, ◌<◌, ◌≤◌}
-use native.Mathlib.Omega.{arith}
-use Rattle.tidy_words.proofs.Emissions.{Left, left-start, left-turn, left-ends}
-use Rattle.tidy_writer.proofs.ElementTurns.{onward, elements-turn, elements-none}
+use Prim.Native.Nat.{◌+◌, ◌≤◌}
+use Rattle.tidy_words.proofs.Emissions.{Left}
+use Rattle.tidy_writer.proofs.ElementTurns.{onward}
 use Rattle.tidy_writer.proofs.elements.elements_lines.Given as goal
 
 abbrev pub invariant-loop-left : goal.invariant-loop-left

@@ -4,7 +4,6 @@ use Rattle.keywords.specs.Keywords.{keyword_of}
 use Rattle.tidy_form.specs.Agree.{words_at}
 use Rattle.tidy_words.proofs.Emissions.{emitted-none, emitted-is, emitted-whole}
 use Rattle.tidy_writer.proofs.Turns.{emitted-line, changed-none, changed-line}
-use borrow.Author.Rules.{rules}
 use Rattle.tidy_writer.proofs.elements.name_line.Goals as goal
 
 pub returns-then-same_names : goal.returns-then-same_names

@@ -4,7 +4,6 @@ use Rattle.tidy_form.specs.Agree.{words_at}
 use Rattle.tidy_writer.specs.TidyFrom.{changed, smoothed}
 use Rattle.tidy_words.proofs.Emissions.{emitted_then, emitted-is}
 use Rattle.tidy_writer.proofs.Turns.{three-lines}
-use borrow.Author.Rules.{rules}
 use Rattle.tidy_writer.proofs.elements.names_lines.Goals as goal
 
 pub returns : goal.returns

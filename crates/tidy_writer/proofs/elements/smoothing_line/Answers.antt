@@ -5,7 +5,6 @@ use Rattle.keywords.specs.Keywords.{keyword_of}
 use Rattle.statements.specs.declared.Carried.TheVariants.{Smoothing}
 use Rattle.tidy_words.proofs.Emissions.{emitted-none, emitted-is, emitted-spaced, emitted-whole}
 use Rattle.tidy_writer.proofs.Turns.{emitted-line, spaced-one, smoothed-none, smoothed-line}
-use borrow.Author.Rules.{rules}
 use Rattle.tidy_writer.proofs.elements.smoothing_line.Goals as goal
 
 pub returns-then-before-smoothing : goal.returns-then-before-smoothing

@@ -1,13 +1,12 @@
 -- What is left of the parts that go on comes to all of them.
-use borrow.Author.Rules.{rules}
-use Prim.Native.Nat.{◌+◌, ◌*◌, ◌<◌, ◌≤◌}
+use Prim.Native.Nat.{◌*◌, ◌<◌}
 use mathlib.Core.Path.{◌≡◌}
 use native.Mathlib.Omega.{arith}
 use lib.ListN.{drop}
 use Rattle.tables.specs.Records.{loop_width, span_width}
 use Rattle.tidy_words.specs.Emitting.{spaced}
 use Rattle.tidy_writer.specs.Rows.{going_on}
-use Rattle.tidy_words.proofs.Emissions.{Left, left-start, left-turn, left-ends}
+use Rattle.tidy_words.proofs.Emissions.{left-start, left-turn, left-ends}
 use Rattle.tidy_writer.proofs.Turns.{going-turn, going-stops, going-none}
 use Rattle.tidy_writer.proofs.loops.emit_going_on.Goals as goal
 

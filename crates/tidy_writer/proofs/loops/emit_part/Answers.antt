@@ -6,7 +6,6 @@ use Rattle.tables.proofs.Bits.{fitted}
 use Rattle.references.specs.Written.{written_whole, written_number}
 use Rattle.tidy_words.proofs.Emissions.{emitted_then, emitted-is, emitted-spaced}
 use Rattle.tidy_writer.proofs.Turns.{three-spaced}
-use borrow.Author.Rules.{rules}
 use Rattle.tidy_writer.proofs.loops.emit_part.Goals as goal
 
 pub returns : goal.returns

@@ -10,7 +10,6 @@ use Rattle.tidy_form.specs.Printed.{loop_keyword}
 use Rattle.tidy_writer.specs.Rows.{part_words, going_on}
 use Rattle.tidy_words.proofs.Emissions.{emitted-none, emitted_then, emitted-is, emitted-whole}
 use Rattle.tidy_writer.proofs.Turns.{emitted-line, begins-first, loop-words, begun-none, begun-line}
-use borrow.Author.Rules.{rules}
 use Rattle.tidy_writer.proofs.loops.loop_line.Goals as goal
 
 pub returns-then-part-eq0 : goal.returns-then-part-eq0

@@ -1,11 +1,11 @@
 -- What is left of the loops comes to all of them.
-use Prim.Native.Nat.{◌+◌, ◌*◌, ◌<◌, ◌≤◌}
+use Prim.Native.Nat.{◌*◌, ◌<◌}
 use native.Mathlib.Omega.{arith}
 use lib.ListN.{drop}
 use Rattle.tables.specs.Records.{loop_width, span_width}
 use Rattle.text.specs.Written.{written_lines}
 use Rattle.tidy_writer.specs.Rows.{loop_lines}
-use Rattle.tidy_words.proofs.Emissions.{Left, left-start, left-turn, left-ends}
+use Rattle.tidy_words.proofs.Emissions.{left-start, left-turn, left-ends}
 use Rattle.tidy_writer.proofs.Turns.{loops-turn, loops-none}
 use Rattle.tidy_writer.proofs.loops.loop_lines.Goals as goal
 

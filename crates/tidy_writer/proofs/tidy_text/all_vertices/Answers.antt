@@ -10,7 +10,6 @@ use Rattle.tidy_form.specs.declared.Weights.TheVariants.{Always}
 use Rattle.tidy_writer.specs.Rows.{vertex_rows}
 use Rattle.tidy_words.proofs.Emissions.{emitted_then, emitted-is}
 use Rattle.tidy_writer.proofs.Turns.{lines-append, three-lines}
-use borrow.Author.Rules.{rules}
 use Rattle.tidy_writer.proofs.tidy_text.all_vertices.Goals as goal
 
 pub returns : goal.returns

@@ -3,7 +3,6 @@ use native.Mathlib.Omega.{arith}
 use Rattle.tidy_writer.specs.TidyFrom.{vertices_from, elements_from, tidy_from}
 use Rattle.tidy_words.proofs.Emissions.{emitted_then, emitted-is}
 use Rattle.tidy_writer.proofs.Turns.{lines-append}
-use borrow.Author.Rules.{rules}
 use Rattle.tidy_writer.proofs.tidy_text.emit_tidy.Goals as goal
 
 pub elements_lines-requires : goal.elements_lines-requires

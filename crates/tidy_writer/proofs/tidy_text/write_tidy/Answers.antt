@@ -6,7 +6,6 @@ use lib.ListN.{length}
 use Rattle.tables.specs.Tables.{tables}
 use Rattle.tidy_writer.specs.TidyFrom.{tidy_from}
 use Rattle.tidy_words.proofs.Emissions.{whole-emitted, whole-roomless}
-use borrow.Author.Rules.{rules}
 use Rattle.tidy_writer.proofs.tidy_text.write_tidy.Goals as goal
 
 pub returns-then-length-room_in : goal.returns-then-length-room_in

@@ -1,5 +1,4 @@
 -- What is left of the numbers comes to all of them.
-use borrow.Author.Rules.{rules}
 use Prim.Native.Nat.{◌<◌}
 use mathlib.Core.Path.{ap}
 use mathlib.Core.List.{map, ◌∷◌}
@@ -10,7 +9,7 @@ use mir.Syntax.{w32}
 use mir.Facts.{to_z-of_z}
 use Rattle.references.specs.Written.{written_number}
 use Rattle.tidy_words.specs.Emitting.{spaced}
-use Rattle.tidy_words.proofs.Emissions.{Left, left-start, left-turn, left-ends, emitted-is, emitted-spaced}
+use Rattle.tidy_words.proofs.Emissions.{left-start, left-turn, left-ends, emitted-is, emitted-spaced}
 use Rattle.tidy_writer.proofs.Turns.{numbers-turn, numbers-past, numbers-none}
 use Rattle.tidy_writer.proofs.vertices.emit_numbers.Goals as goal
 

@@ -1,16 +1,8 @@
-use borrow.Author.Rules.{rules}
-use Prim.Native.Nat.{◌<◌}
-use mathlib.Core.Path.{ap}
-use mathlib.Core.List.{map, ◌∷◌}
-use native.Mathlib.Omega.{arith}
-use lib.IntN.{ℤ, pos}
-use lib.ListN.{get_or, length, take, drop}
-use mir.Syntax.{w32}
-use mir.Facts.{to_z-of_z}
+use mathlib.Core.List.{map}
+use lib.ListN.{take, drop}
 use Rattle.references.specs.Written.{written_number}
 use Rattle.tidy_words.specs.Emitting.{spaced}
-use Rattle.tidy_words.proofs.Emissions.{Left, left-start, left-turn, left-ends, emitted-is, emitted-spaced}
-use Rattle.tidy_writer.proofs.Turns.{numbers-turn, numbers-past, numbers-none}
+use Rattle.tidy_words.proofs.Emissions.{Left}
 use Rattle.tidy_writer.proofs.vertices.emit_numbers.Given as goal
 
 abbrev pub invariant-loop-left : goal.invariant-loop-left

@@ -6,7 +6,6 @@ use Rattle.references.specs.Written.{written_number}
 use Rattle.keywords.specs.Keywords.{keyword_of}
 use Rattle.tidy_writer.proofs.Turns.{emitted-line}
 use Rattle.tidy_words.proofs.Emissions.{emitted-whole}
-use borrow.Author.Rules.{rules}
 use Rattle.tidy_writer.proofs.vertices.number_line.Goals as goal
 
 pub emit_numbers-end-requires : goal.emit_numbers-end-requires

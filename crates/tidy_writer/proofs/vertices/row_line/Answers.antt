@@ -1,5 +1,4 @@
 -- Where a record begins with how many of its numbers were given, these; else all of them.
-use borrow.Author.Rules.{rules}
 use mathlib.Core.Path.{sym, ap, ◌∙◌}
 use mathlib.Core.List.{List, ◌∷◌, map}
 use mathlib.Core.Bool.{Bool}

@@ -1,10 +1,10 @@
 -- What is left of the records comes to all of them.
-use Prim.Native.Nat.{◌+◌, ◌*◌, ◌<◌, ◌≤◌}
+use Prim.Native.Nat.{◌<◌}
 use native.Mathlib.Omega.{arith}
 use lib.ListN.{drop}
 use Rattle.text.specs.Written.{written_lines}
 use Rattle.tidy_writer.specs.Rows.{vertex_rows}
-use Rattle.tidy_words.proofs.Emissions.{Left, left-start, left-turn, left-ends}
+use Rattle.tidy_words.proofs.Emissions.{left-start, left-turn, left-ends}
 use Rattle.tidy_writer.proofs.Turns.{rows-turn, rows_none}
 use Rattle.tidy_writer.proofs.vertices.vertex_lines.Goals as goal
 
