@@ -2,20 +2,17 @@
 // written again before the answer.
 #![tactic(auto)]
 
-ghost use Rattle.std.specs.Prelude.{◌≤◌, ◌<◌, length};
+ghost use Rattle.std.specs.Prelude.{◌≤◌, ◌<◌, IfOk, length};
 
 use case_files::{least, line_end, number_at};
-use libc::{STDIN_FILENO, STDOUT_FILENO};
 use reader::ReadResult;
+use std::io;
+use std::process::ExitCode;
+use streams::Failure;
 use tables::Used;
 
-fn put(bytes: &[u8]) {
-    io::write_all(STDOUT_FILENO, bytes);
-}
-
-fn put_number(n: u64) {
-    put(b" ");
-    io::print_decimal(STDOUT_FILENO, n);
+fn put_number(rt: &impl Print, n: u64) -> io::Result<()> {
+    print!(rt; " {n}")
 }
 
 // Twice its magnitude, and one more below zero.
@@ -58,32 +55,33 @@ fn wide(n: u32) -> u64 {
     n as u64
 }
 
-fn put_used(used: Used) {
-    put(b"read");
-    put_number(used.v as u64);
-    put_number(used.vt as u64);
-    put_number(used.vn as u64);
-    put_number(used.vp as u64);
-    put_number(used.corners as u64);
-    put_number(used.elements as u64);
-    put_number(used.bodies as u64);
-    put_number(used.parameters as u64);
-    put_number(used.loops as u64);
+fn put_used(rt: &impl Print, used: Used) -> io::Result<()> {
+    print!(rt; "read")?;
+    put_number(rt, used.v as u64)?;
+    put_number(rt, used.vt as u64)?;
+    put_number(rt, used.vn as u64)?;
+    put_number(rt, used.vp as u64)?;
+    put_number(rt, used.corners as u64)?;
+    put_number(rt, used.elements as u64)?;
+    put_number(rt, used.bodies as u64)?;
+    put_number(rt, used.parameters as u64)?;
+    put_number(rt, used.loops as u64)
 }
 
-fn put_reading(reading: ReadResult) {
+fn put_reading(rt: &impl Print, reading: ReadResult) -> io::Result<()> {
     match reading {
-        ReadResult::Read(used) => put_used(used),
+        ReadResult::Read(used) => put_used(rt, used),
         ReadResult::Refused { number, place } => {
-            put(b"refused");
-            put_number(number as u64);
-            put(b" at");
-            put_number(place as u64);
+            print!(rt; "refused")?;
+            put_number(rt, number as u64)?;
+            print!(rt; " at")?;
+            put_number(rt, place as u64)
         }
     }
 }
 
 fn report(
+    rt: &impl Print,
     reading: ReadResult,
     v: &[i32],
     vt: &[i32],
@@ -96,24 +94,25 @@ fn report(
     parameters: &[i32],
     loops: &[u32],
     spans: &[i32],
-) {
-    put_reading(reading);
-    put(b" |");
-    put_number(sum_i32(v));
-    put_number(sum_i32(vt));
-    put_number(sum_i32(vn));
-    put_number(sum_i32(vp));
-    put_number(sum_u32(corners));
-    put_number(sum_u32(elements));
-    put_number(sum_u32(bodies));
-    put_number(sum_i32(ranges));
-    put_number(sum_i32(parameters));
-    put_number(sum_u32(loops));
-    put_number(sum_i32(spans));
-    put(b"\n");
+) -> io::Result<()> {
+    put_reading(rt, reading)?;
+    print!(rt; " |")?;
+    put_number(rt, sum_i32(v))?;
+    put_number(rt, sum_i32(vt))?;
+    put_number(rt, sum_i32(vn))?;
+    put_number(rt, sum_i32(vp))?;
+    put_number(rt, sum_u32(corners))?;
+    put_number(rt, sum_u32(elements))?;
+    put_number(rt, sum_u32(bodies))?;
+    put_number(rt, sum_i32(ranges))?;
+    put_number(rt, sum_i32(parameters))?;
+    put_number(rt, sum_u32(loops))?;
+    put_number(rt, sum_i32(spans))?;
+    println!(rt)
 }
 
 fn read_into(
+    rt: &impl Print,
     text: &[u8],
     v: &mut [i32],
     vt: &mut [i32],
@@ -126,17 +125,17 @@ fn read_into(
     parameters: &mut [i32],
     loops: &mut [u32],
     spans: &mut [i32],
-) {
+) -> io::Result<()> {
     let reading = reader::read(
         text, v, vt, vn, vp, corners, elements, bodies, ranges, parameters, loops, spans,
     );
     report(
-        reading, v, vt, vn, vp, corners, elements, bodies, ranges, parameters, loops, spans,
-    );
+        rt, reading, v, vt, vn, vp, corners, elements, bodies, ranges, parameters, loops, spans,
+    )
 }
 
 // The tables hold sevens before a text is read into them.
-fn with_tables(text: &[u8]) {
+fn with_tables(rt: &impl Print, text: &[u8]) -> io::Result<()> {
     let mut v = [7i32; 16384];
     let mut vt = [7i32; 16384];
     let mut vn = [7i32; 16384];
@@ -149,6 +148,7 @@ fn with_tables(text: &[u8]) {
     let mut loops = [7u32; 16384];
     let mut spans = [7i32; 16384];
     read_into(
+        rt,
         text,
         &mut v,
         &mut vt,
@@ -161,42 +161,44 @@ fn with_tables(text: &[u8]) {
         &mut parameters,
         &mut loops,
         &mut spans,
-    );
+    )
 }
 
 // The case at `at`; the place after its text.
-fn read_case(cases: &[u8], at: usize) -> usize
+fn read_case(rt: &impl Print, cases: &[u8], at: usize) -> io::Result<usize>
     requires { at ≤ length cases.now }
-    ensures { result ≤ length cases.now }
+    ensures { IfOk result (λ next. next ≤ length cases.now) }
 {
     let count = number_at(cases, at);
     let label = count.next;
     let end = line_end(cases, label);
-    put(&cases[label..end]);
-    put(b" | ");
+    rt.write_all(&cases[label..end])?;
+    print!(rt; " | ")?;
     let from = least(end + 1, cases.len());
     let to = from + least(count.value, cases.len() - from);
-    with_tables(&cases[from..to]);
-    to
+    with_tables(rt, &cases[from..to])?;
+    Ok(to)
 }
 
-fn read_cases(cases: &[u8]) {
+fn read_cases(rt: &impl Print, cases: &[u8]) -> io::Result<()> {
     let mut at: usize = 0;
     while at < cases.len() {
-        let next = read_case(cases, at);
+        let next = read_case(rt, cases, at)?;
         if next <= at {
-            return;
+            return Ok(());
         }
         at = next;
     }
+    Ok(())
 }
 
-fn read_input(input: &mut [u8]) {
-    let n = io::read_full(STDIN_FILENO, input);
-    read_cases(&input[..n]);
+fn read_input(rt: &HostRuntime, input: &mut [u8]) -> Result<(), Failure> {
+    let n = streams::read_input(&mut rt.stdin(), input)?;
+    read_cases(rt, &input[..n]).map_err(Failure::Output)
 }
 
-fn main() {
+fn main(rt: HostRuntime) -> ExitCode {
     let mut input = [0u8; 524288];
-    read_input(&mut input);
+    let ran = read_input(&rt, &mut input);
+    streams::ended(&rt, ran)
 }

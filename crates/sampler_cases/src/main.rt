@@ -3,82 +3,77 @@
 // The step of a cubic is that of segment 0 whose number is the run's steps.
 #![tactic(auto)]
 
-ghost use Rattle.std.specs.Prelude.{◌≤◌, ◌<◌, length};
+ghost use Rattle.std.specs.Prelude.{◌≤◌, ◌<◌, IfOk, length};
 
 use case_files::{least, line_end, number_at};
-use libc::{STDIN_FILENO, STDOUT_FILENO};
 use polyline::PolylineResult;
 use reader::ReadResult;
 use sampler::{PointResult, RunResult};
+use std::io;
+use std::process::ExitCode;
+use streams::Failure;
 use tables::Used;
 
-fn put(bytes: &[u8]) {
-    io::write_all(STDOUT_FILENO, bytes);
+fn put_whole(rt: &impl Print, n: u64) -> io::Result<()> {
+    print!(rt; " {n}")
 }
 
-fn put_whole(n: u64) {
-    put(b" ");
-    io::print_decimal(STDOUT_FILENO, n);
+fn put_number(rt: &impl Print, n: i32) -> io::Result<()> {
+    print!(rt; " {n}")
 }
 
-fn put_number(n: i32) {
-    put(b" ");
-    if n < 0 {
-        put(b"-");
-    }
-    io::print_decimal(STDOUT_FILENO, word_format::magnitude(n) as u64);
+fn put_refusal(rt: &impl Print, number: u32) -> io::Result<()> {
+    print!(rt; " refused")?;
+    put_whole(rt, number as u64)
 }
 
-fn put_refusal(number: u32) {
-    put(b" refused");
-    put_whole(number as u64);
-}
-
-fn put_numbers(numbers: &[i32]) {
+fn put_numbers(rt: &impl Print, numbers: &[i32]) -> io::Result<()> {
     let mut i: usize = 0;
     while i < numbers.len() {
-        put_number(numbers[i]);
+        put_number(rt, numbers[i])?;
         i += 1;
     }
+    Ok(())
 }
 
-fn put_point(sampled: PointResult) {
+fn put_point(rt: &impl Print, sampled: PointResult) -> io::Result<()> {
     match sampled {
         PointResult::Space { x, y, z } => {
-            put_number(x);
-            put_number(y);
-            put_number(z);
+            put_number(rt, x)?;
+            put_number(rt, y)?;
+            put_number(rt, z)
         }
         PointResult::Plane { u, v } => {
-            put_number(u);
-            put_number(v);
+            put_number(rt, u)?;
+            put_number(rt, v)
         }
-        PointResult::Refused { number } => put_refusal(number),
+        PointResult::Refused { number } => put_refusal(rt, number),
     }
 }
 
 // A run's answer, and the whole table that it was to fill.
-fn put_run(ran: RunResult, points: &[i32]) {
+fn put_run(rt: &impl Print, ran: RunResult, points: &[i32]) -> io::Result<()> {
     match ran {
-        RunResult::Filled { numbers } => put_whole(numbers as u64),
-        RunResult::Refused { number } => put_refusal(number),
+        RunResult::Filled { numbers } => put_whole(rt, numbers as u64)?,
+        RunResult::Refused { number } => put_refusal(rt, number)?,
     }
-    put(b":");
-    put_numbers(points);
+    print!(rt; ":")?;
+    put_numbers(rt, points)
 }
 
 // A polyline's answer, and the whole table that it was to fill.
-fn put_polyline(res: PolylineResult, table: &[i32]) {
+fn put_polyline(rt: &impl Print, res: PolylineResult, table: &[i32]) -> io::Result<()> {
     match res {
-        PolylineResult::Filled { points } => put_whole(points as u64),
-        PolylineResult::Refused { number } => put_refusal(number),
+        PolylineResult::Filled { points } => put_whole(rt, points as u64)?,
+        PolylineResult::Refused { number } => put_refusal(rt, number)?,
     }
-    put(b":");
-    put_numbers(table);
+    print!(rt; ":")?;
+    put_numbers(rt, table)
 }
 
 // The polyline fills its table from entry 2 on.
 fn cut(
+    rt: &impl Print,
     used: Used,
     v: &[i32],
     vt: &[i32],
@@ -93,7 +88,7 @@ fn cut(
     spans: &[i32],
     element: u32,
     tolerance: i32,
-) {
+) -> io::Result<()> {
     let mut points = [7i32; 64];
     let result = polyline::polyline(
         used,
@@ -113,11 +108,12 @@ fn cut(
         &mut points,
         2,
     );
-    put_polyline(result, &points);
+    put_polyline(rt, result, &points)
 }
 
 // The run fills its table from entry 2 on.
 fn run(
+    rt: &impl Print,
     used: Used,
     v: &[i32],
     vt: &[i32],
@@ -132,7 +128,7 @@ fn run(
     spans: &[i32],
     element: u32,
     steps: u32,
-) {
+) -> io::Result<()> {
     let mut points = [7i32; 64];
     let ran = sampler::run_on_curve(
         used,
@@ -152,10 +148,11 @@ fn run(
         &mut points,
         2,
     );
-    put_run(ran, &points);
+    put_run(rt, ran, &points)
 }
 
 fn sample(
+    rt: &impl Print,
     used: Used,
     v: &[i32],
     vt: &[i32],
@@ -173,36 +170,46 @@ fn sample(
     s: i32,
     t: i32,
     tolerance: i32,
-) {
-    put(b" | curve");
-    put_point(sampler::point_on_curve(
-        used, v, vt, vn, vp, corners, elements, bodies, ranges, parameters, loops, spans, element,
-        s,
-    ));
-    put(b" | cubic");
-    put_point(point_cubics::cubic_at(
-        used, v, vt, vn, vp, corners, elements, bodies, ranges, parameters, loops, spans, element,
-        0, steps,
-    ));
-    put(b" | surface");
-    put_point(sampler::point_on_surface(
-        used, v, vt, vn, vp, corners, elements, bodies, ranges, parameters, loops, spans, element,
-        s, t,
-    ));
-    put(b" | run");
+) -> io::Result<()> {
+    print!(rt; " | curve")?;
+    put_point(
+        rt,
+        sampler::point_on_curve(
+            used, v, vt, vn, vp, corners, elements, bodies, ranges, parameters, loops, spans,
+            element, s,
+        ),
+    )?;
+    print!(rt; " | cubic")?;
+    put_point(
+        rt,
+        point_cubics::cubic_at(
+            used, v, vt, vn, vp, corners, elements, bodies, ranges, parameters, loops, spans,
+            element, 0, steps,
+        ),
+    )?;
+    print!(rt; " | surface")?;
+    put_point(
+        rt,
+        sampler::point_on_surface(
+            used, v, vt, vn, vp, corners, elements, bodies, ranges, parameters, loops, spans,
+            element, s, t,
+        ),
+    )?;
+    print!(rt; " | run")?;
     run(
-        used, v, vt, vn, vp, corners, elements, bodies, ranges, parameters, loops, spans, element,
-        steps,
-    );
-    put(b" | polyline");
+        rt, used, v, vt, vn, vp, corners, elements, bodies, ranges, parameters, loops, spans,
+        element, steps,
+    )?;
+    print!(rt; " | polyline")?;
     cut(
-        used, v, vt, vn, vp, corners, elements, bodies, ranges, parameters, loops, spans, element,
-        tolerance,
-    );
+        rt, used, v, vt, vn, vp, corners, elements, bodies, ranges, parameters, loops, spans,
+        element, tolerance,
+    )
 }
 
 // Three numbers of element, one after the other.
 fn sample_elements(
+    rt: &impl Print,
     used: Used,
     v: &[i32],
     vt: &[i32],
@@ -217,9 +224,9 @@ fn sample_elements(
     spans: &[i32],
     steps: u32,
     first: usize,
-) {
+) -> io::Result<()> {
     if vn.len() < 3 {
-        return;
+        return Ok(());
     }
     let s = vn[0];
     let t = vn[1];
@@ -228,6 +235,7 @@ fn sample_elements(
     let mut element: u32 = 0;
     while element < 3 {
         sample(
+            rt,
             used,
             v,
             vt,
@@ -245,13 +253,14 @@ fn sample_elements(
             s,
             t,
             tolerance,
-        );
+        )?;
         element += 1;
     }
-    put(b"\n");
+    println!(rt)
 }
 
 fn answer(
+    rt: &impl Print,
     reading: ReadResult,
     v: &[i32],
     vt: &[i32],
@@ -266,17 +275,18 @@ fn answer(
     spans: &[i32],
     steps: u32,
     first: usize,
-) {
+) -> io::Result<()> {
     match reading {
         ReadResult::Read(used) => sample_elements(
-            used, v, vt, vn, vp, corners, elements, bodies, ranges, parameters, loops, spans,
+            rt, used, v, vt, vn, vp, corners, elements, bodies, ranges, parameters, loops, spans,
             steps, first,
         ),
-        ReadResult::Refused { number, place: _ } => put_refusal(number),
+        ReadResult::Refused { number, place: _ } => put_refusal(rt, number),
     }
 }
 
 fn read_into(
+    rt: &impl Print,
     text: &[u8],
     v: &mut [i32],
     vt: &mut [i32],
@@ -291,17 +301,17 @@ fn read_into(
     spans: &mut [i32],
     steps: u32,
     first: usize,
-) {
+) -> io::Result<()> {
     let reading = reader::read(
         text, v, vt, vn, vp, corners, elements, bodies, ranges, parameters, loops, spans,
     );
     answer(
-        reading, v, vt, vn, vp, corners, elements, bodies, ranges, parameters, loops, spans, steps,
-        first,
-    );
+        rt, reading, v, vt, vn, vp, corners, elements, bodies, ranges, parameters, loops, spans,
+        steps, first,
+    )
 }
 
-fn with_tables(text: &[u8], steps: u32, first: usize) {
+fn with_tables(rt: &impl Print, text: &[u8], steps: u32, first: usize) -> io::Result<()> {
     let mut v = [0i32; 16384];
     let mut vt = [0i32; 16384];
     let mut vn = [0i32; 16384];
@@ -314,6 +324,7 @@ fn with_tables(text: &[u8], steps: u32, first: usize) {
     let mut loops = [0u32; 16384];
     let mut spans = [0i32; 16384];
     read_into(
+        rt,
         text,
         &mut v,
         &mut vt,
@@ -328,47 +339,50 @@ fn with_tables(text: &[u8], steps: u32, first: usize) {
         &mut spans,
         steps,
         first,
-    );
+    )
 }
 
 // The case at `at`; the place after its text.
-fn sample_case(cases: &[u8], at: usize) -> usize
+fn sample_case(rt: &impl Print, cases: &[u8], at: usize) -> io::Result<usize>
     requires { at ≤ length cases.now }
-    ensures { result ≤ length cases.now }
+    ensures { IfOk result (λ next. next ≤ length cases.now) }
 {
     let count = number_at(cases, at);
     let steps = number_at(cases, count.next);
     let first = number_at(cases, steps.next);
     let label = first.next;
     let end = line_end(cases, label);
-    put(&cases[label..end]);
+    rt.write_all(&cases[label..end])?;
     let from = least(end + 1, cases.len());
     let to = from + least(count.value, cases.len() - from);
     with_tables(
+        rt,
         &cases[from..to],
         least(steps.value, 65537) as u32,
         first.value,
-    );
-    to
+    )?;
+    Ok(to)
 }
 
-fn sample_cases(cases: &[u8]) {
+fn sample_cases(rt: &impl Print, cases: &[u8]) -> io::Result<()> {
     let mut at: usize = 0;
     while at < cases.len() {
-        let next = sample_case(cases, at);
+        let next = sample_case(rt, cases, at)?;
         if next <= at {
-            return;
+            return Ok(());
         }
         at = next;
     }
+    Ok(())
 }
 
-fn read_input(input: &mut [u8]) {
-    let n = io::read_full(STDIN_FILENO, input);
-    sample_cases(&input[..n]);
+fn read_input(rt: &HostRuntime, input: &mut [u8]) -> Result<(), Failure> {
+    let n = streams::read_input(&mut rt.stdin(), input)?;
+    sample_cases(rt, &input[..n]).map_err(Failure::Output)
 }
 
-fn main() {
+fn main(rt: HostRuntime) -> ExitCode {
     let mut input = [0u8; 524288];
-    read_input(&mut input);
+    let ran = read_input(&rt, &mut input);
+    streams::ended(&rt, ran)
 }
