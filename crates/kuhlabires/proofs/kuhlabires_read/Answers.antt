@@ -1,0 +1,8 @@
+-- The reader's answer, as a record, and the tables that it left.
+use Rattle.c_records.proofs.Readings.{halves}
+use borrow.Author.Rules.{rules}
+use Rattle.kuhlabires.proofs.kuhlabires_read.Goals as goal
+
+pub returns : goal.returns
+returns c =
+    halves c.read.ensures c.read_of.ensures
