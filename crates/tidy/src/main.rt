@@ -1,13 +1,18 @@
 // The tidy text of an .obj file, from standard input to standard output, or its refusal. What is printed is `tidy_output`'s.
 #![tactic(auto)]
 
-fn put_front(out: &[u8], count: usize) {
+use std::io::{Read, Write};
+use std::process::ExitCode;
+use streams::Failure;
+
+fn put_front(output: &mut impl Write, out: &[u8], count: usize) -> Result<(), Failure> {
     if count <= out.len() {
-        streams::write_output(&out[0..count]);
+        streams::write_output(output, &out[0..count])?;
     }
+    Ok(())
 }
 
-fn tidy_text(text: &[u8]) {
+fn tidy_text(output: &mut impl Write, text: &[u8]) -> Result<(), Failure> {
     let mut v = [0i32; 16384];
     let mut vt = [0i32; 16384];
     let mut vn = [0i32; 16384];
@@ -35,20 +40,21 @@ fn tidy_text(text: &[u8]) {
         &mut spans,
         &mut out,
     );
-    put_front(&out, count);
+    put_front(output, &out, count)
 }
 
 // The room is one byte more than is taken, to see that a text is longer. Nothing is printed where the input could not be read.
-fn tidy_input(input: &mut [u8]) {
-    let read = streams::read_input(input);
-    if read.failed {
-        return;
-    }
-    let count = read.count;
-    tidy_text(&input[..count]);
+fn tidy_input(
+    input: &mut impl Read,
+    output: &mut impl Write,
+    text: &mut [u8],
+) -> Result<(), Failure> {
+    let count = streams::read_input(input, text)?;
+    tidy_text(output, &text[..count])
 }
 
-fn main() {
-    let mut input = [0u8; 65537];
-    tidy_input(&mut input);
+fn main(rt: HostRuntime) -> ExitCode {
+    let mut text = [0u8; 65537];
+    let ran = tidy_input(&mut rt.stdin(), &mut rt.stdout(), &mut text);
+    streams::ended(&rt, ran)
 }
