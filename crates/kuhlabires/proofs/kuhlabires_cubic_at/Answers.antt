@@ -2,7 +2,6 @@
 use mathlib.Core.Path.{ap, ◌∙◌}
 use Rattle.sampler.specs.Answers.{PointAnswer}
 use Rattle.c_records.specs.Answers.{point_in}
-use borrow.Author.Rules.{rules}
 use Rattle.kuhlabires.proofs.kuhlabires_cubic_at.Goals as goal
 
 pub returns : goal.returns

@@ -1,7 +1,6 @@
 -- The record that was asked for, as C gets it.
 use mathlib.Core.Path.{ap, ◌∙◌}
 use Rattle.c_tables.specs.Records.{element_record}
-use borrow.Author.Rules.{rules}
 use Rattle.kuhlabires.proofs.kuhlabires_element_of.Goals as goal
 
 pub returns : goal.returns

@@ -1,6 +1,5 @@
 -- The element's record, and then the part that it names: the definition's own two steps.
 use Rattle.c_tables.proofs.Parts.{group-placed}
-use borrow.Author.Rules.{rules}
 use Rattle.kuhlabires.proofs.kuhlabires_group_of.Goals as goal
 
 pub returns : goal.returns

@@ -4,7 +4,6 @@ use mir.Val.{to_z, of_z}
 use mir.Facts.{to_z-of_z}
 use Rattle.tables.specs.Tables.{tables}
 use Rattle.c_records.proofs.Points.{on-curve}
-use borrow.Author.Rules.{rules}
 use Rattle.kuhlabires.proofs.kuhlabires_point_on_curve.Goals as goal
 
 pub returns : goal.returns

@@ -1,6 +1,5 @@
 -- The reader's answer, as a record, and the tables that it left.
 use Rattle.c_records.proofs.Readings.{halves}
-use borrow.Author.Rules.{rules}
 use Rattle.kuhlabires.proofs.kuhlabires_read.Goals as goal
 
 pub returns : goal.returns

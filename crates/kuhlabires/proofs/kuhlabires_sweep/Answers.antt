@@ -1,6 +1,5 @@
 -- The sweep's answer, as a record, and the tables and the list that it left.
 use Rattle.c_records.proofs.Sweeps.{sweep-thirds}
-use borrow.Author.Rules.{rules}
 use Rattle.kuhlabires.proofs.kuhlabires_sweep.Goals as goal
 
 pub returns : goal.returns

@@ -4,7 +4,6 @@ use Rattle.tables.specs.Tables.{tables}
 use Rattle.tidy_form.specs.declared.Weights.{Weights}
 use Rattle.tidier.specs.Tidying.{tidy_into}
 use Rattle.c_records.proofs.Tidyings.{thirds}
-use borrow.Author.Rules.{rules}
 use Rattle.kuhlabires.proofs.kuhlabires_tidy.Goals as goal
 
 pub returns : goal.returns
