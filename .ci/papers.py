@@ -5,7 +5,7 @@
 
 Checked: paths; definitions, theorems and functions cited beside a file; must-fail edits; cases; crates in the
 tables of crates; entry points, which have no `requires`; functions listed twice; numbers of decisions; counted
-lines; that what must be believed stands in files that say so, and alone; docs/KEYWORDS.md, which is printed from the code. docs/LANDINGS.md speaks of what was, and is left out.
+lines; that what must be believed stands in files that say so, and alone; docs/KEYWORDS.md, which is printed from the code. docs/LANDINGS.md and docs/PORT.md speak of what was, and are left out.
 """
 
 import re
@@ -305,7 +305,7 @@ def main():
     if texts["docs/KEYWORDS.md"] != keywords.page():
         faults.append("docs/KEYWORDS.md is not what .ci/keywords.py prints")
     for paper, text in texts.items():
-        if not paper.endswith("LANDINGS.md"):
+        if not paper.endswith(("LANDINGS.md", "PORT.md")):
             faults += [f"{paper}:{i}: {fault}" for i, line in enumerate(text.splitlines(), 1) for fault in faults_of(line)]
     for fault in faults:
         print(fault)
