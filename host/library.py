@@ -23,7 +23,10 @@ ROOT = Path(__file__).resolve().parent.parent
 CRATE = ROOT / "crates" / "kuhlabires"
 MADE = CRATE / "out" / "libkuhlabires.a"
 ARCHIVE = ROOT / "target" / "staticlib" / "libkuhlabires.a"
-KIT = Path(shutil.which("rt") or "/opt/rattle/bin/rt").resolve().parent.parent
+RT = shutil.which("rt")
+if RT is None:
+    sys.exit("host/library.py: no rt on the PATH: it is the command of the Rattle toolchain")
+KIT = Path(RT).resolve().parent.parent
 
 
 def lines():

@@ -1,8 +1,9 @@
 // Standard input read to its end, and standard output written whole. A call that fails is told apart from the end of the input and said on standard error.
 #![tactic(auto)]
 
-ghost use Rattle.std.specs.Prelude.{◌<◌, IfOk, OnOk, length, take};
+ghost use Rattle.std.specs.Prelude.{◌≡◌, ◌<◌, IfOk, MatchResult, OnOk, length, take};
 ghost use Rattle.std.specs.Io.KnownBytes.{Appends, Consumes, IsAtEnd};
+ghost use Rattle.std.specs.Process.{exit_status};
 ghost use Rattle.streams.specs.Counts.{IsPrefixLen};
 
 use std::fmt::{Display, Write as _};
@@ -93,7 +94,9 @@ impl Display for Failure {
 }
 
 // What a program ends with: a failure is said on standard error.
-pub fn ended(rt: &impl Eprint, ran: Result<(), Failure>) -> ExitCode {
+pub fn ended(rt: &impl Eprint, ran: Result<(), Failure>) -> ExitCode
+    ensures { MatchResult ran (λ _. exit_status result ≡ 0) (λ _. exit_status result ≡ 1) }
+{
     match ran {
         Ok(()) => ExitCode::SUCCESS,
         Err(failure) => {
