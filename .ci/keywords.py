@@ -14,7 +14,7 @@ SOURCE = ROOT / "crates" / "keywords" / "src" / "lib.rt"
 
 def rows_of(text, table):
     """The rows of a constant table: spelling and letter."""
-    body = re.search(rf'const {table}: \[u8; \d+\] = \*b"\\\n(.*?)";', text, re.S)[1]
+    body = re.search(rf'static {table}: \[u8; \d+\] = \*b"\\\n(.*?)";', text, re.S)[1]
     rows = [re.fullmatch(r" {4}(\S+) +(\S)\\?", line) for line in body.split("\n")]
     return [(row[1], row[2]) for row in rows]
 

@@ -5,7 +5,7 @@
 
 Checked: paths; definitions, theorems and functions cited beside a file; must-fail edits; cases; crates in the
 tables of crates; entry points, which have no `requires`; functions listed twice; numbers of decisions; counted
-lines; that what must be believed stands in files that say so, and alone; docs/KEYWORDS.md, which is printed from the code. docs/LANDINGS.md and docs/PORT.md speak of what was, and are left out.
+lines; that what must be believed stands in files that say so, and alone; docs/KEYWORDS.md, which is printed from the code. docs/LANDINGS.md, docs/PORT.md and docs/DESIGN-PASS.md speak of what was, and are left out.
 """
 
 import re
@@ -46,7 +46,7 @@ def defines(file, name):
     if file.suffix == ".antt":
         return re.search(rf"(?m)^\s*(?:(?:abbrev|unfoldable|pub|record|data|module)\s+)*«?{plain}»?(?=[\s:({{])(?!\s*=)", text) is not None
     if file.suffix == ".rt":
-        return re.search(rf"\b(?:fn|struct|enum|const|mod)\s+{plain}\b|^\s+{plain}[,({{ ]", text, re.M) is not None
+        return re.search(rf"\b(?:fn|struct|enum|const|static|mod)\s+{plain}\b|^\s+{plain}[,({{ ]", text, re.M) is not None
     return re.search(rf"(?m)\b(?:def|class|fn|struct|enum|const)\s+{plain}\b|^{plain}\s*=", text) is not None
 
 
@@ -305,7 +305,7 @@ def main():
     if texts["docs/KEYWORDS.md"] != keywords.page():
         faults.append("docs/KEYWORDS.md is not what .ci/keywords.py prints")
     for paper, text in texts.items():
-        if not paper.endswith(("LANDINGS.md", "PORT.md")):
+        if not paper.endswith(("LANDINGS.md", "PORT.md", "DESIGN-PASS.md")):
             faults += [f"{paper}:{i}: {fault}" for i, line in enumerate(text.splitlines(), 1) for fault in faults_of(line)]
     for fault in faults:
         print(fault)

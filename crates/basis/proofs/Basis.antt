@@ -1,16 +1,14 @@
 -- The four types along one direction: a bspline by its own rule, the other three by one.
-use Prim.Native.Nat.{ℕ, ◌+◌, ◌*◌, ◌-◌, ◌<◌, ◌≤◌}
-use native.Mathlib.Nat.{zero-mul, mul-zero, mul-one, mul-le-mul_left}
+use Prim.Native.Nat.{ℕ, ◌+◌, ◌*◌, ◌-◌, ◌≤◌}
 use native.Mathlib.Omega.{arith}
-use mathlib.Core.Path.{◌≡◌, refl, sym, ◌∙◌}
+use mathlib.Core.Path.{◌≡◌, refl}
 use mathlib.Core.List.{List}
 use mathlib.Core.Bool.{Bool, true, false, cond, ◌&&◌}
-use mathlib.Core.Logic.{⊎_elim}
-use borrow.Author.Tests.{leb-true, leb-false, le-leb, lt-leb, ne_eqb}
+use borrow.Author.Tests.{leb-true, ne_eqb}
 use lib.Dec.{leb, eqb}
 use lib.ListN.{length, get_or}
 use lib.IntN.{ℤ, pos}
-use Rattle.lists.proofs.Tests.{test, and_left, and_right}
+use Rattle.lists.proofs.Tests.{and_left, and_right}
 use Rattle.tables.specs.Bodies.{Basis, bezier, cardinal, taylor, enough, controls, low, high, curve_count, surface_count, basis_of}
 
 -- what holds of the other three holds of a type that is no bspline
@@ -23,40 +21,14 @@ not-bspline P a b c type h = rw (ne_eqb type 2 h) (go (eqb type 1) (eqb type 3))
     go false false = c
 
 module _ (type : ℕ) (other : type ≡ 2 → ⊥) where
-  pub enough-other : (n p : ℕ) → enough (basis_of type) n p ≡ true
-  enough-other n p = not-bspline (λ t. enough t n p ≡ true) refl refl refl type other
-
   pub low-other : (n : ℕ) (x : List ℤ) → low (basis_of type) n x ≡ get_or x 0 (pos 0)
   low-other n x = not-bspline (λ t. low t n x ≡ get_or x 0 (pos 0)) refl refl refl type other
 
   pub high-other : (n : ℕ) (x : List ℤ) → high (basis_of type) n x ≡ get_or x (length x - 1) (pos 0)
   high-other n x = not-bspline (λ t. high t n x ≡ get_or x (length x - 1) (pos 0)) refl refl refl type other
 
-pub enough-knots : (n p : ℕ) → leb (2 * n + 2) p ≡ leb (n + 1) (p - n - 1)
-enough-knots n p =
-    ⊎_elim
-    (λ (h : leb (2 * n + 2) p ≡ true). h ∙ sym (le-leb (n + 1) (p - n - 1) (omega (arith, leb-true (2 * n + 2) p h))))
-    (λ (h : leb (2 * n + 2) p ≡ false). h ∙ sym (lt-leb (n + 1) (p - n - 1) (omega (arith, leb-false (2 * n + 2) p h))))
-    (test (leb (2 * n + 2) p))
-
 pub knots-enough : (type n p : ℕ) → type ≡ 2 → enough (basis_of type) n p ≡ true → 2 * n + 2 ≤ p
 knots-enough type n p e h = let k : leb (n + 1) (p - n - 1) ≡ true = rw e at h in omega (arith, leb-true (n + 1) (p - n - 1) k)
-
--- ---- a product against a number
-pub product-none : (a b k : ℕ) → a ≡ 0 → eqb k 0 ≡ eqb k (a * b)
-product-none a b k e = rw (e, zero-mul)
-
-pub product-nothing : (a b k : ℕ) → b ≡ 0 → eqb k 0 ≡ eqb k (a * b)
-product-nothing a b k e = rw (e, mul-zero)
-
-product-past : (a b k : ℕ) → (b ≡ 0 → ⊥) → k < a → k ≡ a * b → ⊥
-product-past a b k f h e =
-    let one : 1 ≤ b = omega arith in
-    let up : a * 1 ≤ a * b = mul-le-mul_left a one in
-    omega (arith, mul-one a)
-
-pub product-over : (a b k : ℕ) → (b ≡ 0 → ⊥) → k < a → eqb k (a * b) ≡ false
-product-over a b k f h = ne_eqb k (a * b) (product-past a b k f h)
 
 -- ---- the counts of controls hold only where there are enough
 pub curve-enough : (t : Basis) (n p k : ℕ) → curve_count t n p k ≡ true → enough t n p ≡ true

@@ -12,10 +12,7 @@ use tables::bases;
 fn enough(basis: u32, n: u32, p: u32) -> bool
     ensures { result ≡ enough (basis_of basis) n p }
 {
-    if basis != bases::BSPLINE {
-        return true;
-    }
-    2 * n as usize + 2 <= p as usize
+    basis != bases::BSPLINE || 2 * n as usize + 2 <= p as usize
 }
 
 fn controls(basis: u32, n: u32, p: u32) -> usize
@@ -24,59 +21,40 @@ fn controls(basis: u32, n: u32, p: u32) -> usize
 {
     let n = n as usize;
     let p = p as usize;
-    if basis == bases::BEZIER {
-        return n * (p - 1) + 1;
+    match basis {
+        bases::BEZIER => n * (p - 1) + 1,
+        bases::BSPLINE => p - n - 1,
+        bases::CARDINAL => p + 2,
+        _ => (n + 1) * (p - 1),
     }
-    if basis == bases::BSPLINE {
-        return p - n - 1;
-    }
-    if basis == bases::CARDINAL {
-        return p + 2;
-    }
-    (n + 1) * (p - 1)
 }
 
-// Whether a times b is k: a factor past k makes the product 0 or past k, and two that are not fit.
+// Whether a times b is k.
 fn product_is(a: usize, b: usize, k: u32) -> bool
     ensures { result ≡ eqb k (a * b) }
 {
-    let k = k as usize;
-    if a == 0 {
-        return k == 0;
+    match a.checked_mul(b) {
+        Some(product) => product == k as usize,
+        None => false,
     }
-    if b == 0 {
-        return k == 0;
-    }
-    if k < a {
-        return false;
-    }
-    if k < b {
-        return false;
-    }
-    k == a * b
 }
 
+#[tactic(auto, unfolding(tables::specs::Bodies::curve_count))]
 pub fn curve_count(basis: u32, n: u32, p: u32, k: u32) -> bool
     requires { 1 ≤ p }
     ensures { result ≡ curve_count (basis_of basis) n p k }
 {
-    if !enough(basis, n, p) {
-        return false;
-    }
-    k as usize == controls(basis, n, p)
+    enough(basis, n, p) && k as usize == controls(basis, n, p)
 }
 
+#[tactic(auto, unfolding(tables::specs::Bodies::surface_count))]
 pub fn surface_count(basis: u32, m: u32, p: u32, n: u32, q: u32, k: u32) -> bool
     requires { (1 ≤ p) × (1 ≤ q) }
     ensures { result ≡ surface_count (basis_of basis) m p n q k }
 {
-    if !enough(basis, m, p) {
-        return false;
-    }
-    if !enough(basis, n, q) {
-        return false;
-    }
-    product_is(controls(basis, m, p), controls(basis, n, q), k)
+    enough(basis, m, p)
+        && enough(basis, n, q)
+        && product_is(controls(basis, m, p), controls(basis, n, q), k)
 }
 
 // The widest range that the parameters allow, and its two ends.
@@ -85,9 +63,10 @@ fn low(basis: u32, n: u32, x: &[i32]) -> i32
     ensures { result ≡ low (basis_of basis) n x.now }
 {
     if basis == bases::BSPLINE {
-        return x[n as usize];
+        x[n as usize]
+    } else {
+        x[0]
     }
-    x[0]
 }
 
 fn high(basis: u32, n: u32, x: &[i32]) -> i32
@@ -95,9 +74,10 @@ fn high(basis: u32, n: u32, x: &[i32]) -> i32
     ensures { result ≡ high (basis_of basis) n x.now }
 {
     if basis == bases::BSPLINE {
-        return x[x.len() - n as usize - 1];
+        x[x.len() - n as usize - 1]
+    } else {
+        x[x.len() - 1]
     }
-    x[x.len() - 1]
 }
 
 // 13 along one direction.
@@ -109,15 +89,10 @@ pub fn in_order(basis: u32, n: u32, x: &[i32], start: i32, end: i32) -> bool
 }
 
 // A curv2's range is the widest.
+#[tactic(auto, unfolding(crate::specs::Widest::widest))]
 pub fn widest(curv2: bool, basis: u32, n: u32, x: &[i32], start: i32, end: i32) -> bool
     requires { (2 ≤ length x.now) × (enough (basis_of basis) n (length x.now) ≡ true) }
     ensures { result ≡ widest curv2 (basis_of basis) n x.now start end }
 {
-    if !curv2 {
-        return true;
-    }
-    if low(basis, n, x) < start {
-        return false;
-    }
-    high(basis, n, x) <= end
+    !curv2 || start <= low(basis, n, x) && high(basis, n, x) <= end
 }

@@ -2,20 +2,17 @@
 #![tactic(auto)]
 
 ghost use Rattle.std.specs.Prelude.{◌≡◌};
-ghost use Rattle.model.specs.Layout.{none_used};
 ghost use Rattle.reader.specs.Reading.{read_outcome};
 ghost use Rattle.tidier.specs.Tidying.{tidy_outcome};
 ghost use Rattle.sampler.specs.Answers.{point_outcome, run_outcome};
 ghost use Rattle.polyline.specs.Answers.{polyline_outcome};
-ghost use Rattle.sweep.specs.Swept.{none_dropped, sweep_outcome};
+ghost use Rattle.sweep.specs.Swept.{sweep_outcome};
 ghost use Rattle.c_records.specs.Answers.{read_in, tidy_in, weights_in, point_in, run_in, polyline_in, sweep_in};
 
-use polyline::PolylineResult;
-use reader::ReadResult;
-use sampler::{PointResult, RunResult};
-use sweep::{Dropped, SweepResult};
+use refusals::{Reason, Refusal};
+use sweep::{Dropped, Swept};
 use tables::Used;
-use tidier::TidyResult;
+use tidier::{Tidied, TidyError};
 use tidy_form::Weights;
 
 // What reading comes to: the used counts, or a refusal at a place where `refusal` is not 0.
@@ -74,36 +71,41 @@ pub struct SweepCounts {
     pub dropped: Dropped,
 }
 
-fn nothing_used() -> Used
-    ensures { result ≡ none_used }
-{
-    Used {
-        v: 0,
-        vt: 0,
-        vn: 0,
-        vp: 0,
-        corners: 0,
-        elements: 0,
-        bodies: 0,
-        parameters: 0,
-        loops: 0,
-    }
-}
+const NOTHING_USED: Used = Used {
+    v: 0,
+    vt: 0,
+    vn: 0,
+    vp: 0,
+    corners: 0,
+    elements: 0,
+    bodies: 0,
+    parameters: 0,
+    loops: 0,
+};
 
-pub fn read_of(answer: ReadResult) -> ReadRecord
-    ensures { result ≡ read_in (read_outcome answer) }
-{
-    match answer {
-        ReadResult::Read(used) => ReadRecord {
-            refusal: 0,
-            place: 0,
-            used: used,
-        },
-        ReadResult::Refused { number, place: at } => ReadRecord {
-            refusal: number,
-            place: at,
-            used: nothing_used(),
-        },
+const NOTHING_DROPPED: Dropped = Dropped {
+    v: 0,
+    vt: 0,
+    vn: 0,
+    vp: 0,
+};
+
+impl From<Result<Used, Refusal>> for ReadRecord {
+    ghost from_gives = { λ answer r. r ≡ read_in (read_outcome answer) };
+
+    fn from(answer: Result<Used, Refusal>) -> ReadRecord {
+        match answer {
+            Ok(used) => ReadRecord {
+                refusal: 0,
+                place: 0,
+                used,
+            },
+            Err(refusal) => ReadRecord {
+                refusal: refusal.reason.number(),
+                place: refusal.place,
+                used: NOTHING_USED,
+            },
+        }
     }
 }
 
@@ -111,122 +113,118 @@ pub fn read_of(answer: ReadResult) -> ReadRecord
 pub fn weights_of(number: u32) -> Weights
     ensures { result ≡ weights_in number }
 {
-    if number == 1 {
-        return Weights::Always;
-    }
-    Weights::WhenNeeded
-}
-
-pub fn tidy_of(answer: TidyResult) -> TidyRecord
-    ensures { result ≡ tidy_in (tidy_outcome answer) }
-{
-    match answer {
-        TidyResult::Written { length, used } => TidyRecord {
-            refusal: 0,
-            place: 0,
-            length: length,
-            needed: 0,
-            used: used,
-        },
-        TidyResult::TooLong { needed, used } => TidyRecord {
-            refusal: 16,
-            place: 0,
-            length: 0,
-            needed: needed,
-            used: used,
-        },
-        TidyResult::Refused { number, place } => TidyRecord {
-            refusal: number,
-            place: place,
-            length: 0,
-            needed: 0,
-            used: nothing_used(),
-        },
+    match number {
+        1 => Weights::Always,
+        _ => Weights::WhenNeeded,
     }
 }
 
-pub fn point_of(answer: PointResult) -> Point
-    ensures { result ≡ point_in (point_outcome answer) }
-{
-    match answer {
-        PointResult::Space { x, y, z } => Point {
-            refusal: 0,
-            axes: 3,
-            x: x,
-            y: y,
-            z: z,
-        },
-        PointResult::Plane { u, v } => Point {
-            refusal: 0,
-            axes: 2,
-            x: u,
-            y: v,
-            z: 0,
-        },
-        PointResult::Refused { number } => Point {
-            refusal: number,
-            axes: 0,
-            x: 0,
-            y: 0,
-            z: 0,
-        },
+impl From<Result<Tidied, TidyError>> for TidyRecord {
+    ghost from_gives = { λ answer r. r ≡ tidy_in (tidy_outcome answer) };
+
+    fn from(answer: Result<Tidied, TidyError>) -> TidyRecord {
+        match answer {
+            Ok(text) => TidyRecord {
+                refusal: 0,
+                place: 0,
+                length: text.length,
+                needed: 0,
+                used: text.used,
+            },
+            Err(TidyError::TooLong { needed, used }) => TidyRecord {
+                refusal: Reason::NoOutputRoom.number(),
+                place: 0,
+                length: 0,
+                needed,
+                used,
+            },
+            Err(TidyError::Refused(stopped)) => TidyRecord {
+                refusal: stopped.reason.number(),
+                place: stopped.place,
+                length: 0,
+                needed: 0,
+                used: NOTHING_USED,
+            },
+        }
     }
 }
 
-pub fn run_of(answer: RunResult) -> Run
-    ensures { result ≡ run_in (run_outcome answer) }
-{
-    match answer {
-        RunResult::Filled { numbers } => Run {
-            refusal: 0,
-            numbers: numbers,
-        },
-        RunResult::Refused { number } => Run {
-            refusal: number,
-            numbers: 0,
-        },
+impl From<Result<sampler::Point, Reason>> for Point {
+    ghost from_gives = { λ answer r. r ≡ point_in (point_outcome answer) };
+
+    fn from(answer: Result<sampler::Point, Reason>) -> Point {
+        match answer {
+            Ok(sampler::Point::Space { x, y, z }) => Point {
+                refusal: 0,
+                axes: 3,
+                x,
+                y,
+                z,
+            },
+            Ok(sampler::Point::Plane { u, v }) => Point {
+                refusal: 0,
+                axes: 2,
+                x: u,
+                y: v,
+                z: 0,
+            },
+            Err(reason) => Point {
+                refusal: reason.number(),
+                axes: 0,
+                x: 0,
+                y: 0,
+                z: 0,
+            },
+        }
     }
 }
 
-pub fn polyline_of(answer: PolylineResult) -> PolylinePoints
-    ensures { result ≡ polyline_in (polyline_outcome answer) }
-{
-    match answer {
-        PolylineResult::Filled { points } => PolylinePoints {
-            refusal: 0,
-            points: points,
-        },
-        PolylineResult::Refused { number } => PolylinePoints {
-            refusal: number,
-            points: 0,
-        },
+impl From<Result<usize, Reason>> for Run {
+    ghost from_gives = { λ answer r. r ≡ run_in (run_outcome answer) };
+
+    fn from(answer: Result<usize, Reason>) -> Run {
+        match answer {
+            Ok(numbers) => Run {
+                refusal: 0,
+                numbers,
+            },
+            Err(reason) => Run {
+                refusal: reason.number(),
+                numbers: 0,
+            },
+        }
     }
 }
 
-fn nothing_dropped() -> Dropped
-    ensures { result ≡ none_dropped }
-{
-    Dropped {
-        v: 0,
-        vt: 0,
-        vn: 0,
-        vp: 0,
+impl From<Result<u32, Reason>> for PolylinePoints {
+    ghost from_gives = { λ answer r. r ≡ polyline_in (polyline_outcome answer) };
+
+    fn from(answer: Result<u32, Reason>) -> PolylinePoints {
+        match answer {
+            Ok(points) => PolylinePoints { refusal: 0, points },
+            Err(reason) => PolylinePoints {
+                refusal: reason.number(),
+                points: 0,
+            },
+        }
     }
 }
 
-pub fn sweep_of(answer: SweepResult) -> SweepCounts
-    ensures { result ≡ sweep_in (sweep_outcome answer) }
-{
-    match answer {
-        SweepResult::Swept { used, dropped } => SweepCounts {
-            refusal: 0,
-            used: used,
-            dropped: dropped,
-        },
-        SweepResult::Refused { number: reason } => SweepCounts {
-            refusal: reason,
-            used: nothing_used(),
-            dropped: nothing_dropped(),
-        },
+impl From<Result<Swept, Reason>> for SweepCounts {
+    ghost from_gives = { λ answer r. r ≡ sweep_in (sweep_outcome answer) };
+
+    fn from(answer: Result<Swept, Reason>) -> SweepCounts {
+        match answer {
+            Ok(swept) => SweepCounts {
+                refusal: 0,
+                used: swept.used,
+                dropped: swept.dropped,
+            },
+            Err(unswept) => SweepCounts {
+                refusal: unswept.number(),
+                used: NOTHING_USED,
+                dropped: NOTHING_DROPPED,
+            },
+        }
     }
 }

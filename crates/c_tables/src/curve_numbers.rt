@@ -9,11 +9,7 @@ use tables::{Used, kinds, widths};
 fn whole_elements(used: u32, lent: usize) -> u32
     ensures { result ≡ min used (lent / element_width) }
 {
-    let whole = lent / widths::ELEMENT;
-    if whole < used as usize {
-        return whole as u32;
-    }
-    used
+    (used as usize).min(lent / widths::ELEMENT) as u32
 }
 
 // The number of the element that is the `curve`-th curv2; 0 for none.
@@ -22,15 +18,13 @@ pub fn curve_of(used: Used, elements: &[u32], curve: u32) -> u32
 {
     let whole = whole_elements(used.elements, elements.len());
     let mut seen = 0;
-    let mut i = 0;
-    while i < whole {
+    for i in 0..whole {
         if tables::kind_in(elements, i) == kinds::CURVE2 {
             seen += 1;
             if seen == curve {
                 return i + 1;
             }
         }
-        i += 1;
     }
     0
 }

@@ -17,19 +17,18 @@ pub struct Part {
     pub length: usize,
 }
 
+#[tactic(auto, unfolding(crate::specs::Parts::text_part_in))]
 pub fn part_of(text: &[u8], run: NameRun) -> Part
     ensures { result ≡ text_part_in text.now run }
 {
-    let from = run.place as usize;
-    let many = run.length as usize;
-    if from + many <= text.len() {
-        return Part {
-            place: from,
-            length: many,
-        };
-    }
-    Part {
-        place: 0,
-        length: 0,
+    let place = run.place as usize;
+    let length = run.length as usize;
+    if place + length <= text.len() {
+        Part { place, length }
+    } else {
+        Part {
+            place: 0,
+            length: 0,
+        }
     }
 }

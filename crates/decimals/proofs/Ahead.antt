@@ -2,7 +2,6 @@
 use Prim.Native.Nat.{ℕ, ◌+◌, ◌-◌, ◌*◌, ◌^◌, ◌≤◌, ◌<◌}
 use mathlib.Core.Path.{◌≡◌, refl, sym, ap, ◌∙◌}
 use mathlib.Core.List.{List, ◌++◌}
-use mathlib.Core.Bool.{Bool}
 use lib.ListN.{length, drop, length-append}
 use native.Mathlib.Omega.{arith}
 use Rattle.lists.proofs.Laws.{all_append}
@@ -14,6 +13,7 @@ use Rattle.digits.specs.Digits.{is_digit, nat_of}
 use Rattle.digits.specs.Straight.{first, run, cap, WholeRead}
 use Rattle.digits.proofs.Rows.{run-digits, nat_of-append, nat_of-padded}
 use Rattle.digits.proofs.Lengths.{ten-digits}
+use Rattle.decimals.specs.declared.exponent.Exponent.{Exponent}
 use Rattle.decimals.specs.Straight.{magnitude_of, exponent_of, scaled_of, moved_of, DecimalsAhead, MantissaAhead}
 use Rattle.decimals.proofs.Shifts.{shift-number}
 use Rattle.decimals.proofs.Scaled.{with-a-point, end-in, no-decimal, scaled-malformed, scaled-moved}
@@ -62,13 +62,13 @@ module _ (s : List ℕ) (at n end : ℕ) (r : MantissaAhead s at n end) where
   pub ahead-no-decimal : wrong 6 ≡ ends_at (magnitude_of (word_of (drop at s))) (end_of s at)
   ahead-no-decimal = no-decimal r.read (first (drop end s)) refl r.stops
 
-  pub shifted-malformed : wrong 6 ≡ ends_at (exponent_of (word_of (drop (end + 1) s))) (end_of s (end + 1)) → wrong 6 ≡ ends_at (scaled_of (word_of (drop at s))) (end_of s at)
-  shifted-malformed h = scaled-malformed r.read (first (drop end s)) refl r.stops h
+  pub shifted-malformed : (m : ℕ) → wrong m ≡ ends_at (exponent_of (word_of (drop (end + 1) s))) (end_of s (end + 1)) → wrong m ≡ ends_at (scaled_of (word_of (drop at s))) (end_of s at)
+  shifted-malformed m h = scaled-malformed r.read (first (drop end s)) refl r.stops m h
 
-  pub shifted-read : (minus : Bool) (k last v : ℕ) → says ((minus, k), last) ≡ ends_at (exponent_of (word_of (drop (end + 1) s))) (end_of s (end + 1))
-      → v ≡ cap (moved_of minus (n * 10) k) → says (v, last) ≡ ends_at (scaled_of (word_of (drop at s))) (end_of s at)
-  shifted-read minus k last v h e =
+  pub shifted-read : (p : Exponent) (last v : ℕ) → says (p, last) ≡ ends_at (exponent_of (word_of (drop (end + 1) s))) (end_of s (end + 1))
+      → v ≡ cap (moved_of p.minus (n * 10) p.power) → says (v, last) ≡ ends_at (scaled_of (word_of (drop at s))) (end_of s at)
+  shifted-read p last v h e =
       let f = r.few in
       let t : n * 10 ≡ nat_of 0 (b ++ a) * 10 ^ (7 - length a) = (let y = r.value-is in omega arith) in
-      scaled-moved r.read (first (drop end s)) refl r.stops r.some minus k last h v
-      (e ∙ ap cap (sym (shift-number (nat_of 0 (b ++ a)) (length a) (n * 10) (omega arith) t minus k)))
+      scaled-moved r.read (first (drop end s)) refl r.stops r.some p last h v
+      (e ∙ ap cap (sym (shift-number (nat_of 0 (b ++ a)) (length a) (n * 10) (omega arith) t p.minus p.power)))

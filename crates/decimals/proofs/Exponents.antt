@@ -12,59 +12,67 @@ use native.Mathlib.Nat.{mul-one}
 use Rattle.lists.proofs.Tests.{and_left, and_right}
 use Rattle.text.specs.Words.{word_of}
 use Rattle.text.specs.Rest.{end_of}
-use Rattle.digits.specs.Said.{says, wrong}
+use Rattle.digits.specs.Said.{Said, says, wrong}
 use Rattle.digits.specs.Answers.{ends_at}
 use Rattle.digits.specs.Digits.{digits, nat_of, is_whole, negative}
 use Rattle.digits.specs.Straight.{first, run, cap}
 use Rattle.digits.proofs.Rows.{nat_of-append, nat_of-below, cap-nat_of, ten-pos}
 use Rattle.digits.proofs.Wholes.{RowRead, NoRow, row-digits, no-digits}
-use Rattle.digits.proofs.Saids.{said, ended-says, must-says, must-wrong}
+use Rattle.digits.proofs.Saids.{says-ends, ended-says, must-says, must-wrong}
 use Rattle.decimals.specs.Number.{is_sign, unsigned}
+use Rattle.decimals.specs.declared.exponent.Exponent.{Exponent}
 use Rattle.decimals.specs.Straight.{exponent_of, taken_of, MantissaRead}
 use Rattle.decimals.proofs.Shifts.{cap-times}
 use Rattle.decimals.proofs.Signed.{signs, unsigned_is, ends}
+
+abbrev signed : Bool → ℕ → Exponent
+signed minus power = record { minus = minus; power = power }
 
 -- ---- exponent_at
 module _ (s : List ℕ) (at b n : ℕ) (h : at ≤ length s) (e : b ≡ first (drop at s)) (k : n ≡ cond (is_sign b) 1 0) where
   abbrev x : List ℕ
   x = word_of (drop at s)
 
-  pub exponent-bad : NoRow 3 s (at + n) → wrong 6 ≡ ends_at (exponent_of x) (end_of s at)
+  pub exponent-bad : {m : ℕ} → NoRow m 3 s (at + n) → wrong m ≡ ends_at (exponent_of x) (end_of s at)
   unfolding exponent_of
-  exponent-bad r = rw (ap (is_whole 3) (sym (unsigned_is s at b n h e k)) ∙ no-digits s (at + n) 3 r) refl
+  exponent-bad {m} r =
+      let q = no-digits s (at + n) 3 r in rw (q.1, ap (is_whole 3) (sym (unsigned_is s at b n h e k)) ∙ q.0) refl
 
-  pub exponent-read : (v end : ℕ) → RowRead 3 s (at + n) v end → says ((eqb b 45, v), end) ≡ ends_at (exponent_of x) (end_of s at)
+  pub exponent-read : (v end : ℕ) → RowRead 3 s (at + n) v end → says (signed (eqb b 45) v, end) ≡ ends_at (exponent_of x) (end_of s at)
   exponent-read v end r =
       let t = row-digits s (at + n) 3 v end r in
       let u = unsigned_is s at b n h e k in
       let m : negative x ≡ eqb b 45 = (signs s at b n h e k).negative-is ∙ ap (λ (y : ℕ). eqb y 45) (sym e) in
-      said (exponent_of x) (eqb b 45, v) (end_of s at) end (found (ap (is_whole 3) (sym u) ∙ t.0) (ap (nat_of 0) (sym u) ∙ t.1) m) (t.2 ∙ ends s at b n h e k)
+      says-ends (exponent_of x) (signed (eqb b 45) v) (end_of s at) end (found (ap (is_whole 3) (sym u) ∙ t.0) (ap (nat_of 0) (sym u) ∙ t.1) m) (t.2 ∙ ends s at b n h e k)
     where
-      found : is_whole 3 (unsigned x) ≡ true → nat_of 0 (unsigned x) ≡ v → negative x ≡ eqb b 45 → exponent_of x ≡ says (eqb b 45, v)
+      found : is_whole 3 (unsigned x) ≡ true → nat_of 0 (unsigned x) ≡ v → negative x ≡ eqb b 45 → exponent_of x ≡ says (signed (eqb b 45) v)
       found f g m = unfold exponent_of in rw (f, g, m) refl
 
 -- what an exponent says of what stands after e or E
-pub exponent-true : (x : List ℕ) (minus : Bool) (v : ℕ) → exponent_of x ≡ says (minus, v) → (is_whole 3 (unsigned x) ≡ true) × (negative x ≡ minus) × (nat_of 0 (unsigned x) ≡ v)
+pub exponent-true : (x : List ℕ) (p : Exponent) → exponent_of x ≡ says p → (is_whole 3 (unsigned x) ≡ true) × (negative x ≡ p.minus) × (nat_of 0 (unsigned x) ≡ p.power)
 unfolding exponent_of
-exponent-true x minus v h =
-    let p = must-says (is_whole 3 (unsigned x)) 6 (says (negative x, nat_of 0 (unsigned x))) (minus, v) h in
-    let q : ◌≡◌ {A = Bool × ℕ} (negative x, nat_of 0 (unsigned x)) (minus, v) = (let y = p.1 in cc) in
-    (p.0, ap (λ (y : Bool × ℕ). y.0) q, ap (λ (y : Bool × ℕ). y.1) q)
+exponent-true x p h =
+    let t = must-says (is_whole 3 (unsigned x)) 6 (says (signed (negative x) (nat_of 0 (unsigned x)))) p h in
+    let q : ◌≡◌ {A = Exponent} (signed (negative x) (nat_of 0 (unsigned x))) p = (let y = t.1 in cc) in
+    (t.0, ap (λ (y : Exponent). y.minus) q, ap (λ (y : Exponent). y.power) q)
 
-pub exponent-false : (x : List ℕ) → exponent_of x ≡ wrong 6 → is_whole 3 (unsigned x) ≡ false
+pub exponent-false : (x : List ℕ) (m : ℕ) → exponent_of x ≡ wrong m → (is_whole 3 (unsigned x) ≡ false) × (m ≡ 6)
 unfolding exponent_of
-exponent-false x h = must-wrong (is_whole 3 (unsigned x)) 6 (negative x, nat_of 0 (unsigned x)) 6 h
+exponent-false x m h =
+    let t : is_whole 3 (unsigned x) ≡ false = must-wrong (is_whole 3 (unsigned x)) 6 (signed (negative x) (nat_of 0 (unsigned x))) m h in
+    let e : ◌≡◌ {A = Said Exponent} (wrong 6) (wrong m) = rw t at h in
+    (t, cc)
 
 -- three digits
-pub exponent_small : (s : List ℕ) (at : ℕ) (minus : Bool) (v end : ℕ) → says ((minus, v), end) ≡ ends_at (exponent_of (word_of (drop at s))) (end_of s at) → v < 1000
+pub exponent_small : (s : List ℕ) (at : ℕ) (p : Exponent) (end : ℕ) → says (p, end) ≡ ends_at (exponent_of (word_of (drop at s))) (end_of s at) → p.power < 1000
 unfolding is_whole
-exponent_small s at minus v end r =
+exponent_small s at p end r =
     let x : List ℕ = unsigned (word_of (drop at s)) in
-    let t = exponent-true (word_of (drop at s)) minus v (ended-says (exponent_of (word_of (drop at s))) (minus, v) (end_of s at) end r).0 in
+    let t = exponent-true (word_of (drop at s)) p (ended-says (exponent_of (word_of (drop at s))) p (end_of s at) end r).0 in
     let l = and_left (digits x && leb 1 (length x)) (leb (length x) 3) t.0 in
     let f : digits x ≡ true = and_left (digits x) (leb 1 (length x)) l in
     let k : length x ≤ 3 = leb-true (length x) 3 (and_right (digits x && leb 1 (length x)) (leb (length x) 3) t.0) in
-    let r : nat_of 0 x ≡ v = t.2 in
+    let r : nat_of 0 x ≡ p.power = t.2 in
     omega (arith, nat_of-below 3 0 x f k)
 
 -- ---- taken: the first q digits of two rows

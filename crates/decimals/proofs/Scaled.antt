@@ -18,8 +18,9 @@ use Rattle.digits.specs.Digits.{is_digit, digits, nat_of, is_whole, negative}
 use Rattle.digits.specs.Straight.{first, is_empty, run, past, cap}
 use Rattle.digits.proofs.Rows.{run_short, run-digits}
 use Rattle.digits.proofs.Fronts.{past-at, next-at, past-digit, past_word, word-run, on_word, byte_word, byte-in, run-nil, nothing_left}
-use Rattle.digits.proofs.Saids.{said, ended-says, ended-wrong}
+use Rattle.digits.proofs.Saids.{says-ends, ended-says, ended-wrong}
 use Rattle.decimals.specs.Number.{is_e, mantissa, exponent, before, after, decimal, numerator, denominator, raised, lowered, unsigned}
+use Rattle.decimals.specs.declared.exponent.Exponent.{Exponent}
 use Rattle.decimals.specs.Straight.{magnitude_of, exponent_of, has_exponent, shifted, scaled_of, places_of, taken_of, MantissaRead}
 use Rattle.decimals.proofs.Mantissas.{e-word, decimal-plain, mantissa-digits, exponent-digits}
 use Rattle.decimals.proofs.Shifts.{shift-digits}
@@ -263,12 +264,14 @@ module _ {s : List ℕ} {at point from end : ℕ} (m : MantissaRead s at point f
     pub scaled-nothing : point - at + (end - from) ≡ 0 → wrong 6 ≡ ends_at (scaled_of u) (end_of s at)
     scaled-nothing z = scaled-none x c ee rest-is (sym counts ∙ z)
 
-    pub scaled-malformed : wrong 6 ≡ ends_at (exponent_of x) (end_of s (end + 1)) → wrong 6 ≡ ends_at (scaled_of u) (end_of s at)
-    scaled-malformed h = scaled-bad x c ee rest-is (exponent-false x (ended-wrong (exponent_of x) 6 (end_of s (end + 1)) h))
+    pub scaled-malformed : (n : ℕ) → wrong n ≡ ends_at (exponent_of x) (end_of s (end + 1)) → wrong n ≡ ends_at (scaled_of u) (end_of s at)
+    scaled-malformed n h =
+        let q = exponent-false x n (ended-wrong (exponent_of x) n (end_of s (end + 1)) h) in
+        rw q.1 (scaled-bad x c ee rest-is q.0)
 
-    module _ (z : 1 ≤ length b + length a) (minus : Bool) (k last : ℕ) (h : says ((minus, k), last) ≡ ends_at (exponent_of x) (end_of s (end + 1))) where
-      told : (is_whole 3 (unsigned x) ≡ true) × (negative x ≡ minus) × (nat_of 0 (unsigned x) ≡ k)
-      told = exponent-true x minus k (ended-says (exponent_of x) (minus, k) (end_of s (end + 1)) last h).0
+    module _ (z : 1 ≤ length b + length a) (p : Exponent) (last : ℕ) (h : says (p, last) ≡ ends_at (exponent_of x) (end_of s (end + 1))) where
+      told : (is_whole 3 (unsigned x) ≡ true) × (negative x ≡ p.minus) × (nat_of 0 (unsigned x) ≡ p.power)
+      told = exponent-true x p (ended-says (exponent_of x) p (end_of s (end + 1)) last h).0
 
       -- a value that is right, with where the word ends
       scaled_value : (v : ℕ) → v ≡ cap (shifted u) → says (v, last) ≡ ends_at (scaled_of u) (end_of s at)
@@ -276,22 +279,22 @@ module _ {s : List ℕ} {at point from end : ℕ} (m : MantissaRead s at point f
           let o = mantissa-order in
           let l = mantissa-length in
           let g = ap length rest-is in
-          let y = (ended-says (exponent_of x) (minus, k) (end_of s (end + 1)) last h).1 in
-          said (scaled_of u) v (end_of s at) last (scaled-of x c ee rest-is z told.0 ∙ ap says (sym e)) (omega arith)
+          let y = (ended-says (exponent_of x) p (end_of s (end + 1)) last h).1 in
+          says-ends (scaled_of u) v (end_of s at) last (scaled-of x c ee rest-is z told.0 ∙ ap says (sym e)) (omega arith)
 
-      shifted-told : shifted u ≡ 10000000 * cond minus (nat_of 0 (b ++ a)) (nat_of 0 (b ++ a) * 10 ^ k) / cond minus (10 ^ length a * 10 ^ k) (10 ^ length a)
+      shifted-told : shifted u ≡ 10000000 * cond p.minus (nat_of 0 (b ++ a)) (nat_of 0 (b ++ a) * 10 ^ p.power) / cond p.minus (10 ^ length a * 10 ^ p.power) (10 ^ length a)
       shifted-told =
           shifted-is x c ee rest-is
           ∙ ap₂ (λ (y : Bool) (i : ℕ). 10000000 * cond y (nat_of 0 (b ++ a)) (nat_of 0 (b ++ a) * 10 ^ i) / cond y (10 ^ length a * 10 ^ i) (10 ^ length a)) told.1 told.2
 
-      pub scaled-moved : (v : ℕ) → v ≡ cap (10000000 * cond minus (nat_of 0 (b ++ a)) (nat_of 0 (b ++ a) * 10 ^ k) / cond minus (10 ^ length a * 10 ^ k) (10 ^ length a))
+      pub scaled-moved : (v : ℕ) → v ≡ cap (10000000 * cond p.minus (nat_of 0 (b ++ a)) (nat_of 0 (b ++ a) * 10 ^ p.power) / cond p.minus (10 ^ length a * 10 ^ p.power) (10 ^ length a))
           → says (v, last) ≡ ends_at (scaled_of u) (end_of s at)
       scaled-moved v e = scaled_value v (e ∙ sym (ap cap shifted-told))
 
-      pub scaled_read : (v : ℕ) → v ≡ cap (taken_of (places_of minus (point - at) k) (b ++ a)) → says (v, last) ≡ ends_at (scaled_of u) (end_of s at)
+      pub scaled_read : (v : ℕ) → v ≡ cap (taken_of (places_of p.minus (point - at) p.power) (b ++ a)) → says (v, last) ≡ ends_at (scaled_of u) (end_of s at)
       scaled_read v e =
-          let n : point - at ≡ length b = (let p = m.point-is in omega arith) in
+          let n : point - at ≡ length b = (let y = m.point-is in omega arith) in
           scaled_value v
           (e
-          ∙ ap (λ (i : ℕ). cap (taken_of (places_of minus i k) (b ++ a))) n
+          ∙ ap (λ (i : ℕ). cap (taken_of (places_of p.minus i p.power) (b ++ a))) n
           ∙ sym (ap cap (shifted-taken x c ee rest-is ∙ ap₂ (λ (y : Bool) (i : ℕ). taken_of (places_of y (length b) i) (b ++ a)) told.1 told.2)))

@@ -3,6 +3,7 @@ use Rattle.std.specs.Prelude.{ℕ, ◌+◌, ◌-◌, ◌*◌, ◌/◌, ◌^◌, 
 use Rattle.digits.specs.Said.{Said, says, wrong, must}
 use Rattle.digits.specs.Digits.{digits, nat_of, is_whole, negative}
 use Rattle.digits.specs.Straight.{first, run, cap}
+use Rattle.decimals.specs.declared.exponent.Exponent.{Exponent}
 use Rattle.decimals.specs.Number.{is_e, unsigned, mantissa, exponent, before, after, decimal, numerator, denominator, raised, lowered, limited}
 
 -- ten-millionths, rounded down where a seventh decimal is not the last, and too large where the whole part is
@@ -21,8 +22,8 @@ settle_of minus t = limited minus ((t + 5) / 10)
 
 -- ---- with an exponent
 -- what stands after e or E: whether it is negative, and its number
-unfoldable pub exponent_of : List ℕ → Said (Bool × ℕ)
-exponent_of x = must (is_whole 3 (unsigned x)) 6 (says (negative x, nat_of 0 (unsigned x)))
+unfoldable pub exponent_of : List ℕ → Said Exponent
+exponent_of x = must (is_whole 3 (unsigned x)) 6 (says (record { minus = negative x; power = nat_of 0 (unsigned x) }))
 
 abbrev pub has_exponent : List ℕ → Bool
 has_exponent [] = false

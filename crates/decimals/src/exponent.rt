@@ -2,62 +2,52 @@
 ghost use Rattle.std.specs.Prelude.{◌≡◌, ◌++◌, true, cond, ◌+◌, ◌*◌, ◌/◌, ◌^◌, ◌≤◌, ◌<◌, length, drop};
 ghost use Rattle.text.specs.Words.{word_of};
 ghost use Rattle.text.specs.Rest.{end_of};
-ghost use Rattle.digits.specs.Answers.{ends_at};
+ghost use Rattle.digits.specs.Answers.{said, ends_at};
 ghost use Rattle.digits.specs.Straight.{first, run, cap};
 ghost use Rattle.decimals.specs.Number.{is_sign, is_e};
-ghost use Rattle.decimals.specs.Answers.{said_magnitude, said_exponent};
 ghost use Rattle.decimals.specs.Straight.{exponent_of, scaled_of, places_of, taken_of, moved_of, MantissaRead, MantissaAhead};
 
-use digits::whole::{DigitRow, row_at};
-use digits::{byte_at, digits_end, first_digits};
+use digits::whole::row_at;
+use digits::{CAP, byte_at, digits_end, first_digits};
+use refusals::Reason;
+use text::Parsed;
 
-// A number without its sign, in ten-millionths, and where its word ends.
+// What stands after e or E.
 #[derive(Clone, Copy)]
-pub enum Magnitude {
-    Of { value: u64, end: usize },
-    Bad,
+pub struct Exponent {
+    pub minus: bool,
+    pub power: u64,
 }
-
-#[derive(Clone, Copy)]
-pub enum Exponent {
-    Of { minus: bool, power: u64, end: usize },
-    Bad,
-}
-
-const CAP: u64 = 20_000_000_005;
 
 pub fn sign_length(b: u8) -> usize
     ensures { result ≡ cond (is_sign b) 1 0 }
 {
     match b {
-        43 | 45 => 1,
+        b'+' | b'-' => 1,
         _ => 0,
     }
 }
 
-// What stands after e or E: an optional sign and one to three digits.
-pub fn exponent_at(text: &[u8], at: usize) -> Exponent
+// The exponent that the word at `at` is: an optional sign and one to three digits.
+pub fn exponent_at(text: &[u8], at: usize) -> Result<Parsed<Exponent>, Reason>
     requires { at ≤ length text.now }
-    ensures { said_exponent result ≡ ends_at (exponent_of (word_of (drop at text.now))) (end_of text.now at) }
+    ensures { said result ≡ ends_at (exponent_of (word_of (drop at text.now))) (end_of text.now at) }
 {
     let b = byte_at(text, at);
-    match row_at(text, at + sign_length(b), 3) {
-        DigitRow::Malformed => Exponent::Bad,
-        DigitRow::Of { value, end } => Exponent::Of {
-            minus: b == 45,
-            power: value,
-            end: end,
+    let power = row_at(text, at + sign_length(b), 3)?;
+    Ok(Parsed {
+        value: Exponent {
+            minus: b == b'-',
+            power: power.value,
         },
-    }
+        next: power.next,
+    })
 }
 
 pub fn is_e(b: u8) -> bool
     ensures { result ≡ is_e b }
 {
-    match b {
-        101 | 69 => true,
-        _ => false,
-    }
+    b == b'e' || b == b'E'
 }
 
 // Where the digits of a mantissa stand: up to the point, and from after it to the end.
@@ -73,15 +63,15 @@ fn mantissa_at(text: &[u8], at: usize) -> Mantissa
     ensures { MantissaRead text.now at result.point result.from result.end }
 {
     let point = digits_end(text, at);
-    if byte_at(text, point) == 46 {
+    if byte_at(text, point) == b'.' {
         return Mantissa {
-            point: point,
+            point,
             from: point + 1,
             end: digits_end(text, point + 1),
         };
     }
     Mantissa {
-        point: point,
+        point,
         from: point,
         end: point,
     }
@@ -139,46 +129,42 @@ fn cut(value: u64, digits: usize) -> u64
 }
 
 // Ten-millionths with the point moved by an exponent, no more than the cap.
-fn moved(value: u64, minus: bool, power: u64) -> u64
+fn moved(value: u64, exponent: Exponent) -> u64
     requires { value < 10 ^ 11 }
-    ensures { result ≡ cap (moved_of minus value power) }
+    ensures { result ≡ cap (moved_of exponent.minus value exponent.power) }
 {
-    if minus {
-        return cut(value, power as usize);
+    let power = exponent.power as usize;
+    if exponent.minus {
+        cut(value, power)
+    } else {
+        padded(value, power)
     }
-    padded(value, power as usize)
 }
 
 // From e or E at `end` on, after a mantissa of so many millionths from `at`.
-pub fn shifted(text: &[u8], at: usize, millionths: u64, end: usize) -> Magnitude
+pub fn shifted(text: &[u8], at: usize, millionths: u64, end: usize) -> Result<Parsed<u64>, Reason>
     requires { MantissaAhead text.now at millionths end }
-    ensures { said_magnitude result ≡ ends_at (scaled_of (word_of (drop at text.now))) (end_of text.now at) }
+    ensures { said result ≡ ends_at (scaled_of (word_of (drop at text.now))) (end_of text.now at) }
 {
-    match exponent_at(text, end + 1) {
-        Exponent::Bad => Magnitude::Bad,
-        Exponent::Of { minus, power, end } => {
-            let value = moved(millionths * 10, minus, power);
-            Magnitude::Of {
-                value: value,
-                end: end,
-            }
-        }
-    }
+    let exponent = exponent_at(text, end + 1)?;
+    let value = moved(millionths * 10, exponent.value);
+    Ok(Parsed {
+        value,
+        next: exponent.next,
+    })
 }
 
 // How many digits stand before the point once it has moved: by seven places, to ten-millionths, and by the exponent.
-fn places(whole: usize, minus: bool, power: u64) -> usize
-    requires { (whole ≤ 2 ^ 63) × (power < 1000) }
-    ensures { result ≡ places_of minus whole power }
+fn places(whole: usize, exponent: Exponent) -> usize
+    requires { (whole ≤ 2 ^ 63) × (exponent.power < 1000) }
+    ensures { result ≡ places_of exponent.minus whole exponent.power }
 {
-    let n = power as usize;
-    if minus {
-        if whole + 7 < n {
-            return 0;
-        }
-        return whole + 7 - n;
+    let power = exponent.power as usize;
+    if exponent.minus {
+        (whole + 7).saturating_sub(power)
+    } else {
+        whole + 7 + power
     }
-    whole + 7 + n
 }
 
 // The first `count` digits of a mantissa, zeros where they lack, no more than the cap.
@@ -202,33 +188,31 @@ fn taken(text: &[u8], at: usize, m: Mantissa, count: usize) -> u64
 }
 
 // From e or E on, after the mantissa from `at`.
-fn with_exponent(text: &[u8], at: usize, m: Mantissa) -> Magnitude
+fn with_exponent(text: &[u8], at: usize, m: Mantissa) -> Result<Parsed<u64>, Reason>
     requires mantissa_read { MantissaRead text.now at m.point m.from m.end }
     requires text_value { is_e (first (drop m.end text.now)) ≡ true }
-    ensures { said_magnitude result ≡ ends_at (scaled_of (word_of (drop at text.now))) (end_of text.now at) }
+    ensures { said result ≡ ends_at (scaled_of (word_of (drop at text.now))) (end_of text.now at) }
 {
     let point = m.point;
     let stop = m.end;
     if (point - at) + (stop - m.from) == 0 {
-        return Magnitude::Bad;
+        return Err(Reason::Malformed);
     }
-    match exponent_at(text, stop + 1) {
-        Exponent::Bad => Magnitude::Bad,
-        Exponent::Of { minus, power, end } => Magnitude::Of {
-            value: taken(text, at, m, places(point - at, minus, power)),
-            end: end,
-        },
-    }
+    let exponent = exponent_at(text, stop + 1)?;
+    Ok(Parsed {
+        value: taken(text, at, m, places(point - at, exponent.value)),
+        next: exponent.next,
+    })
 }
 
 // The number that ends in an exponent, in ten-millionths rounded down.
-pub fn scaled(text: &[u8], at: usize) -> Magnitude
+pub fn scaled(text: &[u8], at: usize) -> Result<Parsed<u64>, Reason>
     requires { at ≤ length text.now }
-    ensures { said_magnitude result ≡ ends_at (scaled_of (word_of (drop at text.now))) (end_of text.now at) }
+    ensures { said result ≡ ends_at (scaled_of (word_of (drop at text.now))) (end_of text.now at) }
 {
     let m = mantissa_at(text, at);
     if is_e(byte_at(text, m.end)) {
         return with_exponent(text, at, m);
     }
-    Magnitude::Bad
+    Err(Reason::Malformed)
 }

@@ -97,7 +97,7 @@ module _ {s : List ℕ} {at i a : ℕ} (g : Going s at i a) where
             ∙ (rw (run-yes s i d h e k) at g.value-is);
       }
 
--- ---- the first few, after those of w
+-- ---- the first few, after those of w: from `at` on, up to at + most
 take-front : (s : List ℕ) (i room k d : ℕ) → room ≡ suc k → i < length s → d ≡ digit_of (get_or s i 0) → d ≤ 9
     → take room (run (drop i s)) ≡ get_or s i 0 ∷ take k (run (drop (i + 1) s))
 take-front s i room k d z h e l = rw (z, run-yes s i d h e l) refl
@@ -106,6 +106,9 @@ pub record Few (most : ℕ) (s : List ℕ) (at w i a room : ℕ) : Type 0 where
   pub within : i + room ≤ length s
   pub end_is : i + length (take room (run (drop i s))) ≡ at + length (take most (run (drop at s)))
   pub value-is : nat_of a (take room (run (drop i s))) ≡ nat_of w (take most (run (drop at s)))
+
+pub few-start : (most : ℕ) (s : List ℕ) (at w : ℕ) → at + most ≤ length s → Few most s at w at w ((at + most) - at)
+few-start most s at w h = let e : (at + most) - at ≡ most = omega arith in rw e (record { within = h; end_is = refl; value-is = refl })
 
 module _ {most : ℕ} {s : List ℕ} {at w i a room : ℕ} (g : Few most s at w i a room) where
   stops : take room (run (drop i s)) ≡ [] → UptoRead most s at w i a
@@ -122,7 +125,20 @@ module _ {most : ℕ} {s : List ℕ} {at w i a room : ℕ} (g : Few most s at w 
   pub few-stop : run (drop i s) ≡ [] → UptoRead most s at w i a
   few-stop r = stops (rw r (take-nil {A = ℕ} room))
 
-  module _ (k d : ℕ) (z : room ≡ suc k) (h : i < length s) (e : d ≡ digit_of (get_or s i 0)) (l : d ≤ 9) where
+module _ {most : ℕ} {s : List ℕ} {at w i a : ℕ} (g : Few most s at w i a ((at + most) - i)) where
+  module _ (d : ℕ) (b : i < at + most) (r : at + most ≤ length s) (e : d ≡ digit_of (get_or s i 0)) (l : d ≤ 9) where
+    abbrev k : ℕ
+    k = (at + most) - (i + 1)
+
+    h : i < length s
+    h = omega arith
+
+    abbrev room : ℕ
+    room = (at + most) - i
+
+    z : room ≡ suc k
+    z = omega arith
+
     front : take room (run (drop i s)) ≡ get_or s i 0 ∷ take k (run (drop (i + 1) s))
     front = take-front s i room k d z h e l
 
@@ -139,7 +155,7 @@ module _ {most : ℕ} {s : List ℕ} {at w i a room : ℕ} (g : Few most s at w 
         let q = value in
         omega arith
 
-    pub few-turn : Few most s at w (i + 1) (a * 10 + d) k
+    pub few-turn : Few most s at w (i + 1) (a * 10 + d) ((at + most) - (i + 1))
     few-turn =
         record {
           within = let x = g.within in omega arith;
@@ -153,6 +169,10 @@ pub record FirstDigits (most : ℕ) (s : List ℕ) (at w i a room : ℕ) : Type 
   pub small : a ≤ 20000000005
   pub value-is : cap (nat_of a (take room (run (drop i s)))) ≡ cap (nat_of w (take most (run (drop at s))))
 
+pub first-start : (most : ℕ) (s : List ℕ) (at w : ℕ) → at + most ≤ length s → w ≤ 20000000005 → FirstDigits most s at w at w ((at + most) - at)
+first-start most s at w h b =
+    let e : (at + most) - at ≡ most = omega arith in rw e (record { within = h; small = b; value-is = refl })
+
 module _ {most : ℕ} {s : List ℕ} {at w i a room : ℕ} (g : FirstDigits most s at w i a room) where
   first_stops : take room (run (drop i s)) ≡ [] → a ≡ cap (nat_of w (take most (run (drop at s))))
   first_stops r = let q = rw r at g.value-is in let k = g.small in omega arith
@@ -163,17 +183,21 @@ module _ {most : ℕ} {s : List ℕ} {at w i a room : ℕ} (g : FirstDigits most
   pub first-stop : run (drop i s) ≡ [] → a ≡ cap (nat_of w (take most (run (drop at s))))
   first-stop r = first_stops (rw r (take-nil {A = ℕ} room))
 
-  pub first-turn : (k d a' : ℕ) → room ≡ suc k → i < length s → d ≡ digit_of (get_or s i 0) → d ≤ 9 → a' ≡ cap (a * 10 + d) → FirstDigits most s at w (i + 1) a' k
-  first-turn k d a' z h e l f =
-      let v : a' ≡ cap (a * 10 + (get_or s i 0 - 48)) = f ∙ ap (λ (n : ℕ). cap (a * 10 + n)) (digit-yes (get_or s i 0) d e l).1 in
-      record {
-        within = let x = g.within in omega arith;
-        small = omega arith;
-        value-is =
-            ap (λ (n : ℕ). cap (nat_of n (take k (run (drop (i + 1) s))))) v
-            ∙ cap-nat_of (a * 10 + (get_or s i 0 - 48)) (take k (run (drop (i + 1) s)))
-            ∙ (rw (take-front s i room k d z h e l) at g.value-is);
-      }
+pub first-turn : {most : ℕ} {s : List ℕ} {at w i a : ℕ} → FirstDigits most s at w i a ((at + most) - i) → (d a' : ℕ) → i < at + most → at + most ≤ length s
+    → d ≡ digit_of (get_or s i 0) → d ≤ 9 → a' ≡ cap (a * 10 + d) → FirstDigits most s at w (i + 1) a' ((at + most) - (i + 1))
+first-turn {most} {s} {at} {w} {i} {a} g d a' b r e l f =
+    let k : ℕ = (at + most) - (i + 1) in
+    let z : (at + most) - i ≡ suc ((at + most) - (i + 1)) = omega arith in
+    let h : i < length s = omega arith in
+    let v : a' ≡ cap (a * 10 + (get_or s i 0 - 48)) = f ∙ ap (λ (n : ℕ). cap (a * 10 + n)) (digit-yes (get_or s i 0) d e l).1 in
+    record {
+      within = let x = g.within in omega arith;
+      small = omega arith;
+      value-is =
+          ap (λ (n : ℕ). cap (nat_of n (take k (run (drop (i + 1) s))))) v
+          ∙ cap-nat_of (a * 10 + (get_or s i 0 - 48)) (take k (run (drop (i + 1) s)))
+          ∙ (rw (take-front s i ((at + most) - i) k d z h e l) at g.value-is);
+    }
 
 -- each of the digits is one
 digit-in : (n : ℕ) (l : List ℕ) → n < length (run l) → is_digit (first (drop n l)) ≡ true

@@ -7,8 +7,8 @@ use Rattle.digits.specs.Said.{Said, says, wrong, must}
 use Rattle.digits.specs.Answers.{ends_at}
 
 module _ {A : Type 0} where
-  pub said : (x : Said A) (a : A) (e b : ℕ) → x ≡ says a → b ≡ e → says (a, b) ≡ ends_at x e
-  said x a e b h k = rw (h, k) refl
+  pub says-ends : (x : Said A) (a : A) (e b : ℕ) → x ≡ says a → b ≡ e → says (a, b) ≡ ends_at x e
+  says-ends x a e b h k = rw (h, k) refl
 
   pub unsaid : (x : Said A) (n e : ℕ) → x ≡ wrong n → wrong n ≡ ends_at x e
   unsaid x n e h = rw h refl

@@ -2,6 +2,7 @@
 use Prim.Native.Nat.{ℕ, ◌+◌, ◌-◌, ◌≤◌, ◌<◌}
 use mathlib.Core.Path.{◌≡◌, refl, sym, ap, ◌∙◌}
 use mathlib.Core.List.{List}
+use Rattle.std.specs.Prelude.{Some, None}
 use mathlib.Core.Bool.{Bool, true, false, ◌&&◌}
 use lib.ListN.{length, drop}
 use lib.Dec.{leb}
@@ -12,14 +13,14 @@ use Rattle.text.specs.Bytes.{is_word}
 use Rattle.text.specs.Words.{word_of}
 use Rattle.text.specs.Rest.{end_of}
 use Rattle.keywords.proofs.Arguments.{off_end, off-found, off-not}
-use Rattle.digits.specs.Said.{says, wrong, must}
+use Rattle.digits.specs.Said.{Said, says, wrong, must}
 use Rattle.digits.specs.Answers.{ends_at}
 use Rattle.digits.specs.Digits.{nat_of, is_whole}
 use Rattle.digits.specs.Degree.{degree_of, smoothing_of, name_of}
 use Rattle.digits.specs.Straight.{is_empty, run, past, front, WholeRead, whole_of}
 use Rattle.digits.proofs.Fronts.{word-front, word-all, digit-word, past-at}
 use Rattle.digits.proofs.Lengths.{whole-yes, whole-not, whole-bad, ten-digits}
-use Rattle.digits.proofs.Saids.{said, unsaid, ended-says, ended-wrong, must-says, must-wrong}
+use Rattle.digits.proofs.Saids.{says-ends, unsaid, ended-says, ended-wrong, must-says, must-wrong}
 
 -- ---- row_at
 module _ (s : List ℕ) (at most end value : ℕ) (w : WholeRead s at end value) where
@@ -57,7 +58,7 @@ module _ (s : List ℕ) (at most end value : ℕ) (w : WholeRead s at end value)
       ap (is_whole most) (word-front l) ∙ whole-yes is_word digit-word most l (fronts true o)
       ∙ and_both (le-leb 1 (length (run l)) (omega arith)) (le-leb (length (run l)) most (omega arith)) in
       let v : nat_of 0 (word_of l) ≡ value = ap (nat_of 0) e ∙ sym (w.value-is ∙ ten-digits l (omega arith)) in
-      said (whole_of most (word_of l)) value (end_of s at) end (found h v) (y ∙ ap (λ (x : List ℕ). at + length x) (sym e))
+      says-ends (whole_of most (word_of l)) value (end_of s at) end (found h v) (y ∙ ap (λ (x : List ℕ). at + length x) (sym e))
     where
       found : is_whole most (word_of (drop at s)) ≡ true → nat_of 0 (word_of (drop at s)) ≡ value → whole_of most (word_of (drop at s)) ≡ says value
       found h v = unfold whole_of in rw (h, v) refl
@@ -66,8 +67,8 @@ module _ (s : List ℕ) (at most end value : ℕ) (w : WholeRead s at end value)
 abbrev pub RowRead : ℕ → List ℕ → ℕ → ℕ → ℕ → Type 0
 RowRead k s at v end = says (v, end) ≡ ends_at (whole_of k (word_of (drop at s))) (end_of s at)
 
-abbrev pub NoRow : ℕ → List ℕ → ℕ → Type 0
-NoRow k s at = wrong 6 ≡ ends_at (whole_of k (word_of (drop at s))) (end_of s at)
+abbrev pub NoRow : ℕ → ℕ → List ℕ → ℕ → Type 0
+NoRow n k s at = wrong n ≡ ends_at (whole_of k (word_of (drop at s))) (end_of s at)
 
 module _ (s : List ℕ) (at : ℕ) where
   abbrev w : List ℕ
@@ -80,14 +81,17 @@ module _ (s : List ℕ) (at : ℕ) where
       let y = must-says (is_whole k w) 6 (says (nat_of 0 w)) v x.0 in
       (y.0, (let z = y.1 in cc), x.1)
 
-  pub no-digits : (k : ℕ) → NoRow k s at → is_whole k w ≡ false
+  pub no-digits : {n : ℕ} (k : ℕ) → NoRow n k s at → (is_whole k w ≡ false) × (n ≡ 6)
   unfolding whole_of
-  no-digits k h = must-wrong (is_whole k w) 6 (nat_of 0 w) 6 (ended-wrong (whole_of k w) 6 (end_of s at) h)
+  no-digits {n} k h =
+      let t : is_whole k w ≡ false = must-wrong (is_whole k w) 6 (nat_of 0 w) n (ended-wrong (whole_of k w) n (end_of s at) h) in
+      let e : ◌≡◌ {A = Said (ℕ × ℕ)} (wrong n) (wrong 6) = rw t at h in
+      (t, cc)
 
   -- ---- degree_at
-  pub degree-bad : NoRow 3 s at → wrong 6 ≡ ends_at (degree_of w) (end_of s at)
+  pub degree-bad : {n : ℕ} → NoRow n 3 s at → wrong n ≡ ends_at (degree_of w) (end_of s at)
   unfolding degree_of
-  degree-bad h = rw (no-digits 3 h) refl
+  degree-bad {n} h = let q = no-digits 3 h in rw (q.1, q.0) refl
 
   module _ (v end : ℕ) (h : RowRead 3 s at v end) where
     degree : degree_of w ≡ must (leb 1 v && leb v 20) 7 (says v)
@@ -101,29 +105,28 @@ module _ (s : List ℕ) (at : ℕ) where
     degree-high z l = unsaid (degree_of w) 7 (end_of s at) (degree ∙ rw (le-leb 1 v (omega arith), lt-leb v 20 l) refl)
 
     pub degree-of : (v ≡ 0 → ⊥) → v ≤ 20 → says (v, end) ≡ ends_at (degree_of w) (end_of s at)
-    degree-of z l = said (degree_of w) v (end_of s at) end (degree ∙ rw (le-leb 1 v (omega arith), le-leb v 20 l) refl) (row-digits 3 v end h).2
+    degree-of z l = says-ends (degree_of w) v (end_of s at) end (degree ∙ rw (le-leb 1 v (omega arith), le-leb v 20 l) refl) (row-digits 3 v end h).2
 
   -- ---- smoothing_at
-  module _ (off : ℕ) (o : off ≡ off_end s at) where
-    pub smoothing-off : at < off → says (0, off) ≡ ends_at (smoothing_of w) (end_of s at)
+  pub smoothing-off : (off : ℕ) → Some off ≡ off_end s at → says (0, off) ≡ ends_at (smoothing_of w) (end_of s at)
+  unfolding smoothing_of
+  smoothing-off off o = let f = off-found s at off o in rw f.0 (ap (λ (n : ℕ). says (0, n)) f.1)
+
+  module _ (o : None ≡ off_end s at) where
+    pub smoothing-bad : {n : ℕ} → NoRow n 5 s at → wrong n ≡ ends_at (smoothing_of w) (end_of s at)
     unfolding smoothing_of
-    smoothing-off l = let f = off-found s at off o l in rw f.0 (ap (λ (n : ℕ). says (0, n)) f.1)
+    smoothing-bad {n} h = let q = no-digits 5 h in rw (q.1, off-not s at o, q.0) refl
 
-    module _ (l : off ≤ at) where
-      pub smoothing-bad : NoRow 5 s at → wrong 6 ≡ ends_at (smoothing_of w) (end_of s at)
+    module _ (v end : ℕ) (h : RowRead 5 s at v end) where
+      smoothing : smoothing_of w ≡ must (leb v 65535) 7 (says v)
       unfolding smoothing_of
-      smoothing-bad h = rw (off-not s at off o l, no-digits 5 h) refl
+      smoothing = let q = row-digits 5 v end h in rw (off-not s at o, q.0, q.1) refl
 
-      module _ (v end : ℕ) (h : RowRead 5 s at v end) where
-        smoothing : smoothing_of w ≡ must (leb v 65535) 7 (says v)
-        unfolding smoothing_of
-        smoothing = let q = row-digits 5 v end h in rw (off-not s at off o l, q.0, q.1) refl
+      pub smoothing-high : 65535 < v → wrong 7 ≡ ends_at (smoothing_of w) (end_of s at)
+      smoothing-high l = unsaid (smoothing_of w) 7 (end_of s at) (smoothing ∙ rw (lt-leb v 65535 l) refl)
 
-        pub smoothing-high : 65535 < v → wrong 7 ≡ ends_at (smoothing_of w) (end_of s at)
-        smoothing-high l = unsaid (smoothing_of w) 7 (end_of s at) (smoothing ∙ rw (lt-leb v 65535 l) refl)
-
-        pub smoothing-of : v ≤ 65535 → says (v, end) ≡ ends_at (smoothing_of w) (end_of s at)
-        smoothing-of l = said (smoothing_of w) v (end_of s at) end (smoothing ∙ rw (le-leb v 65535 l) refl) (row-digits 5 v end h).2
+      pub smoothing-of : v ≤ 65535 → says (v, end) ≡ ends_at (smoothing_of w) (end_of s at)
+      smoothing-of l = says-ends (smoothing_of w) v (end_of s at) end (smoothing ∙ rw (le-leb v 65535 l) refl) (row-digits 5 v end h).2
 
 -- ---- name_at
 module _ (s : List ℕ) (at end : ℕ) (h : end ≡ end_of s at) where
@@ -137,7 +140,7 @@ module _ (s : List ℕ) (at end : ℕ) (h : end ≡ end_of s at) where
       rw (le-leb 1 (length (word_of (drop at s))) (omega arith), lt-leb (length (word_of (drop at s))) 255 (omega arith)) refl
 
   pub name-of : (end ≡ at → ⊥) → end - at ≤ 255 → says (word_of (drop at s), end) ≡ ends_at (name_of (word_of (drop at s))) (end_of s at)
-  name-of z l = said (name_of (word_of (drop at s))) (word_of (drop at s)) (end_of s at) end found h
+  name-of z l = says-ends (name_of (word_of (drop at s))) (word_of (drop at s)) (end_of s at) end found h
     where
       found : name_of (word_of (drop at s)) ≡ says (word_of (drop at s))
       found = unfold name_of in rw (le-leb 1 (length (word_of (drop at s))) (omega arith), le-leb (length (word_of (drop at s))) 255 (omega arith)) refl

@@ -9,22 +9,16 @@ ghost use Rattle.text.specs.Words.{word_of};
 ghost use Rattle.digits.specs.Digits.{nat_of};
 ghost use Rattle.digits.specs.Straight.{first, is_empty, digit_of, cap, run, WholeRead, UptoRead};
 
-#[derive(Clone, Copy)]
-pub struct Run {
-    pub end: usize,
-    pub value: u64,
-}
+use text::Parsed;
 
-const CAP: u64 = 20_000_000_005;
+// More than this is out of range as a number and past the end as a reference, and no number that a word is read as is more.
+pub const CAP: u64 = 20_000_000_005;
 
 // The byte at `at`, LF past the end.
 pub fn byte_at(text: &[u8], at: usize) -> u8
     ensures { result ≡ first (drop at text.now) }
 {
-    if at < text.len() {
-        return text[at];
-    }
-    10
+    if at < text.len() { text[at] } else { b'\n' }
 }
 
 // The same within the text.
@@ -40,28 +34,14 @@ pub fn word_ends(text: &[u8], at: usize) -> bool
     ensures { result ≡ is_empty (word_of (drop at text.now)) }
 {
     let b = byte_at(text, at);
-    if b <= 32 {
-        return true;
-    }
-    if text::is_word(b) {
-        return false;
-    }
-    true
+    b <= 32 || !text::is_word(b)
 }
 
+// A digit's number; that of another byte is above 9.
 pub fn digit(b: u8) -> u8
     ensures { result ≡ digit_of b }
 {
-    if b < 48 {
-        return b + 208;
-    }
-    b - 48
-}
-
-pub fn wide(d: u8) -> u64
-    ensures { result ≡ d }
-{
-    d as u64
+    b.wrapping_sub(b'0')
 }
 
 // One more digit, no more than the cap.
@@ -74,42 +54,45 @@ fn push(value: u64, digit: u64) -> u64
 }
 
 // The digits from `at`, as far as they go.
-pub fn whole_run(text: &[u8], at: usize) -> Run
+pub fn whole_run(text: &[u8], at: usize) -> Parsed<u64>
     requires { at ≤ length text.now }
-    ensures { WholeRead text.now at result.end result.value }
+    ensures { WholeRead text.now at result.next result.value }
 {
-    let mut i = at;
-    let mut a: u64 = 0;
-    while i < text.len() {
+    let mut value: u64 = 0;
+    for i in at..text.len() {
         let d = digit(text[i]);
         if 9 < d {
-            return Run { end: i, value: a };
+            return Parsed { value, next: i };
         }
-        a = push(a, wide(d));
-        i += 1;
+        value = push(value, u64::from(d));
     }
-    Run { end: i, value: a }
+    Parsed {
+        value,
+        next: text.len(),
+    }
 }
 
-// The first digits from `at`, as many as `most`, after those of `whole`.
-pub fn digits_upto(text: &[u8], at: usize, most: usize, whole: u64) -> Run
+// The first digits from `at`, as many as `most`, after those of `whole`. The loop counts from 0, so that it unrolls where `most` is a literal.
+pub fn digits_upto(text: &[u8], at: usize, most: usize, whole: u64) -> Parsed<u64>
     requires most_in_bounds { at + most ≤ length text.now }
     requires most_bound { (whole + 1) * 10 ^ most ≤ 2 ^ 60 }
-    ensures { UptoRead most text.now at whole result.end result.value }
+    ensures { UptoRead most text.now at whole result.next result.value }
 {
-    let mut i = at;
-    let mut a = whole;
-    let mut room = most;
-    while 0 < room {
-        let d = digit(text[i]);
+    let mut value = whole;
+    for k in 0..most {
+        let d = digit(text[at + k]);
         if 9 < d {
-            return Run { end: i, value: a };
+            return Parsed {
+                value,
+                next: at + k,
+            };
         }
-        a = a * 10 + wide(d);
-        i += 1;
-        room -= 1;
+        value = value * 10 + u64::from(d);
     }
-    Run { end: i, value: a }
+    Parsed {
+        value,
+        next: at + most,
+    }
 }
 
 // The number of the first digits from `at`, as many as `most`, after those of `value`, no more than the cap.
@@ -118,19 +101,15 @@ pub fn first_digits(text: &[u8], at: usize, most: usize, value: u64) -> u64
     requires value_bound { value ≤ 20000000005 }
     ensures { result ≡ cap (nat_of value (take most (run (drop at text.now)))) }
 {
-    let mut i = at;
-    let mut a = value;
-    let mut room = most;
-    while 0 < room {
+    let mut number = value;
+    for i in at..at + most {
         let d = digit(text[i]);
         if 9 < d {
-            return a;
+            return number;
         }
-        a = push(a, wide(d));
-        i += 1;
-        room -= 1;
+        number = push(number, u64::from(d));
     }
-    a
+    number
 }
 
 // Where the digits from `at` end.
@@ -138,12 +117,10 @@ pub fn digits_end(text: &[u8], at: usize) -> usize
     requires { at ≤ length text.now }
     ensures { result ≡ at + length (run (drop at text.now)) }
 {
-    let mut i = at;
-    while i < text.len() {
+    for i in at..text.len() {
         if 9 < digit(text[i]) {
             return i;
         }
-        i += 1;
     }
-    i
+    text.len()
 }

@@ -4,23 +4,16 @@ ghost use Rattle.text.specs.Rest.{end_of};
 ghost use Rattle.digits.specs.Degree.{name_of};
 ghost use Rattle.digits.specs.Answers.{said_name, ends_at};
 
-#[derive(Clone, Copy)]
-pub enum Name {
-    Of { end: usize },
-    Malformed,
-}
+use refusals::Reason;
 
-// The name that the word at `at` is.
-pub fn name_at(text: &[u8], at: usize) -> Name
+// Where the name at `at` ends.
+pub fn name_at(text: &[u8], at: usize) -> Result<usize, Reason>
     requires { at ≤ length text.now }
     ensures { said_name (word_of (drop at text.now)) result ≡ ends_at (name_of (word_of (drop at text.now))) (end_of text.now at) }
 {
     let end = text::word_end(text, at);
-    if end == at {
-        return Name::Malformed;
+    if end == at || 255 < end - at {
+        return Err(Reason::Malformed);
     }
-    if 255 < end - at {
-        return Name::Malformed;
-    }
-    Name::Of { end: end }
+    Ok(end)
 }

@@ -1,90 +1,56 @@
 ghost use Rattle.std.specs.Prelude.{◌≡◌, ◌≤◌, ◌<◌, length, drop};
-ghost use Rattle.keywords.specs.Lookup.{table_of_arguments};
 ghost use Rattle.text.specs.Words.{word_of};
 ghost use Rattle.text.specs.Rest.{end_of};
 ghost use Rattle.digits.specs.Degree.{degree_of, smoothing_of};
-ghost use Rattle.digits.specs.Answers.{said_whole, said_row, ends_at};
+ghost use Rattle.digits.specs.Answers.{said, ends_at};
 ghost use Rattle.digits.specs.Straight.{whole_of};
 
 use crate::{whole_run, word_ends};
-
-#[derive(Clone, Copy)]
-pub enum Whole {
-    Value { value: u32, end: usize },
-    Malformed,
-    OutOfRange,
-}
-
-#[derive(Clone, Copy)]
-pub enum DigitRow {
-    Of { value: u64, end: usize },
-    Malformed,
-}
+use refusals::Reason;
+use text::Parsed;
 
 // The number of a word of 1 to `most` digits.
-pub fn row_at(text: &[u8], at: usize, most: usize) -> DigitRow
+pub fn row_at(text: &[u8], at: usize, most: usize) -> Result<Parsed<u64>, Reason>
     requires { (at ≤ length text.now) × (most ≤ 10) }
-    ensures { said_row result ≡ ends_at (whole_of most (word_of (drop at text.now))) (end_of text.now at) }
+    ensures { said result ≡ ends_at (whole_of most (word_of (drop at text.now))) (end_of text.now at) }
 {
-    let w = whole_run(text, at);
-    let end = w.end;
-    if end == at {
-        return DigitRow::Malformed;
+    let row = whole_run(text, at);
+    let count = row.next - at;
+    if count == 0 || most < count || !word_ends(text, row.next) {
+        return Err(Reason::Malformed);
     }
-    if most < end - at {
-        return DigitRow::Malformed;
-    }
-    if word_ends(text, end) {
-        return DigitRow::Of {
-            value: w.value,
-            end: end,
-        };
-    }
-    DigitRow::Malformed
+    Ok(row)
 }
 
 // The degree that the word at `at` is.
-pub fn degree_at(text: &[u8], at: usize) -> Whole
+pub fn degree_at(text: &[u8], at: usize) -> Result<Parsed<u32>, Reason>
     requires { at ≤ length text.now }
-    ensures { said_whole result ≡ ends_at (degree_of (word_of (drop at text.now))) (end_of text.now at) }
+    ensures { said result ≡ ends_at (degree_of (word_of (drop at text.now))) (end_of text.now at) }
 {
-    match row_at(text, at, 3) {
-        DigitRow::Malformed => Whole::Malformed,
-        DigitRow::Of { value, end } => {
-            if value == 0 {
-                return Whole::OutOfRange;
-            }
-            if 20 < value {
-                return Whole::OutOfRange;
-            }
-            Whole::Value {
-                value: value as u32,
-                end: end,
-            }
-        }
+    let degree = row_at(text, at, 3)?;
+    if degree.value == 0 || 20 < degree.value {
+        return Err(Reason::OutOfRange);
     }
+    Ok(Parsed {
+        value: degree.value as u32,
+        next: degree.next,
+    })
 }
 
 // The smoothing number that the word at `at` is.
-pub fn smoothing_at(text: &[u8], at: usize, argument_table: &[u8; 108]) -> Whole
-    requires at_in_bounds { at ≤ length text.now }
-    requires argument_table_value { argument_table.now ≡ table_of_arguments }
-    ensures { said_whole result ≡ ends_at (smoothing_of (word_of (drop at text.now))) (end_of text.now at) }
+pub fn smoothing_at(text: &[u8], at: usize) -> Result<Parsed<u32>, Reason>
+    requires { at ≤ length text.now }
+    ensures { said result ≡ ends_at (smoothing_of (word_of (drop at text.now))) (end_of text.now at) }
 {
-    let off = keywords::off_end(text, at, argument_table);
-    if at < off {
-        return Whole::Value { value: 0, end: off };
+    if let Some(next) = keywords::off_end(text, at) {
+        return Ok(Parsed { value: 0, next });
     }
-    match row_at(text, at, 5) {
-        DigitRow::Malformed => Whole::Malformed,
-        DigitRow::Of { value, end } => {
-            if 65_535 < value {
-                return Whole::OutOfRange;
-            }
-            Whole::Value {
-                value: value as u32,
-                end: end,
-            }
-        }
+    let number = row_at(text, at, 5)?;
+    if 65_535 < number.value {
+        return Err(Reason::OutOfRange);
     }
+    Ok(Parsed {
+        value: number.value as u32,
+        next: number.next,
+    })
 }

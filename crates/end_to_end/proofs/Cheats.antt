@@ -7,6 +7,9 @@ use mathlib.Core.List.{List, [], ◌∷◌}
 use native.Mathlib.Omega.{arith}
 use lib.ListN.{length, get_or}
 use lib.IntN.{ℤ, pos, nat_abs, neg_ℤ, ◌+ℤ◌, ◌*ℤ◌, ◌-ℤ◌, +ℤ_assoc, +ℤ_invl}
+use Rattle.std.specs.Prelude.{Err}
+use Rattle.tidier.specs.Tidying.{as_written, as_too_long}
+use Rattle.end_to_end.specs.EntryPoints.{as_read, Reader, Tidier, Sampler}
 use Rattle.rounding.specs.Fractions.{Frac, whole, ◌+ᶠ◌, ◌-ᶠ◌, ◌*ᶠ◌, power, over, sum_to, Close}
 use Rattle.rounding.proofs.IntLaws.{sub-eq}
 use Rattle.rounding.proofs.FracLaws.{no_size}
@@ -25,12 +28,10 @@ use Rattle.model.specs.Room.{fits}
 use Rattle.model.specs.Parse.{parse}
 use Rattle.model.specs.Read.{read, read_of, statement}
 use Rattle.model.specs.Layout.{tables_of, used_of}
-use Rattle.read_lines.specs.declared.ReadResult.TheVariants as reading
 use Rattle.reader.specs.Reading.{rooms_of}
 use Rattle.tidy_form.specs.declared.Weights.{Weights}
 use Rattle.tidy_form.specs.Tidied.{tidied}
 use Rattle.tidy_form.specs.Printed.{tidy_text}
-use Rattle.tidier.specs.declared.TidyResult.TheVariants.{Written, TooLong}
 use Rattle.point_exact.specs.Directions.{chosen, segment, last_where}
 use Rattle.point_exact.specs.Exact.{choose, along, bernstein, segment_weight, bezier_weight, weight_at, curve_exact}
 use Rattle.basis.specs.Widest.{widest}
@@ -45,7 +46,6 @@ use Rattle.sampler.specs.Points.{direction_u, control_of}
 use Rattle.sampler.specs.Answers.{element_of, body_of, PointOutcome, point_outcome}
 use Rattle.sampler.specs.Demand3.{sampling, Obeying, IsCurve, ElementsSampled}
 use Rattle.sampler.proofs.Demanded.{curve-coordinates}
-use Rattle.end_to_end.specs.EntryPoints.{Reader, Tidier, Sampler}
 use Rattle.end_to_end.specs.Demand1.{Outcomes}
 use Rattle.end_to_end.specs.Demand2.{Demand2}
 use Rattle.end_to_end.specs.Demand3.{Demand3}
@@ -87,7 +87,7 @@ one-read = refl
 turns-all-down : (reads : Reader) (tidies : Tidier) → TurnsAllDown reads → Demand2 reads tidies → ⊥
 turns-all-down reads tidies h d =
     let r = h [] lent in
-    let e : reading.Refused r.0 r.1 ≡ reading.Read (used_of start.model) = sym r.2 ∙ (d.accepts [] lent start.model none_read).answer in
+    let e : Err r.0 ≡ as_read (used_of start.model) = sym r.1 ∙ (d.accepts [] lent start.model none_read).answer in
     let z : ◌≡◌ {A = ℕ} 0 1 = cc in
     omega arith
 
@@ -125,7 +125,7 @@ turns-all-away : (c : Weights) (reads : Reader) (tidies : Tidier) → TurnsAllAw
 unfolding tidy_text tidied
 turns-all-away c reads tidies h d =
     let r = h [] lent [] in
-    let e : TooLong r.0 r.1 ≡ Written 0 (used_of start.model) = sym r.2 ∙ d.writes c [] lent [] start.model none_read (omega arith) (omega arith) in
+    let e : as_too_long r.0 r.1 ≡ as_written 0 (used_of start.model) = sym r.2 ∙ d.writes c [] lent [] start.model none_read (omega arith) (omega arith) in
     let z : ◌≡◌ {A = ℕ} 0 1 = cc in
     omega arith
 

@@ -5,20 +5,21 @@ use mathlib.Core.Bool.{Bool, true, false}
 use mathlib.Core.List.{List}
 use native.Mathlib.Omega.{arith}
 use lib.ListN.{take}
+use Rattle.end_to_end.specs.EntryPoints.{as_read}
 use Rattle.tables.specs.Tables.{Tables}
 use Rattle.tables.specs.declared.Used.{Used}
 use Rattle.model.specs.Model.{Model}
 use Rattle.model.specs.Room.{Rooms}
 use Rattle.model.specs.Read.{read, read_of}
 use Rattle.model.specs.Layout.{tables_of, used_of}
-use Rattle.read_lines.specs.declared.ReadResult.TheVariants as reading
 use Rattle.reader.specs.Reading.{rooms_of, read_into}
 use Rattle.record_rules.specs.Rules.{obeys, curves_before}
+use Rattle.std.specs.Prelude.{Some}
+use Rattle.refusals.specs.declared.Reason.TheVariants.{BrokenRecord}
 use Rattle.sampler.specs.Answers.{refusal_of}
 use Rattle.sampler.specs.Demand3.{sampling, Plain, Obeying}
 use Rattle.sampler.proofs.OnSurfaces.{elements-sampled}
-use Rattle.tidier.specs.declared.TidyResult.TheVariants.{Written}
-use Rattle.tidier.specs.Tidying.{tidy_into}
+use Rattle.tidier.specs.Tidying.{tidy_into, as_written}
 use Rattle.tidy_form.specs.declared.Weights.{Weights}
 use Rattle.tidy_form.specs.Printed.{tidy_text}
 use Rattle.sampled_files.specs.Joined.{SampledAlike}
@@ -31,14 +32,14 @@ use Rattle.end_to_end.proofs.Samples.{curve-not-15, surface-not-15, run-not-15}
 use Rattle.end_to_end.proofs.Second.{its-answer, its-tables, read_back}
 
 -- what holds of the counts and the tables of a file holds of the answer and the tables that reading it leaves
-pub shown : (P : Used → Tables → Type 0) (s : List ℕ) (S : Tables) (u : Used) (m : Model) → (read_into s S).answer ≡ reading.Read u → read_of (rooms_of S) s ≡ read m
+pub shown : (P : Used → Tables → Type 0) (s : List ℕ) (S : Tables) (u : Used) (m : Model) → (read_into s S).answer ≡ as_read u → read_of (rooms_of S) s ≡ read m
     → P (used_of m) (tables_of (rooms_of S) m) → P u (read_into s S).tables
 shown P s S u m h e q =
-    let f : reading.Read (used_of m) ≡ reading.Read u = sym (its-answer s S m e) ∙ h in
+    let f : as_read (used_of m) ≡ as_read u = sym (its-answer s S m e) ∙ h in
     let g : used_of m ≡ u = cc in
     subst (λ (w : Used). P w (read_into s S).tables) g (subst (P (used_of m)) (sym (its-tables s S m e)) q)
 
-module _ (s : List ℕ) (S : Tables) (u : Used) (h : (read_into s S).answer ≡ reading.Read u) where
+module _ (s : List ℕ) (S : Tables) (u : Used) (h : (read_into s S).answer ≡ as_read u) where
   abbrev file : Accepted s S u
   file = accepted s S u h
 
@@ -50,15 +51,15 @@ module _ (s : List ℕ) (S : Tables) (u : Used) (h : (read_into s S).answer ≡ 
       shown (λ (w : Used) (x : Tables). number ≤ w.elements → obeys w x (curves_before x (number - 1)) (number - 1) ≡ true) s S u file.model h file.is_read
       (λ b. obeyed (rooms_of S) s file.model file.is_read number a (let e = used-elements file.model in omega arith))
 
-  pub never-15 : (asked : Bool) (number : ℕ) → refusal_of asked u t number ≡ 15 → ⊥
+  pub never-15 : (asked : Bool) (number : ℕ) → refusal_of asked u t number ≡ Some BrokenRecord → ⊥
   never-15 asked number =
-      shown (λ (w : Used) (x : Tables). refusal_of asked w x number ≡ 15 → ⊥) s S u file.model h file.is_read
+      shown (λ (w : Used) (x : Tables). refusal_of asked w x number ≡ Some BrokenRecord → ⊥) s S u file.model h file.is_read
       (sampling-never-15 (rooms_of S) s file.model file.is_read asked number)
 
   pub its-obeying : (number : ℕ) → Plain u t number → Obeying u t number
   its-obeying number c = (c, its-obeyed number c.some c.in_use)
 
-filled : (s : List ℕ) (S : Tables) (u : Used) → (read_into s S).answer ≡ reading.Read u → PointsIn sampling u (read_into s S).tables
+filled : (s : List ℕ) (S : Tables) (u : Used) → (read_into s S).answer ≡ as_read u → PointsIn sampling u (read_into s S).tables
 filled s S u h =
     let t = (read_into s S).tables in
     record {
@@ -68,7 +69,7 @@ filled s S u h =
       surfaces-15 = λ number p q. surface-not-15 u t number (never-15 s S u h true number) p q;
     }
 
-own : (s : List ℕ) (S : Tables) (u : Used) (m : Model) → (read_into s S).answer ≡ reading.Read u → read_of (rooms_of S) s ≡ read m → PointsOf sampling u (read_into s S).tables m
+own : (s : List ℕ) (S : Tables) (u : Used) (m : Model) → (read_into s S).answer ≡ as_read u → read_of (rooms_of S) s ≡ read m → PointsOf sampling u (read_into s S).tables m
 own s S u m h e =
     shown (λ (w : Used) (x : Tables). PointsOf sampling w x m) s S u m h e
     (record {
@@ -80,7 +81,7 @@ own s S u m h e =
 sampled : (u w x y : Used) (S S' T T' : Tables) → u ≡ w → x ≡ y → S ≡ S' → T ≡ T' → SampledAlike sampling u S x T → SampledAlike sampling w S' y T'
 sampled u w x y S S' T T' e f g h a = rw (← e, ← f, ← g, ← h) a
 
-alike : (c : Weights) (s : List ℕ) (S : Tables) (a : List ℕ) (n : ℕ) (u : Used) → (tidy_into c s S a).answer ≡ Written n u
+alike : (c : Weights) (s : List ℕ) (S : Tables) (a : List ℕ) (n : ℕ) (u : Used) → (tidy_into c s S a).answer ≡ as_written n u
     → (T : Tables) → rooms_of T ≡ rooms_of S → SampledAlike sampling u (tidy_into c s S a).tables u (read_into (take n (tidy_into c s S a).out) T).tables
 alike c s S a n u h T e =
     let f = tidied-file c s S a n u h in
@@ -94,8 +95,8 @@ alike c s S a n u h T e =
     sampled (used_of m) u (used_of k) u (tables_of (rooms_of S) m) (tidy_into c s S a).tables (tables_of (rooms_of S) k) (read_into (take n (tidy_into c s S a).out) T).tables
     f.rest.counts counts (sym f.tables) (filled ∙ ap (λ (w : List ℕ). (read_into w T).tables) text) b.2
   where
-    counted : (w : List ℕ) (T : Tables) (u : Used) (k : Model) → read_of (rooms_of T) w ≡ read k → (read_into w T).answer ≡ reading.Read u → used_of k ≡ u
-    counted w T u k g h = let f : reading.Read (used_of k) ≡ reading.Read u = sym (its-answer w T k g) ∙ h in cc
+    counted : (w : List ℕ) (T : Tables) (u : Used) (k : Model) → read_of (rooms_of T) w ≡ read k → (read_into w T).answer ≡ as_read u → used_of k ≡ u
+    counted w T u k g h = let f : as_read (used_of k) ≡ as_read u = sym (its-answer w T k g) ∙ h in cc
 
 pub third : Demand3 read_into tidy_into sampling
 third =

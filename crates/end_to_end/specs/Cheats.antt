@@ -1,23 +1,23 @@
 -- 01, "Promises and the cheats they stop": each cheat, whatever else it does, and that the demand named there stops it.
-use Rattle.std.specs.Prelude.{ℕ, ◌+◌, ◌*◌, ◌≤◌, ◌≡◌, List, take, get_or, ℤ, pos, ◌+ℤ◌, ◌≤ℤ◌}
+use Rattle.refusals.specs.declared.Refusal.{Refusal}
+use Rattle.tidier.specs.Tidying.{as_written, as_too_long}
+use Rattle.end_to_end.specs.EntryPoints.{as_read, Reader, Tidier, Sampler}
+use Rattle.std.specs.Prelude.{ℕ, ◌+◌, ◌*◌, ◌≤◌, ◌≡◌, List, Err, take, get_or, ℤ, pos, ◌+ℤ◌, ◌≤ℤ◌}
 use Rattle.tables.specs.Tables.{Tables}
 use Rattle.tables.specs.declared.Used.{Used}
-use Rattle.read_lines.specs.declared.ReadResult.TheVariants as reading
 use Rattle.tidy_form.specs.declared.Weights.{Weights}
-use Rattle.tidier.specs.declared.TidyResult.TheVariants.{Written, TooLong}
 use Rattle.point_runs.specs.Runs.{tabulated}
 use Rattle.sampler.specs.Points.{axes_of, curve_at}
 use Rattle.sampler.specs.Answers.{element_of, body_of}
 use Rattle.sampler.specs.Demand3.{sampling, Obeying, IsCurve}
-use Rattle.sampler.specs.declared.PointResult.TheVariants as sampled
-use Rattle.end_to_end.specs.EntryPoints.{Reader, Tidier, Sampler}
+use Rattle.refusals.specs.declared.Reason.{Reason}
 use Rattle.end_to_end.specs.Demand1.{Outcomes}
 use Rattle.end_to_end.specs.Demand2.{Demand2}
 use Rattle.end_to_end.specs.Demand3.{Demand3}
 
 -- "A reader that turns all files down, or gives one fixed set of tables, or touches no table": fixed for the tables lent, whatever the text
 abbrev pub TurnsAllDown : Reader → Type 0
-TurnsAllDown reads = (s : List ℕ) (S : Tables) → (n : ℕ) × (p : ℕ) × ((reads s S).answer ≡ reading.Refused n p)
+TurnsAllDown reads = (s : List ℕ) (S : Tables) → (f : Refusal) × ((reads s S).answer ≡ Err f)
 
 abbrev pub FixedTables : Reader → Type 0
 FixedTables reads = (s t : List ℕ) (S : Tables) → (reads s S).tables ≡ (reads t S).tables
@@ -27,18 +27,18 @@ TouchesNoTable reads = (s : List ℕ) (S : Tables) → (reads s S).tables ≡ S
 
 -- "Used counts made up": the same for all that is read into the same tables
 abbrev pub FixedCounts : Reader → Type 0
-FixedCounts reads = (s t : List ℕ) (S : Tables) (u w : Used) → (reads s S).answer ≡ reading.Read u → (reads t S).answer ≡ reading.Read w → u ≡ w
+FixedCounts reads = (s t : List ℕ) (S : Tables) (u w : Used) → (reads s S).answer ≡ as_read u → (reads t S).answer ≡ as_read w → u ≡ w
 
 -- "A tidier that copies its input"; "One that turns all away": by a choice of weights
 abbrev pub CopiesItsInput : Weights → Tidier → Type 0
-CopiesItsInput c tidies = (s : List ℕ) (S : Tables) (a : List ℕ) (n : ℕ) (u : Used) → (tidies c s S a).answer ≡ Written n u → take n (tidies c s S a).out ≡ s
+CopiesItsInput c tidies = (s : List ℕ) (S : Tables) (a : List ℕ) (n : ℕ) (u : Used) → (tidies c s S a).answer ≡ as_written n u → take n (tidies c s S a).out ≡ s
 
 abbrev pub TurnsAllAway : Weights → Tidier → Type 0
-TurnsAllAway c tidies = (s : List ℕ) (S : Tables) (a : List ℕ) → (k : ℕ) × (u : Used) × ((tidies c s S a).answer ≡ TooLong k u)
+TurnsAllAway c tidies = (s : List ℕ) (S : Tables) (a : List ℕ) → (k : ℕ) × (u : Used) × ((tidies c s S a).answer ≡ as_too_long k u)
 
 -- "A sampler that refuses all, or gives one fixed point": the same at every parameter
 abbrev pub RefusesAll : Sampler → Type 0
-RefusesAll samples = (u : Used) (t : Tables) (number : ℕ) (p : ℤ) → (n : ℕ) × ((samples.curve u t number p).answer ≡ sampled.Refused n)
+RefusesAll samples = (u : Used) (t : Tables) (number : ℕ) (p : ℤ) → (r : Reason) × ((samples.curve u t number p).answer ≡ Err r)
 
 abbrev pub FixedPoint : Sampler → Type 0
 FixedPoint samples = (u : Used) (t : Tables) (number : ℕ) (p q : ℤ) → (samples.curve u t number p).outcome ≡ (samples.curve u t number q).outcome

@@ -1,18 +1,18 @@
 -- Must be believed: a promise reaches every definition of this file.
 -- Demand 1: "either read or refused with a number and a place"; "A refused file leaves every lent table all zeros; a refused tidying or sampling call changes nothing in the buffer it would have filled."
-use Rattle.std.specs.Prelude.{ℕ, ◌≤◌, ◌≡◌, List, ℤ}
+use Rattle.refusals.specs.declared.Refusal.{Refusal}
+use Rattle.end_to_end.specs.EntryPoints.{as_read, Reader, Tidier, Sampler}
+use Rattle.std.specs.Prelude.{ℕ, ◌≤◌, ◌≡◌, List, Err, ℤ}
 use Rattle.tables.specs.Tables.{Tables, zeros}
 use Rattle.tables.specs.declared.Used.{Used}
 use Rattle.model.specs.Layout.{none_used}
-use Rattle.read_lines.specs.declared.ReadResult.TheVariants as reading
 use Rattle.reader.specs.Reading.{read_outcome, ReadAnswer}
 use Rattle.tidy_form.specs.declared.Weights.{Weights}
-use Rattle.tidier.specs.declared.TidyResult.TheVariants as tidying
-use Rattle.tidier.specs.Tidying.{tidy_outcome, TidyAnswer}
-use Rattle.sampler.specs.declared.PointResult.TheVariants as sampled
-use Rattle.sampler.specs.declared.RunResult.TheVariants as ran
+use Rattle.tidier.specs.declared.TidyError.TheVariants as tidying
+use Rattle.tidier.specs.Tidying.{tidy_outcome, TidyAnswer, as_too_long}
+use Rattle.refusals.specs.Reasons.{reason_number}
+use Rattle.refusals.specs.declared.Reason.{Reason}
 use Rattle.sampler.specs.Answers.{point_outcome, run_outcome, RunAnswer}
-use Rattle.end_to_end.specs.EntryPoints.{Reader, Tidier, Sampler}
 
 -- "Any answer that is an enum has a definition that gives this paper's number and values for each of the enum's cases": each answer with those of its case
 pub record Outcomes (reads : Reader) (tidies : Tidier) (samples : Sampler) : Type 0 where
@@ -34,16 +34,16 @@ pub record RefusedReading (S : Tables) (n : ℕ) (r : ReadAnswer) : Type 0 where
   pub tables : r.tables ≡ zeros S
   pub counts : r.outcome.used ≡ none_used
 
--- a tidying of the text s that is refused with n at p, the tables S and the buffer a lent: it is the reader's refusal
-pub record RefusedTidying (reads : Reader) (s : List ℕ) (S : Tables) (a : List ℕ) (n p : ℕ) (r : TidyAnswer) : Type 0 where
-  pub read : (reads s S).answer ≡ reading.Refused n p
+-- a tidying of the text s that is refused with f, the tables S and the buffer a lent: it is the reader's refusal
+pub record RefusedTidying (reads : Reader) (s : List ℕ) (S : Tables) (a : List ℕ) (f : Refusal) (r : TidyAnswer) : Type 0 where
+  pub read : (reads s S).answer ≡ Err f
   pub tables : r.tables ≡ zeros S
   pub counts : r.outcome.used ≡ none_used
   pub out : r.out ≡ a
 
 -- "16 at place 0, the tables then filled": as reading fills them, with the counts u
 pub record LongTidying (reads : Reader) (s : List ℕ) (S : Tables) (a : List ℕ) (u : Used) (r : TidyAnswer) : Type 0 where
-  pub read : (reads s S).answer ≡ reading.Read u
+  pub read : (reads s S).answer ≡ as_read u
   pub tables : r.tables ≡ (reads s S).tables
   pub out : r.out ≡ a
 
@@ -54,11 +54,11 @@ pub record RefusedRun (lent : List ℤ) (n : ℕ) (r : RunAnswer) : Type 0 where
 
 pub record Demand1 (reads : Reader) (tidies : Tidier) (samples : Sampler) : Type 0 where
   pub outcomes : Outcomes reads tidies samples
-  pub refused-reading : (s : List ℕ) (S : Tables) (n p : ℕ) → (reads s S).answer ≡ reading.Refused n p → RefusedReading S n (reads s S)
-  pub refuses : (c : Weights) (s : List ℕ) (S : Tables) (a : List ℕ) (n p : ℕ) → (reads s S).answer ≡ reading.Refused n p → (tidies c s S a).answer ≡ tidying.Refused n p
-  pub refused-tidying : (c : Weights) (s : List ℕ) (S : Tables) (a : List ℕ) (n p : ℕ) → (tidies c s S a).answer ≡ tidying.Refused n p → RefusedTidying reads s S a n p (tidies c s S a)
-  pub long-tidying : (c : Weights) (s : List ℕ) (S : Tables) (a : List ℕ) (k : ℕ) (u : Used) → (tidies c s S a).answer ≡ tidying.TooLong k u → LongTidying reads s S a u (tidies c s S a)
-  pub refused-curve : (u : Used) (t : Tables) (number : ℕ) (p : ℤ) (n : ℕ) → (samples.curve u t number p).answer ≡ sampled.Refused n → Between 15 19 n
-  pub refused-surface : (u : Used) (t : Tables) (number : ℕ) (p q : ℤ) (n : ℕ) → (samples.surface u t number p q).answer ≡ sampled.Refused n → Between 15 19 n
-  pub refused-run : (u : Used) (t : Tables) (number steps at : ℕ) (points : List ℤ) (n : ℕ) → (samples.run u t number steps at points).answer ≡ ran.Refused n
-      → RefusedRun points n (samples.run u t number steps at points)
+  pub refused-reading : (s : List ℕ) (S : Tables) (f : Refusal) → (reads s S).answer ≡ Err f → RefusedReading S (reason_number f.reason) (reads s S)
+  pub refuses : (c : Weights) (s : List ℕ) (S : Tables) (a : List ℕ) (f : Refusal) → (reads s S).answer ≡ Err f → (tidies c s S a).answer ≡ Err (tidying.Refused f)
+  pub refused-tidying : (c : Weights) (s : List ℕ) (S : Tables) (a : List ℕ) (f : Refusal) → (tidies c s S a).answer ≡ Err (tidying.Refused f) → RefusedTidying reads s S a f (tidies c s S a)
+  pub long-tidying : (c : Weights) (s : List ℕ) (S : Tables) (a : List ℕ) (k : ℕ) (u : Used) → (tidies c s S a).answer ≡ as_too_long k u → LongTidying reads s S a u (tidies c s S a)
+  pub refused-curve : (u : Used) (t : Tables) (number : ℕ) (p : ℤ) (r : Reason) → (samples.curve u t number p).answer ≡ Err r → Between 15 19 (reason_number r)
+  pub refused-surface : (u : Used) (t : Tables) (number : ℕ) (p q : ℤ) (r : Reason) → (samples.surface u t number p q).answer ≡ Err r → Between 15 19 (reason_number r)
+  pub refused-run : (u : Used) (t : Tables) (number steps at : ℕ) (points : List ℤ) (r : Reason) → (samples.run u t number steps at points).answer ≡ Err r
+      → RefusedRun points (reason_number r) (samples.run u t number steps at points)

@@ -4,7 +4,6 @@
 ghost use Rattle.std.specs.Prelude.{◌≡◌, drop};
 ghost use Rattle.text.specs.Words.{word_of};
 ghost use Rattle.keywords.specs.Keywords.{statement_of};
-ghost use Rattle.keywords.specs.Lookup.{table_of_keywords};
 ghost use Rattle.keyword_rules.specs.Asked.{standing_number, multiple_of, corner_number, form_number, limits_of, carried_of, rule_row_of};
 ghost use Rattle.keyword_rules.specs.Ranges.{range_in};
 ghost use Rattle.statements.specs.Rules.{rules_of};
@@ -95,10 +94,7 @@ fn form_number(form: WordForm) -> u32
 fn limits_from(low: i32, high: i32) -> Limits
     ensures { result ≡ record { low = low; high = high } }
 {
-    Limits {
-        low: low,
-        high: high,
-    }
+    Limits { low, high }
 }
 
 // The values that a form with limits may have; of a name how many bytes.
@@ -135,8 +131,7 @@ pub fn carried_of(statement: Statement) -> Carried
 pub fn rules_of_keyword(keyword: &[u8], words: usize, index: usize) -> RuleRow
     ensures { result ≡ rule_row_of (carried_of (statement_of (word_of keyword.now))) words index }
 {
-    let table = keywords::keyword_table();
-    let found = keywords::keyword_at(keyword, 0, &table);
+    let found = keywords::keyword_at(keyword, 0);
     let statement = found.statement;
     let carried = carried_of(statement);
     let rules = rules_of(carried);
@@ -169,12 +164,11 @@ fn range_in(forms: Forms) -> usize
     }
 }
 
-// The same of the line whose keyword stands at `at`.
-pub fn words_of_range(text: &[u8], at: usize, table: &[u8; 528]) -> usize
-    requires { table.now ≡ table_of_keywords }
+// How many words of the line whose keyword stands at `at` are a range, before its controls.
+pub fn words_of_range(text: &[u8], at: usize) -> usize
     ensures { result ≡ range_in (rules_of (carried_of (statement_of (word_of (drop at text.now))))).forms }
 {
-    let found = keywords::keyword_at(text, at, table);
+    let found = keywords::keyword_at(text, at);
     let statement = found.statement;
     let rules = rules_of(carried_of(statement));
     let forms = rules.forms;

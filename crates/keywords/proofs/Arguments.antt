@@ -1,14 +1,13 @@
 -- The table's bytes are the rows': both are computed.
-use Prim.Native.Nat.{ℕ, ◌≤◌, ◌<◌}
-use mathlib.Core.Path.{◌≡◌, refl, ap, ◌∙◌}
+use Prim.Native.Nat.{ℕ}
+use mathlib.Core.Path.{◌≡◌, refl, ◌∙◌}
 use mathlib.Core.Logic.{⊎_elim}
 use mathlib.Core.List.{List}
 use mathlib.Core.Bool.{true, false, cond}
-use native.Mathlib.Omega.{arith}
-use lib.ListN.{length, drop}
+use lib.ListN.{drop}
+use Rattle.std.specs.Prelude.{Option, Some, None}
 use Rattle.lists.specs.Lists.{same}
 use Rattle.lists.proofs.Tests.{test}
-use Rattle.lists.proofs.Laws.{same-eq}
 use Rattle.text.specs.Words.{word_of}
 use Rattle.text.specs.Rest.{end_of}
 use Rattle.spellings.specs.Rows.{kind_at, found_by}
@@ -57,30 +56,22 @@ off-row : word_of (drop 96 table_of_arguments) ≡ argument_bytes Off
 unfolding arguments table_of_arguments argument_bytes
 off-row = refl
 
-off-length : length (argument_bytes Off) ≡ 3
-unfolding arguments argument_bytes
-off-length = refl
+abbrev pub off_end : List ℕ → ℕ → Option ℕ
+off_end s at = cond (same (word_of (drop at s)) (argument_bytes Off)) (Some (end_of s at)) None
 
-abbrev pub off_end : List ℕ → ℕ → ℕ
-off_end s at = cond (same (word_of (drop at s)) (argument_bytes Off)) (end_of s at) at
-
-pub off-is : (s t : List ℕ) (at end : ℕ) → t ≡ table_of_arguments → end ≡ compare_of s at t 96 → end ≡ off_end s at
+pub off-is : (s t : List ℕ) (at : ℕ) (end : Option ℕ) → t ≡ table_of_arguments → end ≡ compare_of s at t 96 → end ≡ off_end s at
 off-is s t at end e c = rw (e, off-row) at c
 
--- a word ends after its place exactly when it is off
-pub off-found : (s : List ℕ) (at end : ℕ) → end ≡ off_end s at → at < end → (same (word_of (drop at s)) (argument_bytes Off) ≡ true) × (end ≡ end_of s at)
-off-found s at end d l =
+pub off-found : (s : List ℕ) (at end : ℕ) → Some end ≡ off_end s at → (same (word_of (drop at s)) (argument_bytes Off) ≡ true) × (end ≡ end_of s at)
+off-found s at end d =
     ⊎_elim
-    (λ h. (h, rw h at d))
-    (λ h. let f : end ≡ at = rw h at d in absurd (omega arith))
+    (λ h. let f : Some end ≡ Some (end_of s at) = rw h at d in (h, cc))
+    (λ h. let f : Some end ≡ None = rw h at d in cc)
     (test (same (word_of (drop at s)) (argument_bytes Off)))
 
-pub off-not : (s : List ℕ) (at end : ℕ) → end ≡ off_end s at → end ≤ at → same (word_of (drop at s)) (argument_bytes Off) ≡ false
-off-not s at end d l =
+pub off-not : (s : List ℕ) (at : ℕ) → None ≡ off_end s at → same (word_of (drop at s)) (argument_bytes Off) ≡ false
+off-not s at d =
     ⊎_elim
-    (λ h.
-    let n : length (word_of (drop at s)) ≡ 3 = ap length (same-eq (word_of (drop at s)) (argument_bytes Off) h) ∙ off-length in
-    let f : end ≡ end_of s at = rw h at d in
-    absurd (omega (arith, f, n)))
+    (λ h. let f : None ≡ Some (end_of s at) = rw h at d in cc)
     (λ h. h)
     (test (same (word_of (drop at s)) (argument_bytes Off)))

@@ -1,12 +1,12 @@
 // The spellings of keywords and of the fixed words after them, one table each, and what a word of a text finds there.
 #![tactic(auto)]
 
-ghost use Rattle.std.specs.Prelude.{◌≡◌, cond, ◌+◌, ◌≤◌, length, drop};
+ghost use Rattle.std.specs.Prelude.{◌≡◌, cond, Some, None, ◌+◌, ◌≤◌, length, drop};
 ghost use Rattle.std.proofs.lemmas.List.Edits.{sets};
 ghost use Rattle.lists.specs.Lists.{same};
 ghost use Rattle.text.specs.Words.{word_of};
 ghost use Rattle.text.specs.Rest.{end_of};
-ghost use Rattle.spellings.specs.Rows.{Finds, found_by, spelling_at, fitting};
+ghost use Rattle.spellings.specs.Rows.{Finds, found_by, kind_at, spelling_at, fitting};
 ghost use Rattle.keywords.specs.Keywords.{keywords, keyword_of, letter_of};
 ghost use Rattle.keywords.specs.Lookup.{table_of_keywords, keyword_at, of_letter, table_of_arguments, argument_at, of_sign};
 ghost use Rattle.keywords.specs.Arguments.{arguments, argument_bytes, sign_of};
@@ -21,7 +21,7 @@ const ARGUMENT_ROWS: usize = 9;
 const OFF_ROW: usize = 8;
 
 // Every keyword, in the order of the appendix's "File structure", then as the appendix comes to them: A to S are stored, - is passed over, ! refused.
-const KEYWORDS: [u8; 528] = *b"\
+static KEYWORDS: [u8; 528] = *b"\
     v          A\
     vt         B\
     vn         C\
@@ -68,7 +68,7 @@ const KEYWORDS: [u8; 528] = *b"\
     res        !";
 
 // The fixed words after a keyword, as the appendix comes to them.
-const ARGUMENTS: [u8; 108] = *b"\
+static ARGUMENTS: [u8; 108] = *b"\
     rat        A\
     bmatrix    B\
     bezier     C\
@@ -79,7 +79,7 @@ const ARGUMENTS: [u8; 108] = *b"\
     v          H\
     off        I";
 
-// A keyword's statement, and where its word ends.
+// A keyword's statement, and where its word ends. Not a `Parsed`: an unknown word's end is not looked for, and its place stands for it, so reading goes on elsewhere.
 #[derive(Clone, Copy)]
 pub struct Keyword {
     pub statement: Statement,
@@ -100,19 +100,21 @@ pub enum Argument {
     Other,
 }
 
-// The tables, to be made once and lent.
-pub fn keyword_table() -> [u8; 528]
-    ensures { result ≡ table_of_keywords }
+// The tables, whose bytes are looked at here alone. From here on the functions on keywords and on arguments go in pairs: each is a line or two over one function of
+// spellings that both share, and one function over both would need a trait with each table, its rows and the laws between them, which is longer.
+pub fn keyword_table() -> &'static [u8; 528]
+    ensures { result.now ≡ table_of_keywords }
 {
-    KEYWORDS
+    &KEYWORDS
 }
 
-pub fn argument_table() -> [u8; 108]
-    ensures { result ≡ table_of_arguments }
+pub fn argument_table() -> &'static [u8; 108]
+    ensures { result.now ≡ table_of_arguments }
 {
-    ARGUMENTS
+    &ARGUMENTS
 }
 
+#[tactic(auto, unfolding(crate::specs::Keywords::keywords, crate::specs::Lookup::of_letter))]
 fn statement_of(letter: u8) -> Statement
     ensures { result ≡ of_letter letter }
 {
@@ -142,6 +144,7 @@ fn statement_of(letter: u8) -> Statement
     }
 }
 
+#[tactic(auto, unfolding(crate::specs::Arguments::arguments, crate::specs::Lookup::of_sign))]
 fn argument_of(letter: u8) -> Argument
     ensures { result ≡ of_sign letter }
 {
@@ -160,8 +163,7 @@ fn argument_of(letter: u8) -> Argument
 }
 
 // The row that the word at `at` finds, by a walk of the table (02, Q-4).
-pub fn keyword_row(text: &[u8], at: usize, table: &[u8; 528]) -> Found
-    requires { table.now ≡ table_of_keywords }
+pub fn keyword_row(text: &[u8], at: usize) -> Found
     ensures { (result ≡ found_by keywords (word_of (drop at text.now)) at) × Finds keywords (word_of (drop at text.now)) result.row }
 {
     if text.len() <= at {
@@ -170,11 +172,10 @@ pub fn keyword_row(text: &[u8], at: usize, table: &[u8; 528]) -> Found
             end: at,
         };
     }
-    row_at(text, at, table, KEYWORD_ROWS)
+    row_at(text, at, keyword_table(), KEYWORD_ROWS)
 }
 
-pub fn argument_row(text: &[u8], at: usize, table: &[u8; 108]) -> Found
-    requires { table.now ≡ table_of_arguments }
+pub fn argument_row(text: &[u8], at: usize) -> Found
     ensures { (result ≡ found_by arguments (word_of (drop at text.now)) at) × Finds arguments (word_of (drop at text.now)) result.row }
 {
     if text.len() <= at {
@@ -183,47 +184,53 @@ pub fn argument_row(text: &[u8], at: usize, table: &[u8; 108]) -> Found
             end: at,
         };
     }
-    row_at(text, at, table, ARGUMENT_ROWS)
+    row_at(text, at, argument_table(), ARGUMENT_ROWS)
+}
+
+// The letter of a row of the keywords, a blank past the last.
+pub fn row_letter(row: usize) -> u8
+    ensures { of_letter result ≡ kind_at Statement.Unknown keywords row }
+{
+    if row < KEYWORD_ROWS {
+        return keyword_table()[WIDTH * row + 11];
+    }
+    b' '
+}
+
+// The same of the arguments.
+fn row_sign(row: usize) -> u8
+    ensures { of_sign result ≡ kind_at Argument.Other arguments row }
+{
+    if row < ARGUMENT_ROWS {
+        return argument_table()[WIDTH * row + 11];
+    }
+    b' '
 }
 
 // The statement that the word at `at` is the keyword of: the kind of the row that it finds.
-pub fn keyword_at(text: &[u8], at: usize, table: &[u8; 528]) -> Keyword
-    requires { table.now ≡ table_of_keywords }
+pub fn keyword_at(text: &[u8], at: usize) -> Keyword
     ensures { result ≡ keyword_at text.now at }
 {
-    let found = keyword_row(text, at, table);
-    let row = found.row;
-    if row < KEYWORD_ROWS {
-        return Keyword {
-            statement: statement_of(table[WIDTH * row + 11]),
-            end: found.end,
-        };
-    }
+    let found = keyword_row(text, at);
     Keyword {
-        statement: Statement::Unknown,
+        statement: statement_of(row_letter(found.row)),
         end: found.end,
     }
 }
 
 // The argument that the word at `at` is.
-pub fn argument_at(text: &[u8], at: usize, table: &[u8; 108]) -> Argument
-    requires { table.now ≡ table_of_arguments }
+pub fn argument_at(text: &[u8], at: usize) -> Argument
     ensures { result ≡ argument_at text.now at }
 {
-    let found = argument_row(text, at, table);
-    let row = found.row;
-    if row < ARGUMENT_ROWS {
-        return argument_of(table[WIDTH * row + 11]);
-    }
-    Argument::Other
+    let found = argument_row(text, at);
+    argument_of(row_sign(found.row))
 }
 
-// Where the word at `at` ends if it is off; else `at`.
-pub fn off_end(text: &[u8], at: usize, table: &[u8; 108]) -> usize
-    requires { table.now ≡ table_of_arguments }
-    ensures { result ≡ cond (same (word_of (drop at text.now)) (argument_bytes Argument.Off)) (end_of text.now at) at }
+// Where the word at `at` ends if it is off.
+pub fn off_end(text: &[u8], at: usize) -> Option<usize>
+    ensures { result ≡ cond (same (word_of (drop at text.now)) (argument_bytes Argument.Off)) (Some (end_of text.now at)) None }
 {
-    same_word(text, at, table, WIDTH * OFF_ROW)
+    same_word(text, at, argument_table(), WIDTH * OFF_ROW)
 }
 
 fn vertex_letter(kind: VertexKind) -> u8
@@ -295,37 +302,37 @@ fn sign_of(argument: Argument) -> u8
 }
 
 // How many bytes a statement's keyword has.
-pub fn keyword_length(statement: Carried, table: &[u8; 528]) -> usize
-    requires { table.now ≡ table_of_keywords }
+pub fn keyword_length(statement: Carried) -> usize
     ensures { result ≡ length (keyword_of statement) }
 {
+    let table = keyword_table();
     let from = row_of(table, letter_of(statement), KEYWORD_ROWS);
     text::word_end(table, from) - from
 }
 
 // A statement's keyword, written to `at` of `out`; the place after it.
-pub fn write_keyword(statement: Carried, table: &[u8; 528], out: &mut [u8], at: usize) -> usize
-    requires table_value { table.now ≡ table_of_keywords }
-    requires statement_in_bounds { at + length (keyword_of statement) ≤ length out.old }
+pub fn write_keyword(statement: Carried, out: &mut [u8], at: usize) -> usize
+    requires { at + length (keyword_of statement) ≤ length out.old }
     ensures { (result ≡ at + length (keyword_of statement)) × (out.new ≡ sets out.old at (keyword_of statement)) }
 {
+    let table = keyword_table();
     let from = row_of(table, letter_of(statement), KEYWORD_ROWS);
     copy_word(table, from, out, at)
 }
 
-pub fn argument_length(argument: Argument, table: &[u8; 108]) -> usize
-    requires { table.now ≡ table_of_arguments }
+pub fn argument_length(argument: Argument) -> usize
     ensures { result ≡ length (argument_bytes argument) }
 {
+    let table = argument_table();
     let from = row_of(table, sign_of(argument), ARGUMENT_ROWS);
     text::word_end(table, from) - from
 }
 
-pub fn write_argument(argument: Argument, table: &[u8; 108], out: &mut [u8], at: usize) -> usize
-    requires table_value { table.now ≡ table_of_arguments }
-    requires argument_in_bounds { at + length (argument_bytes argument) ≤ length out.old }
+pub fn write_argument(argument: Argument, out: &mut [u8], at: usize) -> usize
+    requires { at + length (argument_bytes argument) ≤ length out.old }
     ensures { (result ≡ at + length (argument_bytes argument)) × (out.new ≡ sets out.old at (argument_bytes argument)) }
 {
+    let table = argument_table();
     let from = row_of(table, sign_of(argument), ARGUMENT_ROWS);
     copy_word(table, from, out, at)
 }
@@ -334,9 +341,8 @@ pub fn write_argument(argument: Argument, table: &[u8; 108], out: &mut [u8], at:
 pub fn keyword_spelling(row: usize, out: &mut [u8]) -> usize
     ensures { (result ≡ length (fitting (length out.old) (spelling_at keywords row))) × (out.new ≡ sets out.old 0 (fitting (length out.old) (spelling_at keywords row))) }
 {
-    let table = keyword_table();
     if row < KEYWORD_ROWS {
-        return write_row(&table, WIDTH * row, out);
+        return write_row(keyword_table(), WIDTH * row, out);
     }
     0
 }
@@ -345,9 +351,8 @@ pub fn keyword_spelling(row: usize, out: &mut [u8]) -> usize
 pub fn argument_spelling(row: usize, out: &mut [u8]) -> usize
     ensures { (result ≡ length (fitting (length out.old) (spelling_at arguments row))) × (out.new ≡ sets out.old 0 (fitting (length out.old) (spelling_at arguments row))) }
 {
-    let table = argument_table();
     if row < ARGUMENT_ROWS {
-        return write_row(&table, WIDTH * row, out);
+        return write_row(argument_table(), WIDTH * row, out);
     }
     0
 }

@@ -10,9 +10,8 @@ use std::io::Read;
 use text::AfterBlanks;
 
 fn put_keyword(rt: &impl Print, statement: Carried) -> io::Result<()> {
-    let table = keywords::keyword_table();
     let mut out = [0u8; 10];
-    let n = keywords::write_keyword(statement, &table, &mut out, 0);
+    let n = keywords::write_keyword(statement, &mut out, 0);
     print!(rt; " stored ")?;
     rt.write_all(&out[..n])
 }
@@ -25,10 +24,7 @@ fn put_carried(rt: &impl Print, statement: Carried) -> io::Result<()> {
 }
 
 fn put_statement(rt: &impl Print, text: &[u8], at: usize) -> io::Result<()> {
-    let table = keywords::keyword_table();
-    let keyword = keywords::keyword_at(text, at, &table);
-    let statement = keyword.statement;
-    match statement {
+    match keywords::keyword_at(text, at).statement {
         Statement::Carried(carried) => put_carried(rt, carried),
         Statement::Refused => print!(rt; " refused"),
         Statement::Unknown => print!(rt; " unknown"),
@@ -36,9 +32,7 @@ fn put_statement(rt: &impl Print, text: &[u8], at: usize) -> io::Result<()> {
 }
 
 fn put_argument(rt: &impl Print, text: &[u8], at: usize) -> io::Result<()> {
-    let table = keywords::argument_table();
-    let argument = keywords::argument_at(text, at, &table);
-    match argument {
+    match keywords::argument_at(text, at) {
         Argument::Other => println!(rt),
         Argument::Rational => println!(rt; ", rational"),
         Argument::BasisMatrix => println!(rt; ", basis matrix"),

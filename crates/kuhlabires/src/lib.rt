@@ -29,7 +29,7 @@ use c_tables::records::{BodyRecord, ElementRecord};
 use keyword_rules::RuleRow;
 use read_advice::Advice;
 use read_rooms::Rooms;
-use tables::{Corner, Used};
+use tables::{Corner, Tables, TablesMut, Used};
 
 // How many entries of each table the text can need: lent at least these, `kuhlabires_read` never answers 14.
 #[unsafe(no_mangle)]
@@ -57,9 +57,20 @@ pub extern "C" fn kuhlabires_read(
 ) -> ReadRecord
     ensures { (result ≡ read_in (read_into text.now (tables v.old vt.old vn.old vp.old corners.old elements.old bodies.old ranges.old parameters.old loops.old spans.old)).outcome) × ((tables v.new vt.new vn.new vp.new corners.new elements.new bodies.new ranges.new parameters.new loops.new spans.new) ≡ (read_into text.now (tables v.old vt.old vn.old vp.old corners.old elements.old bodies.old ranges.old parameters.old loops.old spans.old)).tables) }
 {
-    c_records::read_of(reader::read(
-        text, v, vt, vn, vp, corners, elements, bodies, ranges, parameters, loops, spans,
-    ))
+    let mut lent = TablesMut {
+        v,
+        vt,
+        vn,
+        vp,
+        corners,
+        elements,
+        bodies,
+        ranges,
+        parameters,
+        loops,
+        spans,
+    };
+    ReadRecord::from(reader::read(text, &mut lent))
 }
 
 // Reads a text into the lent tables and writes its tidy text to the front of `out`; `weights` is 1 where a w of 1.000000 is written too.
@@ -82,9 +93,7 @@ pub extern "C" fn kuhlabires_tidy(
 ) -> TidyRecord
     ensures { (result ≡ tidy_in (tidy_into (weights_in weights) text.now (tables v.old vt.old vn.old vp.old corners.old elements.old bodies.old ranges.old parameters.old loops.old spans.old) out.old).outcome) × ((tables v.new vt.new vn.new vp.new corners.new elements.new bodies.new ranges.new parameters.new loops.new spans.new) ≡ (tidy_into (weights_in weights) text.now (tables v.old vt.old vn.old vp.old corners.old elements.old bodies.old ranges.old parameters.old loops.old spans.old) out.old).tables) × (out.new ≡ (tidy_into (weights_in weights) text.now (tables v.old vt.old vn.old vp.old corners.old elements.old bodies.old ranges.old parameters.old loops.old spans.old) out.old).out) }
 {
-    c_records::tidy_of(tidier::tidy(
-        text,
-        c_records::weights_of(weights),
+    let mut lent = TablesMut {
         v,
         vt,
         vn,
@@ -96,8 +105,9 @@ pub extern "C" fn kuhlabires_tidy(
         parameters,
         loops,
         spans,
-        out,
-    ))
+    };
+    let choice = c_records::weights_of(weights);
+    TidyRecord::from(tidier::tidy(text, choice, &mut lent, out))
 }
 
 // Removes every v, vt, vn and vp that no corner names, and writes the new number of each old record to the front of `numbers`, 0 for one that is dropped.
@@ -119,9 +129,20 @@ pub extern "C" fn kuhlabires_sweep(
 ) -> SweepCounts
     ensures { (result ≡ sweep_in (sweep_into used (tables v.old vt.old vn.old vp.old corners.old elements.old bodies.old ranges.old parameters.old loops.old spans.old) numbers.old).outcome) × ((tables v.new vt.new vn.new vp.new corners.new elements.new bodies.new ranges.new parameters.new loops.new spans.new) ≡ (sweep_into used (tables v.old vt.old vn.old vp.old corners.old elements.old bodies.old ranges.old parameters.old loops.old spans.old) numbers.old).tables) × (numbers.new ≡ (sweep_into used (tables v.old vt.old vn.old vp.old corners.old elements.old bodies.old ranges.old parameters.old loops.old spans.old) numbers.old).numbers) }
 {
-    c_records::sweep_of(sweep::sweep(
-        used, v, vt, vn, vp, corners, elements, bodies, ranges, parameters, loops, spans, numbers,
-    ))
+    let mut lent = TablesMut {
+        v,
+        vt,
+        vn,
+        vp,
+        corners,
+        elements,
+        bodies,
+        ranges,
+        parameters,
+        loops,
+        spans,
+    };
+    SweepCounts::from(sweep::sweep(used, &mut lent, numbers))
 }
 
 // The element of that number, counted from 1; all zeros for no such element.
@@ -215,10 +236,20 @@ pub extern "C" fn kuhlabires_point_on_curve(
 ) -> Point
     ensures { result ≡ point_in (point_on_curve used (tables v.now vt.now vn.now vp.now corners.now elements.now bodies.now ranges.now parameters.now loops.now spans.now) element t).outcome }
 {
-    c_records::point_of(sampler::point_on_curve(
-        used, v, vt, vn, vp, corners, elements, bodies, ranges, parameters, loops, spans, element,
-        t,
-    ))
+    let lent = Tables {
+        v,
+        vt,
+        vn,
+        vp,
+        corners,
+        elements,
+        bodies,
+        ranges,
+        parameters,
+        loops,
+        spans,
+    };
+    Point::from(sampler::point_on_curve(used, &lent, element, t))
 }
 
 // The point at s along u and t along v of the surf of that number.
@@ -242,10 +273,20 @@ pub extern "C" fn kuhlabires_point_on_surface(
 ) -> Point
     ensures { result ≡ point_in (point_on_surface used (tables v.now vt.now vn.now vp.now corners.now elements.now bodies.now ranges.now parameters.now loops.now spans.now) element s t).outcome }
 {
-    c_records::point_of(sampler::point_on_surface(
-        used, v, vt, vn, vp, corners, elements, bodies, ranges, parameters, loops, spans, element,
-        s, t,
-    ))
+    let lent = Tables {
+        v,
+        vt,
+        vn,
+        vp,
+        corners,
+        elements,
+        bodies,
+        ranges,
+        parameters,
+        loops,
+        spans,
+    };
+    Point::from(sampler::point_on_surface(used, &lent, element, s, t))
 }
 
 // The point at j/64 of a segment of the curv or curv2 of that number, a cubic Bezier; segments count from 0.
@@ -269,10 +310,20 @@ pub extern "C" fn kuhlabires_cubic_at(
 ) -> Point
     ensures { result ≡ point_in (cubic_at used (tables v.now vt.now vn.now vp.now corners.now elements.now bodies.now ranges.now parameters.now loops.now spans.now) element segment j).outcome }
 {
-    c_records::point_of(point_cubics::cubic_at(
-        used, v, vt, vn, vp, corners, elements, bodies, ranges, parameters, loops, spans, element,
-        segment, j,
-    ))
+    let lent = Tables {
+        v,
+        vt,
+        vn,
+        vp,
+        corners,
+        elements,
+        bodies,
+        ranges,
+        parameters,
+        loops,
+        spans,
+    };
+    Point::from(point_cubics::cubic_at(used, &lent, element, segment, j))
 }
 
 // A run of `steps` steps on a curv or curv2: its points fill the table from entry `at` on, counted in numbers.
@@ -297,10 +348,20 @@ pub extern "C" fn kuhlabires_run_on_curve(
 ) -> Run
     ensures { (result ≡ run_in (run_into used (tables v.now vt.now vn.now vp.now corners.now elements.now bodies.now ranges.now parameters.now loops.now spans.now) element steps at points.old).outcome) × (points.new ≡ (run_into used (tables v.now vt.now vn.now vp.now corners.now elements.now bodies.now ranges.now parameters.now loops.now spans.now) element steps at points.old).points) }
 {
-    c_records::run_of(sampler::run_on_curve(
-        used, v, vt, vn, vp, corners, elements, bodies, ranges, parameters, loops, spans, element,
-        steps, points, at,
-    ))
+    let lent = Tables {
+        v,
+        vt,
+        vn,
+        vp,
+        corners,
+        elements,
+        bodies,
+        ranges,
+        parameters,
+        loops,
+        spans,
+    };
+    Run::from(sampler::run_on_curve(used, &lent, element, steps, points, at))
 }
 
 // The polyline of a curv or curv2: its points fill the table from entry `at` on, counted in numbers.
@@ -325,10 +386,20 @@ pub extern "C" fn kuhlabires_polyline(
 ) -> PolylinePoints
     ensures { (result ≡ polyline_in (polyline_into used (tables v.now vt.now vn.now vp.now corners.now elements.now bodies.now ranges.now parameters.now loops.now spans.now) element tolerance at points.old).outcome) × (points.new ≡ (polyline_into used (tables v.now vt.now vn.now vp.now corners.now elements.now bodies.now ranges.now parameters.now loops.now spans.now) element tolerance at points.old).points) }
 {
-    c_records::polyline_of(polyline::polyline(
-        used, v, vt, vn, vp, corners, elements, bodies, ranges, parameters, loops, spans, element,
-        tolerance, points, at,
-    ))
+    let lent = Tables {
+        v,
+        vt,
+        vn,
+        vp,
+        corners,
+        elements,
+        bodies,
+        ranges,
+        parameters,
+        loops,
+        spans,
+    };
+    PolylinePoints::from(polyline::polyline(used, &lent, element, tolerance, points, at))
 }
 
 // The spelling of row `row`, from 0, of the keywords, written to the front of `out`; its length, or 0 for no such row or no room.

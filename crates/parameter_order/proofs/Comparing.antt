@@ -37,9 +37,6 @@ no-lt-le a b h = sym (not-not (le_z b a)) ∙ ap not (sym (lt_not_le a b) ∙ h)
 pub le-no-lt : (a b : ℤ) → le_z a b ≡ true → lt_z b a ≡ false
 le-no-lt a b h = lt_not_le b a ∙ ap not h
 
-pub no-le-lt : (a b : ℤ) → le_z a b ≡ false → lt_z b a ≡ true
-no-le-lt a b h = lt_not_le b a ∙ ap not h
-
 pub lt-le : (a b : ℤ) → lt_z a b ≡ true → le_z a b ≡ true
 lt-le (pos a) (pos b) h = le-leb a b (omega (arith, ltb-true a b h))
 lt-le (pos a) (negsuc b) h = h

@@ -1,3 +1,2 @@
 pub mod Comparing
-mod Stepped
 mod Walks

@@ -2,7 +2,6 @@
 #![tactic(auto)]
 
 ghost use Rattle.std.specs.Prelude.{◌≡◌, ◌-◌, cond, ◌&&◌, leb};
-ghost use Rattle.std.specs.Int.Signed.{lt_z};
 ghost use Rattle.parameter_order.specs.Stepping.{requirement_of, fresh, too_often, followed, step_of, walked, holds_in};
 
 use tables::bases;
@@ -26,32 +25,25 @@ pub struct Order {
     pub high: i32,
 }
 
-fn less(a: usize, b: usize) -> usize
-    ensures { result ≡ a - b }
-{
-    if a < b {
-        return 0;
-    }
-    a - b
-}
-
 // Of p parameters and degree n.
 pub fn requirement_of(basis: u32, n: u32, p: usize) -> Requirement
     ensures { result ≡ requirement_of basis n p }
 {
+    let n_at = n as usize;
     if basis == bases::BSPLINE {
-        return Requirement {
-            basis: basis,
+        Requirement {
+            basis,
             degree: n,
-            low_at: n as usize,
-            high_at: less(p, n as usize + 1),
-        };
-    }
-    Requirement {
-        basis: basis,
-        degree: n,
-        low_at: 0,
-        high_at: less(p, 1),
+            low_at: n_at,
+            high_at: p.saturating_sub(n_at + 1),
+        }
+    } else {
+        Requirement {
+            basis,
+            degree: n,
+            low_at: 0,
+            high_at: p.saturating_sub(1),
+        }
     }
 }
 
@@ -69,69 +61,31 @@ pub fn no_order() -> Order
 }
 
 // 02, Q-5, where a greater value follows at index i: whether the last value lies strictly between the ends and has stood more than n times.
+#[tactic(auto, unfolding(crate::specs::Stepping::too_often))]
 fn too_often(asked: Requirement, i: usize, since: usize, low: i32, previous: i32) -> bool
     ensures { result ≡ too_often asked i since low previous }
 {
-    if asked.basis != bases::BSPLINE {
-        return false;
-    }
     let n = asked.degree as usize;
-    if i <= n {
-        return false;
-    }
-    let first = i - n - 1; // of the n + 1 knots before i
-    if first < since {
-        return false;
-    }
-    if asked.high_at < i {
-        return false;
-    }
-    low < previous
+    asked.basis == bases::BSPLINE && n < i && since < i - n && i <= asked.high_at && low < previous
 }
 
 // Whether b may stand at index i: knots never decrease, other parameters increase.
+#[tactic(auto, unfolding(crate::specs::Stepping::followed))]
 fn may_follow(asked: Requirement, i: usize, since: usize, low: i32, previous: i32, b: i32) -> bool
     ensures { result ≡ followed asked i since low previous b }
 {
-    if i == 0 {
-        return true;
-    }
     if previous < b {
-        return !too_often(asked, i, since, low, previous);
+        i == 0 || !too_often(asked, i, since, low, previous)
+    } else {
+        i == 0 || asked.basis == bases::BSPLINE && previous <= b
     }
-    if asked.basis == bases::BSPLINE {
-        return previous <= b;
-    }
-    false
-}
-
-fn both(first: bool, second: bool) -> bool
-    ensures { result ≡ (first && second) }
-{
-    if first {
-        return second;
-    }
-    false
-}
-
-// Where the value that now stands began.
-fn since_of(i: usize, since: usize, previous: i32, b: i32) -> usize
-    ensures { result ≡ cond (lt_z previous b) i since }
-{
-    if previous < b {
-        return i;
-    }
-    since
 }
 
 // An end of the widest range, at index `at`: the last value until it is reached.
 fn end_so_far(at: usize, i: usize, before: i32, b: i32) -> i32
     ensures { result ≡ cond (leb i at) b before }
 {
-    if i <= at {
-        return b;
-    }
-    before
+    if i <= at { b } else { before }
 }
 
 // The parameter b at index i.
@@ -140,8 +94,8 @@ pub fn step(asked: Requirement, i: usize, o: Order, b: i32) -> Order
 {
     Order {
         previous: b,
-        since: since_of(i, o.since, o.previous, b),
-        fine: both(o.fine, may_follow(asked, i, o.since, o.low, o.previous, b)),
+        since: if o.previous < b { i } else { o.since },
+        fine: o.fine && may_follow(asked, i, o.since, o.low, o.previous, b),
         low: end_so_far(asked.low_at, i, o.low, b),
         high: end_so_far(asked.high_at, i, o.high, b),
     }
@@ -151,27 +105,17 @@ pub fn step(asked: Requirement, i: usize, o: Order, b: i32) -> Order
 pub fn walk(asked: Requirement, x: &[i32]) -> Order
     ensures { result ≡ walked asked x.now }
 {
-    let mut i = 0;
     let mut o = no_order();
-    while i < x.len() {
-        o = step(asked, i, o, x[i]);
-        i += 1;
+    for (i, b) in x.iter().enumerate() {
+        o = step(asked, i, o, *b);
     }
     o
 }
 
 // 13: all are in order, and the range stands within the widest.
+#[tactic(auto, unfolding(crate::specs::Stepping::holds_in))]
 pub fn holds(o: Order, start: i32, end: i32) -> bool
     ensures { result ≡ holds_in o start end }
 {
-    if !o.fine {
-        return false;
-    }
-    if start < o.low {
-        return false;
-    }
-    if end <= start {
-        return false;
-    }
-    end <= o.high
+    o.fine && o.low <= start && start < end && end <= o.high
 }

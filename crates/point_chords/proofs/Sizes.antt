@@ -6,8 +6,7 @@ use lib.IntN.{ℤ, pos, nat_abs, neg_ℤ, ◌+ℤ◌, ◌-ℤ◌, ◌*ℤ◌}
 use lib.Signed.{nat_abs-le}
 use mir.Syntax.{w32, w64}
 use mir.Val.{to_z, of_z, SFits}
-use mir.Facts.{to_z-of_z, sfits_widen}
-use Rattle.rounding.proofs.Bits.{fits-abs, read_back, widened}
+use Rattle.rounding.proofs.Bits.{read_back, widened}
 use Rattle.rounding.proofs.IntLaws.{abs-+, abs-*, abs_neg}
 
 module _ {x y : ℤ} (f : SFits w32 x) (g : SFits w32 y) where
@@ -27,21 +26,12 @@ wide x = to_z w64 (of_z w64 (to_z w32 (of_z w32 x)))
 abbrev pub kept : ℤ → ℤ
 kept x = to_z w64 (of_z w64 x)
 
-pub wide_fits : {x : ℤ} → SFits w32 x → SFits w64 (to_z w32 (of_z w32 x))
-wide_fits f = rw (to_z-of_z f) (sfits_widen tt f)
-
 module _ {p q : ℤ} (f : SFits w32 p) (g : SFits w32 q) where
-  pub sum_fits : SFits w64 (wide p +ℤ wide q)
-  sum_fits = rw (widened f, widened g) (fits-abs w64 _ (omega (arith, sum-size f g)))
-
   pub sum_is : kept (wide p +ℤ wide q) ≡ p +ℤ q
   sum_is = rw (widened f, widened g) (read_back w64 (p +ℤ q) (omega (arith, sum-size f g)))
 
   way-small : nat_abs (p -ℤ q) ≤ 8589934592
   way-small = let h = nat_abs-le p f.sfits in let k = nat_abs-le q g.sfits in off-size p q (omega arith) (omega arith)
-
-  pub way-fits : SFits w64 (wide p -ℤ wide q)
-  way-fits = rw (widened f, widened g) (fits-abs w64 _ (omega (arith, way-small)))
 
   pub way-is : kept (wide p -ℤ wide q) ≡ p -ℤ q
   way-is = rw (widened f, widened g) (read_back w64 (p -ℤ q) (omega (arith, way-small)))

@@ -24,8 +24,5 @@ pub fn is_near(tolerance: i32, p: i32, m: i32, q: i32) -> bool
 {
     let room = 2 * tolerance as i64;
     let off = 2 * m as i64 - (p as i64 + q as i64);
-    if 0 - room <= off {
-        return off <= room;
-    }
-    false
+    -room <= off && off <= room
 }

@@ -1,10 +1,10 @@
 -- The answers by the tests that lead to each, what a cubic that is granted gives, and the points of the parts that are lent as those of the tables.
-use mathlib.Core.Path.{◌≡◌, refl, sym, ap, ap₂, ◌∙◌, subst}
+use mathlib.Core.Path.{◌≡◌, refl, ap, ap₂, subst}
 use mathlib.Core.Bool.{Bool, true, false, cond, ◌&&◌}
 use mathlib.Core.List.{List}
 use Prim.Native.Nat.{ℕ, ◌+◌, ◌*◌, ◌-◌, ◌≤◌, ◌<◌}
 use native.Mathlib.Omega.{arith}
-use borrow.Author.Tests.{ne_eqb, leb-true, eqb-true}
+use borrow.Author.Tests.{leb-true, eqb-true}
 use lib.Dec.{leb, eqb}
 use lib.ListN.{length}
 use lib.IntN.{ℤ, pos, ◌*ℤ◌}
@@ -23,11 +23,14 @@ use Rattle.point_rows.specs.declared.BodyDirection.{BodyDirection}
 use Rattle.point_rows.proofs.Places.{bezier_only}
 use Rattle.point_rows.proofs.Grids.{held-part}
 use Rattle.sampler.specs.Points.{body_direction, control_of}
-use Rattle.sampler.specs.Answers.{point_answer, inside}
-use Rattle.sampler.specs.declared.PointResult.TheVariants as sampled
+use Rattle.std.specs.Prelude.{Some, Ok}
+use Rattle.refusals.specs.declared.Reason.{Reason}
+use Rattle.refusals.specs.declared.Reason.TheVariants.{NotSampled, ParameterOutside}
+use Rattle.sampler.specs.Answers.{point_answer, refusal_of, refused_point, plane_point, inside}
+use Rattle.sampler.specs.declared.Point.{Point}
 use Rattle.sampler.specs.Sampling.{Curved}
-use Rattle.sampler.proofs.Refusals.{Missed, Looked}
-use Rattle.sampler.proofs.Entries.{curve-tables, space-eq, plane-control, space-control}
+use Rattle.sampler.proofs.Refusals.{Looked}
+use Rattle.sampler.proofs.Entries.{space-eq, plane-control, space-control}
 use Rattle.point_weights.specs.Weights.{cubic_sampled}
 use Rattle.point_cubics.specs.Answers.{cubic, parameter64, reached, cubic_point, cubic_at}
 use Rattle.point_weights.specs.Inner.{axis_by}
@@ -45,22 +48,22 @@ module _ (t : Tables) (e : Element) (b : Body) (g j : ℕ) where
   space : eqb e.kind 5 ≡ false → (axis : ℕ) → axis_by t.vertices.v t.elements.corners e.corners.first g j axis ≡ cubic_sampled g j (control_of t e axis)
   space h axis = same-controls g j (control_at t.vertices.v t.elements.corners e.corners.first axis) (control_of t e axis) (space-control t e b (pos 0) axis h)
 
-  by_kind : (q : Bool) → eqb e.kind 5 ≡ q → point_answer (step_point_by e.kind t.vertices.v t.vertices.vp t.elements.corners e.corners.first g j) ≡ cubic_point t e g j
+  by_kind : (q : Bool) → eqb e.kind 5 ≡ q → point_answer (Ok (step_point_by e.kind t.vertices.v t.vertices.vp t.elements.corners e.corners.first g j)) ≡ cubic_point t e g j
   unfolding step_point_by cubic_point
-  by_kind true h = rw h (ap point_answer (ap₂ sampled.Plane (plane h 0) (plane h 1)))
-  by_kind false h = rw h (ap point_answer (space-eq (space h 0) (space h 1) (space h 2)))
+  by_kind true h = rw h (ap₂ plane_point (plane h 0) (plane h 1))
+  by_kind false h = rw h (ap (λ (p : Point). point_answer (Ok p)) (space-eq (space h 0) (space h 1) (space h 2)))
 
-  pub point-is : point_answer (step_point_by e.kind t.vertices.v t.vertices.vp t.elements.corners e.corners.first g j) ≡ cubic_point t e g j
+  pub point-is : point_answer (Ok (step_point_by e.kind t.vertices.v t.vertices.vp t.elements.corners e.corners.first g j)) ≡ cubic_point t e g j
   point-is = by_kind (eqb e.kind 5) refl
 
 -- ---- the answers
 module _ (t : Tables) (e : Element) (b : Body) (g j : ℕ) where
-  pub not-cubic : cubic b.basis b.degree_u ≡ false → point_answer (sampled.Refused 18) ≡ step_answer t e b g j
+  pub not-cubic : cubic b.basis b.degree_u ≡ false → refused_point NotSampled ≡ step_answer t e b g j
   unfolding step_answer
   not-cubic h = rw h
 
   module _ (is : cubic b.basis b.degree_u ≡ true) where
-    pub not-reached : reached (parameters_u t b) b.start_u b.end_u g j ≡ false → point_answer (sampled.Refused 19) ≡ step_answer t e b g j
+    pub not-reached : reached (parameters_u t b) b.start_u b.end_u g j ≡ false → refused_point ParameterOutside ≡ step_answer t e b g j
     unfolding step_answer
     not-reached h = rw (is, h)
 
@@ -68,21 +71,14 @@ module _ (t : Tables) (e : Element) (b : Body) (g j : ℕ) where
     unfolding step_answer
     handed_out h = rw (is, h)
 
-  step-parts : step_answer (curve-tables t) e b g j ≡ step_answer t e b g j
-  unfolding step_answer cubic_point control_of
-  step-parts = refl
-
-module _ {used : Used} {t : Tables} {number : ℕ} (g j : ℕ) where
-  pub refused : {n : ℕ} → Missed false used t number n → point_answer (sampled.Refused n) ≡ cubic_at used t number g j
+module _ (used : Used) (t : Tables) (number g j : ℕ) where
+  pub refused : {r : Reason} → refusal_of false used t number ≡ Some r → refused_point r ≡ cubic_at used t number g j
   unfolding cubic_at
-  refused {n} m = rw (sym m.is, ne_eqb n 0 m.some)
+  refused m = rw m
 
-  pub found : {e : Element} {b : Body} → Looked false used t number e b → step_answer t e b g j ≡ cubic_at used t number g j
+  pub answered : {e : Element} {b : Body} → Looked false used t number e b → step_answer t e b g j ≡ cubic_at used t number g j
   unfolding cubic_at step_answer
-  found l = rw (l.given, l.element-is, l.body_is)
-
-  pub answered : {e : Element} {b : Body} → Looked false used t number e b → step_answer (curve-tables t) e b g j ≡ cubic_at used t number g j
-  answered {e} {b} l = step-parts t e b g j ∙ found l
+  answered l = rw (l.given, l.element-is, l.body_is)
 
 -- ---- what the tests say
 pub cubic-type : (type degree : ℕ) → cubic type degree ≡ true → type ≡ 1

@@ -26,6 +26,7 @@ use Rattle.point_rows.specs.Places.{point_basis}
 use Rattle.point_runs.specs.Runs.{tabulated}
 use Rattle.point_runs.proofs.Written.{listed-length}
 use Rattle.sampler.specs.Points.{direction_u, body_direction, control_of, axes_of}
+use Rattle.std.specs.Prelude.{None}
 use Rattle.sampler.specs.Answers.{PointAnswer, element_of, body_of, refusal_of}
 use Rattle.sampler.specs.Demand3.{sampling}
 use Rattle.sampler.specs.Sampling.{Curved}
@@ -35,7 +36,7 @@ use Rattle.point_weights.specs.Weights.{cubic_sampled}
 use Rattle.point_cubics.specs.Answers.{cubic, parameter64, reached, cubic_point, cubic_at}
 use Rattle.point_cubics.specs.Near.{Step, PointsInSteps, TwoPaths}
 use Rattle.point_cubics.proofs.Segments.{cubic-close, same-exact, from_zero}
-use Rattle.point_cubics.proofs.Answers.{handed_out, rules, controls-there, found}
+use Rattle.point_cubics.proofs.Answers.{handed_out, rules, controls-there, answered}
 
 coordinates-are : (t : Tables) (e : Element) (g j : ℕ) (q : Bool) → eqb e.kind 5 ≡ q
     → ((cubic_point t e g j).outcome.coordinates ≡ tabulated (axes_of e) (λ axis. cubic_sampled g j (control_of t e axis))) × ((cubic_point t e g j).outcome.number ≡ 0)
@@ -53,7 +54,7 @@ module _ {used : Used} {t : Tables} {number g j : ℕ} (s : Step used t number g
   abbrev q : Frac
   q = over (pos j) (pos 64)
 
-  given : refusal_of false used t number ≡ 0
+  given : refusal_of false used t number ≡ None
   given = curve-given s.curve
 
   curve : Curved t e b
@@ -69,7 +70,7 @@ module _ {used : Used} {t : Tables} {number g j : ℕ} (s : Step used t number g
       (and_both (le_yes (pos 64 *ℤ b.start_u) (parameter64 (parameters_u t b) g j) s.from) (le_yes (parameter64 (parameters_u t b) g j) (pos 64 *ℤ b.end_u) s.upto))
 
   answer-is : cubic_at used t number g j ≡ cubic_point t e g j
-  answer-is = sym (handed_out t e b g j is-cubic is-reached ∙ found g j (record { given = given; element-is = refl; body_is = refl }))
+  answer-is = sym (handed_out t e b g j is-cubic is-reached ∙ answered used t number g j (record { given = given; element-is = refl; body_is = refl }))
 
   coordinates : (cubic_at used t number g j).outcome.coordinates ≡ tabulated (axes_of e) (λ axis. cubic_sampled g j (control_of t e axis))
   coordinates = ap (λ (r : PointAnswer). r.outcome.coordinates) answer-is ∙ (coordinates-are t e g j (eqb e.kind 5) refl).0

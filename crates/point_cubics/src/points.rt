@@ -4,7 +4,7 @@ ghost use Rattle.point_rows.specs.Controls.{ControlsLent};
 ghost use Rattle.point_cubics.specs.Inner.{step_point_by};
 
 use point_weights::coordinates;
-use sampler::PointResult;
+use sampler::Point;
 use tables::kinds;
 use tables::vertices::{V_START, VP_START};
 
@@ -17,16 +17,16 @@ pub fn point(
     first: u32,
     segment: u32,
     j: u32,
-) -> PointResult
+) -> Point
     requires { ControlsLent (cond (eqb kind curve2_kind) vp.now v.now) corners.now first 0 (segment * 3 + 4) × (j ≤ 64) }
     ensures { result ≡ step_point_by kind v.now vp.now corners.now first segment j }
 {
     if kind == kinds::CURVE2 {
         let p = coordinates(vp, corners, first, VP_START, segment, j);
-        return PointResult::Plane { u: p.x, v: p.y };
+        return Point::Plane { u: p.x, v: p.y };
     }
     let p = coordinates(v, corners, first, V_START, segment, j);
-    PointResult::Space {
+    Point::Space {
         x: p.x,
         y: p.y,
         z: p.z,

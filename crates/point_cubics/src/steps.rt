@@ -9,10 +9,7 @@ use tables::bases;
 pub fn is_cubic(basis: u32, degree: u32) -> bool
     ensures { result ≡ cubic basis degree }
 {
-    if basis != bases::BEZIER {
-        return false;
-    }
-    degree == 3
+    basis == bases::BEZIER && degree == 3
 }
 
 // 64 times the parameter at j/64 of a segment from s to e.
@@ -28,16 +25,10 @@ pub fn is_reached(x: &[i32], start: i32, end: i32, segment: u32, j: u32) -> bool
     requires { ((i : ℕ) → i < length x.now → InRange (at x.now i)) × InRange start × InRange end }
     ensures { result ≡ reached x.now start end segment j }
 {
-    if 64 < j {
-        return false;
-    }
     let g = segment as usize;
-    if x.len() < g + 2 {
+    if 64 < j || x.len() < g + 2 {
         return false;
     }
     let here = parameter64(x[g], x[g + 1], j);
-    if here < weighted(start, 64) {
-        return false;
-    }
-    here <= weighted(end, 64)
+    weighted(start, 64) <= here && here <= weighted(end, 64)
 }

@@ -1,5 +1,5 @@
 -- Rows by their indices: a loop makes a row place by place, and a level leaves what the row comes to as it was.
-use mathlib.Core.Path.{◌≡◌, refl, sym, ap, ◌∙◌, subst, subst₂}
+use mathlib.Core.Path.{◌≡◌, sym, ap, ◌∙◌, subst, subst₂}
 use mathlib.Core.List.{List}
 use Prim.Native.Nat.{ℕ, suc, ◌+◌, ◌-◌, ◌≤◌, ◌<◌}
 use native.Mathlib.Nat.{not-suc-le-zero}
@@ -42,9 +42,6 @@ made_more {P} {row} {i} p m h new = record { each = λ j l. pick j (dec_le (suc 
 pub record Left (old new : List Place) (i : ℕ) : Type 0 where
   pub long : length new ≡ length old
   pub rest : (j : ℕ) → i ≤ j → place_at new j ≡ place_at old j
-
-pub left-all : {old : List Place} → Left old old 0
-left-all = record { long = refl; rest = λ j h. refl }
 
 pub left_less : {old new : List Place} {i : ℕ} (p : Place) → Left old new i → Left old (set new i p) (i + 1)
 left_less {old} {new} {i} p l = record {

@@ -1,7 +1,7 @@
 // The working row in doubles: a place guessed by leaning to either side, and made exactly where the two differ or doubles are not to be trusted.
 #![tactic(auto)]
 
-ghost use Rattle.std.specs.Prelude.{◌≡◌, ◌+◌, ◌-◌, ◌≤◌, ◌<◌, nat_abs, ◌-ℤ◌, true, ◌&&◌};
+ghost use Rattle.std.specs.Prelude.{◌≡◌, ◌+◌, ◌-◌, ◌≤◌, ◌<◌, IfSome, nat_abs, ◌-ℤ◌, true, ◌&&◌};
 ghost use Rattle.std.specs.Float.Ieee.{eq};
 ghost use Rattle.doubles.specs.Doubles.{Encoding, above};
 ghost use Rattle.point_exact.specs.Sampled.{offset_at, gap_at};
@@ -23,7 +23,7 @@ pub struct Place {
     pub z: f64,
 }
 
-// The working row: one place shorter at each level.
+// The working row: one place shorter at each level. An array of the most places that a row has, and how many of them count: there is no heap, so no list that grows.
 #[derive(Clone, Copy)]
 pub struct Row {
     pub places: [Place; 21],
@@ -64,14 +64,7 @@ pub fn first_interval(x: &[i32], along: BodyDirection, chosen: usize, t: i32) ->
     requires { On along x.now t chosen }
     ensures { First along x.now t result }
 {
-    if along.basis == bases::BSPLINE {
-        return Interval {
-            low: 0,
-            high: 0,
-            part: 0.0,
-        };
-    }
-    if along.degree == 0 {
+    if along.basis == bases::BSPLINE || along.degree == 0 {
         return Interval {
             low: 0,
             high: 0,
@@ -169,13 +162,6 @@ pub fn certain(trusted: bool, a: Place, b: Place, gap: Interval, guess: Place) -
     trusted & same(guess, other)
 }
 
-// A point worked in doubles alone, and whether every place on the way was certain.
-#[derive(Clone, Copy)]
-pub struct Guess {
-    pub place: Place,
-    pub sure: bool,
-}
-
 // Whether sums go to the nearest double, which beside the anchor are whole numbers: a host may have set another rounding.
 pub fn to_nearest(a: f64) -> bool {
     (a + 0.75 == a + 1.0) & (a + 0.25 == a)
@@ -195,11 +181,11 @@ pub fn descend(
 {
     let first = first_interval(x, along, chosen, t);
     let mut rest = row;
+    // The rules name this form: the working row is shortened by one at each level. So the loop goes by its count and not over a range.
     while 1 < rest.count {
         let last = rest.count - 1;
         let mut a = rest.places[0];
-        let mut i = 0;
-        while i < last {
+        for i in 0..last {
             let b = rest.places[i + 1];
             let gap = interval_of(x, along, chosen, t, last - 1, i, first);
             let mut p = guessed(a, b, gap);
@@ -208,14 +194,13 @@ pub fn descend(
             }
             rest.places[i] = p;
             a = b;
-            i += 1;
         }
         rest.count = last;
     }
     rest.places[0]
 }
 
-// Level by level in doubles alone, up to a level with a place that is not certain. It has one call, with the degree a number in the program, and so is written out there.
+// Level by level in doubles alone; none where a level has a place that is not certain. It has one call, with the degree a number in the program, and so is written out there.
 pub fn guess_point(
     row: Row,
     trusted: bool,
@@ -223,37 +208,27 @@ pub fn guess_point(
     along: BodyDirection,
     chosen: usize,
     t: i32,
-) -> Guess
+) -> Option<Place>
     requires { On along x.now t chosen × Encoded row.places (along.degree + 1) }
-    ensures { result.sure ≡ true → Descended (direction along x.now) t row.places result.place }
+    ensures { IfSome result (λ p. Descended (direction along x.now) t row.places p) }
 {
     let first = first_interval(x, along, chosen, t);
     let mut work = row;
-    let mut last = along.degree;
-    while 0 < last {
+    for last in (1..along.degree + 1).rev() {
         let mut sure = true;
         let mut a = work.places[0];
-        let mut i = 0;
-        while i < last {
+        for i in 0..last {
             let b = work.places[i + 1];
             let gap = interval_of(x, along, chosen, t, last - 1, i, first);
             let p = guessed(a, b, gap);
             sure = sure & certain(trusted, a, b, gap, p);
             work.places[i] = p;
             a = b;
-            i += 1;
         }
         if !sure {
-            return Guess {
-                place: a,
-                sure: false,
-            };
+            return None;
         }
         work.count = last;
-        last -= 1;
     }
-    Guess {
-        place: work.places[0],
-        sure: true,
-    }
+    Some(work.places[0])
 }

@@ -1,3 +1,4 @@
 pub mod Places
 pub mod Finding
 pub mod Controls
+pub mod Coordinates

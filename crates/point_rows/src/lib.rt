@@ -12,6 +12,14 @@ use tables::bases;
 pub mod controls;
 pub mod search;
 
+// Three numbers of a vertex or of a point, one on each axis.
+#[derive(Clone, Copy)]
+pub struct Coordinates {
+    pub x: i32,
+    pub y: i32,
+    pub z: i32,
+}
+
 // A direction but for its parameters.
 #[derive(Clone, Copy)]
 pub struct BodyDirection {

@@ -34,15 +34,12 @@ pub fn search(x: &[i32], along: BodyDirection, t: i32, hint: usize, from: usize)
     requires { Sound along x.now t × Hint along x.now t hint from }
     ensures { On along x.now t result }
 {
-    let end = limit(x, along);
     let mut found = hint;
-    let mut i = from;
-    while i < end {
+    for i in from..limit(x, along) {
         if t < x[i] {
             return found;
         }
         found = later(x, i, found);
-        i += 1;
     }
     found
 }

@@ -19,7 +19,7 @@ use Rattle.point_runs.specs.Runs.{joined, tabulated}
 use Rattle.point_runs.specs.Inner.{coordinate_of, curve_point_at}
 use Rattle.point_rows.specs.declared.BodyDirection.{BodyDirection}
 use Rattle.point_single.specs.Points.{curve_number, CurvePoint}
-use Rattle.point_single.specs.declared.Point.{Point}
+use Rattle.point_rows.specs.declared.Coordinates.{Coordinates}
 
 pub joined_length : (w n : ℕ) (f : ℕ → List ℤ) → ((i : ℕ) → length (f i) ≡ w) → length (joined n f) ≡ w * n
 joined_length w zero f h = omega arith
@@ -81,7 +81,7 @@ unfolding curve_point_at
 point-length values corners first axis axes along x t = listed-length axes (λ k. curve_sampled (direction along x) t (control_at values corners first (axis + k)))
 
 -- a point's coordinates, each as it is read back, are the definition's
-module _ (values : List ℤ) (corners : List ℕ) (first axis : ℕ) (along : BodyDirection) (x : List ℤ) (t : ℤ) {p : Point} (h : CurvePoint values corners first axis (direction along x) t p) where
+module _ (values : List ℤ) (corners : List ℕ) (first axis : ℕ) (along : BodyDirection) (x : List ℤ) (t : ℤ) {p : Coordinates} (h : CurvePoint values corners first axis (direction along x) t p) where
   abbrev number : ℕ → ℤ
   number k = curve_sampled (direction along x) t (control_at values corners first (axis + k))
 

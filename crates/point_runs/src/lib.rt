@@ -62,8 +62,7 @@ pub fn write_points(
     let trusted = to_nearest(zero.x);
     let n = along.degree;
     let mut rest = row;
-    let mut j = 0;
-    while j <= steps {
+    for j in 0..steps + 1 {
         let t = parameter_at(start, end, steps, j);
         let next = search(x, along, t, chosen, chosen + 1);
         if next != chosen {
@@ -71,62 +70,60 @@ pub fn write_points(
             chosen = next;
         }
         // A cubic is guessed whole first: with its degree a number in the program the compiler writes the three levels out.
-        let mut made = zero;
-        let mut sure = false;
-        if n == 3 {
+        let guess = if n == 3 {
             let cubic = BodyDirection {
                 basis: along.basis,
                 degree: 3,
                 controls: along.controls,
             };
-            let guess = guess_point(row, trusted, x, cubic, chosen, t);
-            made = guess.place;
-            sure = guess.sure;
-        }
-        if !sure {
-            let one_gap = first_interval(x, along, chosen, t);
-            // The first level reads the controls and writes the working row, so that nothing is copied.
-            let mut a = row.places[0];
-            let mut i = 0;
-            while i < n {
-                let b = row.places[i + 1];
-                let gap = interval_of(x, along, chosen, t, n - 1, i, one_gap);
-                let mut p = guessed(a, b, gap);
-                if !certain(trusted, a, b, gap, p) {
-                    p = exact_at(a, b, x, along, chosen, t, n - 1, i);
-                }
-                rest.places[i] = p;
-                a = b;
-                i += 1;
-            }
-            rest.count = n;
-            while 1 < rest.count {
-                let last = rest.count - 1;
-                let mut a = rest.places[0];
-                let mut i = 0;
-                while i < last {
-                    let b = rest.places[i + 1];
-                    let gap = interval_of(x, along, chosen, t, last - 1, i, one_gap);
+            guess_point(row, trusted, x, cubic, chosen, t)
+        } else {
+            None
+        };
+        let made = match guess {
+            Some(place) => place,
+            None => {
+                let one_gap = first_interval(x, along, chosen, t);
+                // The first level reads the controls and writes the working row, so that nothing is copied.
+                let mut a = row.places[0];
+                for i in 0..n {
+                    let b = row.places[i + 1];
+                    let gap = interval_of(x, along, chosen, t, n - 1, i, one_gap);
                     let mut p = guessed(a, b, gap);
                     if !certain(trusted, a, b, gap, p) {
-                        p = exact_at(a, b, x, along, chosen, t, last - 1, i);
+                        p = exact_at(a, b, x, along, chosen, t, n - 1, i);
                     }
                     rest.places[i] = p;
                     a = b;
-                    i += 1;
                 }
-                rest.count = last;
+                // The rules name this form: the working row is shortened by one at each level. So the loop goes by its count and not over a range.
+                rest.count = n;
+                while 1 < rest.count {
+                    let last = rest.count - 1;
+                    let mut a = rest.places[0];
+                    for i in 0..last {
+                        let b = rest.places[i + 1];
+                        let gap = interval_of(x, along, chosen, t, last - 1, i, one_gap);
+                        let mut p = guessed(a, b, gap);
+                        if !certain(trusted, a, b, gap, p) {
+                            p = exact_at(a, b, x, along, chosen, t, last - 1, i);
+                        }
+                        rest.places[i] = p;
+                        a = b;
+                    }
+                    rest.count = last;
+                }
+                // Degree 0 has no level.
+                if n == 0 {
+                    row.places[0]
+                } else {
+                    rest.places[0]
+                }
             }
-            // Degree 0 has no level.
-            made = rest.places[0];
-            if n == 0 {
-                made = row.places[0];
-            }
-        }
+        };
         let point = point_at(made);
         let at = axes * j as usize;
         write_point(&mut points[at..], axes, point.x, point.y, point.z);
-        j += 1;
     }
 }
 

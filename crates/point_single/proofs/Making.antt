@@ -19,6 +19,8 @@ use Rattle.point_exact.proofs.Pyramid.{pyramid-cong}
 use Rattle.point_rows.specs.Places.{direction}
 use Rattle.point_rows.specs.Finding.{On}
 use Rattle.point_rows.specs.Controls.{control_at, first_control_of}
+use Rattle.point_rows.specs.Coordinates.{HasCoordinates}
+use Rattle.point_rows.specs.declared.Coordinates.{Coordinates}
 use Rattle.point_rows.specs.declared.BodyDirection.{BodyDirection}
 use Rattle.point_rows.proofs.Grids.{first-is, reached, last-there, sampled-is, from_first}
 use Rattle.point_guess.specs.Steps.{Axis, X, Y, Z, on}
@@ -26,8 +28,7 @@ use Rattle.point_guess.specs.Rows.{axis_number, Encoded, PlaceHolds, Descended}
 use Rattle.point_guess.specs.declared.Place.{Place}
 use Rattle.point_guess.specs.declared.Row.{Row}
 use Rattle.point_guess.proofs.Levels.{made_more}
-use Rattle.point_single.specs.Points.{entry_of, Gathered, There, Spanned, HasCoordinates, CurvePlace, CurvePoint}
-use Rattle.point_single.specs.declared.Point.{Point}
+use Rattle.point_single.specs.Points.{entry_of, Gathered, There, Spanned, CurvePlace, CurvePoint}
 
 -- ---- a row of controls
 pub gathered_none : {row : Row} {n : ℕ} {f : Axis → ℕ → ℤ} → row.count ≡ n + 1 → length row.places ≡ 21 → Gathered row n 0 f
@@ -58,7 +59,7 @@ pub holds_as : {p : Place} {f h : Axis → ℤ} → PlaceHolds p f → ((k : Axi
 holds_as g e = record { whole = g.whole; is = λ k. g.is k ∙ e k }
 
 -- ---- a point
-pub has-as : {q : Point} {p : Place} {f : Axis → ℤ} → HasCoordinates q (decode p.x) (decode p.y) (decode p.z) → PlaceHolds p f → HasCoordinates q (f X) (f Y) (f Z)
+pub has-as : {q : Coordinates} {p : Place} {f : Axis → ℤ} → HasCoordinates q (decode p.x) (decode p.y) (decode p.z) → PlaceHolds p f → HasCoordinates q (f X) (f Y) (f Z)
 has-as h g = record {
   x-is = h.x-is ∙ g.is X;
   y-is = h.y-is ∙ g.is Y;
@@ -103,6 +104,6 @@ module _ {a : BodyDirection} {x : List ℤ} {t : ℤ} {g : ℕ} (o : On a x t g)
     span-place base r h =
         holds_as (gathered-down r (direction a x) t refl h) (λ k. sampled-from (direction a x) t (control_at values corners first (entry_of axis k)) base (first_control_of a g) (first-is o refl))
 
-    pub curve-has : {p : Place} {q : Point} → CurvePlace values corners first 0 axis (direction a x) t p → HasCoordinates q (decode p.x) (decode p.y) (decode p.z)
+    pub curve-has : {p : Place} {q : Coordinates} → CurvePlace values corners first 0 axis (direction a x) t p → HasCoordinates q (decode p.x) (decode p.y) (decode p.z)
         → CurvePoint values corners first axis (direction a x) t q
     curve-has h e = has-as e (holds_as h (λ k. from_first (direction a x) t values corners first (entry_of axis k)))

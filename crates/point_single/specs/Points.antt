@@ -1,15 +1,15 @@
 -- The controls as a row has them, and the points that are made of them.
 use Rattle.std.specs.Prelude.{◌≡◌, List, ℕ, ◌+◌, ◌*◌, ◌≤◌, ◌<◌, length, ℤ}
-use Rattle.rounding.specs.Range.{InRange}
 use Rattle.point_exact.specs.Directions.{Direction}
 use Rattle.point_exact.specs.Sampled.{curve_sampled, surface_sampled}
 use Rattle.point_rows.specs.Controls.{control_at, first_control_of, Reached}
+use Rattle.point_rows.specs.Coordinates.{HasCoordinates}
+use Rattle.point_rows.specs.declared.Coordinates.{Coordinates}
 use Rattle.point_rows.specs.declared.BodyDirection.{BodyDirection}
 use Rattle.point_guess.specs.Steps.{Axis, X, Y, Z}
 use Rattle.point_guess.specs.Rows.{place_at, PlaceHolds}
 use Rattle.point_guess.specs.declared.Place.{Place}
 use Rattle.point_guess.specs.declared.Row.{Row}
-use Rattle.point_single.specs.declared.Point.{Point}
 
 -- which number of a vertex an axis has, where the first has number `axis`
 abbrev pub entry_of : ℕ → Axis → ℕ
@@ -33,26 +33,17 @@ pub record There (a : BodyDirection) (g : ℕ) : Type 0 where
 abbrev pub Spanned : Row → List ℤ → List ℕ → (first base axis : ℕ) → BodyDirection → (g : ℕ) → Type 0
 Spanned row values corners first base axis a g = Gathered row a.degree (a.degree + 1) (λ k j. control_at values corners first (entry_of axis k) (base + first_control_of a g + j))
 
--- a point has x, y and z, each of them in range
-pub record HasCoordinates (p : Point) (x y z : ℤ) : Type 0 where
-  pub x-is : p.x ≡ x
-  pub y-is : p.y ≡ y
-  pub z-is : p.z ≡ z
-  pub x-small : InRange p.x
-  pub y-small : InRange p.y
-  pub z-small : InRange p.z
-
 abbrev pub curve_number : List ℤ → List ℕ → (first : ℕ) → Direction → (t : ℤ) (axis : ℕ) → ℤ
 curve_number values corners first d t axis = curve_sampled d t (control_at values corners first axis)
 
-abbrev pub CurvePoint : List ℤ → List ℕ → (first axis : ℕ) → Direction → (t : ℤ) → Point → Type 0
+abbrev pub CurvePoint : List ℤ → List ℕ → (first axis : ℕ) → Direction → (t : ℤ) → Coordinates → Type 0
 CurvePoint values corners first axis d t p =
     HasCoordinates p (curve_number values corners first d t axis) (curve_number values corners first d t (axis + 1)) (curve_number values corners first d t (axis + 2))
 
 abbrev pub surface_number : List ℤ → List ℕ → (first : ℕ) (u v : Direction) (s t : ℤ) (axis : ℕ) → ℤ
 surface_number values corners first u v s t axis = surface_sampled u v s t (λ i j. control_at values corners first axis (j * u.controls + i))
 
-abbrev pub SurfacePoint : List ℤ → List ℕ → (first : ℕ) (u v : Direction) (s t : ℤ) → Point → Type 0
+abbrev pub SurfacePoint : List ℤ → List ℕ → (first : ℕ) (u v : Direction) (s t : ℤ) → Coordinates → Type 0
 SurfacePoint values corners first u v s t p =
     HasCoordinates p (surface_number values corners first u v s t 0) (surface_number values corners first u v s t 1) (surface_number values corners first u v s t 2)
 

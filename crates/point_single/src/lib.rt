@@ -5,30 +5,23 @@ ghost use Rattle.std.specs.Prelude.{◌≡◌, ◌+◌, ◌*◌, ◌≤◌, leng
 ghost use Rattle.doubles.specs.Doubles.{decode};
 ghost use Rattle.point_rows.specs.Places.{direction};
 ghost use Rattle.point_rows.specs.Finding.{On};
+ghost use Rattle.point_rows.specs.Coordinates.{HasCoordinates};
 ghost use Rattle.point_rows.specs.Controls.{control_at, ControlsLent};
 ghost use Rattle.point_guess.specs.Steps.{Encodes};
 ghost use Rattle.point_guess.specs.Rows.{PlaceHolds};
-ghost use Rattle.point_single.specs.Points.{entry_of, Gathered, There, Spanned, HasCoordinates, CurvePlace, CurvePoint, SurfacePoint};
+ghost use Rattle.point_single.specs.Points.{entry_of, Gathered, There, Spanned, CurvePlace, CurvePoint, SurfacePoint};
 
 use doubles::{decode, encode};
 use point_guess::{Place, Row, descend, to_nearest};
-use point_rows::BodyDirection;
 use point_rows::controls::{control, first_control};
-
-// What a point has on three axes, from number `axis` of each vertex on.
-#[derive(Clone, Copy)]
-pub struct Point {
-    pub x: i32,
-    pub y: i32,
-    pub z: i32,
-}
+use point_rows::{BodyDirection, Coordinates};
 
 // The point that a place keeps.
-pub fn point_at(p: Place) -> Point
+pub fn point_at(p: Place) -> Coordinates
     requires { Encodes p }
     ensures { HasCoordinates result (decode p.x) (decode p.y) (decode p.z) }
 {
-    Point {
+    Coordinates {
         x: decode(p.x),
         y: decode(p.y),
         z: decode(p.z),
@@ -69,11 +62,9 @@ fn gather(values: &[i32], corners: &[u32], first: u32, axis: usize, from: usize,
     ensures { Gathered result n (n + 1) (λ k j. control_at values.now corners.now first (entry_of axis k) (from + j)) }
 {
     let mut row = empty(n);
-    let mut j = 0;
-    while j <= n {
+    for j in 0..row.count {
         let p = place_of(values, corners, first, axis, from + j);
         row.places[j] = p;
-        j += 1;
     }
     row
 }
@@ -125,7 +116,7 @@ pub fn curve_point(
     along: BodyDirection,
     chosen: usize,
     t: i32,
-) -> Point
+) -> Coordinates
     requires { ControlsLent values.now corners.now first 0 along.controls × (axis ≤ 1) × On along x.now t chosen }
     ensures { CurvePoint values.now corners.now first axis (direction along x.now) t result }
 {
@@ -145,18 +136,16 @@ pub fn across(
     v: BodyDirection,
     t: i32,
     across_v: usize,
-) -> Point
+) -> Coordinates
     requires { ControlsLent values.now corners.now first 0 (u.controls * v.controls) × On u x.now s across_u × On v y.now t across_v }
     ensures { SurfacePoint values.now corners.now first (direction u x.now) (direction v y.now) s t result }
 {
     let top = first_control(v, across_v);
     let mut column = empty(v.degree);
-    let mut j = 0;
-    while j <= v.degree {
+    for j in 0..column.count {
         let base = (top + j) * u.controls;
         let p = curve_place(values, corners, first, base, 0, x, u, across_u, s);
         column.places[j] = p;
-        j += 1;
     }
     let a = column.places[0];
     point_at(descend(column, to_nearest(a.x), y, v, across_v, t))

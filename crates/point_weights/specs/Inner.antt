@@ -1,19 +1,8 @@
--- What the functions promise: three numbers, each a coordinate from the parts that are lent.
+-- What the functions promise: each coordinate from the parts that are lent, and the rows of the table of weights.
 use Rattle.std.specs.Prelude.{◌≡◌, Bool, true, ◌&&◌, List, [], ◌∷◌, ℕ, suc, length, ℤ}
 use Rattle.lists.specs.Lists.{same}
-use Rattle.rounding.specs.Range.{InRange}
 use Rattle.point_rows.specs.Controls.{control_at}
 use Rattle.point_weights.specs.Weights.{cubic_sampled, weight}
-use Rattle.point_weights.specs.declared.Triple.{Triple}
-
--- three numbers, each of them in range
-pub record Has (p : Triple) (x y z : ℤ) : Type 0 where
-  pub x-is : p.x ≡ x
-  pub y-is : p.y ≡ y
-  pub z-is : p.z ≡ z
-  pub x-small : InRange p.x
-  pub y-small : InRange p.y
-  pub z-small : InRange p.z
 
 -- one coordinate, from number `entry` of each vertex that is named
 abbrev pub axis_by : List ℤ → List ℕ → (first g j entry : ℕ) → ℤ

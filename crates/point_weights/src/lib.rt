@@ -3,31 +3,23 @@
 
 ghost use Rattle.std.specs.Prelude.{◌≡◌, ◌+◌, ◌*◌, ◌≤◌};
 ghost use Rattle.rounding.specs.Range.{InRange};
+ghost use Rattle.point_rows.specs.Coordinates.{HasCoordinates};
 ghost use Rattle.point_rows.specs.Controls.{control_at, ControlsLent};
 ghost use Rattle.point_weights.specs.Weights.{weighed};
-ghost use Rattle.point_weights.specs.Inner.{weight_row};
-ghost use Rattle.point_weights.specs.Inner.{Has, axis_by};
+ghost use Rattle.point_weights.specs.Inner.{weight_row, axis_by};
 
 use crate::weights::row;
-use point_rows::controls;
+use point_rows::{Coordinates, controls};
 use rounding::{rounded, weighted};
 
 mod weights;
 
-// Three numbers of a vertex, or of a point.
-#[derive(Clone, Copy)]
-pub struct Triple {
-    pub x: i32,
-    pub y: i32,
-    pub z: i32,
-}
-
 // Three numbers, from number `entry` on, of the vertex that control i names.
-fn control(values: &[i32], corners: &[u32], first: u32, entry: usize, i: usize) -> Triple
+fn control(values: &[i32], corners: &[u32], first: u32, entry: usize, i: usize) -> Coordinates
     requires { ControlsLent values.now corners.now first i (i + 1) × (entry ≤ 1) }
-    ensures { Has result (control_at values.now corners.now first entry i) (control_at values.now corners.now first (entry + 1) i) (control_at values.now corners.now first (entry + 2) i) }
+    ensures { HasCoordinates result (control_at values.now corners.now first entry i) (control_at values.now corners.now first (entry + 1) i) (control_at values.now corners.now first (entry + 2) i) }
 {
-    Triple {
+    Coordinates {
         x: controls::control(values, corners, first, entry, i),
         y: controls::control(values, corners, first, entry + 1, i),
         z: controls::control(values, corners, first, entry + 2, i),
@@ -54,9 +46,9 @@ pub fn coordinates(
     entry: usize,
     segment: u32,
     j: u32,
-) -> Triple
+) -> Coordinates
     requires { ControlsLent values.now corners.now first 0 (segment * 3 + 4) × (entry ≤ 1) × (j ≤ 64) }
-    ensures { Has result (axis_by values.now corners.now first segment j entry) (axis_by values.now corners.now first segment j (entry + 1)) (axis_by values.now corners.now first segment j (entry + 2)) }
+    ensures { HasCoordinates result (axis_by values.now corners.now first segment j entry) (axis_by values.now corners.now first segment j (entry + 1)) (axis_by values.now corners.now first segment j (entry + 2)) }
 {
     let from = segment as usize * 3;
     let w = row(j);
@@ -64,7 +56,7 @@ pub fn coordinates(
     let b = control(values, corners, first, entry, from + 1);
     let c = control(values, corners, first, entry, from + 2);
     let d = control(values, corners, first, entry, from + 3);
-    Triple {
+    Coordinates {
         x: divided(j, w, a.x, b.x, c.x, d.x),
         y: divided(j, w, a.y, b.y, c.y, d.y),
         z: divided(j, w, a.z, b.z, c.z, d.z),

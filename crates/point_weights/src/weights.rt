@@ -2,7 +2,7 @@ ghost use Rattle.std.specs.Prelude.{◌≡◌, ◌≤◌};
 ghost use Rattle.point_weights.specs.Inner.{weight_row, Ruled};
 
 // Row j, entry i: C(3,i) j^i (64-j)^(3-i).
-const WEIGHTS: [[u32; 4]; 65] = [
+static WEIGHTS: [[u32; 4]; 65] = [
     [262144, 0, 0, 0],
     [250047, 11907, 189, 1],
     [238328, 23064, 744, 8],
@@ -70,17 +70,15 @@ const WEIGHTS: [[u32; 4]; 65] = [
     [0, 0, 0, 262144],
 ];
 
-fn weights() -> [[u32; 4]; 65]
-    ensures { Ruled result }
+fn weights() -> &'static [[u32; 4]; 65]
+    ensures { Ruled result.now }
 {
-    WEIGHTS
+    &WEIGHTS
 }
 
 pub fn row(j: u32) -> [u32; 4]
     requires { j ≤ 64 }
     ensures { result ≡ weight_row j }
 {
-    let table = weights();
-    let at = j as usize;
-    table[at]
+    weights()[j as usize]
 }

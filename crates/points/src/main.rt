@@ -1,27 +1,20 @@
 // The points of a run on a curve of an .obj file: the element's number and the steps are the arguments, the file is standard input.
 #![tactic(auto)]
 
-ghost use Rattle.std.specs.Prelude.{◌≤◌};
-
-use reader::ReadResult;
-use sampler::RunResult;
+use refusals::{Reason, Refusal};
 use std::io::{Read, Write};
 use std::process::ExitCode;
 use std::rt::Env;
 use streams::Failure;
-use tables::Used;
+use tables::{Tables, TablesMut, Used};
 
 // Each of these writes it all or fails; where one failed, nothing more is written.
-fn put_whole(out: &mut impl Write, n: u64) -> Result<(), Failure> {
-    write!(out, "{n}").map_err(Failure::Output)
-}
-
 // A number of millionths with six places, by way of the bytes lent.
 fn put_written(out: &mut impl Write, bytes: &mut [u8], value: i32) -> Result<(), Failure> {
     let n = word_format::number_length(value);
     if n <= bytes.len() {
         word_format::write_number(bytes, 0, value);
-        streams::write_output(out, &bytes[0..n])?;
+        streams::write_output(out, &bytes[..n])?;
     }
     Ok(())
 }
@@ -34,117 +27,60 @@ fn put_number(out: &mut impl Write, value: i32, behind: &[u8]) -> Result<(), Fai
 
 // Points of `axes` numbers each, a line for each point.
 fn put_points(out: &mut impl Write, points: &[i32], axes: usize) -> Result<(), Failure> {
-    let mut i: usize = 0;
     let mut axis: usize = 1;
-    while i < points.len() {
+    for value in points {
         if axis < axes {
-            put_number(out, points[i], b" ")?;
+            put_number(out, *value, b" ")?;
             axis += 1;
         } else {
-            put_number(out, points[i], b"\n")?;
+            put_number(out, *value, b"\n")?;
             axis = 1;
         }
-        i += 1;
     }
     Ok(())
 }
 
-// The whole number that an argument says, at most 4,294,967,295; 0 where it says none.
-fn whole_of(word: &[u8]) -> u32 {
-    let mut value: u64 = 0;
-    let mut i: usize = 0;
-    while i < word.len() {
-        let b = word[i];
-        if b < 48 {
-            return 0;
+// The whole number that an argument says, at most 4,294,967,295, if it says one.
+fn whole_of(word: &[u8]) -> Option<u32> {
+    let mut value: u32 = 0;
+    for b in word {
+        if !b.is_ascii_digit() {
+            return None;
         }
-        if 57 < b {
-            return 0;
-        }
-        value = least(value * 10 + (b as u64 - 48), 4_294_967_295);
-        i += 1;
+        value = value
+            .saturating_mul(10)
+            .saturating_add(u32::from(*b - b'0'));
     }
-    value as u32
+    Some(value)
 }
 
-fn least(a: u64, b: u64) -> u64
-    ensures { result ≤ b }
-{
-    if a < b { a } else { b }
+fn put_refusal(out: &mut impl Write, reason: Reason) -> Result<(), Failure> {
+    let number = reason.number();
+    writeln!(out, "refused {number}").map_err(Failure::Output)
 }
 
-fn put_refused(out: &mut impl Write, number: u32) -> Result<(), Failure> {
-    streams::write_output(out, b"refused ")?;
-    put_whole(out, number as u64)
-}
-
-fn put_refusal(out: &mut impl Write, number: u32) -> Result<(), Failure> {
-    put_refused(out, number)?;
-    streams::write_output(out, b"\n")
-}
-
-fn put_refusal_at(out: &mut impl Write, number: u32, place: usize) -> Result<(), Failure> {
-    put_refused(out, number)?;
-    streams::write_output(out, b" at ")?;
-    put_whole(out, place as u64)?;
-    streams::write_output(out, b"\n")
+fn put_refusal_at(out: &mut impl Write, refusal: Refusal) -> Result<(), Failure> {
+    let number = refusal.reason.number();
+    let place = refusal.place;
+    writeln!(out, "refused {number} at {place}").map_err(Failure::Output)
 }
 
 // A point of a run has as many numbers as there are numbers for each of its steps + 1 points.
-fn put_run(
-    out: &mut impl Write,
-    ran: RunResult,
-    points: &[i32],
-    steps: u32,
-) -> Result<(), Failure> {
-    match ran {
-        RunResult::Filled { numbers } => {
-            if numbers <= points.len() {
-                put_points(out, &points[0..numbers], numbers / (steps as usize + 1))?;
-            }
-            Ok(())
-        }
-        RunResult::Refused { number } => put_refusal(out, number),
-    }
-}
-
 fn run(
     out: &mut impl Write,
     used: Used,
-    v: &[i32],
-    vt: &[i32],
-    vn: &[i32],
-    vp: &[i32],
-    corners: &[u32],
-    elements: &[u32],
-    bodies: &[u32],
-    ranges: &[i32],
-    parameters: &[i32],
-    loops: &[u32],
-    spans: &[i32],
+    t: &Tables,
     element: u32,
     steps: u32,
 ) -> Result<(), Failure> {
     let mut points = [0i32; 196611];
-    let ran = sampler::run_on_curve(
-        used,
-        v,
-        vt,
-        vn,
-        vp,
-        corners,
-        elements,
-        bodies,
-        ranges,
-        parameters,
-        loops,
-        spans,
-        element,
-        steps,
-        &mut points,
-        0,
-    );
-    put_run(out, ran, &points, steps)
+    match sampler::run_on_curve(used, t, element, steps, &mut points, 0) {
+        Ok(numbers) => {
+            let filled = points.get(..numbers).unwrap_or(&[]);
+            put_points(out, filled, numbers / (steps as usize + 1))
+        }
+        Err(reason) => put_refusal(out, reason),
+    }
 }
 
 fn run_on_text(out: &mut impl Write, text: &[u8], element: u32, steps: u32) -> Result<(), Failure> {
@@ -159,46 +95,30 @@ fn run_on_text(out: &mut impl Write, text: &[u8], element: u32, steps: u32) -> R
     let mut parameters = [0i32; 16384];
     let mut loops = [0u32; 16384];
     let mut spans = [0i32; 16384];
-    match reader::read(
-        text,
-        &mut v,
-        &mut vt,
-        &mut vn,
-        &mut vp,
-        &mut corners,
-        &mut elements,
-        &mut bodies,
-        &mut ranges,
-        &mut parameters,
-        &mut loops,
-        &mut spans,
-    ) {
-        ReadResult::Refused { number, place } => put_refusal_at(out, number, place),
-        ReadResult::Read(used) => run(
-            out,
-            used,
-            &v,
-            &vt,
-            &vn,
-            &vp,
-            &corners,
-            &elements,
-            &bodies,
-            &ranges,
-            &parameters,
-            &loops,
-            &spans,
-            element,
-            steps,
-        ),
+    let mut lent = TablesMut {
+        v: &mut v,
+        vt: &mut vt,
+        vn: &mut vn,
+        vp: &mut vp,
+        corners: &mut corners,
+        elements: &mut elements,
+        bodies: &mut bodies,
+        ranges: &mut ranges,
+        parameters: &mut parameters,
+        loops: &mut loops,
+        spans: &mut spans,
+    };
+    match reader::read(text, &mut lent) {
+        Ok(used) => run(out, used, &lent.shared(), element, steps),
+        Err(refusal) => put_refusal_at(out, refusal),
     }
 }
 
-// An argument that is not there, or is longer than 4,096 bytes, says no number.
+// An argument that is not there, is longer than 4,096 bytes or says no number is 0.
 fn argument(rt: &impl Env, i: usize) -> u32 {
     let mut buffer = [0u8; 4096];
     match rt.arg(i, &mut buffer) {
-        Ok(n) => whole_of(&buffer[..n]),
+        Ok(n) => whole_of(&buffer[..n]).unwrap_or(0),
         Err(_) => 0,
     }
 }
@@ -213,7 +133,11 @@ fn run_on_input(
 ) -> Result<(), Failure> {
     let count = streams::read_input(input, text)?;
     if 65536 < count {
-        return put_refusal_at(out, 1, 0);
+        let too_long = Refusal {
+            reason: Reason::TextTooLong,
+            place: 0,
+        };
+        return put_refusal_at(out, too_long);
     }
     run_on_text(out, &text[..count], element, steps)
 }

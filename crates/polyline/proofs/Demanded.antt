@@ -19,6 +19,7 @@ use Rattle.tables.specs.declared.Used.{Used}
 use Rattle.record_rules.specs.Rules.{curves_before}
 use Rattle.record_rules.proofs.Element.{curve-of, obeys-facts, body-of}
 use Rattle.sampler.specs.Points.{axes_of}
+use Rattle.std.specs.Prelude.{None, Ok}
 use Rattle.sampler.specs.Answers.{element_of, body_of, refusal_of}
 use Rattle.sampler.specs.Demand3.{OnCurve}
 use Rattle.sampler.proofs.Obeyed.{granted, curve-kinds}
@@ -26,7 +27,6 @@ use Rattle.sampler.proofs.Demanded.{Curve, curve-given, points-on-curves}
 use Rattle.point_chords.specs.Chords.{middle, chord, ends, numbers}
 use Rattle.polyline.specs.Answers.{PolylineAnswer, polyline_answer, point_at, parameters_of, polyline_numbers, polyline_into}
 use Rattle.polyline.specs.Promises.{Chords, PolylinesOnCurves}
-use Rattle.polyline.specs.declared.PolylineResult.TheVariants as result
 use Rattle.point_chords.proofs.Middle.{middle-from, middle-upto}
 use Rattle.polyline.proofs.Halves.{ends-few}
 use Rattle.polyline.proofs.Every.{every-chord}
@@ -77,7 +77,7 @@ not-below : (z : ℤ) → pos 0 ≤ℤ z → lt_z z (pos 0) ≡ false
 not-below z h = ⊎_elim (λ e. clash_ℤ (yes_lt z (pos 0) e) h) (λ e. e) (test (lt_z z (pos 0)))
 
 module _ {used : Used} {t : Tables} {number : ℕ} (c : Curve used t number) where
-  passed : refusal_of false used t number ≡ 0
+  passed : refusal_of false used t number ≡ None
   passed = curve-given c
 
   rises : (body_of t number).start_u <ℤ (body_of t number).end_u
@@ -133,7 +133,7 @@ module _ {used : Used} {t : Tables} {number : ℕ} (c : Curve used t number) whe
       abbrev x : List ℤ
       x = polyline_numbers used t number tolerance
 
-      filled : polyline_answer (result.Filled (length (parameters_of used t number tolerance))) (sets points at x) ≡ polyline_into used t number tolerance at points
+      filled : polyline_answer (Ok (length (parameters_of used t number tolerance))) (sets points at x) ≡ polyline_into used t number tolerance at points
       filled = grants.into-filled used t number tolerance at points passed (not-below tolerance n) refl room refl
 
       many : length x ≡ axes * length (parameters_of used t number tolerance)

@@ -4,7 +4,7 @@ use mathlib.Core.Bool.{Bool, true, false, cond}
 use mathlib.Core.List.{List, [], ◌∷◌, ◌++◌, append_assoc}
 use Prim.Native.Nat.{ℕ, zero, suc, ◌+◌, ◌*◌, ◌≤◌, ◌<◌}
 use native.Mathlib.Omega.{arith}
-use borrow.Author.Tests.{ne_eqb, le-leb, lt-leb}
+use borrow.Author.Tests.{le-leb, lt-leb}
 use lib.Dec.{leb, eqb}
 use lib.ListN.{length, take, drop, length-append}
 use lib.Seq.{sets, sets-eq}
@@ -16,17 +16,21 @@ use Rattle.tables.specs.Tables.{Tables}
 use Rattle.tables.specs.declared.Body.{Body}
 use Rattle.tables.specs.declared.Used.{Used}
 use Rattle.tables.specs.declared.Element.{Element}
+use Rattle.std.specs.Prelude.{Option, Some, None, Ok}
+use Rattle.refusals.specs.Reasons.{reason_number}
+use Rattle.refusals.specs.declared.Reason.{Reason}
+use Rattle.refusals.specs.declared.Reason.TheVariants as reason
+use Rattle.refusals.specs.declared.Reason.TheVariants.{BrokenRecord, NoOutputRoom, ParameterOutside}
 use Rattle.sampler.specs.Points.{axes_of, curve_at}
-use Rattle.sampler.specs.Answers.{element_of, body_of, refusal_of, PointAnswer, point_outcome, refused_point, plane_point, space_point, inside, curve_point, point_on_curve}
+use Rattle.sampler.specs.Answers.{element_of, body_of, refusal_of, unless, PointAnswer, point_outcome, refused_point, plane_point, space_point, inside, curve_point, point_on_curve}
 use Rattle.sampler.specs.Sampling.{Curved, answer_on_curve}
 use Rattle.sampler.proofs.Obeyed.{granted, curved}
-use Rattle.sampler.proofs.Refusals.{Missed, Looked}
-use Rattle.sampler.proofs.Entries.{curve-tables, curve-answered}
+use Rattle.sampler.proofs.Refusals.{Looked}
+use Rattle.sampler.proofs.Entries.{curve-answered}
 use Rattle.point_chords.specs.Chords.{middle, chord, ends, numbers, parameters}
 use Rattle.polyline.specs.Answers.{PolylineAnswer, polyline_outcome, point_at, parameters_of, polyline_numbers, polyline_answer, refused_polyline, filled_polyline, polyline_into}
 use Rattle.polyline.specs.Inner.{coordinates_of, polyline_over, polyline_by}
 use Rattle.polyline.specs.Promises.{SamplersFifteen}
-use Rattle.polyline.specs.declared.PolylineResult.TheVariants as result
 use Rattle.point_chords.proofs.Middle.{middle-from, middle-upto}
 use Rattle.polyline.proofs.Halves.{numbers-joined}
 
@@ -50,9 +54,9 @@ curve-agreed t e b p =
 
 pub agreed : (t : Tables) (e : Element) (b : Body) (p : ℤ) → Agreed (answer_on_curve t e b p)
 unfolding answer_on_curve
-agreed t e b p = either-agreed (inside b.start_u b.end_u p) (curve_point t e b p) (refused_point 19) (curve-agreed t e b p) refl
+agreed t e b p = either-agreed (inside b.start_u b.end_u p) (curve_point t e b p) (refused_point ParameterOutside) (curve-agreed t e b p) refl
 
-module _ (used : Used) (t : Tables) (number : ℕ) (h : refusal_of false used t number ≡ 0) where
+module _ (used : Used) (t : Tables) (number : ℕ) (h : refusal_of false used t number ≡ None) where
   curve : Curved t (element_of t number) (body_of t number)
   curve = curved used t number (granted false used t number h)
 
@@ -106,12 +110,12 @@ module _ (point : ℤ → List ℤ) (axes : ℕ) (start end tolerance : ℤ) (at
   abbrev x : List ℤ
   x = parameters point tolerance start end
 
-  pub is_negative : lt_z tolerance (pos 0) ≡ true → refused_polyline 19 points ≡ over
+  pub is_negative : lt_z tolerance (pos 0) ≡ true → refused_polyline points ParameterOutside ≡ over
   unfolding polyline_over
   is_negative k = rw (below tolerance k) refl
 
   module _ (k : lt_z tolerance (pos 0) ≡ false) where
-    pub is-full : length points < at + axes * length x → refused_polyline 16 points ≡ over
+    pub is-full : length points < at + axes * length x → refused_polyline points NoOutputRoom ≡ over
     unfolding polyline_over
     is-full l = rw (above tolerance k, lt-leb (at + axes * length x) (length points) l) refl
 
@@ -124,9 +128,9 @@ module _ (point : ℤ → List ℤ) (axes : ℕ) (start end tolerance : ℤ) (at
     numbers-many = simp length-append (omega (arith, f start (≤ℤ_refl start) o, numbers-long point tolerance axes 12 start end o f))
 
     pub is-filled : lt_z tolerance (pos 0) ≡ false → {n : ℕ} {last : List ℤ} → n ≡ length x → at + axes * length x ≤ length points → last ≡ sets points at (numbers point x)
-        → polyline_answer (result.Filled n) last ≡ over
+        → polyline_answer (Ok n) last ≡ over
     is-filled k e l w =
-        ap₂ (λ (n : ℕ) (x : List ℤ). polyline_answer (result.Filled n) x) e
+        ap₂ (λ (n : ℕ) (x : List ℤ). polyline_answer (Ok n) x) e
         (w ∙ sets-eq (numbers point x) points at (omega (arith, numbers-many)) ∙ append_assoc (take at points) (numbers point x) (drop (at + length (numbers point x)) points))
         ∙ filled k l
 
@@ -138,11 +142,11 @@ module _ (used : Used) (t : Tables) (number : ℕ) (tolerance : ℤ) (at : ℕ) 
   abbrev many : ℕ
   many = axes_of (element_of t number) * length (parameters_of used t number tolerance)
 
-  pub is-refused : {n : ℕ} → Missed false used t number n → refused_polyline n points ≡ into
+  pub is-refused : {r : Reason} → refusal_of false used t number ≡ Some r → refused_polyline points r ≡ into
   unfolding polyline_into
-  is-refused {n} m = rw (sym m.is, ne_eqb n 0 m.some) refl
+  is-refused m = rw m refl
 
-  module _ (h : refusal_of false used t number ≡ 0) where
+  module _ (h : refusal_of false used t number ≡ None) where
     into-is : polyline_over (point_at used t number) (axes_of (element_of t number)) (body_of t number).start_u (body_of t number).end_u tolerance at points ≡ into
     unfolding polyline_into polyline_over parameters_of polyline_numbers
     into-is = rw h
@@ -154,21 +158,21 @@ module _ (used : Used) (t : Tables) (number : ℕ) (tolerance : ℤ) (at : ℕ) 
         (point-axes used t number h)
 
     pub into-filled : lt_z tolerance (pos 0) ≡ false → {n : ℕ} {last : List ℤ} → n ≡ length (parameters_of used t number tolerance) → at + many ≤ length points
-        → last ≡ sets points at (polyline_numbers used t number tolerance) → polyline_answer (result.Filled n) last ≡ into
+        → last ≡ sets points at (polyline_numbers used t number tolerance) → polyline_answer (Ok n) last ≡ into
     unfolding parameters_of polyline_numbers
     into-filled k e l w =
         is-filled (point_at used t number) (axes_of (element_of t number)) (body_of t number).start_u (body_of t number).end_u tolerance at points (ordered used t number h)
         (point-axes used t number h) k e l w
         ∙ into-is
 
-    same_points : coordinates_of (curve-tables t) (element_of t number) (body_of t number) ≡ point_at used t number
-    same_points = fun_ext (λ p. ap (λ (r : PointAnswer). r.outcome.coordinates) (curve-answered p (record { given = h; element-is = refl; body_is = refl })))
+    same_points : coordinates_of t (element_of t number) (body_of t number) ≡ point_at used t number
+    same_points = fun_ext (λ p. ap (λ (r : PointAnswer). r.outcome.coordinates) (curve-answered used t number p (record { given = h; element-is = refl; body_is = refl })))
 
-  pub answered : {e : Element} {b : Body} → Looked false used t number e b → polyline_by (curve-tables t) e b tolerance at points ≡ into
+  pub answered : {e : Element} {b : Body} → Looked false used t number e b → polyline_by t e b tolerance at points ≡ into
   answered {e} {b} l =
       let el = element_of t number in
       let bo = body_of t number in
-      ap₂ (λ (x : Element) (y : Body). polyline_by (curve-tables t) x y tolerance at points) l.element-is l.body_is
+      ap₂ (λ (x : Element) (y : Body). polyline_by t x y tolerance at points) l.element-is l.body_is
       ∙ ap (λ (f : ℤ → List ℤ). polyline_over f (axes_of el) bo.start_u bo.end_u tolerance at points) (same_points l.given) ∙ into-is l.given
 
 -- a curve that was looked up gives its coordinates at each parameter of its range
@@ -188,6 +192,10 @@ either-told : (c : Bool) (x y : PolylineAnswer) → Told x → Told y → Told (
 either-told true x y f g = f
 either-told false x y f g = g
 
+unless-told : (o : Option Reason) (points : List ℤ) (x : PolylineAnswer) → Told x → Told (unless o (refused_polyline points) x)
+unless-told None points x f = f
+unless-told (Some r) points x f = refl
+
 pub agreed-polyline : (used : Used) (t : Tables) (number : ℕ) (tolerance : ℤ) (at : ℕ) (points : List ℤ)
     → polyline_outcome (polyline_into used t number tolerance at points).answer ≡ (polyline_into used t number tolerance at points).outcome
 unfolding polyline_into
@@ -196,19 +204,40 @@ agreed-polyline used t number tolerance at points =
     let x = parameters_of used t number tolerance in
     let full = filled_polyline (length x) at (polyline_numbers used t number tolerance) points in
     let c = leb (at + axes_of (element_of t number) * length x) (length points) in
-    either-told (eqb n 0) (cond (le_z (pos 0) tolerance) (cond c full (refused_polyline 16 points)) (refused_polyline 19 points)) (refused_polyline n points)
-    (either-told (le_z (pos 0) tolerance) (cond c full (refused_polyline 16 points)) (refused_polyline 19 points) (either-told c full (refused_polyline 16 points) refl refl) refl) refl
+    unless-told n points (cond (le_z (pos 0) tolerance) (cond c full (refused_polyline points NoOutputRoom)) (refused_polyline points ParameterOutside))
+    (either-told (le_z (pos 0) tolerance) (cond c full (refused_polyline points NoOutputRoom)) (refused_polyline points ParameterOutside) (either-told c full (refused_polyline points NoOutputRoom) refl refl) refl)
 
 -- ---- 15 is the sampler's
-only : (a b c : Bool) (r : ℕ) (x y z : PolylineAnswer) → x.outcome.number ≡ 0 → y.outcome.number ≡ 16 → z.outcome.number ≡ 19 → (points : List ℤ)
-    → (cond a (cond b (cond c x y) z) (refused_polyline r points)).outcome.number ≡ 15 → r ≡ 15
-only true true true r x y z f g h p e = absurd (omega (arith, e, f))
-only true true false r x y z f g h p e = absurd (omega (arith, e, g))
-only true false c r x y z f g h p e = absurd (omega (arith, e, h))
-only false b c r x y z f g h p e = e
+pub number-15 : (r : Reason) → reason_number r ≡ 15 → r ≡ BrokenRecord
+number-15 reason.TextTooLong h = absurd (omega arith)
+number-15 reason.ByteNotAllowed h = absurd (omega arith)
+number-15 reason.UnknownKeyword h = absurd (omega arith)
+number-15 reason.NotTaken h = absurd (omega arith)
+number-15 reason.WordCount h = absurd (omega arith)
+number-15 reason.Malformed h = absurd (omega arith)
+number-15 reason.OutOfRange h = absurd (omega arith)
+number-15 reason.NoReferent h = absurd (omega arith)
+number-15 reason.CornerPattern h = absurd (omega arith)
+number-15 reason.NotHere h = absurd (omega arith)
+number-15 reason.Incomplete h = absurd (omega arith)
+number-15 reason.ControlCount h = absurd (omega arith)
+number-15 reason.ParameterOrder h = absurd (omega arith)
+number-15 reason.NoTableRoom h = absurd (omega arith)
+number-15 reason.BrokenRecord h = refl
+number-15 reason.NoOutputRoom h = absurd (omega arith)
+number-15 reason.NoSuchElement h = absurd (omega arith)
+number-15 reason.NotSampled h = absurd (omega arith)
+number-15 reason.ParameterOutside h = absurd (omega arith)
+
+only : (b c : Bool) (o : Option Reason) (x y z : PolylineAnswer) → x.outcome.number ≡ 0 → y.outcome.number ≡ 16 → z.outcome.number ≡ 19 → (points : List ℤ)
+    → (unless o (refused_polyline points) (cond b (cond c x y) z)).outcome.number ≡ 15 → o ≡ Some BrokenRecord
+only true true None x y z f g h p e = absurd (omega (arith, e, f))
+only true false None x y z f g h p e = absurd (omega (arith, e, g))
+only false c None x y z f g h p e = absurd (omega (arith, e, h))
+only b c (Some r) x y z f g h p e = ap Some (number-15 r e)
 
 pub samplers-fifteen : SamplersFifteen
 unfolding polyline_into
 samplers-fifteen used t number tolerance at points h =
-    only (eqb (refusal_of false used t number) 0) (le_z (pos 0) tolerance) (leb (at + axes_of (element_of t number) * length (parameters_of used t number tolerance)) (length points))
+    only (le_z (pos 0) tolerance) (leb (at + axes_of (element_of t number) * length (parameters_of used t number tolerance)) (length points))
     (refusal_of false used t number) _ _ _ refl refl refl points h

@@ -8,93 +8,84 @@ use native.Mathlib.Numerals.{sub-one}
 use native.Mathlib.Omega.{arith}
 use lib.ListN.{length, set, length-append}
 use lib.Seq.{sets}
-use lib.IntN.{ℤ, pos}
-use Rattle.lists.proofs.Tests.{never}
+use lib.IntN.{ℤ}
 use Rattle.sampler.specs.Answers.{PointAnswer, point_outcome}
-use Rattle.sampler.specs.declared.PointResult.{PointResult}
-use Rattle.sampler.specs.declared.PointResult.TheVariants as sampled
+use Rattle.std.specs.Prelude.{Option, Some, None, Result}
+use Rattle.refusals.specs.declared.Reason.{Reason}
+use Rattle.sampler.specs.declared.Point.{Point}
 use Rattle.point_chords.specs.Chords.{middle, straight, short_interval, chord, ends, numbers}
 use Rattle.polyline.specs.Inner.{PieceEnds, split_of}
-use Rattle.polyline.specs.declared.Split.{Split}
-use Rattle.polyline.specs.declared.Split.TheVariants as split
+use Rattle.polyline.specs.declared.Halved.{Halved}
 
 -- ---- by the tests that lead to each
 module _ (sample : ℤ → PointAnswer) (tolerance a b : ℤ) where
   abbrev point : ℤ → List ℤ
   point p = (sample p).outcome.coordinates
 
-  pub split-none : (depth : ℕ) → depth ≡ 0 → split.Chord ≡ split_of sample tolerance depth a b
+  pub split-none : (depth : ℕ) → depth ≡ 0 → None ≡ split_of sample tolerance depth a b
   unfolding split_of
   split-none depth h = rw h refl
 
-  split-chord : (depth : ℕ) → chord point tolerance a b ≡ true → split.Chord ≡ split_of sample tolerance depth a b
+  split-chord : (depth : ℕ) → chord point tolerance a b ≡ true → None ≡ split_of sample tolerance depth a b
   unfolding split_of
   split-chord zero h = refl
   split-chord (suc depth) h = rw h refl
 
-  split-parted : (depth : ℕ) → (depth ≡ 0 → ⊥) → chord point tolerance a b ≡ false → split.Halves (middle a b) (sample (middle a b)).answer ≡ split_of sample tolerance depth a b
+  split-parted : (depth : ℕ) → (depth ≡ 0 → ⊥) → chord point tolerance a b ≡ false → Some (record { middle = middle a b; point = (sample (middle a b)).answer }) ≡ split_of sample tolerance depth a b
   unfolding split_of
   split-parted zero f h = absurd (f refl)
   split-parted (suc depth) f h = rw h refl
 
-  pub split-short : (depth : ℕ) → short_interval a b ≡ true → split.Chord ≡ split_of sample tolerance depth a b
+  pub split-short : (depth : ℕ) → short_interval a b ≡ true → None ≡ split_of sample tolerance depth a b
   unfolding chord
   split-short depth h = split-chord depth (rw h refl)
 
   module _ (depth : ℕ) (h : short_interval a b ≡ false) where
-    pub split-straight : straight tolerance (point a) (point (middle a b)) (point b) ≡ true → split.Chord ≡ split_of sample tolerance depth a b
+    pub split-straight : straight tolerance (point a) (point (middle a b)) (point b) ≡ true → None ≡ split_of sample tolerance depth a b
     unfolding chord
     split-straight k = split-chord depth (rw (h, k) refl)
 
     pub split-halves : (depth ≡ 0 → ⊥) → straight tolerance (point a) (point (middle a b)) (point b) ≡ false
-        → split.Halves (middle a b) (sample (middle a b)).answer ≡ split_of sample tolerance depth a b
+        → Some (record { middle = middle a b; point = (sample (middle a b)).answer }) ≡ split_of sample tolerance depth a b
     unfolding chord
     split-halves f k = split-parted depth f (rw (h, k) refl)
 
 -- ---- the ends of the chords, by what the interval comes to
-abbrev is_chord : Split → Bool
-is_chord split.Chord = true
-is_chord (split.Halves m s) = false
-
-abbrev middle_in : Split → ℤ
-middle_in split.Chord = pos 0
-middle_in (split.Halves m s) = m
-
-abbrev point_in : Split → PointResult
-point_in split.Chord = sampled.Refused 0
-point_in (split.Halves m s) = s
-
 -- the two halves of an interval at m, where s is sampled
-pub record Parted (point : ℤ → List ℤ) (tolerance : ℤ) (depth : ℕ) (a b m : ℤ) (s : PointResult) : Type 0 where
+pub record Parted (point : ℤ → List ℤ) (tolerance : ℤ) (depth : ℕ) (a b m : ℤ) (s : Result Point Reason) : Type 0 where
   pub deep : depth ≡ 0 → ⊥
+  pub middle-is : m ≡ middle a b
   pub point-is : (point_outcome s).coordinates ≡ point m
   pub joined : ends point tolerance depth a b ≡ ends point tolerance (depth - 1) a m ++ ends point tolerance (depth - 1) m b
 
 module _ (sample : ℤ → PointAnswer) (agree : (p : ℤ) → point_outcome (sample p).answer ≡ (sample p).outcome) (tolerance a b : ℤ) where
-  pub one-chord : (depth : ℕ) → split_of sample tolerance depth a b ≡ split.Chord → ends (λ p. (sample p).outcome.coordinates) tolerance depth a b ≡ b ∷ []
+  pub one-chord : (depth : ℕ) → split_of sample tolerance depth a b ≡ None → ends (λ p. (sample p).outcome.coordinates) tolerance depth a b ≡ b ∷ []
   unfolding ends split_of
   one-chord zero h = refl
   one-chord (suc depth) h = go (chord (λ p. (sample p).outcome.coordinates) tolerance a b) _ h
     where
-      go : (c : Bool) (x : List ℤ) → cond c split.Chord (split.Halves (middle a b) (sample (middle a b)).answer) ≡ split.Chord → cond c (b ∷ []) x ≡ b ∷ []
+      go : (c : Bool) (x : List ℤ) → ◌≡◌ {A = Option Halved} (cond c None (Some (record { middle = middle a b; point = (sample (middle a b)).answer }))) None → cond c (b ∷ []) x ≡ b ∷ []
       go true x k = refl
-      go false x k = never (ap is_chord k)
+      go false x k = absurd cc
 
-  parted : (depth : ℕ) → (c : Bool) → chord (λ p. (sample p).outcome.coordinates) tolerance a b ≡ c → {m : ℤ} {s : PointResult}
-      → cond c split.Chord (split.Halves (middle a b) (sample (middle a b)).answer) ≡ split.Halves m s → Parted (λ p. (sample p).outcome.coordinates) tolerance (suc depth) a b m s
+  parted : (depth : ℕ) → (c : Bool) → chord (λ p. (sample p).outcome.coordinates) tolerance a b ≡ c → {h : Halved}
+      → ◌≡◌ {A = Option Halved} (cond c None (Some (record { middle = middle a b; point = (sample (middle a b)).answer }))) (Some h)
+      → Parted (λ p. (sample p).outcome.coordinates) tolerance (suc depth) a b h.middle h.point
   unfolding ends
-  parted depth true e k = never (sym (ap is_chord k))
-  parted depth false e {m} {s} k =
-      let f : m ≡ middle a b = sym (ap middle_in k) in
+  parted depth true e k = absurd cc
+  parted depth false e {h} k =
+      let g : h ≡ record { middle = middle a b; point = (sample (middle a b)).answer } = cc in
+      let f : h.middle ≡ middle a b = ap (λ (x : Halved). x.middle) g in
       record {
         deep = λ z. omega (arith, z);
-        point-is = ap (λ (x : PointResult). (point_outcome x).coordinates) (sym (ap point_in k)) ∙ ap (λ x. x.coordinates) (agree (middle a b)) ∙ ap (λ (x : ℤ). (sample x).outcome.coordinates) (sym f);
+        middle-is = f;
+        point-is = ap (λ (x : Halved). (point_outcome x.point).coordinates) g ∙ ap (λ x. x.coordinates) (agree (middle a b)) ∙ ap (λ (x : ℤ). (sample x).outcome.coordinates) (sym f);
         joined = rw (sub-one (suc depth), f, e) refl;
       }
 
-  pub two-halves : (depth : ℕ) {m : ℤ} {s : PointResult} → split_of sample tolerance depth a b ≡ split.Halves m s → Parted (λ p. (sample p).outcome.coordinates) tolerance depth a b m s
+  pub two-halves : (depth : ℕ) {h : Halved} → split_of sample tolerance depth a b ≡ Some h → Parted (λ p. (sample p).outcome.coordinates) tolerance depth a b h.middle h.point
   unfolding split_of
-  two-halves zero h = never (sym (ap is_chord h))
+  two-halves zero h = absurd cc
   two-halves (suc depth) h = parted depth (chord (λ p. (sample p).outcome.coordinates) tolerance a b) refl h
 
 -- at most 4,096 chords
@@ -119,7 +110,7 @@ pub numbers-joined : (point : ℤ → List ℤ) (x y : List ℤ) → numbers poi
 numbers-joined point [] y = refl
 numbers-joined point (p ∷ x) y = ap (λ (l : List ℤ). point p ++ l) (numbers-joined point x y) ∙ sym (append_assoc (point p) (numbers point x) (numbers point y))
 
-pub numbers-chord : {point : ℤ → List ℤ} {a b : ℤ} {p q : PointResult} {x : List ℤ} → PieceEnds point a b p q → x ≡ b ∷ [] → numbers point x ≡ (point_outcome q).coordinates
+pub numbers-chord : {point : ℤ → List ℤ} {a b : ℤ} {p q : Result Point Reason} {x : List ℤ} → PieceEnds point a b p q → x ≡ b ∷ [] → numbers point x ≡ (point_outcome q).coordinates
 numbers-chord {point} {b = b} i e = ap (numbers point) e ∙ append-nil (point b) ∙ sym i.end_is
 
 sets-joined : (x y l : List ℤ) (i : ℕ) → sets l i (x ++ y) ≡ sets (sets l i x) (i + length x) y
@@ -146,7 +137,7 @@ module _ (at n : ℕ) (l r : List ℤ) {x : List ℤ} (e : x ≡ l ++ r) where
 pub counted : (point : ℤ → List ℤ) (d : ℕ) {t t' a a' b b' : ℤ} {n : ℕ} → n ≡ length (ends point t' d a' b') → t' ≡ t → a' ≡ a → b' ≡ b → n ≡ length (ends point t d a b)
 counted point d e f g h = rw (f, g, h) at e
 
-pub interval-read : {point : ℤ → List ℤ} {a a' b b' : ℤ} {p q : PointResult} → a' ≡ a → b' ≡ b → PieceEnds point a b p q → PieceEnds point a' b' p q
+pub interval-read : {point : ℤ → List ℤ} {a a' b b' : ℤ} {p q : Result Point Reason} → a' ≡ a → b' ≡ b → PieceEnds point a b p q → PieceEnds point a' b' p q
 interval-read f g i = rw (f, g) i
 
 module _ (point : ℤ → List ℤ) (d : ℕ) {t t' a a' b b' : ℤ} (f : t' ≡ t) (g : a' ≡ a) (h : b' ≡ b) (at : ℕ) where

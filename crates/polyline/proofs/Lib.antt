@@ -1,4 +1,3 @@
-mod Tests
 mod Halves
 pub mod Granted
 pub mod Every

@@ -1,14 +1,14 @@
 -- Must be believed: a promise reaches every definition of this file.
 -- What the shop relies on: the parameters of a polyline, why each chord is handed out, and demand 3 at every point.
-use Rattle.std.specs.Prelude.{◌≡◌, true, false, ◌⊎◌, List, [], ◌∷◌, ℕ, suc, ◌+◌, ◌*◌, ◌≤◌, ◌<◌, length, get_or, drop, ℤ, pos, ◌≤ℤ◌, ◌<ℤ◌}
+use Rattle.std.specs.Prelude.{◌≡◌, true, false, ◌⊎◌, List, [], ◌∷◌, Some, Ok, ℕ, suc, ◌+◌, ◌*◌, ◌≤◌, ◌<◌, length, get_or, drop, ℤ, pos, ◌≤ℤ◌, ◌<ℤ◌}
 use Rattle.tables.specs.Tables.{Tables}
 use Rattle.tables.specs.declared.Used.{Used}
+use Rattle.refusals.specs.declared.Reason.TheVariants.{BrokenRecord}
 use Rattle.sampler.specs.Points.{axes_of}
 use Rattle.sampler.specs.Answers.{element_of, body_of, refusal_of}
 use Rattle.sampler.specs.Demand3.{Obeying, IsCurve, OnCurve}
 use Rattle.point_chords.specs.Chords.{middle, straight, short_interval, ends}
 use Rattle.polyline.specs.Answers.{PolylineAnswer, point_at, parameters_of, polyline_room, polyline_into}
-use Rattle.polyline.specs.declared.PolylineResult.TheVariants as result
 
 -- each number from a on and the next are so related
 abbrev pub Linked : (ℤ → ℤ → Type 0) → ℤ → List ℤ → Type 0
@@ -45,12 +45,12 @@ EveryChord = (point : ℤ → List ℤ) (tolerance start end : ℤ) → start <�
 abbrev pub SamplersFifteen : Type 0
 SamplersFifteen =
     (used : Used) (t : Tables) (number : ℕ) (tolerance : ℤ) (at : ℕ) (points : List ℤ)
-    → (polyline_into used t number tolerance at points).outcome.number ≡ 15 → refusal_of false used t number ≡ 15
+    → (polyline_into used t number tolerance at points).outcome.number ≡ 15 → refusal_of false used t number ≡ Some BrokenRecord
 
 -- "Demand 3 holds for every point": of r, the answer to the polyline with the parameters x, point j is the sampler's at parameter j, and at most n/2 from the exact
 -- value there
 pub record PolylineClaim (used : Used) (t : Tables) (number : ℕ) (tolerance : ℤ) (at : ℕ) (x : List ℤ) (r : PolylineAnswer) : Type 0 where
-  pub given : r.answer ≡ result.Filled (length x)
+  pub given : r.answer ≡ Ok (length x)
   pub few : length x ≤ 4097
   pub start : get_or x 0 (pos 0) ≡ (body_of t number).start_u
   pub chords : Chords (point_at used t number) tolerance (body_of t number).start_u (body_of t number).end_u (drop 1 x)

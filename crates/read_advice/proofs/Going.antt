@@ -13,8 +13,8 @@ use Rattle.lists.proofs.Tests.{test}
 use Rattle.text.specs.Lines.{Line as JoinedLine}
 use Rattle.text.specs.Words.{Word}
 use Rattle.text.specs.Rest.{Rest, rest_at, WordMet, EndMet, BadMet, scan_of, lines_at}
-use Rattle.text.specs.declared.Scan.{Scan}
-use Rattle.text.specs.declared.Scan.TheVariants.{Good, Bad as Fault}
+use Rattle.std.specs.Prelude.{Result, Ok, Err}
+use Rattle.text.specs.declared.Parsed.{Parsed}
 use Rattle.text.proofs.LineByLine.{lines_start, lines-on, lines_end, line-words, line-bad, next-ahead, next-to}
 use Rattle.text.proofs.Scans.{scan_good, scan-fault}
 use Rattle.keywords.specs.Keywords.{statement_of}
@@ -116,12 +116,12 @@ module _ (s : List ℕ) (p : ℕ) (t : Tally) (at : ℕ) (go : Going s p t at) w
         ∙ ap₂ (λ (b : Option ℕ) (ws : List Word). tally_up_to b t (cond (ltb p (start_of (length s) (lines_at s (rest_at s at).next))) t (tally_from p (length s) (lines_at s (rest_at s at).next) (after_words ws t)))) (line-bad s at) (line-words s at)
         ∙ ap (λ (n : ℕ). tally_up_to (rest_at s at).bad t (cond (ltb p n) t further)) (starts s (rest_at s at).next (next-to s at (let g : at ≤ length s = omega arith in g)).1)
 
-    pub going-stops : (a : Scan) → a ≡ scan_of (rest_at s at) → (b : ℕ) → a ≡ Fault b → t ≡ tally_of s p
+    pub going-stops : (a : Result (Parsed ℕ) ℕ) → a ≡ scan_of (rest_at s at) → (b : ℕ) → a ≡ Err b → t ≡ tally_of s p
     going-stops a is b e =
         let x = scan-fault (rest_at s at) b (sym e ∙ is) in
         sym (first ∙ ap (λ (o : Option ℕ). tally_up_to o t (cond (ltb p (rest_at s at).next) t further)) x)
 
-    module _ (a : Scan) (is : a ≡ scan_of (rest_at s at)) (n q : ℕ) (e : a ≡ Good n q) where
+    module _ (a : Result (Parsed ℕ) ℕ) (is : a ≡ scan_of (rest_at s at)) (n q : ℕ) (e : a ≡ Ok (record { value = n; next = q })) where
       read : ((rest_at s at).bad ≡ none) × (length (rest_at s at).words ≡ n) × ((rest_at s at).next ≡ q)
       read = scan_good (rest_at s at) n q (sym e ∙ is)
 

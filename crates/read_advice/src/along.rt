@@ -1,15 +1,17 @@
 // The parameters along one direction of the open body, and what its type asks of them.
-ghost use Rattle.std.specs.Prelude.{◌≡◌, ◌-◌, ◌≤◌, length};
+ghost use Rattle.std.specs.Prelude.{◌≡◌, ◌≤◌, length};
 ghost use Rattle.tables.specs.Bodies.{controls, basis_of};
 
 use basis::curve_count;
 use parameter_order::{Order, holds, no_order, requirement_of, step};
-use read_bodies::numbers::{Counted, Step, count_numbers, next_number};
+use read_bodies::numbers::{NextNumber, count_numbers, next_number};
 use tables::bases;
+use text::Parsed;
 
 // Where the numbers of the last parm line start, 0 where there is none, and how many it has; how many controls the type asks for them; whether a bspline's are
 // enough; the number, from 1, of the first parameter that may not stand after the one before it, 0 where all may; the ends of the widest range; the range, and 1
 // where all are in order and it stands within the widest.
+// Tests are numbers, 1 and 0, since C reads this struct.
 #[repr(C)]
 #[derive(Clone, Copy)]
 pub struct DirectionAdvice {
@@ -25,16 +27,6 @@ pub struct DirectionAdvice {
     pub fits: u32,
 }
 
-// a less b, and 0 where b is more.
-pub fn less(a: usize, b: usize) -> usize
-    ensures { result ≡ a - b }
-{
-    if a < b {
-        return 0;
-    }
-    a - b
-}
-
 // 01's table of controls, of any numbers.
 fn needed(basis: u32, n: u32, p: u32) -> usize
     ensures { result ≡ controls (basis_of basis) n p }
@@ -42,15 +34,15 @@ fn needed(basis: u32, n: u32, p: u32) -> usize
     let n = n as usize;
     let p = p as usize;
     if basis == bases::BEZIER {
-        return n * less(p, 1) + 1;
+        return n * p.saturating_sub(1) + 1;
     }
     if basis == bases::BSPLINE {
-        return less(less(p, n), 1);
+        return p.saturating_sub(n).saturating_sub(1);
     }
     if basis == bases::CARDINAL {
         return p + 2;
     }
-    (n + 1) * less(p, 1)
+    (n + 1) * p.saturating_sub(1)
 }
 
 // Of no parm.
@@ -73,21 +65,18 @@ pub fn no_parameters(basis: u32, degree: u32) -> DirectionAdvice
 
 // Whether a bspline's controls are enough: as many as are needed then agree.
 fn are_enough(basis: u32, n: u32, p: u32, k: usize) -> u32 {
-    if p == 0 {
+    if p == 0 || 4_294_967_295 < k {
         return 0;
     }
-    if 4_294_967_295 < k {
-        return 0;
-    }
-    one_if(curve_count(basis, n, p, k as u32))
+    u32::from(curve_count(basis, n, p, k as u32))
 }
 
 fn count_at(text: &[u8], at: usize) -> usize
     requires { at ≤ length text.now }
 {
     match count_numbers(text, at) {
-        Counted::Ended { count, next: _ } => count,
-        Counted::Stopped(count) => count,
+        Ok(counted) => counted.value,
+        Err(count) => count,
     }
 }
 
@@ -99,13 +88,7 @@ struct Judged {
 
 // The number of the first parameter that is not in order, the one judged now being that of number `done`.
 fn first_wrong(wrong: u32, fine: bool, done: u32) -> u32 {
-    if wrong != 0 {
-        return wrong;
-    }
-    if fine {
-        return 0;
-    }
-    done
+    if wrong != 0 || fine { wrong } else { done }
 }
 
 // The first `count` numbers of a line, judged one after the other.
@@ -114,56 +97,27 @@ fn judge_order(text: &[u8], at: usize, count: u32, basis: u32, degree: u32) -> J
 {
     let asked = requirement_of(basis, degree, count as usize);
     let mut i = at;
-    let mut done: u32 = 0;
     let mut order = no_order();
     let mut wrong: u32 = 0;
-    while done < count {
-        match next_number(text, i) {
-            Step::Stopped => {
-                return Judged {
-                    order: order,
-                    wrong: wrong,
-                };
-            }
-            Step::End(_) => {
-                return Judged {
-                    order: order,
-                    wrong: wrong,
-                };
-            }
-            Step::Number { value, end } => {
-                order = step(asked, done as usize, order, value);
-                done += 1;
-                wrong = first_wrong(wrong, order.fine, done);
-                i = end;
-            }
+    for done in 0..count {
+        let Some(NextNumber::Number(number)) = next_number(text, i) else {
+            break;
+        };
+        order = step(asked, done as usize, order, number.value);
+        wrong = first_wrong(wrong, order.fine, done + 1);
+        i = number.next;
+    }
+    Judged { order, wrong }
+}
+
+// The number that the line goes on with at `at`, and where it ends; 0 and its place where there is none.
+fn number_after(text: &[u8], at: usize) -> Parsed<i32> {
+    if at <= text.len() {
+        if let Some(NextNumber::Number(number)) = next_number(text, at) {
+            return number;
         }
     }
-    Judged {
-        order: order,
-        wrong: wrong,
-    }
-}
-
-// A number of a line, and where it ends; 0 and its place where there is none.
-#[derive(Clone, Copy)]
-struct Taken {
-    value: i32,
-    next: usize,
-}
-
-fn number_after(text: &[u8], at: usize) -> Taken {
-    if text.len() < at {
-        return Taken { value: 0, next: at };
-    }
-    match next_number(text, at) {
-        Step::Number { value, end } => Taken {
-            value: value,
-            next: end,
-        },
-        Step::End(_) => Taken { value: 0, next: at },
-        Step::Stopped => Taken { value: 0, next: at },
-    }
+    Parsed { value: 0, next: at }
 }
 
 // The range that a body states.
@@ -197,19 +151,9 @@ pub fn range_from(text: &[u8], key: usize) -> Range {
     }
 }
 
-fn one_if(test: bool) -> u32 {
-    if test {
-        return 1;
-    }
-    0
-}
-
 // 01: "A curv2's range is the widest allowed".
 fn end_of(widest: bool, end: i32, stated: i32) -> i32 {
-    if widest {
-        return end;
-    }
-    stated
+    if widest { end } else { stated }
 }
 
 // Along a direction whose numbers start at `at`, of that type and degree; the range is stated, or the widest.
@@ -224,10 +168,7 @@ pub fn along_direction(
 ) -> DirectionAdvice
     ensures { result.controls ≡ controls (basis_of basis) degree result.parameters }
 {
-    if at == 0 {
-        return no_parameters(basis, degree);
-    }
-    if text.len() < at {
+    if at == 0 || text.len() < at {
         return no_parameters(basis, degree);
     }
     let many = count_at(text, at);
@@ -242,14 +183,14 @@ pub fn along_direction(
     let end = end_of(widest, order.high, stated_end);
     DirectionAdvice {
         place: at,
-        parameters: parameters,
-        controls: controls,
+        parameters,
+        controls,
         enough: are_enough(basis, degree, parameters, controls),
         wrong: judged.wrong,
         low: order.low,
         high: order.high,
-        start: start,
-        end: end,
-        fits: one_if(holds(order, start, end)),
+        start,
+        end,
+        fits: u32::from(holds(order, start, end)),
     }
 }

@@ -4,16 +4,15 @@
 pub mod lines_before; // what the lines before a place say
 pub mod along; // the parameters along one direction of the open body
 
-ghost use Rattle.std.specs.Prelude.{◌≡◌, ◌≤◌, length};
-ghost use Rattle.keywords.specs.Lookup.{table_of_keywords};
+ghost use Rattle.std.specs.Prelude.{◌≤◌, length};
 ghost use Rattle.read_advice.specs.Advice.{AdviceIs};
 ghost use Rattle.read_advice.specs.Inner.{NothingTold};
 
-use crate::along::{DirectionAdvice, along_direction, less, no_parameters, range_from};
+use crate::along::{DirectionAdvice, along_direction, no_parameters, range_from};
 use crate::lines_before::{Tally, said_before, start_tally};
 use keyword_rules::words_of_range;
 use tables::kinds;
-use text::{AfterBlanks, Scan};
+use text::AfterBlanks;
 
 // The keyword of the line that holds the place, and how many words follow it; what the lines before say; of the open body the type and degrees in force, its
 // controls, and its parameters along u and v.
@@ -43,8 +42,8 @@ fn words_after(text: &[u8], at: usize) -> usize
     requires { at ≤ length text.now }
 {
     match text::scan_line(text, at) {
-        Scan::Good { count, next: _ } => count,
-        Scan::Bad(_) => 0,
+        Ok(words) => words.value,
+        Err(_) => 0,
     }
 }
 
@@ -63,17 +62,12 @@ fn keyword_of(text: &[u8], at: usize) -> Keyed
 }
 
 // How many controls the line of the open body gives, its keyword at `opened`.
-fn controls_given(text: &[u8], kind: u32, opened: usize, table: &[u8; 528]) -> usize
-    requires { table.now ≡ table_of_keywords }
-{
-    if kind == 0 {
-        return 0;
-    }
-    if text.len() < opened {
+fn controls_given(text: &[u8], kind: u32, opened: usize) -> usize {
+    if kind == 0 || text.len() < opened {
         return 0;
     }
     let line = keyword_of(text, opened);
-    less(line.words, words_of_range(text, opened, table))
+    line.words.saturating_sub(words_of_range(text, opened))
 }
 
 // What is told of a text that is too long: nothing.
@@ -100,9 +94,7 @@ pub fn explain(text: &[u8], place: usize) -> Advice
     if 16_777_216 < text.len() {
         return no_advice();
     }
-    let keyword_table = keywords::keyword_table();
-    let argument_table = keywords::argument_table();
-    let before = said_before(text, place, &keyword_table, &argument_table);
+    let before = said_before(text, place);
     let said = before.said;
     let tally = said.tally;
     let form = said.form;
@@ -112,11 +104,11 @@ pub fn explain(text: &[u8], place: usize) -> Advice
     Advice {
         key: line.key,
         words: line.words,
-        tally: tally,
+        tally,
         basis: form.basis,
         degree_u: form.degree_u,
         degree_v: form.degree_v,
-        controls: controls_given(text, tally.kind, tally.opened, &keyword_table),
+        controls: controls_given(text, tally.kind, tally.opened),
         u: along_direction(
             text,
             said.u_at,

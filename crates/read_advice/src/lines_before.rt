@@ -1,18 +1,16 @@
 // What the lines before the one that holds a place say, each of which reading took.
 ghost use Rattle.std.specs.Prelude.{◌≡◌, ◌+◌, ◌≤◌, ◌<◌, length};
 ghost use Rattle.text.specs.Rest.{rest_at};
-ghost use Rattle.keywords.specs.Lookup.{table_of_keywords, table_of_arguments};
-ghost use Rattle.model.specs.Layout.{free_number};
-ghost use Rattle.read_advice.specs.Tally.{start_tally, with_counts, opening, after_end, after_vertex, after_line, after_words, tally_of};
+ghost use Rattle.read_advice.specs.Tally.{start_tally, opening, after_end, after_vertex, after_line, after_words, tally_of};
 ghost use Rattle.read_advice.specs.Inner.{vertex_total};
 
 use keyword_rules::carried_of;
-use read_bodies::parm::{Parm, take_parm};
-use read_settings::{TakenForm, take_degree, take_type};
+use read_bodies::parm::take_parm;
+use read_settings::{take_degree, take_type};
 use read_state::{Form, kind_of};
-use statements::{Carried, Free, VertexKind};
+use statements::{Carried, VertexKind};
 use tables::kinds;
-use text::{AfterBlanks, Scan};
+use text::AfterBlanks;
 
 // How many there are so far of what a word may refer to, a curv2 from its end on; the kind of the open body's element, 0 where none is open, and the place of
 // its keyword.
@@ -58,42 +56,31 @@ pub fn start_tally() -> Tally
     }
 }
 
-fn with_vertex(tally: Tally, v: u32, vt: u32, vn: u32, vp: u32) -> Tally
-    requires { (vertex_total tally ≤ 16777216) × (v + vt + vn + vp ≤ 1) }
-    ensures { result ≡ with_counts tally v vt vn vp }
-{
-    Tally {
-        v: tally.v + v,
-        vt: tally.vt + vt,
-        vn: tally.vn + vn,
-        vp: tally.vp + vp,
-        curves: tally.curves,
-        kind: tally.kind,
-        opened: tally.opened,
-    }
-}
-
 fn opening(tally: Tally, kind: u32, key: usize) -> Tally
     ensures { result ≡ opening tally kind key }
 {
-    let mut after = tally;
-    after.kind = kind;
-    after.opened = key;
-    after
+    Tally {
+        kind,
+        opened: key,
+        ..tally
+    }
 }
 
 fn ending(tally: Tally) -> Tally
     requires { vertex_total tally ≤ 16777216 }
     ensures { result ≡ after_end tally }
 {
-    let mut after = tally;
-    after.kind = 0;
-    after.opened = 0;
-    if tally.kind == kinds::CURVE2 {
-        after.curves = tally.curves + 1;
-        return after;
+    let curves = if tally.kind == kinds::CURVE2 {
+        tally.curves + 1
+    } else {
+        tally.curves
+    };
+    Tally {
+        curves,
+        kind: 0,
+        opened: 0,
+        ..tally
     }
-    after
 }
 
 fn after_vertex(kind: VertexKind, tally: Tally) -> Tally
@@ -101,17 +88,23 @@ fn after_vertex(kind: VertexKind, tally: Tally) -> Tally
     ensures { result ≡ after_vertex kind tally }
 {
     match kind {
-        VertexKind::Geometric => with_vertex(tally, 1, 0, 0, 0),
-        VertexKind::Texture => with_vertex(tally, 0, 1, 0, 0),
-        VertexKind::Normal => with_vertex(tally, 0, 0, 1, 0),
-        VertexKind::Parametric => with_vertex(tally, 0, 0, 0, 1),
+        VertexKind::Geometric => Tally {
+            v: tally.v + 1,
+            ..tally
+        },
+        VertexKind::Texture => Tally {
+            vt: tally.vt + 1,
+            ..tally
+        },
+        VertexKind::Normal => Tally {
+            vn: tally.vn + 1,
+            ..tally
+        },
+        VertexKind::Parametric => Tally {
+            vp: tally.vp + 1,
+            ..tally
+        },
     }
-}
-
-fn after_body(free: Free, key: usize, tally: Tally) -> Tally
-    ensures { result ≡ opening tally (free_number free) key }
-{
-    opening(tally, kind_of(free), key)
 }
 
 // The tally after a line of that statement, its keyword at `key`.
@@ -121,89 +114,53 @@ fn after_line(carried: Carried, key: usize, tally: Tally) -> Tally
 {
     match carried {
         Carried::Vertex(kind) => after_vertex(kind, tally),
-        Carried::Element(_) => tally,
-        Carried::Body(free) => after_body(free, key, tally),
-        Carried::Parameters => tally,
-        Carried::Trim => tally,
-        Carried::Hole => tally,
+        Carried::Body(free) => opening(tally, kind_of(free), key),
         Carried::End => ending(tally),
-        Carried::BodyType => tally,
-        Carried::Degree => tally,
-        Carried::Group => tally,
-        Carried::Smoothing => tally,
-        Carried::Material => tally,
-        Carried::PassedOver => tally,
+        _ => tally,
     }
 }
 
-fn taken_form(taken: TakenForm, form: Form) -> Form {
-    match taken {
-        TakenForm::Accepted {
-            form: after,
-            next: _,
-        } => after,
-        TakenForm::Rejected => form,
-    }
-}
-
-// The type and degrees in force after a line of that statement, `at` just after its keyword.
-fn form_after(
-    text: &[u8],
-    at: usize,
-    carried: Carried,
-    form: Form,
-    argument_table: &[u8; 108],
-) -> Form
-    requires at_in_bounds { at ≤ length text.now }
-    requires argument_table_value { argument_table.now ≡ table_of_arguments }
+// The type and degrees in force after a line of that statement, from just after its keyword on.
+fn form_after(text: &[u8], at: usize, carried: Carried, form: Form) -> Form
+    requires { at ≤ length text.now }
 {
-    if let Carried::BodyType = carried {
-        return taken_form(take_type(text, at, form, argument_table), form);
+    let taken = match carried {
+        Carried::BodyType => take_type(text, at, form),
+        Carried::Degree => take_degree(text, at, form),
+        _ => None,
+    };
+    match taken {
+        Some(taken) => taken.value,
+        None => form,
     }
-    if let Carried::Degree = carried {
-        return taken_form(take_degree(text, at, form), form);
-    }
-    form
 }
 
 // The same with where the numbers of the last parm lines start.
-fn after_keyword(
-    text: &[u8],
-    at: usize,
-    carried: Carried,
-    tally: Tally,
-    said: Said,
-    argument_table: &[u8; 108],
-) -> Said
-    requires at_in_bounds { at ≤ length text.now }
-    requires argument_table_value { argument_table.now ≡ table_of_arguments }
+fn after_keyword(text: &[u8], at: usize, carried: Carried, tally: Tally, said: Said) -> Said
+    requires { at ≤ length text.now }
     ensures { result.tally ≡ tally }
 {
-    let form = form_after(text, at, carried, said.form, argument_table);
-    let mut after = said;
-    after.tally = tally;
-    after.form = form;
+    let form = form_after(text, at, carried, said.form);
     if tally.kind == 0 {
-        after.u_at = 0;
-        after.v_at = 0;
-        return after;
+        return Said {
+            tally,
+            form,
+            u_at: 0,
+            v_at: 0,
+        };
     }
+    let mut after = Said {
+        tally,
+        form,
+        ..said
+    };
     if let Carried::Parameters = carried {
-        match take_parm(text, at, true, argument_table) {
-            Parm::Accepted {
-                along_v,
-                numbers_at,
-                next: _,
-            } => {
-                if along_v {
-                    after.v_at = numbers_at;
-                    return after;
-                }
-                after.u_at = numbers_at;
-                return after;
-            }
-            Parm::Rejected => {
-                return after;
+        if let Some(taken) = take_parm(text, at, true) {
+            let parm = taken.value;
+            if parm.along_v {
+                after.v_at = parm.numbers_at;
+            } else {
+                after.u_at = parm.numbers_at;
             }
         }
     }
@@ -211,26 +168,17 @@ fn after_keyword(
 }
 
 // What is said after the line that starts at `at`.
-fn with_line(
-    text: &[u8],
-    at: usize,
-    said: Said,
-    keyword_table: &[u8; 528],
-    argument_table: &[u8; 108],
-) -> Said
-    requires at_in_bounds { (at ≤ length text.now) × (vertex_total said.tally ≤ 16777216) }
-    requires keyword_table_value { keyword_table.now ≡ table_of_keywords }
-    requires argument_table_value { argument_table.now ≡ table_of_arguments }
+fn with_line(text: &[u8], at: usize, said: Said) -> Said
+    requires { (at ≤ length text.now) × (vertex_total said.tally ≤ 16777216) }
     ensures { result.tally ≡ after_words (rest_at text.now at).words said.tally }
 {
     match text::skip_blanks(text, at) {
         AfterBlanks::Start(p) => {
-            let keyword = keywords::keyword_at(text, p, keyword_table);
-            let statement = keyword.statement;
-            let carried = carried_of(statement);
+            let keyword = keywords::keyword_at(text, p);
+            let carried = carried_of(keyword.statement);
             let end = text::word_end(text, p);
             let tally = after_line(carried, p, said.tally);
-            after_keyword(text, end, carried, tally, said, argument_table)
+            after_keyword(text, end, carried, tally, said)
         }
         AfterBlanks::End(_) => said,
         AfterBlanks::Bad(_) => said,
@@ -255,41 +203,27 @@ fn start() -> Said
 }
 
 // All lines before the one that holds the place; of a line with a byte that is not allowed nothing is taken, nor of those after it.
-pub fn said_before(
-    text: &[u8],
-    place: usize,
-    keyword_table: &[u8; 528],
-    argument_table: &[u8; 108],
-) -> Before
-    requires text_len_bound { length text.now ≤ 16777216 }
-    requires keyword_table_value { keyword_table.now ≡ table_of_keywords }
-    requires argument_table_value { argument_table.now ≡ table_of_arguments }
+pub fn said_before(text: &[u8], place: usize) -> Before
+    requires { length text.now ≤ 16777216 }
     ensures { (result.said.tally ≡ tally_of text.now place) × (result.line ≤ length text.now) }
 {
     let mut said = start();
     let mut at: usize = 0;
+    // No range counts the places: each line ends where it is scanned to.
     while at < text.len() {
         match text::scan_line(text, at) {
-            Scan::Bad(_) => {
-                return Before {
-                    line: at,
-                    said: said,
-                };
+            Err(_) => {
+                return Before { line: at, said };
             }
-            Scan::Good { count: _, next } => {
+            Ok(words) => {
+                let next = words.next;
                 if place < next {
-                    return Before {
-                        line: at,
-                        said: said,
-                    };
+                    return Before { line: at, said };
                 }
-                said = with_line(text, at, said, keyword_table, argument_table);
+                said = with_line(text, at, said);
                 at = next;
             }
         }
     }
-    Before {
-        line: at,
-        said: said,
-    }
+    Before { line: at, said }
 }

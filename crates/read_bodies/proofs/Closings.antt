@@ -13,6 +13,9 @@ use lib.Dec.{eqb, leb, eqb-suc-zero}
 use lib.IntN.{ℤ}
 use Rattle.lists.proofs.Tests.{and_left, and_right, and_first, test, never}
 use Rattle.lists.proofs.Laws.{sets-append}
+use Rattle.std.specs.Prelude.{Result, Ok, Err}
+use Rattle.refusals.specs.declared.Reason.{Reason}
+use Rattle.refusals.specs.declared.Reason.TheVariants as reason
 use Rattle.tables.specs.Bodies.{enough, low, high, in_order, curve_count, surface_count, basis_of}
 use Rattle.parameter_order.specs.declared.Requirement.{Requirement}
 use Rattle.parameter_order.specs.declared.Order.{Order}
@@ -27,8 +30,7 @@ use Rattle.read_bodies.specs.Numbers.{numbers_at, NumberMet}
 use Rattle.statements.specs.Numbered.{free_of}
 use Rattle.tables.specs.Records.{curve2_kind, surface_kind}
 use Rattle.read_bodies.specs.Closing.{parm_of, complete_of, agree_of, held_of, body_for, SettledIs, StoredIs, BodyCheckIs}
-use Rattle.read_bodies.specs.declared.closing.BodyCheck.{BodyCheck}
-use Rattle.read_bodies.specs.declared.closing.BodyCheck.TheVariants as judged
+use Rattle.read_bodies.specs.declared.closing.Checked.{Checked}
 use Rattle.read_bodies.proofs.Steps.{numbers_more}
 
 module _ (s : List ℕ) (at : ℕ) where
@@ -184,17 +186,17 @@ module _ (kind u v : ℕ) (o p : Order) (a b c d : ℤ) {s e : ℤ} (hs : s ≡ 
   held : held_of kind o p (cond (eqb kind curve2_kind) o.low a) (cond (eqb kind curve2_kind) o.high b) c d ≡ held_of kind o p s e c d
   held = ap₂ (λ (s e : ℤ). held_of kind o p s e c d) (sym hs) (sym he)
 
-  pub not-held : holds_in o s e ≡ false → SettledIs kind u v o p a b c d (judged.Refused 13)
+  pub not-held : holds_in o s e ≡ false → SettledIs kind u v o p a b c d (Err reason.ParameterOrder)
   not-held h = (refl, held ∙ and_first (cond (eqb kind surface_kind) (holds_in p c d) true) h)
 
   module _ (h : holds_in o s e ≡ true) where
-    pub not-along-v : kind ≡ surface_kind → holds_in p c d ≡ false → SettledIs kind u v o p a b c d (judged.Refused 13)
+    pub not-along-v : kind ≡ surface_kind → holds_in p c d ≡ false → SettledIs kind u v o p a b c d (Err reason.ParameterOrder)
     not-along-v k i = (refl, held ∙ rw (h, eq-eqb kind surface_kind k, i) refl)
 
-    pub along-both : kind ≡ surface_kind → holds_in p c d ≡ true → SettledIs kind u v o p a b c d (judged.Valid u v s e)
+    pub along-both : kind ≡ surface_kind → holds_in p c d ≡ true → SettledIs kind u v o p a b c d (Ok (record { u = u; v = v; start = s; end = e }))
     along-both k i = (refl, refl, record { start_is = hs; end_is = he; held = rw (h, eq-eqb kind surface_kind k, i) refl })
 
-    pub along_one : (kind ≡ surface_kind → ⊥) → SettledIs kind u v o p a b c d (judged.Valid u v s e)
+    pub along_one : (kind ≡ surface_kind → ⊥) → SettledIs kind u v o p a b c d (Ok (record { u = u; v = v; start = s; end = e }))
     along_one k = (refl, refl, record { start_is = hs; end_is = he; held = rw (h, ne_eqb kind surface_kind k) refl })
 
 -- ---- `judge`
@@ -208,11 +210,11 @@ module _ (f : Form) (kind : ℕ) (us vs : List ℤ) (a b c d : ℤ) (k u v : ℕ
   counts : counts_agree (free_of kind) B k ≡ agree_of kind f u v k
   counts = agree-is (eqb kind surface_kind) (eqb kind curve2_kind) B k ∙ ap₂ (λ (m n : ℕ). agree_of kind f m n k) (sym hu) (sym hv)
 
-  pub refuse-11 : complete_of kind u v ≡ false → BodyCheckIs B k (judged.Refused 11)
+  pub refuse-11 : complete_of kind u v ≡ false → BodyCheckIs B k (Err reason.Incomplete)
   refuse-11 h = (rw (whole ∙ h) refl, omega arith)
 
   module _ (h : complete_of kind u v ≡ true) where
-    pub refuse-12 : agree_of kind f u v k ≡ false → BodyCheckIs B k (judged.Refused 12)
+    pub refuse-12 : agree_of kind f u v k ≡ false → BodyCheckIs B k (Err reason.ControlCount)
     refuse-12 i = (rw (whole ∙ h, counts ∙ i) refl, omega arith)
 
     -- the parameters along u came to o, along v to p
@@ -258,11 +260,11 @@ module _ (f : Form) (kind : ℕ) (us vs : List ℤ) (a b c d : ℤ) (k u v : ℕ
           range-is (eqb kind surface_kind) (eqb kind curve2_kind) (one-kind kind) B
           ∙ sym (ap₂ (λ (s t : Bool). s && t) (law-u (cond (eqb kind curve2_kind) o.low a) (cond (eqb kind curve2_kind) o.high b) ∙ ap₂ (λ (s e : ℤ). in_order (basis_of f.basis) f.degree_u us s e) starts ends) (other (eqb kind surface_kind) refl))
 
-      pub settled-judged : u ≤ 16777216 → v ≤ 16777216 → (r : BodyCheck) → SettledIs kind u v o p a b c d r → BodyCheckIs B k r
-      settled-judged m n (judged.Refused z) g =
+      pub settled-judged : u ≤ 16777216 → v ≤ 16777216 → (r : Result Checked Reason) → SettledIs kind u v o p a b c d r → BodyCheckIs B k r
+      settled-judged m n (Err z) g =
           let e = g.0 in
           (rw (whole ∙ h, counts ∙ i, in-range ∙ g.1) (sym e), omega arith)
-      settled-judged m n (judged.Valid u₂ v₂ s e) g =
+      settled-judged m n (Ok w) g =
           let q = g.2 in
           let t : held_of kind o p (cond (eqb kind curve2_kind) o.low a) (cond (eqb kind curve2_kind) o.high b) c d ≡ true = ap₂ (λ (s e : ℤ). held_of kind o p s e c d) (sym q.start_is) (sym q.end_is) ∙ q.held in
           let x₁ = g.0 in
@@ -279,12 +281,12 @@ module _ (f : Form) (kind : ℕ) (us vs : List ℤ) (a b c d : ℤ) (k u v : ℕ
 
 -- whatever 13 says, both runs are in the table
 pub both_stored :
-    (p q x : List ℤ) (first u : ℕ) (us vs : List ℤ) (r : BodyCheck) → u ≡ length us → q ≡ sets p first us → x ≡ sets q (first + u) vs → StoredIs p x first (us ++ vs) r
+    (p q x : List ℤ) (first u : ℕ) (us vs : List ℤ) (r : Result Checked Reason) → u ≡ length us → q ≡ sets p first us → x ≡ sets q (first + u) vs → StoredIs p x first (us ++ vs) r
 both_stored p q x first u us vs r h e g = go r
   where
     all : x ≡ sets p first (us ++ vs)
     all = g ∙ ap₂ (λ (l : List ℤ) (m : ℕ). sets l (first + m) vs) e h ∙ sym (sets-append p first us vs)
 
-    go : (r : BodyCheck) → StoredIs p x first (us ++ vs) r
-    go (judged.Refused z) = ap length all ∙ length-sets p first (us ++ vs)
-    go (judged.Valid u₂ v₂ s e) = all
+    go : (r : Result Checked Reason) → StoredIs p x first (us ++ vs) r
+    go (Err z) = ap length all ∙ length-sets p first (us ++ vs)
+    go (Ok w) = all

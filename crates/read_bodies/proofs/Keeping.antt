@@ -12,6 +12,8 @@ use lib.Seq.{sets, take-length, length-sets}
 use lib.Dec.{eqb, leb}
 use lib.IntN.{ℤ, pos}
 use Rattle.lists.proofs.Tests.{test}
+use Rattle.std.specs.Prelude.{Result}
+use Rattle.refusals.specs.declared.Reason.{Reason}
 use Rattle.tables.specs.Records.{body_in}
 use Rattle.tables.specs.declared.Used.{Used}
 use Rattle.tables.specs.declared.Body as Record
@@ -20,9 +22,8 @@ use Rattle.read_state.specs.declared.Form.{Form}
 use Rattle.read_state.specs.declared.Open.{Open}
 use Rattle.read_bodies.specs.Numbers.{numbers_at}
 use Rattle.tables.specs.Rows.{body_numbers, range_numbers}
-use Rattle.read_bodies.specs.Closing.{parm_of, body_for, closing_refusal, Passed, BodyCheckIs, StoredIs, stored_body, Stored, NotStored}
-use Rattle.read_bodies.specs.declared.closing.BodyCheck.{BodyCheck}
-use Rattle.read_bodies.specs.declared.closing.BodyCheck.TheVariants as judged
+use Rattle.read_bodies.specs.Closing.{parm_of, body_for, closing_refusal, Passed, BodyCheckIs, stored_body, Stored, NotStored}
+use Rattle.read_bodies.specs.declared.closing.Checked.{Checked}
 use Rattle.read_bodies.proofs.Closings.{parm-none, parm-some, settled-rest}
 
 -- ---- the parameters of a direction
@@ -62,23 +63,9 @@ range-of bodies ranges i e = (
 )
 
 pub judged-to :
-    (f : Form) (kind : ℕ) (us vs : List ℤ) {a b c d a₂ b₂ c₂ d₂ : ℤ} (k : ℕ) (r : BodyCheck) → a₂ ≡ a → b₂ ≡ b → c₂ ≡ c → d₂ ≡ d →
+    (f : Form) (kind : ℕ) (us vs : List ℤ) {a b c d a₂ b₂ c₂ d₂ : ℤ} (k : ℕ) (r : Result Checked Reason) → a₂ ≡ a → b₂ ≡ b → c₂ ≡ c → d₂ ≡ d →
     BodyCheckIs (body_for f kind us vs a₂ b₂ c₂ d₂) k r → BodyCheckIs (body_for f kind us vs a b c d) k r
 judged-to f kind us vs k r p q x y j = rw (p, q, x, y) at j
-
-module _ (b : Body) (k : ℕ) (r : BodyCheck) (j : BodyCheckIs b k r) where
-  pub has-passed : {u v : ℕ} {s e : ℤ} → r ≡ judged.Valid u v s e → Passed b k u v s e
-  has-passed h = rw h at j
-
-  pub is-refused : {n : ℕ} → r ≡ judged.Refused n → (closing_refusal b k ≡ n) × (0 < n)
-  is-refused h = rw h at j
-
-module _ (p x : List ℤ) (first : ℕ) (zs : List ℤ) (r : BodyCheck) (j : StoredIs p x first zs r) where
-  pub has-stored : {u v : ℕ} {s e : ℤ} → r ≡ judged.Valid u v s e → x ≡ sets p first zs
-  has-stored h = rw h at j
-
-  pub not-stored : {n : ℕ} → r ≡ judged.Refused n → length x ≡ length p
-  not-stored h = rw h at j
 
 module _ (f : Form) (o : Open) (used : Used) (b : Body) (l : List ℕ) (r p : List ℤ) {x : List ℤ} where
   pub not-kept : {n : ℕ} → (closing_refusal b o.controls ≡ n) × (0 < n) → length x ≡ length p → NotStored o used b l l r r p x n

@@ -5,7 +5,6 @@ use mathlib.Core.Path.{◌≡◌, refl, sym, ap, ap₂, ◌∙◌}
 use mathlib.Core.List.{List, [], ◌∷◌, ◌++◌, append-nil, append_assoc}
 use mathlib.Core.Bool.{Bool, true, false, cond}
 use mathlib.Core.Logic.{inl, inr}
-use mathlib.Core.Option.{some}
 use borrow.Author.Tests.{leb-true, leb-false, ltb-true, lt-ltb, eq-eqb}
 use Rattle.lists.proofs.Tests.{and_left, and_both, never}
 use Rattle.statements.specs.declared.Carried.TheVariants.{Trim}

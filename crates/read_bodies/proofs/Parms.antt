@@ -9,6 +9,9 @@ use lib.ListN.{length, drop}
 use lib.IntN.{ℤ}
 use borrow.Author.Tests.{leb-true, leb-false}
 use Rattle.lists.proofs.Tests.{never}
+use Rattle.std.specs.Prelude.{Option as Answer, Some, None, Result, Ok, Err}
+use Rattle.std.specs.Result.{result_ok}
+use Rattle.text.specs.declared.Parsed.{Parsed}
 use Rattle.text.specs.Words.{Word, word_of}
 use Rattle.text.specs.Rest.{Rest, rest_at, word_at, end_of, WordMet, EndMet}
 use Rattle.digits.specs.Said.{Said, says, wrong}
@@ -19,15 +22,14 @@ use Rattle.keywords.specs.Arguments.{argument_of}
 use Rattle.keywords.specs.Lookup.{argument_at}
 use Rattle.statements.specs.declared.Carried.TheVariants.{Parameters}
 use Rattle.statements.specs.Rules.{rules_of, counted_by}
-use Rattle.model.specs.Model.{ParmDirection, along-u, along-v}
+use Rattle.model.specs.Model.{ParmDirection, along-v}
 use Rattle.model.specs.Parse.{direction_of}
 use Rattle.model.specs.Standing.{is_v}
 use Rattle.read_state.specs.Numbers.{Walk, ended, full, stuck, onto_walk, on_number, numbers_from}
 use Rattle.read_state.specs.State.{ParmAt}
-use Rattle.read_bodies.specs.Numbers.{number_before, leading, numbers_at, AllNumbers, NotAll}
+use Rattle.read_bodies.specs.Numbers.{number_before, leading, numbers_at, AllNumbers, NotAll, CountedIs}
 use Rattle.read_bodies.specs.Parm.{way_of, RowTaken, ParmRowIs, ParmLine, parm_direction, ParmTaken, ParmIs}
 use Rattle.read_bodies.specs.declared.parm.Parm.{Parm}
-use Rattle.read_bodies.specs.declared.parm.Parm.TheVariants.{Accepted, Rejected}
 
 clash : {A : Type 0} {n : ℕ} → suc n ≡ 0 → A
 clash h = absurd (omega arith)
@@ -101,73 +103,72 @@ kept-is s at zs k h = (walk-ended (suc (length s)) (rest_at s at).words (rest_at
 
 -- ---- `take_row`
 module _ (s : List ℕ) (at : ℕ) (v : Bool) where
-  pub row-taken : {n q : ℕ} → AllNumbers s at n q → true ≡ counted_by (rules_of Parameters).count (n + 1) → ParmRowIs s at v (Accepted v at q)
+  pub row-taken : {n q : ℕ} → AllNumbers s at n q → true ≡ counted_by (rules_of Parameters).count (n + 1) → ParmRowIs s at v (Some (record { value = record { along_v = v; numbers_at = at }; next = q }))
   row-taken {n} {q} a h =
       let c = a.count in
       let d = leb-true 3 (n + 1) (sym h) in
       record { along = refl; here = refl; two = omega arith; all = subst (λ (k : ℕ). AllNumbers s at k q) c a }
 
-  pub row-few : {n q : ℕ} → AllNumbers s at n q → false ≡ counted_by (rules_of Parameters).count (n + 1) → ParmRowIs s at v Rejected
+  pub row-few : {n q : ℕ} → AllNumbers s at n q → false ≡ counted_by (rules_of Parameters).count (n + 1) → ParmRowIs s at v None
   row-few {n} a h = λ b e. let c = a.count in let d = leb-false 3 (n + 1) (sym h) in omega arith
 
-  pub row-stopped : {n : ℕ} → NotAll s at n → ParmRowIs s at v Rejected
+  pub row-stopped : {n : ℕ} → NotAll s at n → ParmRowIs s at v None
   row-stopped a = λ b e. let c = a.count in let f = a.fewer b in absurd (omega arith)
 
+-- what `count_numbers` found, by what was kept of it
+pub all-counted : (s : List ℕ) (at : ℕ) (r : Result (Parsed ℕ) ℕ) {v : Parsed ℕ} → CountedIs s at r → Some v ≡ result_ok r → AllNumbers s at v.value v.next
+all-counted s at (Ok p) {v} a h = subst (λ (w : Parsed ℕ). AllNumbers s at w.value w.next) (let k : p ≡ v = cc in k) a
+all-counted s at (Err n) a h = absurd (let z : ◌≡◌ {A = ℕ} 0 1 = cc in omega arith)
+
+pub not-counted : (s : List ℕ) (at : ℕ) (v : Bool) (r : Result (Parsed ℕ) ℕ) → CountedIs s at r → None ≡ result_ok r → ParmRowIs s at v None
+not-counted s at v (Ok p) a h = absurd (let z : ◌≡◌ {A = ℕ} 0 1 = cc in omega arith)
+not-counted s at v (Err n) a h = row-stopped s at v a
+
 -- ---- the direction
-way-none : (a : Argument) → way_of a ≡ 0 → direction_of a ≡ none
-way-none Rational h = refl
-way-none BasisMatrix h = refl
-way-none Bezier h = refl
-way-none Bspline h = refl
-way-none Cardinal h = refl
-way-none Taylor h = refl
-way-none DirectionU h = clash h
-way-none DirectionV h = clash h
-way-none Off h = refl
-way-none Other h = refl
+direction : (a : Argument) (v : Bool) → way_of a ≡ Some v → direction_of a ≡ some (parm_direction v)
+direction DirectionU false h = refl
+direction DirectionV true h = refl
+direction DirectionU true h = absurd (let z : ◌≡◌ {A = ℕ} 0 1 = cc in omega arith)
+direction DirectionV false h = absurd (let z : ◌≡◌ {A = ℕ} 0 1 = cc in omega arith)
+direction Rational v h = absurd (let z : ◌≡◌ {A = ℕ} 0 1 = cc in omega arith)
+direction BasisMatrix v h = absurd (let z : ◌≡◌ {A = ℕ} 0 1 = cc in omega arith)
+direction Bezier v h = absurd (let z : ◌≡◌ {A = ℕ} 0 1 = cc in omega arith)
+direction Bspline v h = absurd (let z : ◌≡◌ {A = ℕ} 0 1 = cc in omega arith)
+direction Cardinal v h = absurd (let z : ◌≡◌ {A = ℕ} 0 1 = cc in omega arith)
+direction Taylor v h = absurd (let z : ◌≡◌ {A = ℕ} 0 1 = cc in omega arith)
+direction Off v h = absurd (let z : ◌≡◌ {A = ℕ} 0 1 = cc in omega arith)
+direction Other v h = absurd (let z : ◌≡◌ {A = ℕ} 0 1 = cc in omega arith)
 
-way-u : (a : Argument) → way_of a ≡ 1 → direction_of a ≡ some along-u
-way-u Rational h = clash (sym h)
-way-u BasisMatrix h = clash (sym h)
-way-u Bezier h = clash (sym h)
-way-u Bspline h = clash (sym h)
-way-u Cardinal h = clash (sym h)
-way-u Taylor h = clash (sym h)
-way-u DirectionU h = refl
-way-u DirectionV h = absurd (omega arith)
-way-u Off h = clash (sym h)
-way-u Other h = clash (sym h)
+undirected : (a : Argument) → way_of a ≡ None → direction_of a ≡ none
+undirected DirectionU h = absurd (let z : ◌≡◌ {A = ℕ} 0 1 = cc in omega arith)
+undirected DirectionV h = absurd (let z : ◌≡◌ {A = ℕ} 0 1 = cc in omega arith)
+undirected Rational h = refl
+undirected BasisMatrix h = refl
+undirected Bezier h = refl
+undirected Bspline h = refl
+undirected Cardinal h = refl
+undirected Taylor h = refl
+undirected Off h = refl
+undirected Other h = refl
 
-way-v : (a : Argument) → (way_of a ≡ 1 → ⊥) → (way_of a ≡ 0 → ⊥) → direction_of a ≡ some along-v
-way-v Rational h k = absurd (k refl)
-way-v BasisMatrix h k = absurd (k refl)
-way-v Bezier h k = absurd (k refl)
-way-v Bspline h k = absurd (k refl)
-way-v Cardinal h k = absurd (k refl)
-way-v Taylor h k = absurd (k refl)
-way-v DirectionU h k = absurd (h refl)
-way-v DirectionV h k = refl
-way-v Off h k = absurd (k refl)
-way-v Other h k = absurd (k refl)
-
-module _ (s : List ℕ) (p : ℕ) {a : Argument} {w : ℕ} (f : a ≡ argument_at s p) (g : w ≡ way_of a) where
-  abbrev Says : Option ParmDirection → Type 0
-  Says d = direction_of (argument_of (word_of (drop p s))) ≡ d
-
-  pub says_none : w ≡ 0 → Says none
+module _ (s : List ℕ) (p : ℕ) {a : Argument} (f : a ≡ argument_at s p) where
+  pub says_none : None ≡ way_of a → direction_of (argument_of (word_of (drop p s))) ≡ none
   unfolding argument_at
-  says_none h = sym (ap direction_of f) ∙ way-none a (sym g ∙ h)
+  says_none h = sym (ap direction_of f) ∙ undirected a (sym h)
 
-  pub says-u : w ≡ 1 → Says (some along-u)
+  pub directed : {v : Bool} → Some v ≡ way_of a → direction_of (argument_of (word_of (drop p s))) ≡ some (parm_direction v)
   unfolding argument_at
-  says-u h = sym (ap direction_of f) ∙ way-u a (sym g ∙ h)
+  directed {v} h = sym (ap direction_of f) ∙ direction a v (sym h)
 
-  pub says-v : (w ≡ 1 → ⊥) → (w ≡ 0 → ⊥) → Says (some along-v)
-  unfolding argument_at
-  says-v h k = sym (ap direction_of f) ∙ way-v a (λ e. h (g ∙ e)) (λ e. k (g ∙ e))
+-- v is a surface's
+pub belongs : (v surface : Bool) → (v ≡ true → surface ≡ true) → (surface || not (is_v (some (parm_direction v)))) ≡ true
+belongs true true h = refl
+belongs true false h = never (h refl)
+belongs false true h = refl
+belongs false false h = refl
 
 -- ---- `take_parm`
-pub no_words : (surface : Bool) (s : List ℕ) (at : ℕ) → (rest_at s at).words ≡ [] → ParmIs surface s at Rejected
+pub no_words : (surface : Bool) (s : List ℕ) (at : ℕ) → (rest_at s at).words ≡ [] → ParmIs surface s at None
 no_words surface s at h = λ d zs l. let e : ◌≡◌ {A = ℕ} 0 (suc (length l.others)) = ap length (sym h ∙ l.words) in absurd (omega arith)
 
 pub end-words : (s : List ℕ) (at : ℕ) {q : ℕ} → EndMet s at q → (rest_at s at).words ≡ []
@@ -220,18 +221,18 @@ module _ (surface : Bool) (s : List ℕ) (at p : ℕ) (m : WordMet s at p) where
   others-are : {d : ParmDirection} {zs : List ℤ} (l : ParmLine surface (rest_at s at) d zs) → (rest_at s (end_of s p)).words ≡ l.others
   others-are l = let e : word_at s p ∷ (rest_at s (end_of s p)).words ≡ l.first ∷ l.others = sym here ∙ l.words in cc
 
-  pub no-direction : direction_of (argument_of (word_of (drop p s))) ≡ none → ParmIs surface s at Rejected
+  pub no-direction : direction_of (argument_of (word_of (drop p s))) ≡ none → ParmIs surface s at None
   no-direction h = λ d zs l. let e : none ≡ some d = sym h ∙ first-is l in let z : ◌≡◌ {A = ℕ} 0 1 = cc in absurd (omega arith)
 
-  pub not-here : direction_of (argument_of (word_of (drop p s))) ≡ some along-v → surface ≡ false → ParmIs surface s at Rejected
-  not-here h f = λ d zs l.
-      let e : along-v ≡ d = (let x : some along-v ≡ some d = sym h ∙ first-is l in cc) in
+  pub not-here : {v : Bool} → direction_of (argument_of (word_of (drop p s))) ≡ some (parm_direction v) → v ≡ true → surface ≡ false → ParmIs surface s at None
+  not-here h k f = λ d zs l.
+      let e : along-v ≡ d = (let x : some along-v ≡ some d = sym (h ∙ ap (λ (b : Bool). some (parm_direction b)) k) ∙ first-is l in cc) in
       never (sym (ap (λ (b : Bool). b || false) f) ∙ subst (λ (d : ParmDirection). (surface || not (is_v (some d))) ≡ true) (sym e) l.belongs)
 
-  pub no_row : {e : ℕ} (v : Bool) → e ≡ end_of s p → ParmRowIs s e v Rejected → ParmIs surface s at Rejected
+  pub no_row : {e : ℕ} (v : Bool) → e ≡ end_of s p → ParmRowIs s e v None → ParmIs surface s at None
   unfolding numbers_at
   no_row {e} v d r = λ k zs l.
-      let r₁ = subst (λ (e : ℕ). ParmRowIs s e v Rejected) d r in
+      let r₁ = subst (λ (e : ℕ). ParmRowIs s e v None) d r in
       let o = others-are l in
       let n : leading (rest_at s (end_of s p)).words ≡ zs = ap leading o ∙ l.numbers in
       let a = l.all in
@@ -243,6 +244,6 @@ module _ (surface : Bool) (s : List ℕ) (at p : ℕ) (m : WordMet s at p) where
 
 -- a row's answer, by its case
 module _ (surface : Bool) (s : List ℕ) (at p : ℕ) (m : WordMet s at p) (v : Bool) (says : direction_of (argument_of (word_of (drop p s))) ≡ some (parm_direction v)) (b : (surface || not (is_v (some (parm_direction v)))) ≡ true) where
-  pub parm-row : (e : ℕ) → e ≡ end_of s p → (r : Parm) → ParmRowIs s e v r → ParmIs surface s at r
-  parm-row e d (Accepted w n q) r = parm-taken surface s at p m v says b d r
-  parm-row e d Rejected r = no_row surface s at p m v d r
+  pub parm-row : (e : ℕ) → e ≡ end_of s p → (r : Answer (Parsed Parm)) → ParmRowIs s e v r → ParmIs surface s at r
+  parm-row e d (Some w) r = parm-taken surface s at p m v says b d r
+  parm-row e d None r = no_row surface s at p m v d r

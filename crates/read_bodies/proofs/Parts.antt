@@ -6,33 +6,32 @@ use mathlib.Core.List.{List, [], ◌∷◌}
 use mathlib.Core.Option.{none}
 use lib.ListN.{length, drop}
 use lib.IntN.{ℤ}
+use Rattle.std.specs.Prelude.{Some, None, Result, Ok, Err}
+use Rattle.std.specs.Result.{result_ok}
+use Rattle.refusals.specs.declared.Reason.{Reason}
+use Rattle.text.specs.declared.Parsed.{Parsed}
 use Rattle.text.specs.Words.{Word, word_of}
 use Rattle.text.specs.Rest.{Rest, rest_at, push, word_at, end_of, WordMet, EndMet}
 use Rattle.digits.specs.Said.{Said, says, wrong}
-use Rattle.digits.specs.Answers.{ends_at}
+use Rattle.digits.specs.Answers.{said, ends_at}
 use Rattle.decimals.specs.Number.{number_of}
 use Rattle.references.specs.Reference.{reference_of}
-use Rattle.references.specs.Answers.{said_reference}
-use Rattle.references.specs.declared.reference.Reference.{Reference}
-use Rattle.references.specs.declared.reference.Reference.TheVariants as reference
 use Rattle.model.specs.Model.{Part}
 use Rattle.read_bodies.specs.Numbers.{number_before, leading, numbers_at, NumberMet, NoNumber}
 use Rattle.read_bodies.specs.Loops.{on_part, loop_parts, parts_at, CurveMet, NotCurve, CurveIs, PartFound, NoPart, PartIs}
-use Rattle.read_bodies.specs.declared.loops.Curve.{Curve}
-use Rattle.read_bodies.specs.declared.loops.Curve.TheVariants as curve
 use Rattle.read_bodies.specs.declared.loops.PartMet.{PartMet}
 use Rattle.read_bodies.specs.declared.loops.PartMet.TheVariants as part
 use Rattle.read_bodies.proofs.Steps.{said-one}
 
 -- ---- `next_curve`
 module _ (curves : ℕ) (s : List ℕ) (at : ℕ) where
-  pub no-curve : (rest_at s at).words ≡ [] → CurveIs curves s at curve.Nothing
+  pub no-curve : (rest_at s at).words ≡ [] → CurveIs curves s at None
   no-curve h = subst (NotCurve curves) (sym h) tt
 
-  module _ (p : ℕ) (w : WordMet s at p) (r : Reference) (h : said_reference r ≡ ends_at (reference_of curves (word_of (drop p s))) (end_of s p)) where
-    pub curve-met : {k e : ℕ} → r ≡ reference.Item k e → CurveMet curves s at k e
-    curve-met {k} {e} i =
-        let o = said-one (reference_of curves (word_of (drop p s))) (end_of s p) e k (sym (ap said_reference i) ∙ h) in
+  module _ (p : ℕ) (w : WordMet s at p) where
+    pub curve-met : {k e : ℕ} → says (k, e) ≡ ends_at (reference_of curves (word_of (drop p s))) (end_of s p) → CurveMet curves s at k e
+    curve-met {k} {e} h =
+        let o = said-one (reference_of curves (word_of (drop p s))) (end_of s p) e k h in
         let t = w.to in
         let f = w.from in
         let m = w.more in
@@ -45,19 +44,16 @@ module _ (curves : ℕ) (s : List ℕ) (at : ℕ) where
           reference = o.0;
         }
 
-    pub curve-not : {n : ℕ} → said_reference r ≡ wrong n → CurveIs curves s at curve.Nothing
-    curve-not {n} i =
-        subst (NotCurve curves) (sym (ap (λ (r : Rest). r.words) w.rest)) (λ k e. go k (sym i ∙ h ∙ ap (λ (x : Said ℕ). ends_at x (end_of s p)) e))
+    pub curve-not : {n : ℕ} → wrong n ≡ ends_at (reference_of curves (word_of (drop p s))) (end_of s p) → CurveIs curves s at None
+    curve-not {n} h =
+        subst (NotCurve curves) (sym (ap (λ (r : Rest). r.words) w.rest)) (λ k e. go k (h ∙ ap (λ (x : Said ℕ). ends_at x (end_of s p)) e))
       where
         go : (k : ℕ) → ◌≡◌ {A = Said (ℕ × ℕ)} (wrong n) (says (k, end_of s p)) → ⊥
         go k z = let y : ◌≡◌ {A = ℕ} 0 1 = cc in omega arith
 
-  module _ (r : Curve) (g : CurveIs curves s at r) where
-    pub a-curve : {k e : ℕ} → r ≡ curve.Of k e → CurveMet curves s at k e
-    a-curve e = rw e at g
-
-    pub not-curve : r ≡ curve.Nothing → NotCurve curves (rest_at s at).words
-    not-curve e = rw e at g
+    pub curve-read : (r : Result (Parsed ℕ) Reason) → said r ≡ ends_at (reference_of curves (word_of (drop p s))) (end_of s p) → CurveIs curves s at (result_ok r)
+    curve-read (Ok v) h = curve-met h
+    curve-read (Err n) h = curve-not h
 
 -- ---- `next_part`
 no_number : {A : Type 0} {z : ℤ} {zs : List ℤ} → z ∷ zs ≡ [] → A
@@ -145,12 +141,9 @@ module _ (curves : ℕ) (s : List ℕ) (at : ℕ) where
               on_part u v w ps ≡ record { from = x; to = x₂; curve = c } ∷ ps
           go u v w e₁ e₂ e₃ ps = rw (e₁, e₂, e₃, p₁, p₂) refl
 
-  module _ (r : PartMet) (g : PartIs curves s at r) where
-    pub part-found : {a b : ℤ} {k e : ℕ} → r ≡ part.Part a b k e → PartFound curves s at (record { from = a; to = b; curve = k }) e
+  module _ {v : PartMet} (g : PartIs curves s at (Some v)) where
+    pub part-found : {a b : ℤ} {k e : ℕ} → v ≡ part.Part a b k e → PartFound curves s at (record { from = a; to = b; curve = k }) e
     part-found e = rw e at g
 
-    pub part_end : {q : ℕ} → r ≡ part.End q → EndMet s at q
+    pub part_end : {q : ℕ} → v ≡ part.End q → EndMet s at q
     part_end e = rw e at g
-
-    pub part_none : r ≡ part.Stopped → NoPart curves s at
-    part_none e = rw e at g

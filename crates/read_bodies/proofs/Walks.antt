@@ -6,6 +6,7 @@ use mathlib.Core.Option.{Option, none, some}
 use native.Mathlib.Omega.{arith}
 use lib.ListN.{length}
 use lib.IntN.{ℤ}
+use Rattle.std.specs.Prelude.{Some}
 use Rattle.text.specs.Words.{Word}
 use Rattle.text.specs.Rest.{Rest, rest_at}
 use Rattle.text.proofs.LineByLine.{next-to}
@@ -57,11 +58,11 @@ walk-full (suc n) (w ∷ ws) b q {zs} {r} h = go (number_of w.bytes) refl h (λ 
         record { numbers = omega arith; words = omega arith; bad = j.bad; next = j.next }
 
 -- ---- `count_numbers`
-module _ (n : ℕ) (s : List ℕ) (i first : ℕ) (l m : List ℤ) (r : Numbers) (g : NumbersIs n s i first l m r) where
-  pub was-ended : {k q : ℕ} → r ≡ Ended k q → EndedAfter n s i first l m k q
+module _ (n : ℕ) (s : List ℕ) (i first : ℕ) (l m : List ℤ) {v : Numbers} (g : NumbersIs n s i first l m (Some v)) where
+  pub was-ended : {k q : ℕ} → v ≡ Ended k q → EndedAfter n s i first l m k q
   was-ended e = rw e at g
 
-  pub was-full : {e : ℕ} → r ≡ Full e → FullAfter n s i first l m e
+  pub was-full : {e : ℕ} → v ≡ Full e → FullAfter n s i first l m e
   was-full h = rw h at g
 
 module _ (s : List ℕ) (at i count : ℕ) (w : Counting s at i count) {n first : ℕ} {l m : List ℤ} where

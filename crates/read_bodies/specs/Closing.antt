@@ -1,6 +1,8 @@
 -- 01, "Bodies": what `end` holds a body against, from the numbers that the code has of it.
-use Rattle.std.specs.Prelude.{ℕ, ◌+◌, ◌*◌, ◌-◌, ◌≤◌, ◌<◌, ◌≡◌, List, [], ◌++◌, Bool, true, false, cond, ◌&&◌, not, length, get_or, eqb, ℤ, pos}
+use Rattle.std.specs.Prelude.{ℕ, ◌+◌, ◌*◌, ◌-◌, ◌≤◌, ◌<◌, ◌≡◌, List, [], ◌++◌, Bool, true, false, cond, ◌&&◌, not, length, get_or, eqb, ℤ, pos, Result, Ok, Err}
 use Rattle.std.proofs.lemmas.List.Edits.{sets}
+use Rattle.refusals.specs.declared.Reason.{Reason}
+use Rattle.refusals.specs.Reasons.{reason_number}
 use Rattle.tables.specs.Bodies.{curve_count, surface_count, basis_of}
 use Rattle.parameter_order.specs.declared.Order.{Order}
 use Rattle.parameter_order.specs.Stepping.{holds_in}
@@ -16,10 +18,8 @@ use Rattle.read_state.specs.declared.Form.{Form}
 use Rattle.read_state.specs.declared.Open.{Open}
 use Rattle.statements.specs.Numbered.{free_of}
 use Rattle.read_bodies.specs.Numbers.{numbers_at}
-use Rattle.read_bodies.specs.declared.closing.BodyCheck.{BodyCheck}
-use Rattle.read_bodies.specs.declared.closing.BodyCheck.TheVariants as judged
+use Rattle.read_bodies.specs.declared.closing.Checked.{Checked}
 use Rattle.read_bodies.specs.declared.closing.Closed.{Closed}
-use Rattle.read_bodies.specs.declared.closing.Closed.TheVariants as closed
 
 -- the numbers of the last parm of a direction; none where its place is 0
 unfoldable pub parm_of : List ℕ → ℕ → List ℤ
@@ -76,19 +76,19 @@ pub record Settled (kind : ℕ) (along-u along-v : Order) (a b c d start end : �
   pub end_is : end ≡ cond (eqb kind curve2_kind) along-u.high b
   pub held : held_of kind along-u along-v start end c d ≡ true
 
-abbrev pub SettledIs : ℕ → ℕ → ℕ → Order → Order → ℤ → ℤ → ℤ → ℤ → BodyCheck → Type 0
-SettledIs kind u v along-u along-v a b c d (judged.Refused n) =
-    (n ≡ 13) × (held_of kind along-u along-v (cond (eqb kind curve2_kind) along-u.low a) (cond (eqb kind curve2_kind) along-u.high b) c d ≡ false)
-SettledIs kind u v along-u along-v a b c d (judged.Valid m n start end) = (m ≡ u) × (n ≡ v) × Settled kind along-u along-v a b c d start end
+abbrev pub SettledIs : ℕ → ℕ → ℕ → Order → Order → ℤ → ℤ → ℤ → ℤ → Result Checked Reason → Type 0
+SettledIs kind u v along-u along-v a b c d (Err r) =
+    (reason_number r ≡ 13) × (held_of kind along-u along-v (cond (eqb kind curve2_kind) along-u.low a) (cond (eqb kind curve2_kind) along-u.high b) c d ≡ false)
+SettledIs kind u v along-u along-v a b c d (Ok w) = (w.u ≡ u) × (w.v ≡ v) × Settled kind along-u along-v a b c d w.start w.end
 
 -- the table p of parameters, and x after it: the parameters zs are stored where nothing is wrong
-abbrev pub StoredIs : List ℤ → List ℤ → ℕ → List ℤ → BodyCheck → Type 0
-StoredIs p x first zs (judged.Refused n) = length x ≡ length p
-StoredIs p x first zs (judged.Valid u v start end) = x ≡ sets p first zs
+abbrev pub StoredIs : List ℤ → List ℤ → ℕ → List ℤ → Result Checked Reason → Type 0
+StoredIs p x first zs (Err r) = length x ≡ length p
+StoredIs p x first zs (Ok w) = x ≡ sets p first zs
 
-abbrev pub BodyCheckIs : Body → ℕ → BodyCheck → Type 0
-BodyCheckIs b k (judged.Refused n) = (closing_refusal b k ≡ n) × (0 < n)
-BodyCheckIs b k (judged.Valid u v s e) = Passed b k u v s e
+abbrev pub BodyCheckIs : Body → ℕ → Result Checked Reason → Type 0
+BodyCheckIs b k (Err r) = (closing_refusal b k ≡ reason_number r) × (0 < reason_number r)
+BodyCheckIs b k (Ok w) = Passed b k w.u w.v w.start w.end
 
 -- ---- the tables of bodies l, of ranges r and of parameters p at the body's end; m, q, o after it
 abbrev pub stored_body : Form → Open → Used → ℕ → ℕ → ℤ → ℤ → ℤ → ℤ → Record.Body
@@ -136,6 +136,6 @@ pub record NotStored (o : Open) (used : Used) (b : Body) (l m : List ℕ) (r q p
   pub same-ranges : length q ≡ length r
   pub same-parameters : length x ≡ length p
 
-abbrev pub ClosedIs : Form → Open → Used → Body → List ℕ → List ℕ → List ℤ → List ℤ → List ℤ → List ℤ → Closed → Type 0
-ClosedIs f o used b l m r q p x (closed.Closed u v) = Stored f o used b l m r q p x u v
-ClosedIs f o used b l m r q p x (closed.Refused n) = NotStored o used b l m r q p x n
+abbrev pub ClosedIs : Form → Open → Used → Body → List ℕ → List ℕ → List ℤ → List ℤ → List ℤ → List ℤ → Result Closed Reason → Type 0
+ClosedIs f o used b l m r q p x (Ok w) = Stored f o used b l m r q p x w.u w.v
+ClosedIs f o used b l m r q p x (Err n) = NotStored o used b l m r q p x (reason_number n)

@@ -1,9 +1,10 @@
 -- 01: "trim, hole a positive multiple of three (two numbers, a curv2 number)": the parts of a loop's line, and what the code finds of them.
-use Rattle.std.specs.Prelude.{ℕ, ◌+◌, ◌*◌, ◌≤◌, ◌<◌, ◌≡◌, List, [], ◌∷◌, Bool, true, false, cond, ◌⊎◌, length, eqb, ℤ}
-use Rattle.std.proofs.Math.Option.{none, some}
+use Rattle.std.specs.Prelude.{ℕ, ◌+◌, ◌*◌, ◌≤◌, ◌<◌, ◌≡◌, List, [], ◌∷◌, Bool, true, false, cond, ◌⊎◌, length, eqb, ℤ, Option as Answer, Some, None}
+use Rattle.std.proofs.Math.Option.{none}
 use Rattle.std.proofs.lemmas.List.Edits.{sets}
 use Rattle.lists.specs.Lists.{flat}
 use Rattle.text.specs.Words.{Word}
+use Rattle.text.specs.declared.Parsed.{Parsed}
 use Rattle.text.specs.Rest.{Rest, rest_at, push, EndMet}
 use Rattle.digits.specs.Said.{Said, says, wrong}
 use Rattle.decimals.specs.Number.{number_of}
@@ -11,12 +12,8 @@ use Rattle.references.specs.Reference.{reference_of}
 use Rattle.model.specs.Model.{Part}
 use Rattle.model.specs.Layout.{beginning, loop_row, span_row}
 use Rattle.model.specs.Parse as parse
-use Rattle.read_bodies.specs.declared.loops.Curve.{Curve}
-use Rattle.read_bodies.specs.declared.loops.Curve.TheVariants as curve
 use Rattle.read_bodies.specs.declared.loops.PartMet.{PartMet}
 use Rattle.read_bodies.specs.declared.loops.PartMet.TheVariants as part
-use Rattle.read_bodies.specs.declared.loops.Loop.{Loop as Taking}
-use Rattle.read_bodies.specs.declared.loops.Loop.TheVariants.{Accepted, Rejected}
 
 abbrev pub loop_word : Bool → parse.Keyword
 loop_word false = parse.trim
@@ -51,9 +48,9 @@ abbrev pub NotCurve : ℕ → List Word → Type 0
 NotCurve curves [] = Unit
 NotCurve curves (w ∷ ws) = (k : ℕ) → reference_of curves w.bytes ≡ says k → ⊥
 
-abbrev pub CurveIs : ℕ → List ℕ → ℕ → Curve → Type 0
-CurveIs curves s at (curve.Of k e) = CurveMet curves s at k e
-CurveIs curves s at curve.Nothing = NotCurve curves (rest_at s at).words
+abbrev pub CurveIs : ℕ → List ℕ → ℕ → Answer (Parsed ℕ) → Type 0
+CurveIs curves s at (Some p) = CurveMet curves s at p.value p.next
+CurveIs curves s at None = NotCurve curves (rest_at s at).words
 
 pub record PartFound (curves : ℕ) (s : List ℕ) (at : ℕ) (p : Part) (e : ℕ) : Type 0 where
   pub ahead : at + 3 ≤ e
@@ -67,10 +64,10 @@ pub record NoPart (curves : ℕ) (s : List ℕ) (at : ℕ) : Type 0 where
   pub none_here : parts_at curves s at ≡ []
   pub word-left : (rest_at s at).bad ≡ none → 0 < length (rest_at s at).words
 
-abbrev pub PartIs : ℕ → List ℕ → ℕ → PartMet → Type 0
-PartIs curves s at (part.Part a b k e) = PartFound curves s at (record { from = a; to = b; curve = k }) e
-PartIs curves s at (part.End q) = EndMet s at q
-PartIs curves s at part.Stopped = NoPart curves s at
+abbrev pub PartIs : ℕ → List ℕ → ℕ → Answer PartMet → Type 0
+PartIs curves s at (Some (part.Part a b k e)) = PartFound curves s at (record { from = a; to = b; curve = k }) e
+PartIs curves s at (Some (part.End q)) = EndMet s at q
+PartIs curves s at None = NoPart curves s at
 
 -- ---- the whole line
 abbrev pub beginning_of : Bool → ℕ → ℕ
@@ -99,6 +96,6 @@ pub record LoopLeft (s : List ℕ) (at : ℕ) (curves used : ℕ) (l m : List �
   pub same-spans : length y ≡ length z
   pub short : (ps : List Part) → LoopLine curves (rest_at s at) ps → (length l < 2 * (used + length ps)) ⊎ (length z < 2 * (used + length ps))
 
-abbrev pub LoopIs : List ℕ → ℕ → Bool → ℕ → ℕ → List ℕ → List ℕ → List ℤ → List ℤ → Taking → Type 0
-LoopIs s at hole curves used l m z y (Accepted n q) = LoopTaken s at hole curves used l m z y n q
-LoopIs s at hole curves used l m z y Rejected = LoopLeft s at curves used l m z y
+abbrev pub LoopIs : List ℕ → ℕ → Bool → ℕ → ℕ → List ℕ → List ℕ → List ℤ → List ℤ → Answer (Parsed ℕ) → Type 0
+LoopIs s at hole curves used l m z y (Some p) = LoopTaken s at hole curves used l m z y p.value p.next
+LoopIs s at hole curves used l m z y None = LoopLeft s at curves used l m z y

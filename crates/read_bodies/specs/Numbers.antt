@@ -1,14 +1,13 @@
 -- The numbers of a line from a place between words on, and what the code finds of them.
-use Rattle.std.specs.Prelude.{ℕ, ◌≤◌, ◌<◌, ◌≡◌, List, [], ◌∷◌, length, ℤ}
+use Rattle.std.specs.Prelude.{ℕ, ◌≤◌, ◌<◌, ◌≡◌, List, [], ◌∷◌, length, ℤ, Option as Answer, Some, None, Result, Ok, Err}
 use Rattle.std.proofs.Math.Option.{none}
 use Rattle.text.specs.Words.{Word}
+use Rattle.text.specs.declared.Parsed.{Parsed}
 use Rattle.text.specs.Rest.{rest_at, push, EndMet}
 use Rattle.digits.specs.Said.{Said, says, wrong}
 use Rattle.decimals.specs.Number.{number_of}
-use Rattle.read_bodies.specs.declared.numbers.Step.{Step}
-use Rattle.read_bodies.specs.declared.numbers.Step.TheVariants as step
-use Rattle.read_bodies.specs.declared.numbers.Counted.{Counted}
-use Rattle.read_bodies.specs.declared.numbers.Counted.TheVariants as counted
+use Rattle.read_bodies.specs.declared.numbers.NextNumber.{NextNumber}
+use Rattle.read_bodies.specs.declared.numbers.NextNumber.TheVariants.{Number, End}
 
 -- the numbers at the front of a row of words: all up to the first word that is no number
 abbrev pub number_before : Said ℤ → List ℤ → List ℤ
@@ -35,10 +34,10 @@ pub record NoNumber (s : List ℕ) (at : ℕ) : Type 0 where
   pub none_here : numbers_at s at ≡ []
   pub word-left : (rest_at s at).bad ≡ none → 0 < length (rest_at s at).words
 
-abbrev pub NumberStepIs : List ℕ → ℕ → Step → Type 0
-NumberStepIs s at (step.Number z e) = NumberMet s at z e
-NumberStepIs s at (step.End q) = EndMet s at q
-NumberStepIs s at step.Stopped = NoNumber s at
+abbrev pub NumberStepIs : List ℕ → ℕ → Answer NextNumber → Type 0
+NumberStepIs s at (Some (Number p)) = NumberMet s at p.value p.next
+NumberStepIs s at (Some (End q)) = EndMet s at q
+NumberStepIs s at None = NoNumber s at
 
 -- ---- what `count_numbers` finds: all words are numbers and the line ends, or not
 pub record AllNumbers (s : List ℕ) (at n q : ℕ) : Type 0 where
@@ -54,6 +53,6 @@ pub record NotAll (s : List ℕ) (at n : ℕ) : Type 0 where
   pub fewer : (rest_at s at).bad ≡ none → n < length (rest_at s at).words
   pub small : n ≤ length s
 
-abbrev pub CountedIs : List ℕ → ℕ → Counted → Type 0
-CountedIs s at (counted.Ended n q) = AllNumbers s at n q
-CountedIs s at (counted.Stopped n) = NotAll s at n
+abbrev pub CountedIs : List ℕ → ℕ → Result (Parsed ℕ) ℕ → Type 0
+CountedIs s at (Ok p) = AllNumbers s at p.value p.next
+CountedIs s at (Err n) = NotAll s at n

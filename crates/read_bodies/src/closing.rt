@@ -8,28 +8,28 @@ ghost use Rattle.model.specs.Layout.{first_part};
 ghost use Rattle.read_bodies.specs.Numbers.{numbers_at};
 ghost use Rattle.read_bodies.specs.Closing.{parm_of, complete_of, agree_of, body_for, open_body_in, SettledIs, BodyCheckIs, StoredIs, stored_body, ClosedIs};
 
-use crate::numbers::{Counted, Step, count_numbers, next_number};
+use crate::numbers::{NextNumber, count_numbers, next_number};
 use basis::{curve_count, surface_count};
 use parameter_order::{Order, Requirement, holds, no_order, requirement_of, step};
 use read_state::{Form, Open};
-use table_store::{put_i32, put_u32};
+use refusals::Reason;
+use table_store::put;
 use tables::{Body, Used, kinds, widths};
 
+// How many parameters a body has that nothing is held against, and its range along u.
 #[derive(Clone, Copy)]
-pub enum BodyCheck {
-    Refused(u32),
-    Valid {
-        u: u32,
-        v: u32,
-        start: i32,
-        end: i32,
-    },
+pub struct Checked {
+    pub u: u32,
+    pub v: u32,
+    pub start: i32,
+    pub end: i32,
 }
 
+// How many parameters along u and along v were stored.
 #[derive(Clone, Copy)]
-pub enum Closed {
-    Closed { u: u32, v: u32 },
-    Refused(u32),
+pub struct Closed {
+    pub u: u32,
+    pub v: u32,
 }
 
 // How many parameters the last parm of a direction gave: none where its place is 0.
@@ -41,8 +41,8 @@ fn parm_count(text: &[u8], at: usize) -> u32
         return 0;
     }
     match count_numbers(text, at) {
-        Counted::Ended { count, next: _ } => count as u32,
-        Counted::Stopped(count) => count as u32,
+        Ok(numbers) => numbers.value as u32,
+        Err(count) => count as u32,
     }
 }
 
@@ -50,13 +50,7 @@ fn parm_count(text: &[u8], at: usize) -> u32
 fn complete(kind: u32, u: u32, v: u32) -> bool
     ensures { result ≡ complete_of kind u v }
 {
-    if u == 0 {
-        return false;
-    }
-    if kind == kinds::SURFACE {
-        return v != 0;
-    }
-    true
+    u != 0 && (kind != kinds::SURFACE || v != 0)
 }
 
 // 12.
@@ -65,9 +59,10 @@ fn counts_agree(kind: u32, form: Form, u: u32, v: u32, controls: u32) -> bool
     ensures { result ≡ agree_of kind form u v controls }
 {
     if kind == kinds::SURFACE {
-        return surface_count(form.basis, form.degree_u, u, form.degree_v, v, controls);
+        surface_count(form.basis, form.degree_u, u, form.degree_v, v, controls)
+    } else {
+        curve_count(form.basis, form.degree_u, u, controls)
     }
-    curve_count(form.basis, form.degree_u, u, controls)
 }
 
 // The first `count` numbers of a line, judged one after the other, and stored from `first` on as far as there is room.
@@ -84,21 +79,15 @@ fn store(
     ensures parameters_after { parameters.new ≡ sets parameters.old first (take count (numbers_at text.now at)) }
 {
     let mut i = at;
-    let mut done: u32 = 0;
     let mut order = no_order();
-    while done < count {
+    for done in 0..count {
         match next_number(text, i) {
-            Step::Stopped => {
-                return order;
-            }
-            Step::End(_) => {
-                return order;
-            }
-            Step::Number { value, end } => {
-                order = step(asked, done as usize, order, value);
-                put_i32(parameters, first + done as usize, &[value]);
-                done += 1;
-                i = end;
+            None => return order,
+            Some(NextNumber::End(_)) => return order,
+            Some(NextNumber::Number(number)) => {
+                order = step(asked, done as usize, order, number.value);
+                put(parameters, first + done as usize, &[number.value]);
+                i = number.next;
             }
         }
     }
@@ -110,9 +99,10 @@ fn end_of(kind: u32, widest: i32, stated: i32) -> i32
     ensures { result ≡ cond (eqb kind curve2_kind) widest stated }
 {
     if kind == kinds::CURVE2 {
-        return widest;
+        widest
+    } else {
+        stated
     }
-    stated
 }
 
 // 13, from what the parameters of each direction came to.
@@ -126,25 +116,20 @@ fn settle(
     end_u: i32,
     start_v: i32,
     end_v: i32,
-) -> BodyCheck
+) -> Result<Checked, Reason>
     ensures { SettledIs kind u v along_u along_v start_u end_u start_v end_v result }
 {
     let start = end_of(kind, along_u.low, start_u);
     let end = end_of(kind, along_u.high, end_u);
     if !holds(along_u, start, end) {
-        return BodyCheck::Refused(13);
+        return Err(Reason::ParameterOrder);
     }
     if kind == kinds::SURFACE {
         if !holds(along_v, start_v, end_v) {
-            return BodyCheck::Refused(13);
+            return Err(Reason::ParameterOrder);
         }
     }
-    BodyCheck::Valid {
-        u: u,
-        v: v,
-        start: start,
-        end: end,
-    }
+    Ok(Checked { u, v, start, end })
 }
 
 // 11, 12 and 13, in this order; the parameters are stored, u then v, where 13 is asked.
@@ -159,7 +144,7 @@ fn judge(
     end_v: i32,
     parameters: &mut [i32],
     first: u32,
-) -> BodyCheck
+) -> Result<Checked, Reason>
     requires u_at_in_bounds { (body.u_at ≤ length u_text.now) × (length u_text.now ≤ 16777216) }
     requires v_at_in_bounds { (body.v_at ≤ length v_text.now) × (length v_text.now ≤ 16777216) }
     ensures body_check_is { BodyCheckIs (body_for form body.kind (parm_of u_text.now body.u_at) (parm_of v_text.now body.v_at) start_u end_u start_v end_v) body.controls result }
@@ -170,10 +155,10 @@ fn judge(
     let u = parm_count(u_text, u_at);
     let v = parm_count(v_text, v_at);
     if !complete(body.kind, u, v) {
-        return BodyCheck::Refused(11);
+        return Err(Reason::Incomplete);
     }
     if !counts_agree(body.kind, form, u, v, body.controls) {
-        return BodyCheck::Refused(12);
+        return Err(Reason::ControlCount);
     }
     let at = first as usize;
     let asked_u = requirement_of(form.basis, form.degree_u, u as usize);
@@ -190,10 +175,7 @@ fn first_part(used: u32, parts: u32) -> u32
     requires { parts ≤ used }
     ensures { result ≡ first_part (used - parts) parts }
 {
-    if parts == 0 {
-        return 0;
-    }
-    used - parts
+    if parts == 0 { 0 } else { used - parts }
 }
 
 // The record of a body at its end: a curv2's range was not known before.
@@ -221,10 +203,10 @@ fn stored_body(
         count_v: v,
         first_loop: first_part(used.loops, body.parts),
         loops: body.parts,
-        start_u: start_u,
-        end_u: end_u,
-        start_v: start_v,
-        end_v: end_v,
+        start_u,
+        end_u,
+        start_v,
+        end_v,
     }
 }
 
@@ -234,7 +216,7 @@ fn store_record(used: u32, body: Body, bodies: &mut [u32])
     ensures { bodies.new ≡ sets bodies.old (9 * (used - 1)) (body_numbers body) }
 {
     let row = tables::body_row(body);
-    put_u32(bodies, widths::BODY * (used as usize - 1), &row);
+    put(bodies, widths::BODY * (used as usize - 1), &row);
 }
 
 // Its range.
@@ -243,7 +225,7 @@ fn store_range(used: u32, body: Body, ranges: &mut [i32])
     ensures { ranges.new ≡ sets ranges.old (4 * (used - 1)) (range_numbers body) }
 {
     let row = tables::range_row(body);
-    put_i32(ranges, widths::RANGE * (used as usize - 1), &row);
+    put(ranges, widths::RANGE * (used as usize - 1), &row);
 }
 
 // The `end` of an open body: the form is the one in force at its element's line, the degrees those that the body has. The texts hold the last parm line of
@@ -257,14 +239,14 @@ pub fn close_body(
     bodies: &mut [u32],
     ranges: &mut [i32],
     parameters: &mut [i32],
-) -> Closed
+) -> Result<Closed, Reason>
     requires u_at_in_bounds { (body.u_at ≤ length u_text.now) × (length u_text.now ≤ 16777216) }
     requires v_at_in_bounds { (body.v_at ≤ length v_text.now) × (length v_text.now ≤ 16777216) }
     requires le_bodies { (1 ≤ used.bodies) × (9 * used.bodies ≤ length bodies.old) × (4 * used.bodies ≤ length ranges.old) × (body.parts ≤ used.loops) }
     ensures { ClosedIs form body used (open_body_in form body used u_text.now v_text.now ranges.old) bodies.old bodies.new ranges.old ranges.new parameters.old parameters.new result }
 {
     let opened = tables::lent_body(bodies, ranges, used.bodies - 1);
-    match judge(
+    let checked = judge(
         u_text,
         v_text,
         form,
@@ -275,26 +257,24 @@ pub fn close_body(
         opened.end_v,
         parameters,
         used.parameters,
-    ) {
-        BodyCheck::Refused(n) => Closed::Refused(n),
-        BodyCheck::Valid { u, v, start, end } => {
-            if parameters.len() < used.parameters as usize + u as usize + v as usize {
-                return Closed::Refused(14);
-            }
-            let closed = stored_body(
-                form,
-                body,
-                used,
-                u,
-                v,
-                start,
-                end,
-                opened.start_v,
-                opened.end_v,
-            );
-            store_record(used.bodies, closed, bodies);
-            store_range(used.bodies, closed, ranges);
-            Closed::Closed { u: u, v: v }
-        }
+    )?;
+    let u = checked.u;
+    let v = checked.v;
+    if parameters.len() < used.parameters as usize + u as usize + v as usize {
+        return Err(Reason::NoTableRoom);
     }
+    let closed = stored_body(
+        form,
+        body,
+        used,
+        u,
+        v,
+        checked.start,
+        checked.end,
+        opened.start_v,
+        opened.end_v,
+    );
+    store_record(used.bodies, closed, bodies);
+    store_range(used.bodies, closed, ranges);
+    Ok(Closed { u, v })
 }

@@ -4,21 +4,16 @@ ghost use Rattle.statements.specs.declared.Carried.TheVariants.{Trim};
 ghost use Rattle.statements.specs.Rules.{rules_of, counted_by};
 ghost use Rattle.read_bodies.specs.Loops.{CurveIs, PartIs, LoopIs, beginning_of};
 
-use crate::numbers::{Step, next_number};
-use references::reference::{Reference, reference_at};
+use crate::numbers::{NextNumber, next_number};
+use references::reference::reference_at;
 use statements::rows::loop_rules;
 use statements::rules::counted;
-use table_store::{put_i32, put_u32};
+use table_store::put;
 use tables::parts::LoopPart;
 use tables::{parts, widths};
-use text::{AfterBlanks, skip_blanks};
+use text::{AfterBlanks, Parsed, skip_blanks};
 
-#[derive(Clone, Copy)]
-pub enum Curve {
-    Of { number: u32, end: usize },
-    Nothing,
-}
-
+// What a loop's line goes on with: a part, or its end with the place of the next line.
 #[derive(Clone, Copy)]
 pub enum PartMet {
     Part {
@@ -28,72 +23,51 @@ pub enum PartMet {
         end: usize,
     },
     End(usize),
-    Stopped,
-}
-
-#[derive(Clone, Copy)]
-pub enum Loop {
-    Accepted { parts: u32, next: usize },
-    Rejected,
 }
 
 // The next word of the line, one of `curves` curv2s.
-fn next_curve(text: &[u8], at: usize, curves: u32) -> Curve
+fn next_curve(text: &[u8], at: usize, curves: u32) -> Option<Parsed<u32>>
     requires { at ≤ length text.now }
     ensures { CurveIs curves text.now at result }
 {
     match skip_blanks(text, at) {
-        AfterBlanks::Bad(_) => Curve::Nothing,
-        AfterBlanks::End(_) => Curve::Nothing,
-        AfterBlanks::Start(p) => match reference_at(text, p, curves) {
-            Reference::Malformed => Curve::Nothing,
-            Reference::Missing => Curve::Nothing,
-            Reference::Item { number, end } => Curve::Of {
-                number: number,
-                end: end,
-            },
-        },
+        AfterBlanks::Start(p) => reference_at(text, p, curves).ok(),
+        AfterBlanks::End(_) => None,
+        AfterBlanks::Bad(_) => None,
     }
 }
 
-// What a loop's line goes on with at `at`, which is between words: a part, its end, or neither.
-fn next_part(text: &[u8], at: usize, curves: u32) -> PartMet
+// What a loop's line goes on with at `at`, which is between words. None for what is neither a part nor its end.
+fn next_part(text: &[u8], at: usize, curves: u32) -> Option<PartMet>
     requires { at ≤ length text.now }
     ensures { PartIs curves text.now at result }
 {
-    match next_number(text, at) {
-        Step::Stopped => PartMet::Stopped,
-        Step::End(q) => PartMet::End(q),
-        Step::Number { value, end } => match next_number(text, end) {
-            Step::Stopped => PartMet::Stopped,
-            Step::End(_) => PartMet::Stopped,
-            Step::Number {
-                value: to,
-                end: behind,
-            } => match next_curve(text, behind, curves) {
-                Curve::Nothing => PartMet::Stopped,
-                Curve::Of { number, end: last } => PartMet::Part {
-                    from: value,
-                    to: to,
-                    curve: number,
-                    end: last,
-                },
-            },
+    match next_number(text, at)? {
+        NextNumber::End(q) => Some(PartMet::End(q)),
+        NextNumber::Number(from) => match next_number(text, from.next)? {
+            NextNumber::End(_) => None,
+            NextNumber::Number(to) => {
+                let curve = next_curve(text, to.next, curves)?;
+                Some(PartMet::Part {
+                    from: from.value,
+                    to: to.value,
+                    curve: curve.value,
+                    end: curve.next,
+                })
+            }
         },
     }
 }
 
-// What begins with the part: a trim, a hole, or nothing at the second part and later.
+// What begins with the part, as the number that its record holds: a trim, a hole, or nothing at the second part and later.
 fn begins_with(hole: bool, part: u32) -> u32
     ensures { result ≡ beginning_of hole part }
 {
-    if part != 0 {
-        return 0;
+    match (part, hole) {
+        (0, true) => parts::HOLE,
+        (0, false) => parts::TRIM,
+        _ => 0,
     }
-    if hole {
-        return parts::HOLE;
-    }
-    parts::TRIM
 }
 
 // Whether a trim or a hole may have as many parts, each of three words.
@@ -101,11 +75,10 @@ fn loop_counted(parts: u32) -> bool
     ensures { result ≡ counted_by (rules_of Trim).count (3 * parts) }
 {
     let rules = loop_rules();
-    let allowed = rules.count;
-    counted(allowed, 3 * parts as usize)
+    counted(rules.count, 3 * parts as usize)
 }
 
-// A trim or hole line of an open surface, `at` just after the keyword; its parts are stored after the `used` ones.
+// A trim or hole line of an open surface, `at` just after the keyword; its parts are stored after the `used` ones: how many.
 pub fn take_loop(
     text: &[u8],
     at: usize,
@@ -114,26 +87,21 @@ pub fn take_loop(
     used: u32,
     loops: &mut [u32],
     spans: &mut [i32],
-) -> Loop
+) -> Option<Parsed<u32>>
     requires { (at ≤ length text.now) × (length text.now ≤ 16777216) }
     ensures { LoopIs text.now at hole curves used loops.old loops.new spans.old spans.new result }
 {
     let mut i = at;
     let mut place: usize = widths::LOOP * (used as usize);
     let mut count: u32 = 0;
+    // No range counts the places: each word ends where it is read to.
     loop {
-        match next_part(text, i, curves) {
-            PartMet::Stopped => {
-                return Loop::Rejected;
-            }
-            PartMet::End(q) => {
+        match next_part(text, i, curves)? {
+            PartMet::End(next) => {
                 if !loop_counted(count) {
-                    return Loop::Rejected;
+                    return None;
                 }
-                return Loop::Accepted {
-                    parts: count,
-                    next: q,
-                };
+                return Some(Parsed { value: count, next });
             }
             PartMet::Part {
                 from,
@@ -143,17 +111,17 @@ pub fn take_loop(
             } => {
                 let part = LoopPart {
                     begins: begins_with(hole, count),
-                    curve: curve,
-                    from: from,
-                    to: to,
+                    curve,
+                    from,
+                    to,
                 };
                 let row = parts::loop_row(part);
-                if !put_u32(loops, place, &row) {
-                    return Loop::Rejected;
+                if !put(loops, place, &row) {
+                    return None;
                 }
                 let span = parts::span_row(part);
-                if !put_i32(spans, place, &span) {
-                    return Loop::Rejected;
+                if !put(spans, place, &span) {
+                    return None;
                 }
                 place += widths::LOOP;
                 count += 1;

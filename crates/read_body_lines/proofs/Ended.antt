@@ -5,7 +5,7 @@ use mathlib.Core.List.{List, ◌∷◌}
 use mathlib.Core.Bool.{Bool, true, false, cond}
 use mathlib.Core.Option.{Option, none, some}
 use native.Mathlib.Omega.{arith}
-use borrow.Author.Tests.{le-leb, leb-true, eq-eqb, ne_eqb}
+use borrow.Author.Tests.{le-leb, leb-true}
 use lib.ListN.{length}
 use lib.Dec.{eqb, leb, eqb-suc-zero}
 use lib.IntN.{ℤ}
@@ -30,25 +30,18 @@ use Rattle.read_state.specs.Changed.{state, body_stored}
 use Rattle.tables.proofs.Within.{last}
 use Rattle.read_bodies.specs.Closing.{open_body_in, Stored, NotStored, ClosedIs}
 use Rattle.read_bodies.specs.declared.closing.Closed.{Closed}
-use Rattle.read_bodies.specs.declared.closing.Closed.TheVariants as closed
+use Rattle.std.specs.Prelude.{Result, Ok, Err}
 use Rattle.read_diagnosis.specs.Diagnosis.{parse_before}
 use Rattle.read_vertex_lines.specs.Bounds.{InBounds, Keeps}
-use Rattle.read_vertex_lines.specs.Stepping.{Began, Left, EndStep}
+use Rattle.refusals.specs.declared.Reason.{Reason}
+use Rattle.refusals.specs.Reasons.{reason_number}
+use Rattle.read_vertex_lines.specs.Stepping.{accepted, rejected, refuses, Began, Left, EndStep}
 use Rattle.read_vertex_lines.specs.Holding.{Holds, NextLine, line_says}
-use Rattle.read_vertex_lines.specs.declared.Step.TheVariants.{Accepted, Refuses, Rejected}
 use Rattle.read_vertex_lines.proofs.Given.{given-in}
 use Rattle.read_vertex_lines.proofs.Opened.{left-refused, left-barred}
 use Rattle.read_vertex_lines.proofs.Bounds.{extent, later, none-waiting}
-use Rattle.read_body_lines.specs.OpenBody.{curves_with, closed_with, type_for, degree_for, form_for, body_lent}
+use Rattle.read_body_lines.specs.OpenBody.{curves_with, closed_with, form_for, body_lent}
 use Rattle.read_body_lines.proofs.Ends.{used-bodies, bodies-room, ranges-room, bodies-lent, ranges-lent, end-next, end_refused}
-
--- ---- the form of a body, from its parts
-module _ (k : ℕ) (f : Form) {b u : ℕ} (eb : b ≡ type_for f.basis) (eu : u ≡ degree_for f.basis f.degree_u) where
-  pub form-surface : {v : ℕ} → v ≡ degree_for f.basis f.degree_v → k ≡ 6 → ◌≡◌ {A = Form} (record { basis = b; rational = f.rational; degree_u = u; degree_v = v }) (form_for k f)
-  form-surface ev e = rw (eb, eu, ev, eq-eqb k 6 e) refl
-
-  pub form-curve : (k ≡ 6 → ⊥) → ◌≡◌ {A = Form} (record { basis = b; rational = f.rational; degree_u = u; degree_v = 0 }) (form_for k f)
-  form-curve e = rw (eb, eu, ne_eqb k 6 e) refl
 
 -- ---- no words
 wordless : (a b : Bool) (key : ℕ) (r : Parsed Statement) (y : Statement) → b ≡ false → must a 10 key (must b 5 key r) ≡ fine y → ⊥
@@ -89,10 +82,10 @@ module _ (s : List ℕ) (at : ℕ) (c : State) (b d : List ℕ) (y z v q : List 
   abbrev InBody : Bool
   InBody = allowed_by (rules_of ends).standing (free_numbered c.«open».kind) false
 
-  pub end-outside : InBody ≡ false → EndStep s at c b d y z v q Rejected
+  pub end-outside : InBody ≡ false → EndStep s at c b d y z v q rejected
   end-outside k t eb ey ev R p read x w g = left-barred R s p at read x c t (body_stored d z q t) w ends g (given-in R s x c t read g.holds) k
 
-  pub end-unlent : body_lent c.used.bodies (length b) (length y) ≡ false → EndStep s at c b d y z v q Rejected
+  pub end-unlent : body_lent c.used.bodies (length b) (length y) ≡ false → EndStep s at c b d y z v q rejected
   end-unlent e t eb ey ev R p read x w g = go x.model x.names x.form x.open-body g
     where
       go : (a : Model) (n : model.Names) (f : model.Form) (o : Option model.Open) → Began R s p at read (state a n f o) c t w ends → Left R s p at (state a n f o) (body_stored d z q t) w ends
@@ -101,10 +94,10 @@ module _ (s : List ℕ) (at : ℕ) (c : State) (b d : List ℕ) (y z v q : List 
           never (sym (ap₂ (λ (i : List ℕ) (j : List ℤ). body_lent c.used.bodies (length i) (length j)) eb ey ∙ e) ∙ lent-there R s p at a n f o c t g.holds)
 
   -- the row lets in a line without words
-  pub end-uncounted : {r : Rules} {a : Bool} → r ≡ rules_of ends → a ≡ counted_by r.count 0 → a ≡ false → EndStep s at c b d y z v q Rejected
+  pub end-uncounted : {r : Rules} {a : Bool} → r ≡ rules_of ends → a ≡ counted_by r.count 0 → a ≡ false → EndStep s at c b d y z v q rejected
   end-uncounted e f g = never (sym g ∙ f ∙ ap (λ (r : Rules). counted_by r.count 0) e)
 
-  pub end_more : (r : AfterBlanks) (i : ℕ) → AfterBlanksIs s at r → r ≡ Start i → EndStep s at c b d y z v q Rejected
+  pub end_more : (r : AfterBlanks) (i : ℕ) → AfterBlanksIs s at r → r ≡ Start i → EndStep s at c b d y z v q rejected
   end_more r i m e t eb ey ev R p read x w g =
       let met : WordMet s at i = subst (AfterBlanksIs s at) e m in
       record {
@@ -112,7 +105,7 @@ module _ (s : List ℕ) (at : ℕ) (c : State) (b d : List ℕ) (y z v q : List 
         roomless = λ good u h. absurd (no_word x w.place (word_at s i) _ u (sym (ap (λ (r : Rest). parse_before ends x w.place r.words) met.rest) ∙ h));
       }
 
-  pub end-bad : (r : AfterBlanks) (i : ℕ) → AfterBlanksIs s at r → r ≡ Bad i → EndStep s at c b d y z v q Rejected
+  pub end-bad : (r : AfterBlanks) (i : ℕ) → AfterBlanksIs s at r → r ≡ Bad i → EndStep s at c b d y z v q rejected
   end-bad r i m e t eb ey ev R p read x w g =
       let met : BadMet s at i = subst (AfterBlanksIs s at) e m in
       record {
@@ -121,26 +114,26 @@ module _ (s : List ℕ) (at : ℕ) (c : State) (b d : List ℕ) (y z v q : List 
       }
 
   module _ (met : AfterBlanks) (next : ℕ) (found : AfterBlanksIs s at met) (here : met ≡ End next) (inside : c.«open».kind ≡ 0 → ⊥)
-      (f : Form) (own : f ≡ form_for c.«open».kind c.form) (r : Closed) (is : ClosedIs f c.«open» c.used (open_body_in f c.«open» c.used s s y) b d y z v q r) where
+      (f : Form) (own : f ≡ form_for c.«open».kind c.form) (r : Result Closed Reason) (is : ClosedIs f c.«open» c.used (open_body_in f c.«open» c.used s s y) b d y z v q r) where
     over : EndMet s at next
     over = subst (AfterBlanksIs s at) here found
 
-    pub end-left : (i : ℕ) → r ≡ closed.Refused i → EndStep s at c b d y z v q (Refuses i)
+    pub end-left : (i : Reason) → r ≡ Err i → EndStep s at c b d y z v q (refuses i)
     end-left i e t eb ey ev R p read x w g = go x.model x.names x.form x.open-body g
       where
-        left : NotStored c.«open» c.used (open_body_in (form_for c.«open».kind c.form) c.«open» c.used s s t.bodies.ranges) t.bodies.bodies d t.bodies.ranges z t.bodies.parameters q i
+        left : NotStored c.«open» c.used (open_body_in (form_for c.«open».kind c.form) c.«open» c.used s s t.bodies.ranges) t.bodies.bodies d t.bodies.ranges z t.bodies.parameters q (reason_number i)
         left =
-            subst (λ (a : Form). NotStored c.«open» c.used (open_body_in a c.«open» c.used s s t.bodies.ranges) t.bodies.bodies d t.bodies.ranges z t.bodies.parameters q i) own
-            (subst (λ (l : List ℕ). NotStored c.«open» c.used (open_body_in f c.«open» c.used s s t.bodies.ranges) l d t.bodies.ranges z t.bodies.parameters q i) (sym eb)
-            (subst (λ (l : List ℤ). NotStored c.«open» c.used (open_body_in f c.«open» c.used s s l) b d l z t.bodies.parameters q i) (sym ey)
-            (subst (λ (l : List ℤ). NotStored c.«open» c.used (open_body_in f c.«open» c.used s s y) b d y z l q i) (sym ev)
+            subst (λ (a : Form). NotStored c.«open» c.used (open_body_in a c.«open» c.used s s t.bodies.ranges) t.bodies.bodies d t.bodies.ranges z t.bodies.parameters q (reason_number i)) own
+            (subst (λ (l : List ℕ). NotStored c.«open» c.used (open_body_in f c.«open» c.used s s t.bodies.ranges) l d t.bodies.ranges z t.bodies.parameters q (reason_number i)) (sym eb)
+            (subst (λ (l : List ℤ). NotStored c.«open» c.used (open_body_in f c.«open» c.used s s l) b d l z t.bodies.parameters q (reason_number i)) (sym ey)
+            (subst (λ (l : List ℤ). NotStored c.«open» c.used (open_body_in f c.«open» c.used s s y) b d y z l q (reason_number i)) (sym ev)
             (subst (ClosedIs f c.«open» c.used (open_body_in f c.«open» c.used s s y) b d y z v q) e is))))
 
-        go : (a : Model) (n : model.Names) (f : model.Form) (o : Option model.Open) → Began R s p at read (state a n f o) c t w ends → line_says R s p (state a n f o) ≡ fault i w.place
+        go : (a : Model) (n : model.Names) (f : model.Form) (o : Option model.Open) → Began R s p at read (state a n f o) c t w ends → line_says R s p (state a n f o) ≡ fault (reason_number i) w.place
         go a n f none g = absurd (inside (ap (λ (o : Open). o.kind) g.holds.state.open-body))
-        go a n f (some o) g = end_refused R s p at a n f o c t g.holds w g.begins g.keyword next over d z q i left
+        go a n f (some o) g = end_refused R s p at a n f o c t g.holds w g.begins g.keyword next over d z q (reason_number i) left
 
-    module _ (i j : ℕ) (k : r ≡ closed.Closed i j) where
+    module _ (i j : ℕ) (k : r ≡ Ok (record { u = i; v = j })) where
       kept : Stored f c.«open» c.used (open_body_in f c.«open» c.used s s y) b d y z v q i j
       kept = subst (ClosedIs f c.«open» c.used (open_body_in f c.«open» c.used s s y) b d y z v q) k is
 
@@ -179,7 +172,7 @@ module _ (s : List ℕ) (at : ℕ) (c : State) (b d : List ℕ) (y z v q : List 
             body = λ some. absurd (some refl);
           }
 
-      pub end-took : at ≤ length s → (e : State) → e ≡ closed_with i j c → EndStep s at c b d y z v q (Accepted e next)
+      pub end-took : at ≤ length s → (e : State) → e ≡ closed_with i j c → EndStep s at c b d y z v q (accepted e next)
       end-took to e a t eb ey ev = (
         λ p below g. subst (InBounds s next) (sym a) (end-keeps to p below g),
         λ R p read x w g.

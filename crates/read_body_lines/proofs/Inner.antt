@@ -26,17 +26,15 @@ use Rattle.read_state.specs.Changed.{state, loops_stored}
 use Rattle.read_bodies.specs.Numbers.{numbers_at}
 use Rattle.read_bodies.specs.Closing.{parm_of}
 use Rattle.read_bodies.specs.Parm.{ParmTaken, ParmIs}
+use Rattle.std.specs.Prelude.{Option as Answer, Some, None}
+use Rattle.text.specs.declared.Parsed.{Parsed}
 use Rattle.read_bodies.specs.declared.parm.Parm.{Parm}
-use Rattle.read_bodies.specs.declared.parm.Parm.TheVariants as parms
 use Rattle.read_bodies.specs.Loops.{loop_word, LoopTaken, LoopLeft, LoopIs}
-use Rattle.read_bodies.specs.declared.loops.Loop.{Loop}
-use Rattle.read_bodies.specs.declared.loops.Loop.TheVariants as loops
 use Rattle.read_bodies.proofs.Says.{parm-left}
 use Rattle.read_diagnosis.proofs.Parses.{open-kind}
 use Rattle.read_vertex_lines.specs.Bounds.{InBounds, Keeps}
 use Rattle.read_vertex_lines.specs.Holding.{NextLine}
-use Rattle.read_vertex_lines.specs.Stepping.{Began, Left, QuietStep, LoopStep}
-use Rattle.read_vertex_lines.specs.declared.Step.TheVariants.{Accepted, Rejected}
+use Rattle.read_vertex_lines.specs.Stepping.{accepted, rejected, Began, Left, QuietStep, LoopStep}
 use Rattle.read_vertex_lines.proofs.Given.{given-in}
 use Rattle.read_vertex_lines.proofs.Opened.{is_end, inside-some, before-parse, left-refused, left-barred}
 use Rattle.read_vertex_lines.proofs.Bounds.{extent, later}
@@ -69,13 +67,13 @@ module _ (s : List ℕ) (at : ℕ) (c : State) where
   abbrev Row : Bool → Bool
   Row v = allowed_by (rules_of parm).standing (free_numbered c.«open».kind) v
 
-  pub parm-outside : Row false ≡ false → QuietStep parm s at c Rejected
+  pub parm-outside : Row false ≡ false → QuietStep parm s at c rejected
   parm-outside z t R p read x w b = left-barred R s p at read x c t t w parm b (given-in R s x c t read b.holds) z
 
-  pub parm-gave : (r : Parm) (f : Bool) → Row true ≡ f → ParmIs f s at r → r ≡ parms.Rejected → QuietStep parm s at c Rejected
+  pub parm-gave : (r : Answer (Parsed Parm)) (f : Bool) → Row true ≡ f → ParmIs f s at r → r ≡ None → QuietStep parm s at c rejected
   parm-gave r f i v g t R p read x w b = go x.model x.names x.form x.open-body b
     where
-      no : ParmIs f s at parms.Rejected
+      no : ParmIs f s at None
       no = subst (ParmIs f s at) g v
 
       go : (m : Model) (n : model.Names) (y : model.Form) (o : Option model.Open) → Began R s p at read (state m n y o) c t w parm → Left R s p at (state m n y o) t w parm
@@ -85,7 +83,7 @@ module _ (s : List ℕ) (at : ℕ) (c : State) where
           record {
             given = given-in R s (state m n y (some o)) c t read b.holds;
             roomless = λ good u h.
-                absurd (parm-left (state m n y (some o)) o refl w.place (rest_at s at) u (subst (λ (f : Bool). ParmIs f s at parms.Rejected) e no) good
+                absurd (parm-left (state m n y (some o)) o refl w.place (rest_at s at) u (subst (λ (f : Bool). ParmIs f s at None) e no) good
                 (sym (before-parse (state m n y (some o)) w.place (rest_at s at).words parm refl) ∙ h));
           }
 
@@ -148,8 +146,8 @@ module _ (s : List ℕ) (at : ℕ) (c : State) where
               body = a.body;
             }
 
-  pub parm-took : at ≤ length s → (r : Parm) (f : Bool) (v : Bool) (i q : ℕ) (d : State) → Row true ≡ f → Row false ≡ true
-      → ParmIs f s at r → r ≡ parms.Accepted v i q → d ≡ keeping v i c → QuietStep parm s at c (Accepted d q)
+  pub parm-took : at ≤ length s → (r : Answer (Parsed Parm)) (f : Bool) (v : Bool) (i q : ℕ) (d : State) → Row true ≡ f → Row false ≡ true
+      → ParmIs f s at r → r ≡ Some (record { value = record { along_v = v; numbers_at = i }; next = q }) → d ≡ keeping v i c → QuietStep parm s at c (accepted d q)
   parm-took to r f v i q d j z k g e t = (
     λ p below b. subst (InBounds s q) (sym e) (parm-keeps f v i q taken to p below b),
     λ R p read x w b. subst (λ (d : State). NextLine R s p read x d t q × (q ≡ (rest_at s p).next)) (sym e) (go R p read w x.model x.names x.form x.open-body b),
@@ -170,7 +168,7 @@ module _ (hole : Bool) (s : List ℕ) (at : ℕ) (c : State) (l m : List ℕ) (y
   abbrev InSurface : Bool
   InSurface = allowed_by standing.Surface (free_numbered c.«open».kind) false
 
-  pub loop-shut : InSurface ≡ false → LoopStep hole s at c l m y z Rejected
+  pub loop-shut : InSurface ≡ false → LoopStep hole s at c l m y z rejected
   loop-shut n t el ey R p read x w b =
       left-barred R s p at read x c t (loops_stored m z t) w (loop_word hole) b (given-in R s x c t read b.holds)
       (ap (λ (a : Standing). allowed_by a (free_numbered c.«open».kind) false) (loop-standing hole) ∙ n)
@@ -178,7 +176,7 @@ module _ (hole : Bool) (s : List ℕ) (at : ℕ) (c : State) (l m : List ℕ) (y
   surface-there : (o : model.Open) → OpenBodyIs s o c.«open» → InSurface ≡ true → is_surface o.body.free ≡ true
   surface-there o is k = sym (row_of s o c.«open» is standing.Surface false) ∙ k
 
-  pub loop-gave : (r : Loop) → InSurface ≡ true → LoopIs s at hole c.curves c.used.loops l m y z r → r ≡ loops.Rejected → LoopStep hole s at c l m y z Rejected
+  pub loop-gave : (r : Answer (Parsed ℕ)) → InSurface ≡ true → LoopIs s at hole c.curves c.used.loops l m y z r → r ≡ None → LoopStep hole s at c l m y z rejected
   loop-gave r k v g t el ey R p read x w b = go x.model x.names x.form x.open-body b
     where
       left : LoopLeft s at c.curves c.used.loops t.bodies.loops m t.bodies.spans z
@@ -196,7 +194,7 @@ module _ (hole : Bool) (s : List ℕ) (at : ℕ) (c : State) (l m : List ℕ) (y
                 (sym (before-parse (state a n f (some o)) w.place (rest_at s at).words (loop_word hole) (not_end hole)) ∙ e);
           }
 
-  module _ (r : Loop) (i q : ℕ) (v : LoopIs s at hole c.curves c.used.loops l m y z r) (g : r ≡ loops.Accepted i q) where
+  module _ (r : Answer (Parsed ℕ)) (i q : ℕ) (v : LoopIs s at hole c.curves c.used.loops l m y z r) (g : r ≡ Some (record { value = i; next = q })) where
     taken : LoopTaken s at hole c.curves c.used.loops l m y z i q
     taken = subst (LoopIs s at hole c.curves c.used.loops l m y z) g v
 
@@ -238,7 +236,7 @@ module _ (hole : Bool) (s : List ℕ) (at : ℕ) (c : State) (l m : List ℕ) (y
           body = a.body;
         }
 
-    pub loop-took : at ≤ length s → (d : State) → InSurface ≡ true → d ≡ looped i c → LoopStep hole s at c l m y z (Accepted d q)
+    pub loop-took : at ≤ length s → (d : State) → InSurface ≡ true → d ≡ looped i c → LoopStep hole s at c l m y z (accepted d q)
     loop-took to d k e t el ey = (
       λ p below b. subst (InBounds s q) (sym e) (loop-keeps to p below b),
       λ R p read x w b.

@@ -9,10 +9,9 @@ use lib.Dec.{ltb}
 use lib.IntN.{ℤ}
 use native.Mathlib.Omega.{arith}
 use borrow.Author.Tests.{le-ltb, lt-ltb}
+use Rattle.std.specs.Prelude.{Ok, Err}
 use Rattle.text.specs.Words.{Word, word_of}
 use Rattle.text.specs.Rest.{rest_at, word_at, end_of, scan_of}
-use Rattle.text.specs.declared.Scan.{Scan}
-use Rattle.text.specs.declared.Scan.TheVariants as scan
 use Rattle.text.proofs.Scans.{scan_good, scan-fault}
 use Rattle.references.specs.Corner.{Corner}
 use Rattle.keywords.specs.Keywords.{statement_of}
@@ -31,9 +30,7 @@ use Rattle.read_state.specs.declared.State.{State}
 use Rattle.read_state.specs.declared.Form.{Form}
 use Rattle.read_word_checks.specs.declared.tests.Test.TheVariants.{Wide}
 use Rattle.read_word_checks.specs.declared.tests.Tests.TheVariants.{All}
-use Rattle.read_word_checks.specs.declared.Refusal.{Refusal}
-use Rattle.read_word_checks.specs.declared.Refusal.TheVariants.{Refused, Nothing}
-use Rattle.read_word_checks.specs.Faults.{seen_by, fault_in, pattern_fault, in_force_by, owed, or_else, body_fault, curve2_fault, held_fault}
+use Rattle.read_word_checks.specs.Faults.{Refusal, Refused, Nothing, seen_by, fault_in, pattern_fault, in_force_by, owed, or_else, body_fault, curve2_fault, held_fault}
 use Rattle.read_diagnosis.specs.Lines.{words_fault, line_fault, fault_for, statement_fault}
 use Rattle.read_diagnosis.specs.Diagnosis.{diagnosis_of, checked_before, parse_before, fault_before, GivenIn}
 use Rattle.read_diagnosis.proofs.Values.{diagnosis_at, skip-values, pattern-walk, bare-unlike, narrow_walk}
@@ -114,10 +111,10 @@ module _ (text : List ℕ) (t : List ℤ) (key : ℕ) (x : model.State) (c : Ope
   statement-diagnosis Unknown = refl
 
 -- ---- the whole line
-module _ (text : List ℕ) (at : ℕ) (r : Scan) (h : r ≡ scan_of (rest_at text at)) where
-  module _ {count next : ℕ} (k : r ≡ scan.Good count next) where
+module _ (text : List ℕ) (at : ℕ) where
+  module _ {count next : ℕ} (k : Ok (record { value = count; next = next }) ≡ scan_of (rest_at text at)) where
     good : ((rest_at text at).bad ≡ none) × (length (rest_at text at).words ≡ count) × ((rest_at text at).next ≡ next)
-    good = scan_good (rest_at text at) count next (sym k ∙ h)
+    good = scan_good (rest_at text at) count next k
 
     pub some_word : {w : Word} {ws : List Word} → (rest_at text at).words ≡ w ∷ ws → 1 ≤ count
     some_word {w} {ws} e = let n = good.1 in let l = ap length e in omega arith
@@ -128,7 +125,7 @@ module _ (text : List ℕ) (at : ℕ) (r : Scan) (h : r ≡ scan_of (rest_at tex
 
     pub diagnosis-line : (c : State) (t : List ℤ) (p : ℕ) {q : Refusal} (x : model.State) → StateIs text x c → GivenIn x.model.vertices.vp t
         → (rest_at text at).words ≡ word_at text p ∷ (rest_at text (end_of text p)).words
-        → q ≡ statement_fault (seen_by (record { v = c.used.v; vt = c.used.vt; vn = c.used.vn; vp = c.used.vp; curves = c.curves })) t c.form c.open.kind text p (count - 1)
+        → q ≡ statement_fault (seen_by (record { counts = record { v = c.used.v; vt = c.used.vt; vn = c.used.vn }; vp = c.used.vp; curves = c.curves })) t c.form c.open.kind text p (count - 1)
         → q ≡ diagnosis_of (unless (rest_at text at).bad 2 (fault_before x (rest_at text at).words))
     unfolding fault_before statement_fault
     diagnosis-line c t p {q} x i d e j =
@@ -137,13 +134,13 @@ module _ (text : List ℕ) (at : ℕ) (r : Scan) (h : r ≡ scan_of (rest_at tex
         let l = ap length e in
         let n = good.1 in
         let m : count - 1 ≡ length ws = omega arith in
-        let seen : seen_by (record { v = c.used.v; vt = c.used.vt; vn = c.used.vn; vp = c.used.vp; curves = c.curves }) ≡ parse.seen_in x = rw (i.used, i.curves) refl in
+        let seen : seen_by (record { counts = record { v = c.used.v; vt = c.used.vt; vn = c.used.vn }; vp = c.used.vp; curves = c.curves }) ≡ parse.seen_in x = rw (i.used, i.curves) refl in
         let y : q ≡ fault_for (parse.seen_in x) t (form_in x.form) c.open.kind p k (length ws) ws =
         j
-        ∙ ap (λ (z : ℕ). fault_for (seen_by (record { v = c.used.v; vt = c.used.vt; vn = c.used.vn; vp = c.used.vp; curves = c.curves })) t c.form c.open.kind p k z ws) m
+        ∙ ap (λ (z : ℕ). fault_for (seen_by (record { counts = record { v = c.used.v; vt = c.used.vt; vn = c.used.vn }; vp = c.used.vp; curves = c.curves })) t c.form c.open.kind p k z ws) m
         ∙ ap (λ (z : parse.Seen). fault_for z t c.form c.open.kind p k (length ws) ws) seen
         ∙ ap (λ (z : Form). fault_for (parse.seen_in x) t z c.open.kind p k (length ws) ws) i.form in
         rw (good.0, e) (y ∙ statement-diagnosis text t p x c.open i.open-body d ws k)
 
-  pub diagnosis-bad : {p : ℕ} (x : model.State) → r ≡ scan.Bad p → Refused 2 p ≡ diagnosis_of (unless (rest_at text at).bad 2 (fault_before x (rest_at text at).words))
-  diagnosis-bad {p} x k = rw (scan-fault (rest_at text at) p (sym k ∙ h)) refl
+  pub diagnosis-bad : {p : ℕ} (x : model.State) → Err p ≡ scan_of (rest_at text at) → Refused 2 p ≡ diagnosis_of (unless (rest_at text at).bad 2 (fault_before x (rest_at text at).words))
+  diagnosis-bad {p} x k = rw (scan-fault (rest_at text at) p k) refl

@@ -27,8 +27,7 @@ use Rattle.statements.specs.declared.rules.Forms.{Forms}
 use Rattle.statements.specs.Rules.{form_by}
 use Rattle.statements.specs.Numbered.{free_numbered}
 use Rattle.read_word_checks.specs.declared.tests.Tests.TheVariants.{Each}
-use Rattle.read_word_checks.specs.declared.Refusal.{Refusal}
-use Rattle.read_word_checks.specs.Faults.{check_of, on_check, given_by, fault_in, in_force_by, owed, or_else}
+use Rattle.read_word_checks.specs.Faults.{Refusal, check_of, on_check, given_by, fault_in, in_force_by, owed, or_else}
 use Rattle.read_diagnosis.specs.Diagnosis.{diagnosis_of, GivenIn}
 use Rattle.read_diagnosis.proofs.Values.{diagnosis_at}
 

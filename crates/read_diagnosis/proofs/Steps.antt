@@ -16,9 +16,7 @@ use Rattle.statements.specs.Rules.{allowed_by, counted_by, rules_of}
 use Rattle.statements.specs.Numbered.{free_numbered}
 use Rattle.model.specs.Parse as parse
 use Rattle.read_state.specs.declared.Form.{Form}
-use Rattle.read_word_checks.specs.declared.Refusal.{Refusal}
-use Rattle.read_word_checks.specs.declared.Refusal.TheVariants.{Refused}
-use Rattle.read_word_checks.specs.Faults.{owed}
+use Rattle.read_word_checks.specs.Faults.{Refusal, Refused, owed}
 use Rattle.read_diagnosis.specs.Lines.{words_fault, line_by, line_fault, fault_for, statement_fault}
 use Rattle.read_word_checks.proofs.Steps.{owed-is, owed-not}
 

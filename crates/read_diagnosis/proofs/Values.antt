@@ -16,9 +16,7 @@ use Rattle.decimals.specs.Number.{number_of}
 use Rattle.model.specs.Parse.{Parsed, fine, fault, then, placed, values_of, said_of, on_said, Value, number, corner, corners_of, WordForm, a-number, a-corner, a-control, Seen, differing, unlike, given, narrow}
 use Rattle.read_word_checks.specs.declared.tests.Test.TheVariants.{Wide}
 use Rattle.read_word_checks.specs.declared.tests.Tests.TheVariants.{All}
-use Rattle.read_word_checks.specs.declared.Refusal.{Refusal}
-use Rattle.read_word_checks.specs.declared.Refusal.TheVariants.{Refused, Nothing}
-use Rattle.read_word_checks.specs.Faults.{check_of, on_check, fault_in, alike_said, alike_tests, on_first, pattern_fault, wide_said, given_by}
+use Rattle.read_word_checks.specs.Faults.{Refusal, Refused, Nothing, check_of, on_check, fault_in, alike_said, alike_tests, on_first, pattern_fault, wide_said, given_by}
 
 -- a word that must not be there
 abbrev pub diagnosis_at : ℕ → Option ℕ → Refusal

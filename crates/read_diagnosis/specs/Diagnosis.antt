@@ -1,5 +1,6 @@
 -- What a line is refused for, but for room (14) and what `end` finds in its body (11, 12, 13): the parser's own words, without those.
-use Rattle.std.specs.Prelude.{ℕ, ◌*◌, ◌<◌, ◌≡◌, List, [], ◌∷◌, length, get_or, ℤ, pos}
+use Rattle.std.specs.Prelude.{ℕ, ◌*◌, ◌<◌, ◌≡◌, List, [], ◌∷◌, length, get_or, ℤ, pos, Result}
+use Rattle.refusals.specs.declared.Refusal as Placed
 use Rattle.text.specs.Words.{Word}
 use Rattle.text.specs.Rest.{rest_at}
 use Rattle.keywords.specs.Keywords.{statement_of}
@@ -9,8 +10,7 @@ use Rattle.model.specs.Parse.{Parsed, fine, fault, then, must, unless, Keyword, 
 use Rattle.model.specs.Read.{carried_in}
 use Rattle.read_state.specs.State.{StateIs}
 use Rattle.read_state.specs.declared.State.{State}
-use Rattle.read_word_checks.specs.declared.Refusal.{Refusal}
-use Rattle.read_word_checks.specs.declared.Refusal.TheVariants.{Refused, Nothing}
+use Rattle.read_word_checks.specs.Faults.{Refusal, refusal_said, Refused, Nothing}
 
 -- the number and the place of a refusal
 abbrev pub diagnosis_of : {A : Type 0} → Parsed A → Refusal
@@ -51,7 +51,7 @@ abbrev pub GivenIn : List (List ℤ) → List ℤ → Type 0
 GivenIn vps t = (k : ℕ) → k < length vps → get_or t (4 * k) (pos 0) ≡ get_or (get_or vps k []) 0 (pos 0)
 
 -- what `diagnose` answers for the line of the text that starts at `at`, where c stands for what is in force: 2 comes before all else
-abbrev pub DiagnosisIs : List ℕ → ℕ → State → List ℤ → Refusal → Type 0
+abbrev pub DiagnosisIs : {A : Type 0} → List ℕ → ℕ → State → List ℤ → Result A Placed.Refusal → Type 0
 DiagnosisIs text at c t r =
     (x : model.State) → StateIs text x c → GivenIn x.model.vertices.vp t
-    → r ≡ diagnosis_of (unless (rest_at text at).bad 2 (fault_before x (rest_at text at).words))
+    → refusal_said r ≡ diagnosis_of (unless (rest_at text at).bad 2 (fault_before x (rest_at text at).words))

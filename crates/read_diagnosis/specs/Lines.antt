@@ -14,9 +14,7 @@ use Rattle.statements.specs.Numbered.{free_numbered}
 use Rattle.model.specs.Parse as parse
 use Rattle.read_state.specs.declared.Form.{Form}
 use Rattle.read_word_checks.specs.declared.tests.Tests.TheVariants.{Each}
-use Rattle.read_word_checks.specs.declared.Refusal.{Refusal}
-use Rattle.read_word_checks.specs.declared.Refusal.TheVariants.{Refused}
-use Rattle.read_word_checks.specs.Faults.{fault_in, owed, or_else, held_fault}
+use Rattle.read_word_checks.specs.Faults.{Refusal, Refused, fault_in, owed, or_else, held_fault}
 
 abbrev pub words_fault : parse.Seen → List ℤ → Form → ℕ → Forms → Held → ℕ → List Word → Refusal
 words_fault n t f key fs h m ws = or_else (fault_in n t (Each fs) m 0 ws) (held_fault n t f key h ws)

@@ -15,21 +15,19 @@ use Rattle.model.specs.Room.{Rooms, fits}
 use Rattle.model.specs.Read.{carried_in, statement, step}
 use Rattle.model.proofs.Parsed.{fine-fault}
 use Rattle.read_state.specs.declared.State.{State}
-use Rattle.read_word_checks.specs.declared.Refusal.{Refusal}
-use Rattle.read_word_checks.specs.declared.Refusal.TheVariants.{Refused, Nothing}
+use Rattle.std.specs.Prelude.{Result}
+use Rattle.refusals.specs.declared.Refusal as Placed
+use Rattle.read_word_checks.specs.Faults.{Refusal, refusal_said, Refused, Nothing}
 use Rattle.read_diagnosis.specs.Diagnosis.{diagnosis_of, parse_before, fault_before, GivenIn, DiagnosisIs}
 use Rattle.read_diagnosis.proofs.Before.{before-fault}
-use Rattle.read_dispatch.specs.declared.LineResult.{LineResult}
-use Rattle.read_dispatch.specs.declared.LineResult.TheVariants.{Next, Stopped}
 use Rattle.read_vertex_lines.specs.Holding.{Holds, line_says}
 use Rattle.read_vertex_lines.specs.Stepping.{Began, Left}
-use Rattle.read_dispatch.specs.Taking.{stopped_by}
 use Rattle.read_vertex_lines.proofs.Steps.{line-fault}
 
 -- the line at p is refused as the code says
-abbrev pub Stops : Rooms → List ℕ → ℕ → model.State → LineResult → Type 0
-Stops R s p x (Next d q) = ⊥
-Stops R s p x (Stopped n q) = line_says R s p x ≡ fault n q
+abbrev pub Stops : Rooms → List ℕ → ℕ → model.State → ℕ → Refusal → Type 0
+Stops R s p x key (Refused n q) = line_says R s p x ≡ fault n q
+Stops R s p x key Nothing = line_says R s p x ≡ fault 14 key
 
 -- the answers of `diagnose` taken apart: 2 first, and then what is wrong with the words
 module _ {A : Type 0} where
@@ -71,14 +69,17 @@ module _ (R : Rooms) (s : List ℕ) (p at : ℕ) {n : ℕ} (x : model.State) (c 
   roomless none y o e = l.roomless o y e
   roomless (some i) y o e = fine-fault e
 
-  found : (a : Refusal) → DiagnosisIs s p c u.vertices.vp a → a ≡ diagnosis_of (unless r.bad 2 (parse_before k x w.place r.words))
-  found a h =
+  found : {A : Type 0} (d : Result A Placed.Refusal) → DiagnosisIs s p c u.vertices.vp d → refusal_said d ≡ diagnosis_of (unless r.bad 2 (parse_before k x w.place r.words))
+  found d h =
       h x b.holds.state l.given
       ∙ ap diagnosis_of (words-before s p at x w b.begins ∙ ap (λ (z : Parsed Keyword). unless r.bad 2 (then z (λ k. parse_before k x w.place r.words))) b.keyword)
 
-  pub diagnosed : (a : Refusal) → DiagnosisIs s p c u.vertices.vp a → Stops R s p x (stopped_by w.place a)
-  diagnosed (Refused n q) h = faulted n q r.bad refl (refused-is _ n q (found (Refused n q) h))
-  diagnosed Nothing h = let y = nothing_is _ (found Nothing h) in roomless r.bad y.0 refl y.1
+  by-answer : (a : Refusal) → a ≡ diagnosis_of (unless r.bad 2 (parse_before k x w.place r.words)) → Stops R s p x w.place a
+  by-answer (Refused n q) e = faulted n q r.bad refl (refused-is _ n q e)
+  by-answer Nothing e = let y = nothing_is _ e in roomless r.bad y.0 refl y.1
+
+  pub diagnosed : {A : Type 0} (d : Result A Placed.Refusal) → DiagnosisIs s p c u.vertices.vp d → Stops R s p x w.place (refusal_said d)
+  diagnosed d h = by-answer (refusal_said d) (found d h)
 
 -- ---- one that is refused, or not known
 module _ (R : Rooms) (s : List ℕ) (p at : ℕ) {n : ℕ} (x : model.State) (c : State) (t : Tables) (w : Word) (m j : ℕ) (h : Holds R s x c t n) (begins : rest_at s p ≡ push w (rest_at s at))
@@ -89,8 +90,8 @@ module _ (R : Rooms) (s : List ℕ) (p at : ℕ) {n : ℕ} (x : model.State) (c 
       ap (λ (q : Rest). unless q.bad 2 (step R x q.words)) begins
       ∙ ap (λ (q : Parsed Keyword). unless (rest_at s at).bad 2 (then q (λ k. then (parse k x w.place (rest_at s at).words) (λ t. must (fits R (apply t x)) 14 w.place (fine (apply t x)))))) keyword
 
-  found-there : (a : Refusal) → DiagnosisIs s p c t.vertices.vp a → a ≡ diagnosis_of {A = Statement} (unless (rest_at s at).bad 2 (fault m j))
-  found-there a b =
+  found-there : {A : Type 0} (d : Result A Placed.Refusal) → DiagnosisIs s p c t.vertices.vp d → refusal_said d ≡ diagnosis_of {A = Statement} (unless (rest_at s at).bad 2 (fault m j))
+  found-there d b =
       b x h.state given
       ∙ ap diagnosis_of (words-before s p at x w begins ∙ ap (λ (z : Parsed Keyword). unless (rest_at s at).bad 2 (then z (λ k. parse_before k x w.place (rest_at s at).words))) keyword)
 
@@ -98,6 +99,9 @@ module _ (R : Rooms) (s : List ℕ) (p at : ℕ) {n : ℕ} (x : model.State) (c 
   never-fine none y e = fine-fault e
   never-fine (some i) y e = fine-fault e
 
-  pub unknown-diagnosed : (a : Refusal) → DiagnosisIs s p c t.vertices.vp a → (key : ℕ) → Stops R s p x (stopped_by key a)
-  unknown-diagnosed (Refused n q) b key = line-is ∙ same-fault (rest_at s at).bad m j n q (refused-is _ n q (found-there (Refused n q) b))
-  unknown-diagnosed Nothing b key = let y = nothing_is _ (found-there Nothing b) in never-fine (rest_at s at).bad y.0 y.1
+  unknown-answer : (key : ℕ) (a : Refusal) → a ≡ diagnosis_of {A = Statement} (unless (rest_at s at).bad 2 (fault m j)) → Stops R s p x key a
+  unknown-answer key (Refused n q) e = line-is ∙ same-fault (rest_at s at).bad m j n q (refused-is _ n q e)
+  unknown-answer key Nothing e = let y = nothing_is _ e in never-fine (rest_at s at).bad y.0 y.1
+
+  pub unknown-diagnosed : {A : Type 0} (d : Result A Placed.Refusal) → DiagnosisIs s p c t.vertices.vp d → (key : ℕ) → Stops R s p x key (refusal_said d)
+  unknown-diagnosed d b key = unknown-answer key (refusal_said d) (found-there d b)

@@ -27,20 +27,20 @@ use Rattle.model.specs.Room.{Rooms}
 use Rattle.model.specs.Read.{carried_in, step}
 use Rattle.read_state.specs.declared.State.{State}
 use Rattle.read_state.proofs.Bounds.{later}
-use Rattle.read_word_checks.specs.declared.Refusal.{Refusal}
-use Rattle.read_word_checks.specs.declared.Refusal.TheVariants as refusal
+use Rattle.refusals.specs.declared.Refusal.{Refusal}
+use Rattle.read_word_checks.specs.Faults.{refusal_said}
 use Rattle.read_diagnosis.specs.Diagnosis.{DiagnosisIs}
 use Rattle.read_dispatch.specs.declared.families.Family.{Family}
 use Rattle.read_dispatch.specs.declared.keys.Key as keys
 use Rattle.read_dispatch.specs.declared.keys.Key.TheVariants as found
-use Rattle.read_dispatch.specs.declared.LineResult as lines
-use Rattle.read_dispatch.specs.declared.LineResult.TheVariants.{Next, Stopped}
-use Rattle.read_vertex_lines.specs.declared.Step.{Step}
-use Rattle.read_vertex_lines.specs.declared.Step.TheVariants.{Accepted, Refuses, Rejected}
+use Rattle.std.specs.Prelude.{Result, Ok, Err}
+use Rattle.refusals.specs.declared.Reason.{Reason}
+use Rattle.refusals.specs.declared.Reason.TheVariants.{ByteNotAllowed, NoTableRoom}
+use Rattle.text.specs.declared.Parsed.{Parsed}
 use Rattle.read_vertex_lines.specs.Bounds.{InBounds}
 use Rattle.read_vertex_lines.specs.Holding.{Holds, WithinLimit}
-use Rattle.read_vertex_lines.specs.Stepping.{Began, StepIs}
-use Rattle.read_dispatch.specs.Taking.{KeyIs, LineIs, family_in, family_of, FamilyIs, stopped_by}
+use Rattle.read_vertex_lines.specs.Stepping.{Step, refuses, rejected, Began, StepIs}
+use Rattle.read_dispatch.specs.Taking.{KeyIs, LineIs, family_in, family_of, FamilyIs, goes_on, stops}
 use Rattle.read_vertex_lines.proofs.Given.{given-in}
 use Rattle.read_vertex_lines.proofs.Bounds as kept
 use Rattle.read_dispatch.proofs.Diagnosed.{Stops, diagnosed, unknown-diagnosed}
@@ -55,7 +55,7 @@ record Known (s : List ℕ) (at : ℕ) (c : State) (t u : Tables) (r : Step) (k 
 record Strange (t u : Tables) (r : Step) (k : Statement) (key : ℕ) : Type 0 where
   pub number : ℕ
   pub is : carried_in k key ≡ fault number key
-  pub gave-up : r ≡ Rejected
+  pub gave-up : r ≡ rejected
   pub kept : u ≡ t
 
 -- its letter is no blank
@@ -120,7 +120,7 @@ module _ (s : List ℕ) (at : ℕ) (k : keys.Key) (is : KeyIs s at k) where
 
 -- ---- no keyword
 module _ (s : List ℕ) (p : ℕ) (c : State) (t : Tables) where
-  pub line-empty : {q : ℕ} → InBounds s p c → EndMet s p q → LineIs s p c t t (Next c q)
+  pub line-empty : {q : ℕ} → InBounds s p c → EndMet s p q → LineIs s p c t t (goes_on c q)
   line-empty {q} b m = (
     kept.later b m.to m.from,
     λ R n x l h. (
@@ -133,7 +133,7 @@ module _ (s : List ℕ) (p : ℕ) (c : State) (t : Tables) where
     ),
   )
 
-  pub line-bad : {q : ℕ} → BadMet s p q → LineIs s p c t t (Stopped 2 q)
+  pub line-bad : {q : ℕ} → BadMet s p q → LineIs s p c t t (stops ByteNotAllowed q)
   line-bad m R n x l h = ap (λ (o : Option ℕ). unless o 2 (step R x (rest_at s p).words)) m.bad-at
 
 -- ---- a keyword at `key`
@@ -174,36 +174,38 @@ module _ (s : List ℕ) (p key : ℕ) (c : State) (t u : Tables) (kw : spelled.K
   began : (R : Rooms) (read : ℕ) (x : model.State) → WithinLimit s p read → Holds R s x c t read → (n : Keyword) → carried_in k key ≡ fine n → Began R s p (end_of s key) read x c t w n
   began R read x few h n e = record { small = few; holds = h; begins = met.rest; keyword = e }
 
-  pub line_taken : InBounds s p c → (d : State) (q : ℕ) → r ≡ Accepted d q → LineIs s p c t u (Next d q)
-  line_taken b d q e =
+  pub line_taken : InBounds s p c → (a : Parsed State) → r ≡ Ok a → LineIs s p c t u (Ok a)
+  line_taken b a e =
       ⊎_elim
       (λ (n : Known s (end_of s key) c t u r k key).
-      let taken : StepIs s (end_of s key) n.keyword c t u (Accepted d q) = subst (StepIs s (end_of s key) n.keyword c t u) e n.step in
+      let taken : StepIs s (end_of s key) n.keyword c t u (Ok a) = subst (StepIs s (end_of s key) n.keyword c t u) e n.step in
       let from = met.from in
       let more = met.more in
       (taken.0 p (omega arith) b, λ R read x few h. taken.1 R p read x w (began R read x few h n.keyword n.is)))
       (λ (n : Strange t u r k key). absurd (let g = n.gave-up in let z : ◌≡◌ {A = ℕ} 0 1 = cc in omega arith))
       here
 
-  pub line-refuses : (n : ℕ) → r ≡ Refuses n → LineIs s p c t u (Stopped n key)
+  pub line-refuses : (i : Reason) → r ≡ refuses i → LineIs s p c t u (stops i key)
   line-refuses i e R read x few h =
       ⊎_elim
       (λ (n : Known s (end_of s key) c t u r k key). subst (StepIs s (end_of s key) n.keyword c t u) e n.step R p read x w (began R read x few h n.keyword n.is))
       (λ (n : Strange t u r k key). absurd (let g = n.gave-up in let z : ◌≡◌ {A = ℕ} 0 1 = cc in omega arith))
       here
 
-  stopped-is : (a : Refusal) → ((R : Rooms) (read : ℕ) (x : model.State) → WithinLimit s p read → Holds R s x c t read → Stops R s p x (stopped_by key a)) → LineIs s p c t u (stopped_by key a)
-  stopped-is (refusal.Refused n q) g = g
-  stopped-is refusal.Nothing g = g
+  -- a line that was rejected, by what was found wrong with it
+  module _ (e : r ≡ rejected) {A : Type 0} (a : Result A Refusal) (b : DiagnosisIs s p c u.vertices.vp a) where
+    found-wrong : (R : Rooms) (read : ℕ) (x : model.State) → WithinLimit s p read → Holds R s x c t read → Stops R s p x key (refusal_said a)
+    found-wrong R read x few h =
+        ⊎_elim
+        (λ (n : Known s (end_of s key) c t u r k key).
+        let v = began R read x few h n.keyword n.is in
+        diagnosed R s p (end_of s key) x c t u w n.keyword v (subst (StepIs s (end_of s key) n.keyword c t u) e n.step R p read x w v) a b)
+        (λ (n : Strange t u r k key).
+        unknown-diagnosed R s p (end_of s key) x c t w n.number key h met.rest n.is (given-in R s x c t read h) a (subst (λ (y : Tables). DiagnosisIs s p c y.vertices.vp a) n.kept b) key)
+        here
 
-  pub line-gave-up : r ≡ Rejected → (a : Refusal) → DiagnosisIs s p c u.vertices.vp a → (l : lines.LineResult) → l ≡ stopped_by key a → LineIs s p c t u l
-  line-gave-up e a b l is =
-      subst (LineIs s p c t u) (sym is)
-      (stopped-is a (λ R read x few h.
-      ⊎_elim
-      (λ (n : Known s (end_of s key) c t u r k key).
-      let v = began R read x few h n.keyword n.is in
-      diagnosed R s p (end_of s key) x c t u w n.keyword v (subst (StepIs s (end_of s key) n.keyword c t u) e n.step R p read x w v) a b)
-      (λ (n : Strange t u r k key).
-      unknown-diagnosed R s p (end_of s key) x c t w n.number key h met.rest n.is (given-in R s x c t read h) a (subst (λ (y : Tables). DiagnosisIs s p c y.vertices.vp a) n.kept b) key)
-      here))
+    pub line-faulted : (f : Refusal) → a ≡ Err f → LineIs s p c t u (Err f)
+    line-faulted f z R read x few h = subst (λ (d : Result A Refusal). Stops R s p x key (refusal_said d)) z (found-wrong R read x few h)
+
+    pub line-roomless : (o : A) → a ≡ Ok o → LineIs s p c t u (stops NoTableRoom key)
+    line-roomless o z R read x few h = subst (λ (d : Result A Refusal). Stops R s p x key (refusal_said d)) z (found-wrong R read x few h)

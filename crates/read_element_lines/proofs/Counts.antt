@@ -1,4 +1,5 @@
 -- A line of an element or a body adds no more records than it has bytes, in whatever state it is taken: the bounds are kept.
+use Rattle.std.specs.Prelude.{None}
 use Prim.Native.Nat.{ℕ, ◌≤◌}
 use mathlib.Core.Path.{◌≡◌, refl, sym, ap, ◌∙◌}
 use mathlib.Core.List.{List}
@@ -32,7 +33,7 @@ use Rattle.read_element_lines.specs.Counting.{one_element, one_body}
 pub element-few : (u : Rule) (n : Used) (r : Rest) (cs : List Corner) (q : ℕ) → element_said u n r ≡ some (cs, q) → (r.next ≡ q) × (length cs ≤ length r.words)
 element-few u n r cs q e =
     let h = corner_said n u.form in
-    let w = walked h 0 r.words r.bad r.next cs q (at-least u.fewest (corners_walk h 0 r) cs q e).0 in
+    let w = walked h None r.words r.bad r.next cs q (at-least u.fewest (corners_walk h None r) cs q e).0 in
     let same = w.counted in
     (w.next, omega arith)
 

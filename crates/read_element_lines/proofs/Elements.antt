@@ -1,4 +1,5 @@
 -- A line of p, l, f: what `take_element` answers is what the line comes to, or shows that there is no room for it.
+use Rattle.std.specs.Prelude.{None}
 use Prim.Native.Nat.{ℕ, suc, ◌+◌, ◌*◌, ◌-◌, ◌≤◌, ◌<◌}
 use mathlib.Core.Path.{◌≡◌, refl, sym, ap, ap₂, ◌∙◌, subst}
 use mathlib.Core.List.{List, [], ◌∷◌, ◌++◌}
@@ -143,7 +144,7 @@ module _ (R : Rooms) (s : List ℕ) (p at : ℕ) (m : Model) (n : model.Names) (
     element-next l g count q v =
         let cs : List Corner = v.found in
         let pv = taken-parse k x c.used (rest_at s at) cs q h.state.used refl v.said in
-        let some-corners : 0 < count = (let a = (at-least (fewest k) (corners_walk (corner_said c.used (rule_of k).form) 0 (rest_at s at)) cs q v.said).1 in let b = v.counted in let d = one-or-more k in omega arith) in
+        let some-corners : 0 < count = (let a = (at-least (fewest k) (corners_walk (corner_said c.used (rule_of k).form) None (rest_at s at)) cs q v.said).1 in let b = v.counted in let d = one-or-more k in omega arith) in
         let cr : 3 * corners_in m + 3 * length cs ≤ R.elements.corners = (let a = v.corners-room some-corners in let b = v.counted in let d = corners-used R s m n f c t h in let i = corners-lent R s m n f c t h in omega arith) in
         let er : 9 * length m.elements + 9 ≤ R.elements.elements = (let a = v.elements-room in let d = elements-used R s m n f c t h in let i = elements-lent R s m n f c t h in omega arith) in
         let fit : fits R (apply (element k cs) x) ≡ true = roomy cs cr er in

@@ -25,8 +25,7 @@ use Rattle.read_state.specs.Changed.{Wide, state}
 use Rattle.read_state.proofs.Lines.{line_of}
 use Rattle.read_settings.specs.Steps.{type_taken, degree_taken, smoothing_taken, material_taken, group_taken}
 use Rattle.read_settings.proofs.Parses.{type-parse, degree-parse, smoothing-parse, material-parse, group-parse, form-taken, names-taken}
-use Rattle.read_settings.specs.declared.TakenForm.TheVariants as form-answer
-use Rattle.read_settings.specs.declared.TakenNames.TheVariants as names-answer
+use Rattle.std.specs.Prelude.{Some}
 use Rattle.read_vertex_lines.specs.Holding.{HoldsOpened, Holds, NextLine}
 use Rattle.read_element_lines.specs.InForce.{with_form, with_names}
 use Rattle.read_vertex_lines.proofs.Steps.{line-fine, line-bounded, next-is}
@@ -122,7 +121,7 @@ module _ (R : Rooms) (t : List ℕ) (p at : ℕ) (m : Model) (n : model.Names) (
     abbrev After : State → ℕ → Type 0
     After d q = NextLine R t p read x d u q × (q ≡ (rest_at t p).next)
 
-    pub type-next : carried_in (statement_of w.bytes) w.place ≡ fine cstype → (d : Form) (q : ℕ) → form-answer.Accepted d q ≡ type_taken c.form r → After (with_form d c) q
+    pub type-next : carried_in (statement_of w.bytes) w.place ≡ fine cstype → (d : Form) (q : ℕ) → Some (record { value = d; next = q }) ≡ type_taken c.form r → After (with_form d c) q
     type-next k d q e =
         let v = form-taken x r.bad r.next (parse cstype x w.place r.words) d q (e ∙ ap (λ (a : Form). type_taken a r) h.state.form ∙ type-parse x refl w.place r) in
         let i = fine-is (line_of cstype x w.place r.words v.statement v.parsed).check in
@@ -130,7 +129,7 @@ module _ (R : Rooms) (t : List ℕ) (p at : ℕ) (m : Model) (n : model.Names) (
         let same : (apply v.statement x).names ≡ n = subst (λ (y : Statement). (apply y x).names ≡ n) i refl in
         quiet_next h w cstype begins k v.statement (with_form d c) q still v.allowed v.parsed v.next (form-after h w cstype begins k v.statement still d same v.form)
 
-    pub degree-next : carried_in (statement_of w.bytes) w.place ≡ fine deg → (d : Form) (q : ℕ) → form-answer.Accepted d q ≡ degree_taken c.form r → After (with_form d c) q
+    pub degree-next : carried_in (statement_of w.bytes) w.place ≡ fine deg → (d : Form) (q : ℕ) → Some (record { value = d; next = q }) ≡ degree_taken c.form r → After (with_form d c) q
     degree-next k d q e =
         let v = form-taken x r.bad r.next (parse deg x w.place r.words) d q (e ∙ ap (λ (a : Form). degree_taken a r) h.state.form ∙ degree-parse x refl w.place r) in
         let i = fine-is (line_of deg x w.place r.words v.statement v.parsed).check in
@@ -138,7 +137,7 @@ module _ (R : Rooms) (t : List ℕ) (p at : ℕ) (m : Model) (n : model.Names) (
         let same : (apply v.statement x).names ≡ n = subst (λ (y : Statement). (apply y x).names ≡ n) i refl in
         quiet_next h w deg begins k v.statement (with_form d c) q still v.allowed v.parsed v.next (form-after h w deg begins k v.statement still d same v.form)
 
-    pub group-next : carried_in (statement_of w.bytes) w.place ≡ fine g → (d : Names) (q : ℕ) → names-answer.Accepted d q ≡ group_taken c.names r → After (with_names d c) q
+    pub group-next : carried_in (statement_of w.bytes) w.place ≡ fine g → (d : Names) (q : ℕ) → Some (record { value = d; next = q }) ≡ group_taken c.names r → After (with_names d c) q
     group-next k d q e =
         let v = names-taken x r.bad r.next (parse g x w.place r.words) d q (e ∙ ap (λ (a : Names). group_taken a r) h.state.names ∙ group-parse x refl w.place r) in
         let i = fine-is (line_of g x w.place r.words v.statement v.parsed).check in
@@ -146,7 +145,7 @@ module _ (R : Rooms) (t : List ℕ) (p at : ℕ) (m : Model) (n : model.Names) (
         let same : (apply v.statement x).form ≡ f = subst (λ (y : Statement). (apply y x).form ≡ f) i refl in
         quiet_next h w g begins k v.statement (with_names d c) q still v.allowed v.parsed v.next (names-after h w g begins k v.statement still d same v.names)
 
-    pub smoothing-next : carried_in (statement_of w.bytes) w.place ≡ fine s → (d : Names) (q : ℕ) → names-answer.Accepted d q ≡ smoothing_taken c.names r → After (with_names d c) q
+    pub smoothing-next : carried_in (statement_of w.bytes) w.place ≡ fine s → (d : Names) (q : ℕ) → Some (record { value = d; next = q }) ≡ smoothing_taken c.names r → After (with_names d c) q
     smoothing-next k d q e =
         let v = names-taken x r.bad r.next (parse s x w.place r.words) d q (e ∙ ap (λ (a : Names). smoothing_taken a r) h.state.names ∙ smoothing-parse x refl w.place r) in
         let i = fine-is (line_of s x w.place r.words v.statement v.parsed).check in
@@ -154,7 +153,7 @@ module _ (R : Rooms) (t : List ℕ) (p at : ℕ) (m : Model) (n : model.Names) (
         let same : (apply v.statement x).form ≡ f = subst (λ (y : Statement). (apply y x).form ≡ f) i refl in
         quiet_next h w s begins k v.statement (with_names d c) q still v.allowed v.parsed v.next (names-after h w s begins k v.statement still d same v.names)
 
-    pub material-next : carried_in (statement_of w.bytes) w.place ≡ fine usemtl → (d : Names) (q : ℕ) → names-answer.Accepted d q ≡ material_taken c.names r → After (with_names d c) q
+    pub material-next : carried_in (statement_of w.bytes) w.place ≡ fine usemtl → (d : Names) (q : ℕ) → Some (record { value = d; next = q }) ≡ material_taken c.names r → After (with_names d c) q
     material-next k d q e =
         let v = names-taken x r.bad r.next (parse usemtl x w.place r.words) d q (e ∙ ap (λ (a : Names). material_taken a r) h.state.names ∙ material-parse x refl w.place r) in
         let l = line_of usemtl x w.place r.words v.statement v.parsed in

@@ -20,20 +20,19 @@ use Rattle.read_state.specs.declared.State.{State}
 use Rattle.read_state.specs.Changed.{state, element_stored}
 use Rattle.read_elements.specs.Elements.{rule_of, TakenElement, NoElement, ElementIs}
 use Rattle.read_vertices.proofs.Closed.{nothing}
-use Rattle.read_elements.specs.declared.Element.{Element}
-use Rattle.read_elements.specs.declared.Element.TheVariants as element
+use Rattle.std.specs.Prelude.{Option as Answer, Some, None}
+use Rattle.text.specs.declared.Parsed.{Parsed}
 use Rattle.read_vertex_lines.specs.Bounds.{InBounds}
 use Rattle.read_vertex_lines.specs.Holding.{NextLine}
 use Rattle.read_element_lines.specs.Counting.{one_element}
-use Rattle.read_vertex_lines.specs.Stepping.{with_used, Began, Left, ElementStep}
-use Rattle.read_vertex_lines.specs.declared.Step.TheVariants.{Accepted, Rejected}
+use Rattle.read_vertex_lines.specs.Stepping.{with_used, accepted, rejected, Began, Left, ElementStep}
 use Rattle.read_element_lines.proofs.Counts.{element-few, counts-fit, element-keeps}
 use Rattle.read_vertex_lines.proofs.Opened.{no_body, before-parse, left-barred}
 use Rattle.read_vertex_lines.proofs.Given.{given-in}
 use Rattle.read_element_lines.proofs.Elements.{element-next, element-roomless}
 
 module _ (k : Shape) (s : List ℕ) (at : ℕ) (c : State) (l m e f : List ℕ) where
-  pub element-inside : allowed_by (rules_of (an-element k)).standing (free_numbered c.«open».kind) false ≡ false → ElementStep k s at c (element_tables l e) (element_tables m f) Rejected
+  pub element-inside : allowed_by (rules_of (an-element k)).standing (free_numbered c.«open».kind) false ≡ false → ElementStep k s at c (element_tables l e) (element_tables m f) rejected
   element-inside o t i R p read x w b =
       left-barred R s p at read x c t (element_stored m f t) w (an-element k) b (given-in R s x c t read b.holds) o
 
@@ -49,7 +48,7 @@ module _ (k : Shape) (s : List ℕ) (at : ℕ) (c : State) (l m e f : List ℕ) 
           roomless = λ g y h. element-roomless R s p at mo n fo c t b.holds w k b.begins b.keyword m f v' g y (sym (before-parse (state mo n fo none) w.place (rest_at s at).words (an-element k) refl) ∙ h);
         }
 
-    pub element-gave : (r : Element) → ElementIs (rule_of k) 0 c.used c.names s at l m e f r → r ≡ element.Rejected → ElementStep k s at c (element_tables l e) (element_tables m f) Rejected
+    pub element-gave : (r : Answer (Parsed ℕ)) → ElementIs (rule_of k) 0 c.used c.names s at l m e f r → r ≡ None → ElementStep k s at c (element_tables l e) (element_tables m f) rejected
     element-gave r v g t i R p read x w b =
         gave (subst (ElementIs (rule_of k) 0 c.used c.names s at l m e f) g v) t i R p read x.model x.names x.form x.open-body w b
 
@@ -62,7 +61,7 @@ module _ (k : Shape) (s : List ℕ) (at : ℕ) (c : State) (l m e f : List ℕ) 
           let v' : TakenElement (rule_of k) 0 c.used c.names s at t.elements.corners m t.elements.elements f count q = subst (λ (a : ElementTables). TakenElement (rule_of k) 0 c.used c.names s at a.corners m a.elements f count q) (sym i) v in
           element-next R s p at mo n fo c t b.holds w k b.begins b.keyword m f count q v'
 
-      module _ (r : Element) (v : ElementIs (rule_of k) 0 c.used c.names s at l m e f r) (g : r ≡ element.Accepted count q) where
+      module _ (r : Answer (Parsed ℕ)) (v : ElementIs (rule_of k) 0 c.used c.names s at l m e f r) (g : r ≡ Some (record { value = count; next = q })) where
         taken : TakenElement (rule_of k) 0 c.used c.names s at l m e f count q
         taken = subst (ElementIs (rule_of k) 0 c.used c.names s at l m e f) g v
 
@@ -76,7 +75,7 @@ module _ (k : Shape) (s : List ℕ) (at : ℕ) (c : State) (l m e f : List ℕ) 
         pub element-fits : InBounds s at c → (count ≤ 16777216) × (c.used.corners ≤ 50331648) × (c.used.elements ≤ 16777216)
         element-fits b = let h = counts-fit s at q count found.0 found.1 c b in (h.0, h.1, h.2)
 
-        pub element-took : at ≤ length s → (d : State) → d ≡ with_used (one_element count c.used) c → ElementStep k s at c (element_tables l e) (element_tables m f) (Accepted d q)
+        pub element-took : at ≤ length s → (d : State) → d ≡ with_used (one_element count c.used) c → ElementStep k s at c (element_tables l e) (element_tables m f) (accepted d q)
         element-took to d h t i = (
           λ p below b. subst (InBounds s q) (sym h) (element-keeps s at q count found.0 found.1 c to p below b),
           λ R p read x w b.

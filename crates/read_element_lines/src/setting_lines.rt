@@ -1,19 +1,18 @@
 // The lines of cstype, deg, g, s and usemtl, and those that are passed over: they change what is in force and no table.
 ghost use Rattle.std.specs.Prelude.{◌≡◌, ◌≤◌, length};
-ghost use Rattle.keywords.specs.Lookup.{table_of_arguments};
 ghost use Rattle.model.specs.Parse.{over, rules_of};
 ghost use Rattle.read_vertex_lines.specs.Bounds.{InBounds};
 ghost use Rattle.read_vertex_lines.specs.Stepping.{QuietStep};
 ghost use Rattle.read_element_lines.specs.InForce.{form_step, names_step, setting_of};
 
-use read_settings::{TakenForm, TakenNames};
-use read_state::State;
-use read_vertex_lines::Step;
+use read_settings::{take_degree, take_group, take_material, take_smoothing, take_type};
+use read_state::{Form, Names, State};
+use read_vertex_lines::LineFault;
 use statements::rows::{
     degree_rules, group_rules, material_rules, passed_rules, smoothing_rules, type_rules,
 };
 use statements::rules::{Rules, allowed};
-use text::Scan;
+use text::Parsed;
 
 #[derive(Clone, Copy)]
 pub enum Setting {
@@ -39,48 +38,46 @@ fn rules_for(setting: Setting) -> Rules
     }
 }
 
-fn form_step(state: State, taken: TakenForm) -> Step
+fn form_step(state: State, taken: Option<Parsed<Form>>) -> Result<Parsed<State>, LineFault>
     ensures { result ≡ form_step state taken }
 {
-    match taken {
-        TakenForm::Rejected => Step::Rejected,
-        TakenForm::Accepted { form, next } => {
-            let mut after = state;
-            after.form = form;
-            Step::Accepted {
-                state: after,
-                next: next,
-            }
-        }
-    }
+    let Some(taken) = taken else {
+        return Err(LineFault::Unknown);
+    };
+    Ok(Parsed {
+        value: State {
+            form: taken.value,
+            ..state
+        },
+        next: taken.next,
+    })
 }
 
-fn names_step(state: State, taken: TakenNames) -> Step
+fn names_step(state: State, taken: Option<Parsed<Names>>) -> Result<Parsed<State>, LineFault>
     ensures { result ≡ names_step state taken }
 {
-    match taken {
-        TakenNames::Rejected => Step::Rejected,
-        TakenNames::Accepted { names, next } => {
-            let mut after = state;
-            after.names = names;
-            Step::Accepted {
-                state: after,
-                next: next,
-            }
-        }
-    }
+    let Some(taken) = taken else {
+        return Err(LineFault::Unknown);
+    };
+    Ok(Parsed {
+        value: State {
+            names: taken.value,
+            ..state
+        },
+        next: taken.next,
+    })
 }
 
-fn passed_line(text: &[u8], at: usize, state: State) -> Step
+fn passed_line(text: &[u8], at: usize, state: State) -> Result<Parsed<State>, LineFault>
     requires { at ≤ length text.now }
     ensures { state.«open».kind ≡ 0 → QuietStep over text.now at state result }
 {
     match text::scan_line(text, at) {
-        Scan::Good { count: _, next } => Step::Accepted {
-            state: state,
-            next: next,
-        },
-        Scan::Bad(_) => Step::Rejected,
+        Ok(words) => Ok(Parsed {
+            value: state,
+            next: words.next,
+        }),
+        Err(_) => Err(LineFault::Unknown),
     }
 }
 
@@ -90,32 +87,22 @@ pub fn setting_line(
     text: &[u8],
     at: usize,
     state: State,
-    argument_table: &[u8; 108],
-) -> Step
-    requires in_bounds { InBounds text.now at state }
-    requires argument_table_value { argument_table.now ≡ table_of_arguments }
+) -> Result<Parsed<State>, LineFault>
+    requires { InBounds text.now at state }
     ensures { QuietStep (setting_of setting) text.now at state result }
 {
-    let open = state.open;
     let rules = rules_for(setting);
-    let standing = rules.standing;
-    if !allowed(standing, open.kind, false) {
-        return Step::Rejected;
+    if !allowed(rules.standing, state.open.kind, false) {
+        return Err(LineFault::Unknown);
     }
     let form = state.form;
     let names = state.names;
     match setting {
-        Setting::BodyType => form_step(
-            state,
-            read_settings::take_type(text, at, form, argument_table),
-        ),
-        Setting::Degree => form_step(state, read_settings::take_degree(text, at, form)),
-        Setting::Group => names_step(state, read_settings::take_group(text, at, names)),
-        Setting::Smoothing => names_step(
-            state,
-            read_settings::take_smoothing(text, at, names, argument_table),
-        ),
-        Setting::Material => names_step(state, read_settings::take_material(text, at, names)),
+        Setting::BodyType => form_step(state, take_type(text, at, form)),
+        Setting::Degree => form_step(state, take_degree(text, at, form)),
+        Setting::Group => names_step(state, take_group(text, at, names)),
+        Setting::Smoothing => names_step(state, take_smoothing(text, at, names)),
+        Setting::Material => names_step(state, take_material(text, at, names)),
         Setting::PassedOver => passed_line(text, at, state),
     }
 }

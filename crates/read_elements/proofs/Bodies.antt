@@ -38,6 +38,22 @@ pub record WidesLeft (vp : List ℤ) (l : List ℕ) (first count at left : ℕ) 
   pub room : at + 3 * left ≤ length l
   pub same : wides vp count (drop first l) ≡ wides vp left (drop at l)
 
+-- before the first corner
+pub wides-begin : (vp : List ℤ) (l : List ℕ) (first count : ℕ) → first + 3 * count ≤ length l → WidesLeft vp l first count (first + 3 * 0) (count - 0)
+wides-begin vp l first count h =
+    let at : first ≡ first + 3 * 0 = omega arith in
+    let left : count ≡ count - 0 = omega arith in
+    record { room = omega arith; same = ap₂ (λ (n i : ℕ). wides vp n (drop i l)) left at }
+
+-- one further
+pub wides-further : (vp : List ℤ) (l : List ℕ) (first count k : ℕ) → k < count → WidesLeft vp l first count (first + 3 * k + 3) (count - k - 1)
+    → WidesLeft vp l first count (first + 3 * (k + 1)) (count - (k + 1))
+wides-further vp l first count k h w =
+    let a = w.room in
+    let at : first + 3 * k + 3 ≡ first + 3 * (k + 1) = omega arith in
+    let left : count - k - 1 ≡ count - (k + 1) = omega arith in
+    record { room = omega arith; same = w.same ∙ ap₂ (λ (n i : ℕ). wides vp n (drop i l)) left at }
+
 module _ (vp : List ℤ) (l : List ℕ) (first count at left : ℕ) (w : WidesLeft vp l first count at left) where
   pub wides-end : left ≡ 0 → true ≡ wides vp count (drop first l)
   wides-end e = sym (w.same ∙ ap (λ (n : ℕ). wides vp n (drop at l)) e)

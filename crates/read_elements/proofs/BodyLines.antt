@@ -6,13 +6,15 @@ use mathlib.Core.Bool.{Bool, true, false, cond, ◌&&◌}
 use mathlib.Core.List.{List, [], ◌∷◌}
 use mathlib.Core.Option.{Option, none, some}
 use lib.ListN.{length}
-use lib.Seq.{sets, length-sets}
+use lib.Seq.{length-sets}
 use lib.Dec.{leb}
 use lib.IntN.{ℤ}
 use borrow.Author.Tests.{leb-true, leb-false}
 use native.Mathlib.Omega.{arith}
 use Rattle.lists.proofs.Tests.{and_left, and_right}
 use Rattle.text.specs.Words.{Word}
+use Rattle.std.specs.Prelude.{Option as Answer, Some, None}
+use Rattle.text.specs.declared.Parsed.{Parsed}
 use Rattle.text.specs.Rest.{Rest, rest_at}
 use Rattle.digits.specs.Said.{Said, says, wrong}
 use Rattle.decimals.specs.Number.{number_of}
@@ -25,12 +27,10 @@ use Rattle.read_state.specs.declared.Form.{Form}
 use Rattle.read_state.specs.Numbers.{Walk, ended, full, stuck, on_number, numbers_from, numbers_walk}
 use Rattle.read_vertices.specs.Into.{EndedAfter, FullAfter, StoppedAfter, NumbersIs}
 use Rattle.read_vertices.specs.declared.Numbers.{Numbers}
-use Rattle.read_vertices.specs.declared.Numbers.TheVariants.{Ended, Full, Stopped}
+use Rattle.read_vertices.specs.declared.Numbers.TheVariants.{Ended, Full}
 use Rattle.read_vertices.proofs.Closed.{nothing}
 use Rattle.read_elements.specs.Corners.{CornersFound}
 use Rattle.read_elements.specs.Bodies.{form_in_force, controls_said, on_range, after_range, body_said, ControlsAre, NoBody, BodyIs}
-use Rattle.read_elements.specs.declared.Element.{Element}
-use Rattle.read_elements.specs.declared.Element.TheVariants.{Accepted, Rejected}
 
 -- ---- as many numbers as were asked for
 module _ (n : ℕ) (zs : List ℤ) (r : Rest) where
@@ -87,16 +87,16 @@ either : (a b : Bool) → (a && b) ≡ false → (a ≡ false) ⊎ (b ≡ false)
 either false b e = inl refl
 either true b e = inr e
 
--- ---- what storing the range answered
-module _ (k : model.Free) (s : List ℕ) (at first : ℕ) (y z : List ℤ) {r : Numbers} (i : NumbersIs (range_words k) s at first y z r) where
-  pub full-found : {e : ℕ} → r ≡ Full e → FullAfter (range_words k) s at first y z e
-  full-found h = rw h at i
+-- ---- what storing the range answered, where so many numbers were asked for
+module _ (k : model.Free) (s : List ℕ) (at first : ℕ) (y z : List ℤ) {m : ℕ} (g : m ≡ range_words k) where
+  pub full-found : {v : Numbers} {e : ℕ} → NumbersIs m s at first y z (Some v) → v ≡ Full e → FullAfter (range_words k) s at first y z e
+  full-found {v} {e} i h = let w : FullAfter m s at first y z e = rw h at i in rw g at w
 
-  pub end-found : {c q : ℕ} → r ≡ Ended c q → EndedAfter (range_words k) s at first y z c q
-  end-found h = rw h at i
+  pub end-found : {v : Numbers} {c q : ℕ} → NumbersIs m s at first y z (Some v) → v ≡ Ended c q → EndedAfter (range_words k) s at first y z c q
+  end-found {v} {c} {q} i h = let w : EndedAfter m s at first y z c q = rw h at i in rw g at w
 
-  pub stop-found : r ≡ Stopped → StoppedAfter (range_words k) s at first y z
-  stop-found h = rw h at i
+  pub stop-found : StoppedAfter m s at first y z → StoppedAfter (range_words k) s at first y z
+  stop-found w = rw g at w
 
 module _ (k : model.Free) (n : Used) (a : Names) (g : Form) (vp : List ℤ) (s : List ℕ) (at : ℕ) (l e : List ℕ) (bodies : ℕ) (y : List ℤ) where
   abbrev SaysBody : List ℤ → List Corner → ℕ → Type 0
@@ -163,12 +163,12 @@ module _ (k : model.Free) (n : Used) (a : Names) (g : Form) (vp : List ℤ) (s :
       same : length z ≡ length y
       same = ap length w.stored ∙ length-sets y (4 * n.bodies) w.found
 
-      pub line_taken : (m f : List ℕ) (r : Element) → ControlsAre k n a vp s end l m e f r → BodyIs k n a g vp s at l m e f bodies y z r
-      line_taken m f (Accepted c q) t =
+      pub line_taken : (m f : List ℕ) (r : Answer (Parsed ℕ)) → ControlsAre k n a vp s end l m e f r → BodyIs k n a g vp s at l m e f bodies y z r
+      line_taken m f (Some p) t =
           record {
             range = w.found;
             found = t.found;
-            said = to-body (form_in_force k g) (numbers_walk (range_words k) (rest_at s at)) (controls_said k n vp) w.found (rest_at s end) t.found q set w.walked t.said;
+            said = to-body (form_in_force k g) (numbers_walk (range_words k) (rest_at s at)) (controls_said k n vp) w.found (rest_at s end) t.found p.next set w.walked t.said;
             counted = t.counted;
             corners-room = t.corners-room;
             corners-stored = t.corners-stored;
@@ -178,7 +178,7 @@ module _ (k : model.Free) (n : Used) (a : Names) (g : Form) (vp : List ℤ) (s :
             ranges-room = leb-true (4 * n.bodies + 4) (length y) (and_right (leb (9 * n.bodies + 9) bodies) (leb (4 * n.bodies + 4) (length y)) fits);
             ranges-stored = w.stored;
           }
-      line_taken m f Rejected t =
+      line_taken m f None t =
           record {
             same-corners = t.same-corners;
             same-elements = t.same-elements;

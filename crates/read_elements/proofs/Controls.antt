@@ -5,10 +5,11 @@ use mathlib.Core.Bool.{Bool, true, false, cond}
 use mathlib.Core.List.{List}
 use mathlib.Core.Option.{none, some}
 use lib.ListN.{length, drop}
-use lib.Seq.{sets, length-sets}
+use lib.Seq.{length-sets}
 use lib.IntN.{ℤ}
 use native.Mathlib.Omega.{arith}
 use Rattle.lists.specs.Lists.{flat}
+use Rattle.std.specs.Prelude.{None}
 use Rattle.text.specs.Rest.{rest_at}
 use Rattle.references.specs.Corner.{Corner}
 use Rattle.model.specs.Model as model
@@ -19,10 +20,8 @@ use Rattle.read_state.specs.declared.Names.{Names}
 use Rattle.read_vertices.proofs.Closed.{nothing, at-least}
 use Rattle.read_elements.specs.Corners.{CornersFound, corner_said, corners_walk}
 use Rattle.tables.specs.Rows.{element_numbers}
-use Rattle.read_elements.specs.Elements.{element_said, stored_element, TakenElement, NoElement, ElementIs}
+use Rattle.read_elements.specs.Elements.{element_said, stored_element, TakenElement, NoElement}
 use Rattle.read_elements.specs.Bodies.{controls_of, rule_for, wides_for, wide_in, wide_only, TakenControls, NoControls}
-use Rattle.read_elements.specs.declared.Element.{Element}
-use Rattle.read_elements.specs.declared.Element.TheVariants.{Accepted, Rejected}
 use Rattle.read_elements.proofs.Bodies.{wides-for}
 
 pub wide-some : (k : model.Free) (vp : List ℤ) (o : CornersFound) (cs : List Corner) (q : ℕ) → o ≡ some (cs, q) → wide_in k vp cs ≡ true → wide_only k vp o ≡ some (cs, q)
@@ -42,23 +41,18 @@ few model.curve2 = omega arith
 few model.surface = omega arith
 
 module _ (k : model.Free) (n : Used) (a : Names) (vp : List ℤ) (s : List ℕ) (at : ℕ) (l m e f : List ℕ) where
-  module _ {r : Element} (i : ElementIs (rule_for k) (n.bodies + 1) n a s at l m e f r) where
-    pub taken : {c q : ℕ} → r ≡ Accepted c q → TakenElement (rule_for k) (n.bodies + 1) n a s at l m e f c q
-    taken h = rw h at i
-
-    pub none-taken : r ≡ Rejected → NoControls k n vp s at l m e f
-    none-taken h =
-        let w : NoElement (rule_for k) n s at l m e f = rw h at i in
-        record {
-          same-corners = w.same-corners;
-          same-elements = w.same-elements;
-          short = λ cs q j. w.short cs q (some-wide k vp (element_said (rule_for k) n (rest_at s at)) cs q j).0;
-        }
+  pub none-taken : NoElement (rule_for k) n s at l m e f → NoControls k n vp s at l m e f
+  none-taken w =
+      record {
+        same-corners = w.same-corners;
+        same-elements = w.same-elements;
+        short = λ cs q j. w.short cs q (some-wide k vp (element_said (rule_for k) n (rest_at s at)) cs q j).0;
+      }
 
   module _ {c q : ℕ} (w : TakenElement (rule_for k) (n.bodies + 1) n a s at l m e f c q) where
     room : n.corners + 3 * c ≤ length l
     room =
-        let z = at-least (fewest_controls k) (corners_walk (corner_said n (controls_of k)) 0 (rest_at s at)) w.found q w.said in
+        let z = at-least (fewest_controls k) (corners_walk (corner_said n (controls_of k)) None (rest_at s at)) w.found q w.said in
         let y = few k in
         let x = w.counted in
         let v = z.1 in

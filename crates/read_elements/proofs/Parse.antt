@@ -8,6 +8,7 @@ use lib.ListN.{length}
 use lib.Dec.{leb}
 use borrow.Author.Tests.{leb-true, le-leb}
 use native.Mathlib.Omega.{arith}
+use Rattle.std.specs.Prelude.{None}
 use Rattle.text.specs.Rest.{Rest}
 use Rattle.references.specs.Corner.{Corner}
 use Rattle.tables.specs.declared.Used.{Used}
@@ -41,8 +42,8 @@ unfolding parse
 taken-parse k x n r cs q u out e =
     let h = corner_said (used_in x) (rule_of k).form in
     let f : element_said (rule_of k) (used_in x) r ≡ some (cs, q) = ap (λ (m : Used). element_said (rule_of k) m r) (sym u) ∙ e in
-    let s = at-least (fewest k) (corners_walk h 0 r) cs q f in
-    let w = W.walked h 0 r.words r.bad r.next cs q s.0 in
+    let s = at-least (fewest k) (corners_walk h None r) cs q f in
+    let w = W.walked h None r.words r.bad r.next cs q s.0 in
     let many = s.1 in
     let same = w.counted in
     let count : leb (fewest k) (length r.words) ≡ true = le-leb (fewest k) (length r.words) (omega arith) in
@@ -79,9 +80,9 @@ parse-said k x n r key t u good e =
     let alone : unlike ws cs ≡ none = ap (unlike ws) (sym these) ∙ d.0 in
     let many = leb-true (fewest k) (length ws) b.0 in
     let same = v.counted in
-    let walk : corners_walk h 0 r ≡ some (cs, r.next) = rw good (v.alone alone) in
+    let walk : corners_walk h None r ≡ some (cs, r.next) = rw good (v.alone alone) in
     record {
       corners = cs;
       is = sym (fine-is d.1) ∙ ap (element k) these;
-      said = ap (λ (m : Used). element_said (rule_of k) m r) u ∙ has-least (fewest k) (corners_walk h 0 r) cs r.next walk (omega arith);
+      said = ap (λ (m : Used). element_said (rule_of k) m r) u ∙ has-least (fewest k) (corners_walk h None r) cs r.next walk (omega arith);
     }

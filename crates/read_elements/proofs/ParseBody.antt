@@ -9,6 +9,7 @@ use lib.Dec.{leb, ltb}
 use lib.IntN.{ℤ}
 use borrow.Author.Tests.{leb-true, le-leb, lt-ltb, le-ltb}
 use native.Mathlib.Omega.{arith}
+use Rattle.std.specs.Prelude.{None}
 use Rattle.text.specs.Words.{Word}
 use Rattle.text.specs.Rest.{Rest}
 use Rattle.digits.specs.Said.{Said, says, wrong}
@@ -75,9 +76,9 @@ module _ (k : Free) (x : State) (n : Used) (g : Form) (vp : List ℤ) (u : n ≡
       let f : body_said k (used_in x) (form_in x.form) vp r ≡ some (zs, (cs, q)) = ap₂ (λ (a : Used) (b : Form). body_said k a b vp r) (sym u) (sym v) ∙ e in
       let o = of-body (form_in_force k (form_in x.form)) (numbers_walk m r) (controls_said k (used_in x) vp) zs cs q f in
       let d = some-wide k vp (element_said (rule_for k) (used_in x) o.rest) cs q o.controls in
-      let s = at-least (fewest_controls k) (corners_walk h 0 o.rest) cs q d.0 in
+      let s = at-least (fewest_controls k) (corners_walk h None o.rest) cs q d.0 in
       let range = R.ranged (seen_in x) (form_is k) m 0 (numbers k x) ws r.bad r.next zs o.rest o.walked in
-      let w = W.walked h 0 after r.bad r.next cs q (ap (corners_walk h 0) (sym range.rest) ∙ s.0) in
+      let w = W.walked h None after r.bad r.next cs q (ap (corners_walk h None) (sym range.rest) ∙ s.0) in
       let many = s.1 in
       let same = w.counted in
       let all = range.counted in
@@ -131,10 +132,10 @@ module _ (k : Free) (x : State) (n : Used) (g : Form) (vp : List ℤ) (u : n ≡
       let d2 = must-fine (in_force k x.form x.form.basis) 11 key wide s d1.1 in
       let d3 = unless-fine (narrow_in k x.model.vertices after cs) 12 last s d2.1 in
       let alone = w.alone d1.0 in
-      let walk : corners_walk h 0 (R.whole after r.bad r.next) ≡ some (cs, r.next) = ap (λ (b : Option ℕ). corners_from h 0 after b r.next) good ∙ alone in
+      let walk : corners_walk h None (R.whole after r.bad r.next) ≡ some (cs, r.next) = ap (λ (b : Option ℕ). corners_from h None after b r.next) good ∙ alone in
       let same = w.counted in
       let left = length-drop m ws in
-      let there = has-least (fewest_controls k) (corners_walk h 0 (R.whole after r.bad r.next)) cs r.next walk (omega arith) in
+      let there = has-least (fewest_controls k) (corners_walk h None (R.whole after r.bad r.next)) cs r.next walk (omega arith) in
       let wider = narrow_wide x.model.vertices vp t after cs k (used_in x) w.counted w.each d3.0 in
       record {
         range = zs;

@@ -11,35 +11,29 @@ use lib.Dec.{leb}
 use borrow.Author.Tests.{leb-true, leb-false}
 use native.Mathlib.Omega.{arith}
 use Rattle.lists.specs.Lists.{flat}
+use Rattle.std.specs.Prelude.{None}
 use Rattle.text.specs.Rest.{rest_at}
 use Rattle.references.specs.Corner.{Corner}
 use Rattle.model.specs.Layout.{corner_row}
 use Rattle.tables.specs.declared.Used.{Used}
 use Rattle.read_state.specs.declared.Names.{Names}
 use Rattle.read_vertices.proofs.Closed.{at-least, has-least}
-use Rattle.read_elements.specs.Corners.{CornersFound, corner_said, corners_walk, TookCorners, StoppedCorners, CornersIs}
+use Rattle.read_elements.specs.Corners.{CornersFound, corner_said, corners_walk, TookCorners, StoppedCorners}
 use Rattle.tables.specs.Rows.{element_numbers}
 use Rattle.read_elements.specs.Elements.{stored_element, TakenElement, NoElement}
 use Rattle.read_elements.specs.declared.Rule.{Rule}
-use Rattle.read_elements.specs.declared.Corners.{Corners}
-use Rattle.read_elements.specs.declared.Corners.TheVariants.{Complete, Stopped}
 
 -- two answers for one line have as many corners
 one-count : (o : CornersFound) (cs ds : List Corner) (p q : ℕ) → o ≡ some (cs, p) → o ≡ some (ds, q) → length cs ≡ length ds
 one-count o cs ds p q e f = let z : ◌≡◌ {A = List Corner × ℕ} (cs, p) (ds, q) = cc in ap (λ (x : List Corner × ℕ). length x.0) z
 
-module _ (u : Rule) (n : Used) (s : List ℕ) (at : ℕ) (l m : List ℕ) {r : Corners} (k : CornersIs (corner_said n u.form) s at n.corners l m r) where
-  pub took : {q c : ℕ} → r ≡ Complete q c → TookCorners (corner_said n u.form) s at n.corners l m q c
-  took e = rw e at k
-
-  pub no-corners : r ≡ Stopped → (e : List ℕ) → NoElement u n s at l m e e
-  no-corners z e =
-      let w : StoppedCorners (corner_said n u.form) s at n.corners l m = rw z at k in
-      record {
-        same-corners = w.same;
-        same-elements = refl;
-        short = λ cs q j. inl (w.short cs q (at-least u.fewest (corners_walk (corner_said n u.form) 0 (rest_at s at)) cs q j).0);
-      }
+pub no-corners : (u : Rule) (n : Used) (s : List ℕ) (at : ℕ) (l m : List ℕ) → StoppedCorners (corner_said n u.form) s at n.corners l m → (e : List ℕ) → NoElement u n s at l m e e
+no-corners u n s at l m w e =
+    record {
+      same-corners = w.same;
+      same-elements = refl;
+      short = λ cs q j. inl (w.short cs q (at-least u.fewest (corners_walk (corner_said n u.form) None (rest_at s at)) cs q j).0);
+    }
 
 module _ (u : Rule) (n : Used) (s : List ℕ) (at : ℕ) (l m : List ℕ) {q c : ℕ} (w : TookCorners (corner_said n u.form) s at n.corners l m q c) where
   same : length m ≡ length l
@@ -54,8 +48,8 @@ module _ (u : Rule) (n : Used) (s : List ℕ) (at : ℕ) (l m : List ℕ) {q c :
         same-corners = same;
         same-elements = refl;
         short = λ cs p j.
-            let z = at-least u.fewest (corners_walk (corner_said n u.form) 0 (rest_at s at)) cs p j in
-            let y = one-count (corners_walk (corner_said n u.form) 0 (rest_at s at)) cs w.found p q z.0 w.walked in
+            let z = at-least u.fewest (corners_walk (corner_said n u.form) None (rest_at s at)) cs p j in
+            let y = one-count (corners_walk (corner_said n u.form) None (rest_at s at)) cs w.found p q z.0 w.walked in
             let x = w.counted in
             let v = z.1 in
             absurd (omega arith);
@@ -75,7 +69,7 @@ module _ (u : Rule) (n : Used) (s : List ℕ) (at : ℕ) (l m : List ℕ) {q c :
         let x = w.counted in
         record {
           found = w.found;
-          said = has-least u.fewest (corners_walk (corner_said n u.form) 0 (rest_at s at)) w.found q w.walked (omega arith);
+          said = has-least u.fewest (corners_walk (corner_said n u.form) None (rest_at s at)) w.found q w.walked (omega arith);
           counted = w.counted;
           corners-room = w.room;
           corners-stored = w.stored;

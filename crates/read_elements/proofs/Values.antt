@@ -8,9 +8,10 @@ use lib.ListN.{length}
 use native.Mathlib.Omega.{arith}
 use Rattle.lists.specs.Lists.{all}
 use Rattle.lists.proofs.Tests.{and_both}
+use Rattle.std.specs.Prelude.{Option as Answer, Some, None}
 use Rattle.text.specs.Words.{Word}
 use Rattle.digits.specs.Said.{Said, says, wrong}
-use Rattle.references.specs.Corner.{Corner, alike}
+use Rattle.references.specs.Corner.{Corner, Parts, alike}
 use Rattle.model.specs.Parse.{Parsed, fine, fault, then, WordForm, Value, corner, on_said, Seen, said_of, placed, values_of, differing, unlike}
 use Rattle.read_vertices.proofs.Closed.{nothing}
 use Rattle.read_elements.specs.Corners.{pattern_of, follows, CornersFound, ahead, on_corner, corners_from}
@@ -40,13 +41,13 @@ module _ (h : List ℕ → Said Corner) where
   later x form i r = record { reads = λ j k w. r.reads j (omega arith) w }
 
   -- ---- from the walk to the values
-  pub record Walked (f : ℕ) (ws : List Word) (b : Option ℕ) (q : ℕ) (cs : List Corner) (p : ℕ) : Type 0 where
+  pub record Walked (f : Answer Parts) (ws : List Word) (b : Option ℕ) (q : ℕ) (cs : List Corner) (p : ℕ) : Type 0 where
     pub bad : b ≡ none
     pub next : q ≡ p
     pub counted : length cs ≡ length ws
     pub values : (x : Seen) (form : ℕ → WordForm) (i : ℕ) → Reads x form i → values_of x form i ws ≡ fine (map corner cs)
     pub alone : unlike ws cs ≡ none
-    pub along : (d : Corner) → pattern_of d ≡ f → differing d ws cs ≡ none
+    pub along : (d : Corner) → Some (pattern_of d) ≡ f → differing d ws cs ≡ none
 
   record OfAhead (t : Bool) (c : Corner) (o : CornersFound) (cs : List Corner) (p : ℕ) : Type 0 where
     pub test : t ≡ true
@@ -66,14 +67,14 @@ module _ (h : List ℕ → Said Corner) where
         from = ap (λ (n : ℕ). some (r.0, n)) (ap (λ (x : List Corner × ℕ). x.1) z);
       }
 
-  walked-word : (f : ℕ) (w : Word) (ws : List Word) (b : Option ℕ) (q : ℕ) (cs : List Corner) (p : ℕ) (v : Said Corner) → h w.bytes ≡ v
-      → ((g : ℕ) (ds : List Corner) → corners_from h g ws b q ≡ some (ds, p) → Walked g ws b q ds p)
-      → on_corner v (λ c. cond (follows f (pattern_of c)) (ahead c (corners_from h (pattern_of c) ws b q)) none) ≡ some (cs, p)
+  walked-word : (f : Answer Parts) (w : Word) (ws : List Word) (b : Option ℕ) (q : ℕ) (cs : List Corner) (p : ℕ) (v : Said Corner) → h w.bytes ≡ v
+      → ((g : Answer Parts) (ds : List Corner) → corners_from h g ws b q ≡ some (ds, p) → Walked g ws b q ds p)
+      → on_corner v (λ c. cond (follows f (pattern_of c)) (ahead c (corners_from h (Some (pattern_of c)) ws b q)) none) ≡ some (cs, p)
       → Walked f (w ∷ ws) b q cs p
   walked-word f w ws b q cs p (wrong n) v ih e = nothing e
   walked-word f w ws b q cs p (says c) v ih e =
-      let o = of-ahead (follows f (pattern_of c)) c (corners_from h (pattern_of c) ws b q) cs p e in
-      let t = ih (pattern_of c) o.rest o.from in
+      let o = of-ahead (follows f (pattern_of c)) c (corners_from h (Some (pattern_of c)) ws b q) cs p e in
+      let t = ih (Some (pattern_of c)) o.rest o.from in
       let y = o.whole in
       rw y (record {
         bad = t.bad;
@@ -85,11 +86,11 @@ module _ (h : List ℕ → Said Corner) where
             rw (a, v, d) refl;
         alone = t.along c refl;
         along = λ d g.
-            let a : alike d c ≡ true = sym (follows-alike d c) ∙ ap (λ (k : ℕ). follows k (pattern_of c)) g ∙ o.test in
-            ap (λ (z : Bool). cond z (differing d ws o.rest) (some w.place)) a ∙ t.along d (sym (same-pattern d c a));
+            let a : alike d c ≡ true = sym (follows-alike d c) ∙ ap (λ (k : Answer Parts). follows k (pattern_of c)) g ∙ o.test in
+            ap (λ (z : Bool). cond z (differing d ws o.rest) (some w.place)) a ∙ t.along d (ap Some (sym (same-pattern d c a)));
       })
 
-  pub walked : (f : ℕ) (ws : List Word) (b : Option ℕ) (q : ℕ) (cs : List Corner) (p : ℕ) → corners_from h f ws b q ≡ some (cs, p) → Walked f ws b q cs p
+  pub walked : (f : Answer Parts) (ws : List Word) (b : Option ℕ) (q : ℕ) (cs : List Corner) (p : ℕ) → corners_from h f ws b q ≡ some (cs, p) → Walked f ws b q cs p
   walked f [] none q cs p e =
       let z : ◌≡◌ {A = List Corner × ℕ} ([], q) (cs, p) = cc in
       let y : [] ≡ cs = ap (λ (x : List Corner × ℕ). x.0) z in
@@ -110,8 +111,8 @@ module _ (h : List ℕ → Said Corner) where
     pub whole : xs ≡ map corner corners
     pub counted : length corners ≡ length ws
     pub each : (t : Corner → Bool) → ((w : List ℕ) (c : Corner) → h w ≡ says c → t c ≡ true) → all t corners ≡ true
-    pub alone : unlike ws corners ≡ none → corners_from h 0 ws none q ≡ some (corners, q)
-    pub along : (d : Corner) → differing d ws corners ≡ none → corners_from h (pattern_of d) ws none q ≡ some (corners, q)
+    pub alone : unlike ws corners ≡ none → corners_from h None ws none q ≡ some (corners, q)
+    pub along : (d : Corner) → differing d ws corners ≡ none → corners_from h (Some (pattern_of d)) ws none q ≡ some (corners, q)
 
   none_both : (t : Bool) (o : Option ℕ) (p : ℕ) → cond t o (some p) ≡ none → (t ≡ true) × (o ≡ none)
   none_both true o p e = (refl, e)
@@ -137,12 +138,12 @@ module _ (h : List ℕ → Said Corner) where
           counted = ap suc t.counted;
           each = λ p k. and_both (k w.bytes c said) (t.each p k);
           alone = λ g.
-              ap (λ (v : Said Corner). on_corner v (λ d. cond (follows 0 (pattern_of d)) (ahead d (corners_from h (pattern_of d) ws none q)) none)) said
+              ap (λ (v : Said Corner). on_corner v (λ d. cond (follows None (pattern_of d)) (ahead d (corners_from h (Some (pattern_of d)) ws none q)) none)) said
               ∙ ap (ahead c) (t.along c g);
           along = λ d g.
               let u = none_both (alike d c) (differing d ws ds) w.place g in
-              ap (λ (v : Said Corner). on_corner v (λ b. cond (follows (pattern_of d) (pattern_of b)) (ahead b (corners_from h (pattern_of b) ws none q)) none)) said
-              ∙ ap (λ (b : Bool). cond b (ahead c (corners_from h (pattern_of c) ws none q)) none) (follows-alike d c ∙ u.0)
-              ∙ ap (λ (k : ℕ). ahead c (corners_from h k ws none q)) (same-pattern d c u.0)
+              ap (λ (v : Said Corner). on_corner v (λ b. cond (follows (Some (pattern_of d)) (pattern_of b)) (ahead b (corners_from h (Some (pattern_of b)) ws none q)) none)) said
+              ∙ ap (λ (b : Bool). cond b (ahead c (corners_from h (Some (pattern_of c)) ws none q)) none) (follows-alike d c ∙ u.0)
+              ∙ ap (λ (k : Parts). ahead c (corners_from h (Some k) ws none q)) (same-pattern d c u.0)
               ∙ ap (ahead c) (t.along d u.1);
         }

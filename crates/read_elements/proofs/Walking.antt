@@ -10,16 +10,12 @@ use lib.Dec.{leb}
 use borrow.Author.Tests.{leb-true, leb-false}
 use native.Mathlib.Omega.{arith}
 use Rattle.lists.specs.Lists.{flat}
+use Rattle.std.specs.Prelude.{Option as Answer, Some, None}
 use Rattle.text.specs.Words.{word_of}
 use Rattle.text.specs.Rest.{Rest, rest_at, end_of, WordMet, EndMet, BadMet}
 use Rattle.digits.specs.Said.{Said, says, wrong}
 use Rattle.digits.specs.Answers.{ends_at}
-use Rattle.references.specs.Corner.{Corner}
-use Rattle.references.specs.Answers.{said_corner, said_reference}
-use Rattle.references.specs.declared.corner.CornerWord.{CornerWord}
-use Rattle.references.specs.declared.corner.CornerWord.TheVariants.{Of, Malformed, Missing}
-use Rattle.references.specs.declared.reference.Reference.{Reference}
-use Rattle.references.specs.declared.reference.Reference.TheVariants as reference
+use Rattle.references.specs.Corner.{Corner, Parts}
 use Rattle.model.specs.Parse.{on_said}
 use Rattle.digits.proofs.Saids.{ended-says, ended-wrong}
 use Rattle.tables.proofs.Flat.{flat_append}
@@ -49,46 +45,25 @@ after-long ds cs q (some p) e =
     let x = length-append ds p.0 in
     omega arith
 
--- what the answer at a word says of it
-module _ (x : Said Corner) (at : ℕ) {r : CornerWord} (g : said_corner r ≡ ends_at x at) where
-  pub is-corner : {v vt vn e : ℕ} → r ≡ Of v vt vn e → (x ≡ says (record { v = v; vt = vt; vn = vn })) × (e ≡ at)
-  is-corner {v} {vt} {vn} {e} h = ended-says x (record { v = v; vt = vt; vn = vn }) at e (sym (ap said_corner h) ∙ g)
-
-  pub is-malformed : r ≡ Malformed → x ≡ wrong 6
-  is-malformed h = ended-wrong x 6 at (sym (ap said_corner h) ∙ g)
-
-  pub is-missing : r ≡ Missing → x ≡ wrong 8
-  is-missing h = ended-wrong x 8 at (sym (ap said_corner h) ∙ g)
-
 -- a curv2's control is a reference, in the first place
-abbrev as_control : Reference → CornerWord
-as_control (reference.Item k e) = Of k 0 0 e
-as_control reference.Malformed = Malformed
-as_control reference.Missing = Missing
+pub control-ended : (x : Said ℕ) (at : ℕ) {v e : ℕ} → says (v, e) ≡ ends_at x at → says (control v, e) ≡ ends_at (on_said control x) at
+control-ended x at {v} {e} h = let o = ended-says x v at e h in rw (o.0, o.1) refl
 
-pub control-ended : (x : Said ℕ) (at : ℕ) (r k : Reference) → said_reference r ≡ ends_at x at → r ≡ k → said_corner (as_control k) ≡ ends_at (on_said control x) at
-control-ended x at r k g q = go x k (sym (ap said_reference q) ∙ g)
-  where
-    go : (x : Said ℕ) (k : Reference) → said_reference k ≡ ends_at x at → said_corner (as_control k) ≡ ends_at (on_said control x) at
-    go (says n) (reference.Item j e) h = let z : ◌≡◌ {A = ℕ × ℕ} (j, e) (n, at) = cc in ap (λ (p : ℕ × ℕ). says (control p.0, p.1)) z
-    go (wrong n) (reference.Item j e) h = absurd (let z : ◌≡◌ {A = ℕ} 0 1 = cc in omega arith)
-    go (says n) reference.Malformed h = absurd (let z : ◌≡◌ {A = ℕ} 0 1 = cc in omega arith)
-    go (wrong n) reference.Malformed h = let z : 6 ≡ n = cc in ap wrong z
-    go (says n) reference.Missing h = absurd (let z : ◌≡◌ {A = ℕ} 0 1 = cc in omega arith)
-    go (wrong n) reference.Missing h = let z : 8 ≡ n = cc in ap wrong z
+pub control-wrong : (x : Said ℕ) (at : ℕ) {n : ℕ} → wrong n ≡ ends_at x at → wrong n ≡ ends_at (on_said control x) at
+control-wrong x at {n} h = rw (ended-wrong x n at h) refl
 
-pub record Walking (h : List ℕ → Said Corner) (s : List ℕ) (at first : ℕ) (l : List ℕ) (i n count before : ℕ) (t : List ℕ) : Type 0 where
+pub record Walking (h : List ℕ → Said Corner) (s : List ℕ) (at first : ℕ) (l : List ℕ) (i n count : ℕ) (before : Answer Parts) (t : List ℕ) : Type 0 where
   pub to : i ≤ length s
   pub small : count ≤ i
   pub done : List Corner
   pub place : n ≡ first + 3 * length done
   pub counted : count ≡ length done
-  pub rest : corners_walk h 0 (rest_at s at) ≡ after done (corners_walk h before (rest_at s i))
+  pub rest : corners_walk h None (rest_at s at) ≡ after done (corners_walk h before (rest_at s i))
   pub room : 0 < length done → first + 3 * length done ≤ length l
   pub stored : t ≡ sets l first (flat corner_row done)
   pub same : length t ≡ length l
 
-pub begin : (h : List ℕ → Said Corner) (s : List ℕ) (at first : ℕ) (l : List ℕ) → at ≤ length s → Walking h s at first l at first 0 0 l
+pub begin : (h : List ℕ → Said Corner) (s : List ℕ) (at first : ℕ) (l : List ℕ) → at ≤ length s → Walking h s at first l at first 0 None l
 begin h s at first l k =
     record {
       to = k;
@@ -96,13 +71,13 @@ begin h s at first l k =
       done = [];
       place = omega arith;
       counted = refl;
-      rest = sym (after_none (corners_walk h 0 (rest_at s at)));
+      rest = sym (after_none (corners_walk h None (rest_at s at)));
       room = λ z. absurd (omega arith);
       stored = refl;
       same = refl;
     }
 
-module _ (h : List ℕ → Said Corner) (s : List ℕ) (at first : ℕ) (l : List ℕ) {i n count before : ℕ} {t : List ℕ} (w : Walking h s at first l i n count before t) where
+module _ (h : List ℕ → Said Corner) (s : List ℕ) (at first : ℕ) (l : List ℕ) {i n count : ℕ} {before : Answer Parts} {t : List ℕ} (w : Walking h s at first l i n count before t) where
   stop : corners_walk h before (rest_at s i) ≡ none → StoppedCorners h s at first l t
   stop e =
       record {
@@ -131,24 +106,24 @@ module _ (h : List ℕ → Said Corner) (s : List ℕ) (at first : ℕ) (l : Lis
     pub stop-wrong : (k : ℕ) → h (word_of (drop p s)) ≡ wrong k → StoppedCorners h s at first l t
     stop-wrong k e = stop (ap (corners_walk h before) m.rest ∙ rw e refl)
 
-    module _ (c : Corner) {e : ℕ} (r : (h (word_of (drop p s)) ≡ says c) × (e ≡ end_of s p)) {g : ℕ} (ge : g ≡ pattern_of c) where
-      here : corners_walk h before (rest_at s i) ≡ cond (follows before g) (ahead c (corners_walk h g (rest_at s e))) none
+    module _ (c : Corner) {e : ℕ} (r : (h (word_of (drop p s)) ≡ says c) × (e ≡ end_of s p)) {g : Parts} (ge : g ≡ pattern_of c) where
+      here : corners_walk h before (rest_at s i) ≡ cond (follows before g) (ahead c (corners_walk h (Some g) (rest_at s e))) none
       here =
           ap (corners_walk h before) m.rest ∙ rw r.0 refl
-          ∙ ap (λ (j : ℕ). cond (follows before j) (ahead c (corners_walk h j (rest_at s (end_of s p)))) none) (sym ge)
-          ∙ ap (λ (j : ℕ). cond (follows before g) (ahead c (corners_walk h g (rest_at s j))) none) (sym r.1)
+          ∙ ap (λ (j : Parts). cond (follows before j) (ahead c (corners_walk h (Some j) (rest_at s (end_of s p)))) none) (sym ge)
+          ∙ ap (λ (j : ℕ). cond (follows before g) (ahead c (corners_walk h (Some g) (rest_at s j))) none) (sym r.1)
 
       pub further : (i < e) × (e ≤ length s)
       further = let a = m.from in let b = m.more in let d = m.to in let f = r.1 in (omega arith, omega arith)
 
       pub stop-pattern : follows before g ≡ false → StoppedCorners h s at first l t
-      stop-pattern f = stop (here ∙ ap (λ (z : Bool). cond z (ahead c (corners_walk h g (rest_at s e))) none) f)
+      stop-pattern f = stop (here ∙ ap (λ (z : Bool). cond z (ahead c (corners_walk h (Some g) (rest_at s e))) none) f)
 
       module _ (f : follows before g ≡ true) where
-        on : corners_walk h 0 (rest_at s at) ≡ after (w.done ++ c ∷ []) (corners_walk h g (rest_at s e))
+        on : corners_walk h None (rest_at s at) ≡ after (w.done ++ c ∷ []) (corners_walk h (Some g) (rest_at s e))
         on =
-            w.rest ∙ ap (after w.done) (here ∙ ap (λ (z : Bool). cond z (ahead c (corners_walk h g (rest_at s e))) none) f)
-            ∙ after-ahead w.done c (corners_walk h g (rest_at s e))
+            w.rest ∙ ap (after w.done) (here ∙ ap (λ (z : Bool). cond z (ahead c (corners_walk h (Some g) (rest_at s e))) none) f)
+            ∙ after-ahead w.done c (corners_walk h (Some g) (rest_at s e))
 
         longer : length (w.done ++ c ∷ []) ≡ length w.done + 1
         longer = length-append w.done (c ∷ [])
@@ -162,13 +137,13 @@ module _ (h : List ℕ → Said Corner) (s : List ℕ) (at first : ℕ) (l : Lis
             record {
               same = ap length o ∙ w.same;
               short = λ cs q j.
-                  let y = after-long (w.done ++ c ∷ []) cs q (corners_walk h g (rest_at s e)) (sym on ∙ j) in
+                  let y = after-long (w.done ++ c ∷ []) cs q (corners_walk h (Some g) (rest_at s e)) (sym on ∙ j) in
                   let x = longer in
                   let v = w.place in
                   omega arith;
             }
 
-        pub turn : (u : List ℕ) → u ≡ cond (leb (n + 3) (length t)) (sets t n (corner_row c)) t → leb (n + 3) (length t) ≡ true → Walking h s at first l e (n + 3) (count + 1) g u
+        pub turn : (u : List ℕ) → u ≡ cond (leb (n + 3) (length t)) (sets t n (corner_row c)) t → leb (n + 3) (length t) ≡ true → Walking h s at first l e (n + 3) (count + 1) (Some g) u
         turn u y k =
             let a = leb-true (n + 3) (length t) k in
             let d = w.same in

@@ -1,10 +1,11 @@
 -- The lines of curv, curv2, surf: what the rest of a line says as a body's element, and what is stored of it.
-use Rattle.std.specs.Prelude.{ℕ, zero, suc, ◌+◌, ◌*◌, ◌-◌, ◌≤◌, ◌<◌, ◌≡◌, ◌⊎◌, Bool, true, false, cond, ◌&&◌, not, List, length, get_or, drop, leb, eqb, ℤ, pos}
+use Rattle.std.specs.Prelude.{ℕ, zero, suc, ◌+◌, ◌*◌, ◌-◌, ◌≤◌, ◌<◌, ◌≡◌, ◌⊎◌, Bool, true, false, cond, ◌&&◌, not, List, length, get_or, drop, leb, eqb, ℤ, pos, Option as Answer, Some, None}
 use Rattle.std.proofs.Math.Option.{Option, none, some}
 use Rattle.std.specs.Int.Signed.{lt_z}
 use Rattle.std.proofs.lemmas.List.Edits.{sets}
 use Rattle.lists.specs.Lists.{all, flat}
 use Rattle.text.specs.Rest.{Rest, rest_at}
+use Rattle.text.specs.declared.Parsed.{Parsed}
 use Rattle.references.specs.Corner.{Corner}
 use Rattle.tables.specs.declared.Used.{Used}
 use Rattle.read_state.specs.declared.Names.{Names}
@@ -22,13 +23,11 @@ use Rattle.read_elements.specs.Elements.{element_said, stored_element}
 use Rattle.read_elements.specs.declared.CornerForm.{CornerForm}
 use Rattle.read_elements.specs.declared.CornerForm.TheVariants.{Vertex, Parameter}
 use Rattle.read_elements.specs.declared.Rule.{Rule}
-use Rattle.read_elements.specs.declared.Element.{Element}
-use Rattle.read_elements.specs.declared.Element.TheVariants.{Accepted, Rejected}
 
 -- the form of a control, as its statement's row says it
 abbrev pub corner_form : WordForm → CornerForm
 corner_form form.Number = Parameter
-corner_form (form.Corner p) = Vertex p.vt p.vn
+corner_form (form.Corner p) = Vertex p
 corner_form form.Control = Parameter
 corner_form form.Curve = Parameter
 corner_form form.Direction = Parameter
@@ -112,9 +111,9 @@ pub record NoControls (k : model.Free) (n : Used) (vp : List ℤ) (s : List ℕ)
   pub same-elements : length f ≡ length e
   pub short : (cs : List Corner) (q : ℕ) → controls_said k n vp (rest_at s at) ≡ some (cs, q) → (length l < n.corners + 3 * length cs) ⊎ (length e < 9 * n.elements + 9)
 
-abbrev pub ControlsAre : model.Free → Used → Names → List ℤ → List ℕ → ℕ → List ℕ → List ℕ → List ℕ → List ℕ → Element → Type 0
-ControlsAre k n a vp s at l m e f (Accepted c q) = TakenControls k n a vp s at l m e f c q
-ControlsAre k n a vp s at l m e f Rejected = NoControls k n vp s at l m e f
+abbrev pub ControlsAre : model.Free → Used → Names → List ℤ → List ℕ → ℕ → List ℕ → List ℕ → List ℕ → List ℕ → Answer (Parsed ℕ) → Type 0
+ControlsAre k n a vp s at l m e f (Some p) = TakenControls k n a vp s at l m e f p.value p.next
+ControlsAre k n a vp s at l m e f None = NoControls k n vp s at l m e f
 
 -- ---- and the ranges' table held y and then holds z; the bodies' has room for `bodies` entries
 pub record TakenBody (k : model.Free) (n : Used) (a : Names) (g : Form) (vp : List ℤ) (s : List ℕ) (at : ℕ) (l m e f : List ℕ) (bodies : ℕ) (y z : List ℤ) (count next : ℕ) : Type 0 where
@@ -138,6 +137,6 @@ pub record NoBody (k : model.Free) (n : Used) (g : Form) (vp : List ℤ) (s : Li
   pub short : (zs : List ℤ) (cs : List Corner) (q : ℕ) → body_said k n g vp (rest_at s at) ≡ some (zs, (cs, q))
       → ((length l < n.corners + 3 * length cs) ⊎ (length e < 9 * n.elements + 9)) ⊎ ((bodies < 9 * n.bodies + 9) ⊎ (length y < 4 * n.bodies + 4))
 
-abbrev pub BodyIs : model.Free → Used → Names → Form → List ℤ → List ℕ → ℕ → List ℕ → List ℕ → List ℕ → List ℕ → ℕ → List ℤ → List ℤ → Element → Type 0
-BodyIs k n a g vp s at l m e f bodies y z (Accepted c q) = TakenBody k n a g vp s at l m e f bodies y z c q
-BodyIs k n a g vp s at l m e f bodies y z Rejected = NoBody k n g vp s at l m e f bodies y z
+abbrev pub BodyIs : model.Free → Used → Names → Form → List ℤ → List ℕ → ℕ → List ℕ → List ℕ → List ℕ → List ℕ → ℕ → List ℤ → List ℤ → Answer (Parsed ℕ) → Type 0
+BodyIs k n a g vp s at l m e f bodies y z (Some p) = TakenBody k n a g vp s at l m e f bodies y z p.value p.next
+BodyIs k n a g vp s at l m e f bodies y z None = NoBody k n g vp s at l m e f bodies y z

@@ -1,20 +1,19 @@
 -- The corner words of the rest of a line, as the code goes through them.
-use Rattle.std.specs.Prelude.{ℕ, ◌+◌, ◌*◌, ◌≤◌, ◌<◌, ◌≡◌, Bool, cond, ◌||◌, List, [], ◌∷◌, length, eqb}
+use Rattle.std.specs.Prelude.{ℕ, ◌+◌, ◌*◌, ◌≤◌, ◌<◌, ◌≡◌, Bool, true, cond, ◌&&◌, not, List, [], ◌∷◌, length, eqb, Option as Answer, Some, None}
 use Rattle.std.proofs.Math.Option.{Option, none, some}
 use Rattle.std.proofs.lemmas.List.Edits.{sets}
 use Rattle.lists.specs.Lists.{flat}
 use Rattle.text.specs.Words.{Word}
 use Rattle.text.specs.Rest.{Rest, rest_at}
+use Rattle.text.specs.declared.Parsed.{Parsed}
 use Rattle.digits.specs.Said.{Said, says, wrong}
 use Rattle.references.specs.Reference.{reference_of}
-use Rattle.references.specs.Corner.{Corner, Counts, corner_of}
+use Rattle.references.specs.Corner.{Corner, Counts, Parts, corner_of, agree}
 use Rattle.tables.specs.declared.Used.{Used}
 use Rattle.model.specs.Parse.{on_said}
 use Rattle.model.specs.Layout.{corner_row}
 use Rattle.read_elements.specs.declared.CornerForm.{CornerForm}
 use Rattle.read_elements.specs.declared.CornerForm.TheVariants.{Vertex, Parameter}
-use Rattle.read_elements.specs.declared.Corners.{Corners}
-use Rattle.read_elements.specs.declared.Corners.TheVariants.{Complete, Stopped}
 
 abbrev pub counts_in : Used → Counts
 counts_in n = record { v = n.v; vt = n.vt; vn = n.vn }
@@ -25,19 +24,17 @@ control k = record { v = k; vt = 0; vn = 0 }
 
 -- what a word says as a corner of the parts allowed, or as a curv2's control
 abbrev pub corner_said : Used → CornerForm → List ℕ → Said Corner
-corner_said n (Vertex t m) w = corner_of (counts_in n) (record { vt = t; vn = m }) w
+corner_said n (Vertex k) w = corner_of (counts_in n) k w
 corner_said n Parameter w = on_said control (reference_of n.vp w)
 
--- "All corners of a line share one pattern": 1 v, 2 v/vt, 3 v//vn, 4 v/vt/vn
-abbrev pub pattern : ℕ → ℕ → ℕ
-pattern vt vn = cond (eqb vt 0) (cond (eqb vn 0) 1 3) (cond (eqb vn 0) 2 4)
+-- "All corners of a line share one pattern": which parts a corner has besides v
+abbrev pub pattern_of : Corner → Parts
+pattern_of c = record { vt = not (eqb c.vt 0); vn = not (eqb c.vn 0) }
 
-abbrev pub pattern_of : Corner → ℕ
-pattern_of c = pattern c.vt c.vn
-
--- may a corner of pattern g stand where the corner before has pattern f, 0 where there is none?
-abbrev pub follows : ℕ → ℕ → Bool
-follows f g = eqb f 0 || eqb g f
+-- may a corner of pattern g stand where the corner before has pattern f, None where there is none?
+abbrev pub follows : Answer Parts → Parts → Bool
+follows None g = true
+follows (Some f) g = agree f.vt g.vt && agree f.vn g.vn
 
 -- corners, and where the next line starts; or none
 abbrev pub CornersFound : Type 0
@@ -53,13 +50,13 @@ on_corner (says c) k = k c
 on_corner (wrong n) k = none
 
 -- the corners of the rest of a line, each word read by h, after one of pattern f
-abbrev pub corners_from : (List ℕ → Said Corner) → ℕ → List Word → Option ℕ → ℕ → CornersFound
+abbrev pub corners_from : (List ℕ → Said Corner) → Answer Parts → List Word → Option ℕ → ℕ → CornersFound
 corners_from h f [] none q = some ([], q)
 corners_from h f [] (some p) q = none
 corners_from h f (w ∷ ws) b q =
-    on_corner (h w.bytes) (λ c. cond (follows f (pattern_of c)) (ahead c (corners_from h (pattern_of c) ws b q)) none)
+    on_corner (h w.bytes) (λ c. cond (follows f (pattern_of c)) (ahead c (corners_from h (Some (pattern_of c)) ws b q)) none)
 
-abbrev pub corners_walk : (List ℕ → Said Corner) → ℕ → Rest → CornersFound
+abbrev pub corners_walk : (List ℕ → Said Corner) → Answer Parts → Rest → CornersFound
 corners_walk h f r = corners_from h f r.words r.bad r.next
 
 -- ---- the corner table held l and then holds m
@@ -67,7 +64,7 @@ corners_walk h f r = corners_from h f r.words r.bad r.next
 -- all the words are corners of one pattern, stored from entry `first` on
 pub record TookCorners (h : List ℕ → Said Corner) (s : List ℕ) (at first : ℕ) (l m : List ℕ) (next count : ℕ) : Type 0 where
   pub found : List Corner
-  pub walked : corners_walk h 0 (rest_at s at) ≡ some (found, next)
+  pub walked : corners_walk h None (rest_at s at) ≡ some (found, next)
   pub counted : count ≡ length found
   pub small : count ≤ length s
   pub room : 0 < count → first + 3 * count ≤ length l
@@ -76,8 +73,8 @@ pub record TookCorners (h : List ℕ → Said Corner) (s : List ℕ) (at first :
 -- whatever corners the line has pass the lent length
 pub record StoppedCorners (h : List ℕ → Said Corner) (s : List ℕ) (at first : ℕ) (l m : List ℕ) : Type 0 where
   pub same : length m ≡ length l
-  pub short : (cs : List Corner) (q : ℕ) → corners_walk h 0 (rest_at s at) ≡ some (cs, q) → length l < first + 3 * length cs
+  pub short : (cs : List Corner) (q : ℕ) → corners_walk h None (rest_at s at) ≡ some (cs, q) → length l < first + 3 * length cs
 
-abbrev pub CornersIs : (List ℕ → Said Corner) → List ℕ → ℕ → ℕ → List ℕ → List ℕ → Corners → Type 0
-CornersIs h s at first l m (Complete q n) = TookCorners h s at first l m q n
-CornersIs h s at first l m Stopped = StoppedCorners h s at first l m
+abbrev pub CornersIs : (List ℕ → Said Corner) → List ℕ → ℕ → ℕ → List ℕ → List ℕ → Answer (Parsed ℕ) → Type 0
+CornersIs h s at first l m (Some p) = TookCorners h s at first l m p.next p.value
+CornersIs h s at first l m None = StoppedCorners h s at first l m

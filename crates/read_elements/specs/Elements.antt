@@ -1,9 +1,10 @@
 -- p, l, f, and the corners of curv, curv2, surf: what the rest of a line says as an element, and what is stored of it.
-use Rattle.std.specs.Prelude.{ℕ, ◌+◌, ◌*◌, ◌≤◌, ◌<◌, ◌≡◌, ◌⊎◌, List, length}
+use Rattle.std.specs.Prelude.{ℕ, ◌+◌, ◌*◌, ◌≤◌, ◌<◌, ◌≡◌, ◌⊎◌, List, length, Option as Answer, Some, None}
 use Rattle.std.proofs.Math.Option.{some}
 use Rattle.std.proofs.lemmas.List.Edits.{sets}
 use Rattle.lists.specs.Lists.{flat}
 use Rattle.text.specs.Rest.{Rest, rest_at}
+use Rattle.text.specs.declared.Parsed.{Parsed}
 use Rattle.references.specs.Corner.{Corner}
 use Rattle.tables.specs.Rows.{element_numbers}
 use Rattle.tables.specs.declared.Used.{Used}
@@ -16,16 +17,14 @@ use Rattle.read_vertices.specs.Into.{at_least}
 use Rattle.read_elements.specs.Corners.{CornersFound, corner_said, corners_walk}
 use Rattle.read_elements.specs.declared.CornerForm.TheVariants.{Vertex}
 use Rattle.read_elements.specs.declared.Rule.{Rule}
-use Rattle.read_elements.specs.declared.Element.{Element}
-use Rattle.read_elements.specs.declared.Element.TheVariants.{Accepted, Rejected}
 
 -- "p 1 or more; l 2 or more; f 3 or more"; "p and curv are v; l is v or v/vt; f and surf are v, v/vt, v//vn or v/vt/vn"
 abbrev pub rule_of : model.Shape → Rule
-rule_of k = record { kind = shape_number k; fewest = fewest k; form = Vertex (parts k).vt (parts k).vn }
+rule_of k = record { kind = shape_number k; fewest = fewest k; form = Vertex (parts k) }
 
 -- the corners of the rest of a line, all of one pattern and enough of them
 abbrev pub element_said : Rule → Used → Rest → CornersFound
-element_said u n r = at_least u.fewest (corners_walk (corner_said n u.form) 0 r)
+element_said u n r = at_least u.fewest (corners_walk (corner_said n u.form) None r)
 
 -- "An element holds kind, corners, smoothing, and the place and length of its group run and material in the text."
 abbrev pub stored_element : ℕ → ℕ → ℕ → ℕ → Names → Record.Element
@@ -55,6 +54,6 @@ pub record NoElement (u : Rule) (n : Used) (s : List ℕ) (at : ℕ) (l m e f : 
   pub same-elements : length f ≡ length e
   pub short : (cs : List Corner) (q : ℕ) → element_said u n (rest_at s at) ≡ some (cs, q) → (length l < n.corners + 3 * length cs) ⊎ (length e < 9 * n.elements + 9)
 
-abbrev pub ElementIs : Rule → ℕ → Used → Names → List ℕ → ℕ → List ℕ → List ℕ → List ℕ → List ℕ → Element → Type 0
-ElementIs u body n a s at l m e f (Accepted c q) = TakenElement u body n a s at l m e f c q
-ElementIs u body n a s at l m e f Rejected = NoElement u n s at l m e f
+abbrev pub ElementIs : Rule → ℕ → Used → Names → List ℕ → ℕ → List ℕ → List ℕ → List ℕ → List ℕ → Answer (Parsed ℕ) → Type 0
+ElementIs u body n a s at l m e f (Some p) = TakenElement u body n a s at l m e f p.value p.next
+ElementIs u body n a s at l m e f None = NoElement u n s at l m e f

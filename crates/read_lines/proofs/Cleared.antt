@@ -13,9 +13,12 @@ use Rattle.model.specs.Model.{start}
 use Rattle.model.specs.Room.{Rooms}
 use Rattle.model.specs.Read.{Answer, read, refused}
 use Rattle.model.specs.Layout.{tables_of, used_of}
-use Rattle.read_lines.specs.declared.ReadResult.{ReadResult}
-use Rattle.read_lines.specs.declared.ReadResult.TheVariants.{Read, Refused}
-use Rattle.read_lines.specs.Answered.{read_answer, rooms_of, answered}
+use Rattle.std.specs.Prelude.{Result, Ok, Err}
+use Rattle.refusals.specs.declared.Reason.{Reason}
+use Rattle.refusals.specs.declared.Refusal.{Refusal}
+use Rattle.refusals.specs.Reasons.{reason_number}
+use Rattle.refusals.proofs.Numbers.{reason-back}
+use Rattle.read_lines.specs.Answered.{read_answer, refusal, rooms_of, answered}
 use Rattle.read_lines.specs.Lines.{Blank, lines_read, LinesIs}
 use Rattle.model.proofs.Rooms.{rooms-eq}
 
@@ -56,13 +59,20 @@ pub zeros-same : (t u : Tables) → rooms_of t ≡ rooms_of u → zeros t ≡ ze
 zeros-same t u e = zeros-nothing t ∙ ap (λ (R : Rooms). tables_of R start.model) e ∙ sym (zeros-nothing u)
 
 pub answered-same : (t u : Tables) → rooms_of t ≡ rooms_of u → (x : Answer) → answered t x ≡ answered u x
-answered-same t u e (read m) = ap (λ (R : Rooms). read_answer (Read (used_of m)) (tables_of R m)) e
-answered-same t u e (refused n p) = ap (read_answer (Refused n p)) (zeros-same t u e)
+answered-same t u e (read m) = ap (λ (R : Rooms). read_answer (Ok (used_of m)) (tables_of R m)) e
+answered-same t u e (refused n p) = ap (read_answer (Err (refusal n p))) (zeros-same t u e)
 
 -- ---- the answer
-module _ (s : List ℕ) (t y : Tables) (a : ReadResult) (is : LinesIs s t y a) where
-  pub all_read : (n : Used) → a ≡ Read n → read_answer (Read n) y ≡ lines_read s t
+-- a refusal is that of its number and place
+pub refusal-back : (r : Refusal) → refusal (reason_number r.reason) r.place ≡ r
+refusal-back r = ap (λ (k : Reason). record { reason = k; place = r.place }) (reason-back r.reason)
+
+module _ (s : List ℕ) (t y : Tables) (a : Result Used Refusal) (is : LinesIs s t y a) where
+  pub all_read : (n : Used) → a ≡ Ok n → read_answer (Ok n) y ≡ lines_read s t
   all_read n k = subst (LinesIs s t y) k is
 
-  pub all-refused : (n p : ℕ) → a ≡ Refused n p → (z : Tables) → z ≡ zeros y → rooms_of y ≡ rooms_of t → read_answer (Refused n p) z ≡ lines_read s t
-  all-refused n p k z f l = ap (read_answer (Refused n p)) (f ∙ zeros-same y t l) ∙ ap (answered t) (sym (subst (LinesIs s t y) k is))
+  pub all-refused : (r : Refusal) → a ≡ Err r → (z : Tables) → z ≡ zeros y → rooms_of y ≡ rooms_of t → read_answer (Err r) z ≡ lines_read s t
+  all-refused r k z f l =
+      ap (read_answer (Err r)) (f ∙ zeros-same y t l)
+      ∙ ap (λ (q : Refusal). read_answer (Err q) (zeros t)) (sym (refusal-back r))
+      ∙ ap (answered t) (sym (subst (LinesIs s t y) k is))

@@ -27,10 +27,12 @@ use Rattle.read_vertex_lines.specs.Bounds.{InBounds}
 use Rattle.read_vertex_lines.specs.Holding.{Holds, line_says, WithinLimit}
 use Rattle.read_vertex_lines.proofs.Opened.{no_body, some-body}
 use Rattle.read_vertex_lines.proofs.Bounds.{none-waiting}
-use Rattle.read_lines.specs.declared.ReadResult.TheVariants.{Read}
+use Rattle.std.specs.Prelude.{Ok, Err}
+use Rattle.refusals.specs.declared.Refusal.{Refusal}
+use Rattle.refusals.specs.Reasons.{reason_number}
+use Rattle.text.specs.declared.Parsed.{Parsed}
 use Rattle.read_dispatch.specs.Taking.{LineIs}
 use Rattle.read_lines.specs.Lines.{begin}
-use Rattle.read_dispatch.specs.declared.LineResult.TheVariants.{Next, Stopped}
 
 -- ---- at the start
 pub begins : (R : Rooms) (s : List ℕ) → Holds R s start begin (tables_of R start.model) 0
@@ -98,8 +100,10 @@ module _ (R : Rooms) (s : List ℕ) (c : State) (t : Tables) (at : ℕ) (go : Go
       let l = go.bounds.limit in
       omega arith
 
-  pub going_on : (u : Tables) (d : State) (q : ℕ) → LineIs s at c t u (Next d q) → (Going R s d u q) × (at < q)
-  going_on u d q l =
+  pub going_on : (u : Tables) (l : Parsed State) → LineIs s at c t u (Ok l) → (Going R s l.value u l.next) × (at < l.next)
+  going_on u a l =
+      let d = a.value in
+      let q = a.next in
       let m = l.1 R at go.now few go.holds in
       let n = m.0 in
       let e : q ≡ (rest_at s at).next = m.1 in
@@ -110,8 +114,8 @@ module _ (R : Rooms) (s : List ℕ) (c : State) (t : Tables) (at : ℕ) (go : Go
       let there : at + (q - at) ≡ q = omega arith in
       (record { bounds = l.0; now = n.after; holds = subst (Holds R s n.after d u) there n.holds; same = go.same ∙ f }, on)
 
-  pub going-stops : (u : Tables) (n p : ℕ) → LineIs s at c t u (Stopped n p) → read_lines R (length s) (lines_at s 0) start ≡ refused n p
-  going-stops u n p l =
+  pub going-stops : (u : Tables) (r : Refusal) → LineIs s at c t u (Err r) → read_lines R (length s) (lines_at s 0) start ≡ refused (reason_number r.reason) r.place
+  going-stops u r l =
       go.same ∙ on R s at go.now h ∙ ap (λ p. on_parsed p (read_lines R (length s) (lines_at s (rest_at s at).next))) (l R at go.now few go.holds)
 
 -- ---- at the end
@@ -145,11 +149,11 @@ module _ (T : Tables) (s : List ℕ) (c : State) (t : Tables) (at : ℕ) (go : G
   pub going-open : (c.«open».kind ≡ 0 → ⊥) → read_lines R (length s) (lines_at s 0) start ≡ refused 10 (length s)
   going-open f = done ∙ ap (λ (o : Option model.Open). finish (length s) o go.now.model) (some-body s c.«open» go.now.open-body go.holds.state.open-body f).1
 
-  pub going-read : c.«open».kind ≡ 0 → read_answer (Read c.used) t ≡ answered T (read_lines R (length s) (lines_at s 0) start)
+  pub going-read : c.«open».kind ≡ 0 → read_answer (Ok c.used) t ≡ answered T (read_lines R (length s) (lines_at s 0) start)
   going-read z =
       let o : go.now.open-body ≡ none = no_body s c.«open» go.now.open-body go.holds.state.open-body z in
       let a : read_lines R (length s) (lines_at s 0) start ≡ read go.now.model = done ∙ ap (λ o. finish (length s) o go.now.model) o in
-      ap₂ (λ (u : Used) (t : Tables). read_answer (Read u) t) (go.holds.state.used ∙ used-is go.now o) (go.holds.image ∙ image-is R go.now o)
+      ap₂ (λ (u : Used) (t : Tables). read_answer (Ok u) t) (go.holds.state.used ∙ used-is go.now o) (go.holds.image ∙ image-is R go.now o)
       ∙ ap (answered T) (sym a)
 
 -- ---- the whole

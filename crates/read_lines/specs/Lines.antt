@@ -1,13 +1,14 @@
 -- All lines of a text: what reading starts from and comes to.
-use Rattle.std.specs.Prelude.{ℕ, ◌≡◌, List, length}
+use Rattle.std.specs.Prelude.{ℕ, ◌≡◌, List, length, Result, Ok, Err}
+use Rattle.refusals.specs.declared.Refusal.{Refusal}
+use Rattle.refusals.specs.Reasons.{reason_number}
 use Rattle.text.specs.Rest.{lines_at}
 use Rattle.tables.specs.Tables.{Tables}
 use Rattle.model.specs.Model.{start}
 use Rattle.model.specs.Read.{refused, read_lines}
 use Rattle.model.specs.Layout.{tables_of}
 use Rattle.read_state.specs.declared.State.{State}
-use Rattle.read_lines.specs.declared.ReadResult.{ReadResult}
-use Rattle.read_lines.specs.declared.ReadResult.TheVariants.{Read, Refused}
+use Rattle.tables.specs.declared.Used.{Used}
 use Rattle.read_lines.specs.Answered.{ReadAnswer, rooms_of, read_answer, answered}
 
 abbrev pub begin : State
@@ -29,6 +30,6 @@ abbrev pub lines_read : List ℕ → Tables → ReadAnswer
 lines_read s t = answered t (read_lines (rooms_of t) (length s) (lines_at s 0) start)
 
 -- the same before they are cleared: they held nothing and then hold u
-abbrev pub LinesIs : List ℕ → Tables → Tables → ReadResult → Type 0
-LinesIs s t u (Read n) = read_answer (Read n) u ≡ lines_read s t
-LinesIs s t u (Refused n p) = read_lines (rooms_of t) (length s) (lines_at s 0) start ≡ refused n p
+abbrev pub LinesIs : List ℕ → Tables → Tables → Result Used Refusal → Type 0
+LinesIs s t u (Ok n) = read_answer (Ok n) u ≡ lines_read s t
+LinesIs s t u (Err r) = read_lines (rooms_of t) (length s) (lines_at s 0) start ≡ refused (reason_number r.reason) r.place

@@ -2,22 +2,14 @@
 #![tactic(auto)]
 
 ghost use Rattle.std.specs.Prelude.{◌≡◌, ◌≤◌, ◌<◌, length};
-ghost use Rattle.keywords.specs.Lookup.{table_of_keywords, table_of_arguments};
-ghost use Rattle.tables.specs.Tables.{tables};
-ghost use Rattle.read_lines.specs.Answered.{read_answer};
+ghost use Rattle.tables.specs.Lent.{lent_mut, SameSlices};
+ghost use Rattle.read_lines.specs.Answered.{rooms_of, read_answer};
 ghost use Rattle.read_lines.specs.Lines.{begin, Blank, lines_read, LinesIs};
 
-use read_dispatch::{LineResult, line_at};
+use read_dispatch::line_at;
 use read_state::{Form, Names, Open, State};
-use table_store::clear;
-use tables::{NameRun, Used};
-
-// What a text comes to: how many records of each kind were read, or a refusal.
-#[derive(Clone, Copy)]
-pub enum ReadResult {
-    Read(Used),
-    Refused { number: u32, place: usize },
-}
+use refusals::{Reason, Refusal};
+use tables::{NameRun, TablesMut, Used};
 
 fn begin() -> State
     ensures { result ≡ begin }
@@ -63,120 +55,41 @@ fn begin() -> State
 }
 
 // All lines, into tables that hold nothing; a refusal leaves in them what came before it, and what the line at fault had stored.
-fn store_lines(
-    text: &[u8],
-    v: &mut [i32],
-    vt: &mut [i32],
-    vn: &mut [i32],
-    vp: &mut [i32],
-    corners: &mut [u32],
-    elements: &mut [u32],
-    bodies: &mut [u32],
-    ranges: &mut [i32],
-    parameters: &mut [i32],
-    loops: &mut [u32],
-    spans: &mut [i32],
-    keyword_table: &[u8; 528],
-    argument_table: &[u8; 108],
-) -> ReadResult
+fn store_lines(text: &[u8], t: &mut TablesMut) -> Result<Used, Refusal>
     requires text_len_bound { length text.now ≤ 16777216 }
-    requires blank { Blank (tables v.old vt.old vn.old vp.old corners.old elements.old bodies.old ranges.old parameters.old loops.old spans.old) }
-    requires keyword_table_value { keyword_table.now ≡ table_of_keywords }
-    requires argument_table_value { argument_table.now ≡ table_of_arguments }
-    ensures { LinesIs text.now (tables v.old vt.old vn.old vp.old corners.old elements.old bodies.old ranges.old parameters.old loops.old spans.old) (tables v.new vt.new vn.new vp.new corners.new elements.new bodies.new ranges.new parameters.new loops.new spans.new) result }
+    requires blank { Blank (lent_mut t.old) }
+    ensures stored { LinesIs text.now (lent_mut t.old) (lent_mut t.new) result }
+    ensures lengths { rooms_of (lent_mut t.new) ≡ rooms_of (lent_mut t.old) }
+    ensures same { SameSlices t.old t.new }
 {
     let mut state = begin();
     let mut at: usize = 0;
+    // No range counts the places: each line ends where it is read to.
     while at < text.len() {
-        match line_at(
-            text,
-            at,
-            state,
-            v,
-            vt,
-            vn,
-            vp,
-            corners,
-            elements,
-            bodies,
-            ranges,
-            parameters,
-            loops,
-            spans,
-            keyword_table,
-            argument_table,
-        ) {
-            LineResult::Next { state: after, next } => {
-                state = after;
-                at = next;
-            }
-            LineResult::Stopped { number, place } => {
-                return ReadResult::Refused {
-                    number: number,
-                    place: place,
-                };
-            }
-        }
+        let line = line_at(text, at, state, t)?;
+        state = line.value;
+        at = line.next;
     }
-    let open = state.open;
-    if open.kind != 0 {
-        return ReadResult::Refused {
-            number: 10,
+    if state.open.kind != 0 {
+        return Err(Refusal {
+            reason: Reason::NotHere,
             place: text.len(),
-        };
+        });
     }
-    let used = state.used;
-    ReadResult::Read(used)
+    Ok(state.used)
 }
 
 // All lines, into tables that hold nothing and that hold nothing after a refusal.
-pub fn lines_of(
-    text: &[u8],
-    v: &mut [i32],
-    vt: &mut [i32],
-    vn: &mut [i32],
-    vp: &mut [i32],
-    corners: &mut [u32],
-    elements: &mut [u32],
-    bodies: &mut [u32],
-    ranges: &mut [i32],
-    parameters: &mut [i32],
-    loops: &mut [u32],
-    spans: &mut [i32],
-    keyword_table: &[u8; 528],
-    argument_table: &[u8; 108],
-) -> ReadResult
+pub fn lines_of(text: &[u8], t: &mut TablesMut) -> Result<Used, Refusal>
     requires text_len_bound { length text.now ≤ 16777216 }
-    requires blank { Blank (tables v.old vt.old vn.old vp.old corners.old elements.old bodies.old ranges.old parameters.old loops.old spans.old) }
-    requires keyword_table_value { keyword_table.now ≡ table_of_keywords }
-    requires argument_table_value { argument_table.now ≡ table_of_arguments }
-    ensures { read_answer result (tables v.new vt.new vn.new vp.new corners.new elements.new bodies.new ranges.new parameters.new loops.new spans.new) ≡ lines_read text.now (tables v.old vt.old vn.old vp.old corners.old elements.old bodies.old ranges.old parameters.old loops.old spans.old) }
+    requires blank { Blank (lent_mut t.old) }
+    ensures read { read_answer result (lent_mut t.new) ≡ lines_read text.now (lent_mut t.old) }
+    ensures lengths { rooms_of (lent_mut t.new) ≡ rooms_of (lent_mut t.old) }
+    ensures same { SameSlices t.old t.new }
 {
-    match store_lines(
-        text,
-        v,
-        vt,
-        vn,
-        vp,
-        corners,
-        elements,
-        bodies,
-        ranges,
-        parameters,
-        loops,
-        spans,
-        keyword_table,
-        argument_table,
-    ) {
-        ReadResult::Read(used) => ReadResult::Read(used),
-        ReadResult::Refused { number, place } => {
-            clear(
-                v, vt, vn, vp, corners, elements, bodies, ranges, parameters, loops, spans,
-            );
-            ReadResult::Refused {
-                number: number,
-                place: place,
-            }
-        }
+    let read = store_lines(text, t);
+    if read.is_err() {
+        t.clear();
     }
+    read
 }

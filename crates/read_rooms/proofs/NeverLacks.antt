@@ -1,6 +1,6 @@
 -- Reading in its rooms: what a state holds and what the lines left can need are together within what is lent. By the lines.
 use Prim.Native.Nat.{ℕ}
-use mathlib.Core.Path.{◌≡◌, refl, sym, ◌∙◌, subst}
+use mathlib.Core.Path.{◌≡◌, refl, sym, ap, ◌∙◌, subst}
 use mathlib.Core.List.{List, [], ◌∷◌}
 use mathlib.Core.Bool.{Bool, true, false}
 use mathlib.Core.Option.{Option, none, some}
@@ -21,7 +21,12 @@ use Rattle.model.specs.Room as lent
 use Rattle.model.specs.Room.{needed, fits}
 use Rattle.model.specs.Read.{carried_in, statement, step, Answer, read, refused, finish, on_parsed, read_lines, read_of}
 use Rattle.model.proofs.Rooms.{Within, within-parts, parts-fit}
-use Rattle.read_lines.specs.declared.ReadResult.TheVariants.{Refused}
+use Rattle.std.specs.Prelude.{Err}
+use Rattle.refusals.specs.declared.Refusal.{Refusal}
+use Rattle.refusals.specs.declared.Reason.TheVariants.{NoTableRoom}
+use Rattle.refusals.specs.Reasons.{reason_number}
+use Rattle.refusals.proofs.Numbers.{number-back}
+use Rattle.read_lines.specs.Answered.{refusal}
 use Rattle.reader.specs.Reading.{rooms_of, answered, read_into}
 use Rattle.read_rooms.specs.declared.Rooms.{Rooms}
 use Rattle.read_rooms.specs.Rooms.{no_room, both, room_for, room_of_words, up_to, rooms_of_lines, rooms_of_text}
@@ -69,9 +74,12 @@ module _ (R : lent.Rooms) where
     never-short [] x r h w = finish-short n x.open-body x.model
     never-short (l ∷ ls) x r h w = by-line ls x r h (never-short ls) (bad_of l) (words_of l) w
 
-never-answered : (t : Tables) (a : Answer) (p : ℕ) → short a ≡ false → (answered t a).answer ≡ Refused 14 p → ⊥
+never-answered : (t : Tables) (a : Answer) (p : ℕ) → short a ≡ false → (answered t a).answer ≡ Err (record { reason = NoTableRoom; place = p }) → ⊥
 never-answered t (read m) p h e = let z : ◌≡◌ {A = ℕ} 0 1 = cc in omega arith
-never-answered t (refused n q) p h e = let z : n ≡ 14 = cc in never (sym (sym (eq-eqb n 14 z) ∙ h))
+never-answered t (refused n q) p h e =
+    let r : refusal n q ≡ record { reason = NoTableRoom; place = p } = cc in
+    let z : n ≡ 14 = number-back n 14 (omega arith) (ap (λ (f : Refusal). reason_number f.reason) r) in
+    never (sym (sym (eq-eqb n 14 z) ∙ h))
 
 never-read : (R : lent.Rooms) (s : List ℕ) → Within (lengths_of (rooms_of_text s)) R → short (read_of R s) ≡ false
 unfolding read_of rooms_of_text

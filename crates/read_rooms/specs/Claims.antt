@@ -1,12 +1,12 @@
 -- Must be believed: a promise reaches every definition of this file.
 -- What the rooms of a text are good for, and that they are few.
-use Rattle.std.specs.Prelude.{ℕ, ◌+◌, ◌*◌, ◌≤◌, ◌≡◌, List, true, length}
+use Rattle.std.specs.Prelude.{ℕ, ◌+◌, ◌*◌, ◌≤◌, ◌≡◌, List, true, length, Err}
+use Rattle.refusals.specs.declared.Reason.TheVariants.{NoTableRoom}
 use Rattle.text.specs.Lines.{lines_of}
 use Rattle.text.specs.Words.{words_of}
 use Rattle.tables.specs.Tables.{Tables}
 use Rattle.model.specs.Room as lent
 use Rattle.model.specs.Room.{summed, within}
-use Rattle.read_lines.specs.declared.ReadResult.TheVariants.{Refused}
 use Rattle.reader.specs.Reading.{rooms_of, read_into}
 use Rattle.read_rooms.specs.declared.Rooms.{Rooms}
 use Rattle.read_rooms.specs.Rooms.{rooms_of_text}
@@ -31,7 +31,7 @@ word_count s = summed (λ l. length (words_of l)) (lines_of s)
 abbrev pub NeverLacksRoom : Type 0
 NeverLacksRoom =
     (s : List ℕ) (t : Tables) → within (lengths_of (rooms_of_text s)) (rooms_of t) ≡ true
-    → (p : ℕ) → (read_into s t).answer ≡ Refused 14 p → ⊥
+    → (p : ℕ) → (read_into s t).answer ≡ Err (record { reason = NoTableRoom; place = p }) → ⊥
 
 -- all tables together have at most 22 entries for each word of the text, and of n bytes there are at most (n + 1) / 2 words
 abbrev pub FewForItsWords : Type 0

@@ -1,9 +1,8 @@
 // How many entries of each table a text can need: one pass over its bytes, before it is read.
 #![tactic(auto)]
 
-ghost use Rattle.std.specs.Prelude.{◌≡◌, ◌+◌, ◌*◌, ◌-◌, ◌≤◌, ◌<◌, length};
+ghost use Rattle.std.specs.Prelude.{◌≡◌, ◌+◌, ◌*◌, ◌≤◌, ◌<◌, length};
 ghost use Rattle.text.specs.Rest.{rest_at};
-ghost use Rattle.keywords.specs.Lookup.{table_of_keywords};
 ghost use Rattle.read_rooms.specs.Rooms.{no_room, both, element_room, body_room, kind_room, carried_room, room_for, rooms_of_text};
 ghost use Rattle.read_rooms.specs.Line.{vertex_room, counted_of};
 ghost use Rattle.read_rooms.specs.Claims.{total};
@@ -11,7 +10,7 @@ ghost use Rattle.read_rooms.specs.Claims.{total};
 use statements::rules::range_words;
 use statements::{Carried, Statement, VertexKind};
 use tables::widths;
-use text::{AfterBlanks, Scan};
+use text::{AfterBlanks, Parsed};
 
 // Entries of the eleven tables.
 #[repr(C)]
@@ -72,17 +71,11 @@ fn vertex_room(v: usize, vt: usize, vn: usize, vp: usize) -> Rooms
     ensures { result ≡ vertex_room v vt vn vp }
 {
     Rooms {
-        v: v,
-        vt: vt,
-        vn: vn,
-        vp: vp,
-        corners: 0,
-        elements: 0,
-        bodies: 0,
-        ranges: 0,
-        parameters: 0,
-        loops: 0,
-        spans: 0,
+        v,
+        vt,
+        vn,
+        vp,
+        ..no_room()
     }
 }
 
@@ -91,17 +84,11 @@ fn element_room(bodies: usize, corners: usize) -> Rooms
     ensures { result ≡ element_room bodies corners }
 {
     Rooms {
-        v: 0,
-        vt: 0,
-        vn: 0,
-        vp: 0,
         corners: widths::CORNER * corners,
         elements: widths::ELEMENT,
         bodies: widths::BODY * bodies,
         ranges: widths::RANGE * bodies,
-        parameters: 0,
-        loops: 0,
-        spans: 0,
+        ..no_room()
     }
 }
 
@@ -110,28 +97,11 @@ fn body_room(parameters: usize, parts: usize) -> Rooms
     ensures { result ≡ body_room parameters parts }
 {
     Rooms {
-        v: 0,
-        vt: 0,
-        vn: 0,
-        vp: 0,
-        corners: 0,
-        elements: 0,
-        bodies: 0,
-        ranges: 0,
-        parameters: parameters,
+        parameters,
         loops: widths::LOOP * parts,
         spans: widths::SPAN * parts,
+        ..no_room()
     }
-}
-
-// n less k, and 0 where k is more.
-fn less(n: usize, k: usize) -> usize
-    ensures { result ≡ n - k }
-{
-    if n < k {
-        return 0;
-    }
-    n - k
 }
 
 fn kind_room(kind: VertexKind) -> Rooms
@@ -152,8 +122,8 @@ fn carried_room(statement: Carried, count: usize) -> Rooms
     match statement {
         Carried::Vertex(kind) => kind_room(kind),
         Carried::Element(_) => element_room(0, count),
-        Carried::Body(free) => element_room(1, less(count, range_words(free))),
-        Carried::Parameters => body_room(less(count, 1), 0),
+        Carried::Body(free) => element_room(1, count.saturating_sub(range_words(free))),
+        Carried::Parameters => body_room(count.saturating_sub(1), 0),
         Carried::Trim => body_room(0, count / 3),
         Carried::Hole => body_room(0, count / 3),
         Carried::End => no_room(),
@@ -178,57 +148,44 @@ fn room_for(statement: Statement, count: usize) -> Rooms
     }
 }
 
-// A line's room and where the next line starts; or a byte of it is not allowed.
-#[derive(Clone, Copy)]
-enum Line {
-    Counted { room: Rooms, next: usize },
-    Stopped,
-}
-
-// The line that starts at `at`.
-fn line_at(text: &[u8], at: usize, table: &[u8; 528]) -> Line
-    requires at_in_bounds { (at ≤ length text.now) × (length text.now ≤ 16777216) }
-    requires table_value { table.now ≡ table_of_keywords }
+// The room of the line that starts at `at`, and where the next line starts; none where a byte of it is not allowed.
+fn line_at(text: &[u8], at: usize) -> Option<Parsed<Rooms>>
+    requires { (at ≤ length text.now) × (length text.now ≤ 16777216) }
     ensures { result ≡ counted_of (rest_at text.now at) }
 {
     match text::skip_blanks(text, at) {
-        AfterBlanks::End(q) => Line::Counted {
-            room: no_room(),
-            next: q,
-        },
-        AfterBlanks::Bad(_) => Line::Stopped,
+        AfterBlanks::End(next) => Some(Parsed {
+            value: no_room(),
+            next,
+        }),
+        AfterBlanks::Bad(_) => None,
         AfterBlanks::Start(p) => {
-            let keyword = keywords::keyword_at(text, p, table);
-            let statement = keyword.statement;
+            let keyword = keywords::keyword_at(text, p);
             match text::scan_line(text, text::word_end(text, p)) {
-                Scan::Good { count, next } => Line::Counted {
-                    room: room_for(statement, count),
-                    next: next,
-                },
-                Scan::Bad(_) => Line::Stopped,
+                Ok(words) => Some(Parsed {
+                    value: room_for(keyword.statement, words.value),
+                    next: words.next,
+                }),
+                Err(_) => None,
             }
         }
     }
 }
 
 // All lines of a text that is not too long.
-fn rooms_of_lines(text: &[u8], table: &[u8; 528]) -> Rooms
-    requires text_len_bound { length text.now ≤ 16777216 }
-    requires table_value { table.now ≡ table_of_keywords }
+fn rooms_of_lines(text: &[u8]) -> Rooms
+    requires { length text.now ≤ 16777216 }
     ensures { result ≡ rooms_of_text text.now }
 {
     let mut rooms = no_room();
     let mut at: usize = 0;
+    // No range counts the places: each line ends where it is scanned to.
     while at < text.len() {
-        match line_at(text, at, table) {
-            Line::Counted { room, next } => {
-                rooms = both(rooms, room);
-                at = next;
-            }
-            Line::Stopped => {
-                return rooms;
-            }
-        }
+        let Some(line) = line_at(text, at) else {
+            return rooms;
+        };
+        rooms = both(rooms, line.value);
+        at = line.next;
     }
     rooms
 }
@@ -240,6 +197,5 @@ pub fn rooms_of(text: &[u8]) -> Rooms
     if 16_777_216 < text.len() {
         return no_room();
     }
-    let table = keywords::keyword_table();
-    rooms_of_lines(text, &table)
+    rooms_of_lines(text)
 }

@@ -11,6 +11,8 @@ use borrow.Author.Tests.{lt-leb, ne_eqb}
 use Rattle.lists.specs.Lists.{all}
 use Rattle.lists.proofs.Tests.{and_left, and_right, test, never}
 use mathlib.Core.Logic.{⊎_elim}
+use Rattle.std.specs.Prelude.{None}
+use Rattle.text.specs.declared.Parsed as Placed
 use Rattle.text.specs.Words.{Word}
 use Rattle.text.specs.Rest.{Rest}
 use Rattle.digits.specs.Said.{Said, says, wrong}
@@ -30,11 +32,8 @@ use Rattle.statements.specs.Rules.{counted_by, rules_of}
 use Rattle.read_state.specs.State.{form_in, names_in}
 use Rattle.read_state.specs.declared.Form.{Form}
 use Rattle.read_state.specs.declared.Names.{Names}
-use Rattle.read_settings.specs.declared.TakenForm.TheVariants as form
-use Rattle.read_settings.specs.declared.TakenNames.TheVariants as names
-use Rattle.read_settings.specs.declared.words.NamesRead.TheVariants as read
-use Rattle.read_settings.specs.Words.{on_fine, said_or, is_name}
-use Rattle.read_settings.specs.Steps.{form_taken, names_taken, type_taken, degree_taken, smoothing_taken, named_by, with_material, material_taken, group_taken}
+use Rattle.read_settings.specs.Words.{on_fine, said_or, is_name, run-read}
+use Rattle.read_settings.specs.Steps.{taken, form_taken, names_taken, type_taken, degree_taken, smoothing_taken, named_by, with_material, material_taken, group_taken}
 
 and-false : (b : Bool) → (b && false) ≡ false
 and-false true = refl
@@ -46,7 +45,7 @@ two-most n = rw (lt-leb (suc (suc (suc n))) 2 (omega arith)) (and-false (leb 1 (
 one_only : (n : ℕ) → eqb (suc (suc n)) 1 ≡ false
 one_only n = ne_eqb (suc (suc n)) 1 (λ e. omega arith)
 
-names-given-up : (x : model.State) (b : Option ℕ) (q n p : ℕ) → names.Rejected ≡ names_taken x b q (fault n p)
+names-given-up : (x : model.State) (b : Option ℕ) (q n p : ℕ) → None ≡ names_taken x b q (fault n p)
 names-given-up x none q n p = refl
 names-given-up x (some c) q n p = refl
 
@@ -185,7 +184,7 @@ module _ (x : model.State) (h : outside_body x.open-body ≡ true) (key : ℕ) w
 
   -- names of a number that the row does not let in
   unlisted : (t : Bool) (b : Option ℕ) (r : NameRun) (n q : ℕ) (f : NameRun → Names) → counted_by (rules_of usemtl).count n ≡ false
-      → names.Rejected ≡ named_by usemtl f (cond t (on_fine b (read.Run r n q) read.Refused) read.Refused)
+      → None ≡ named_by usemtl f (cond t (on_fine b (run-read r n q) None) None)
   unlisted true none r n q f e = rw e refl
   unlisted true (some c) r n q f e = refl
   unlisted false b r n q f e = refl
@@ -225,12 +224,14 @@ pub record FormTaken (x : model.State) (b : Option ℕ) (q : ℕ) (y : Parsed st
   pub next : n ≡ q
   pub form : f ≡ form_in (statements.apply statement x).form
 
-pub form-taken : (x : model.State) (b : Option ℕ) (q : ℕ) (y : Parsed statements.Statement) (f : Form) (n : ℕ) → form.Accepted f n ≡ form_taken x b q y → FormTaken x b q y f n
-form-taken x none q (fine t) f n e = record { statement = t; parsed = refl; allowed = refl; next = cc; form = cc }
+pub form-taken : (x : model.State) (b : Option ℕ) (q : ℕ) (y : Parsed statements.Statement) (f : Form) (n : ℕ) → taken f n ≡ form_taken x b q y → FormTaken x b q y f n
+form-taken x none q (fine t) f n e =
+    let p : ◌≡◌ {A = Placed.Parsed Form} (record { value = f; next = n }) (record { value = form_in (statements.apply t x).form; next = q }) = cc in
+    record { statement = t; parsed = refl; allowed = refl; next = ap (λ (y : Placed.Parsed Form). y.next) p; form = ap (λ (y : Placed.Parsed Form). y.value) p }
 form-taken x none q (fault m p) f n e = absurd (let z : ◌≡◌ {A = ℕ} 0 1 = cc in omega arith)
 form-taken x (some c) q y f n e = absurd (let z : ◌≡◌ {A = ℕ} 0 1 = cc in omega arith)
 
-pub form-gave-up : (x : model.State) (q : ℕ) (y : Parsed statements.Statement) (t : statements.Statement) → form.Rejected ≡ form_taken x none q y → y ≡ fine t → ⊥
+pub form-gave-up : (x : model.State) (q : ℕ) (y : Parsed statements.Statement) (t : statements.Statement) → None ≡ form_taken x none q y → y ≡ fine t → ⊥
 form-gave-up x q (fine u) t e k = let z : ◌≡◌ {A = ℕ} 0 1 = cc in omega arith
 form-gave-up x q (fault n p) t e k = let z : ◌≡◌ {A = ℕ} 0 1 = cc in omega arith
 
@@ -241,11 +242,13 @@ pub record NamesTaken (x : model.State) (b : Option ℕ) (q : ℕ) (y : Parsed s
   pub next : n ≡ q
   pub names : f ≡ names_in (statements.apply statement x).names
 
-pub names-taken : (x : model.State) (b : Option ℕ) (q : ℕ) (y : Parsed statements.Statement) (f : Names) (n : ℕ) → names.Accepted f n ≡ names_taken x b q y → NamesTaken x b q y f n
-names-taken x none q (fine t) f n e = record { statement = t; parsed = refl; allowed = refl; next = cc; names = cc }
+pub names-taken : (x : model.State) (b : Option ℕ) (q : ℕ) (y : Parsed statements.Statement) (f : Names) (n : ℕ) → taken f n ≡ names_taken x b q y → NamesTaken x b q y f n
+names-taken x none q (fine t) f n e =
+    let p : ◌≡◌ {A = Placed.Parsed Names} (record { value = f; next = n }) (record { value = names_in (statements.apply t x).names; next = q }) = cc in
+    record { statement = t; parsed = refl; allowed = refl; next = ap (λ (y : Placed.Parsed Names). y.next) p; names = ap (λ (y : Placed.Parsed Names). y.value) p }
 names-taken x none q (fault m p) f n e = absurd (let z : ◌≡◌ {A = ℕ} 0 1 = cc in omega arith)
 names-taken x (some c) q y f n e = absurd (let z : ◌≡◌ {A = ℕ} 0 1 = cc in omega arith)
 
-pub names-gave-up : (x : model.State) (q : ℕ) (y : Parsed statements.Statement) (t : statements.Statement) → names.Rejected ≡ names_taken x none q y → y ≡ fine t → ⊥
+pub names-gave-up : (x : model.State) (q : ℕ) (y : Parsed statements.Statement) (t : statements.Statement) → None ≡ names_taken x none q y → y ≡ fine t → ⊥
 names-gave-up x q (fine u) t e k = let z : ◌≡◌ {A = ℕ} 0 1 = cc in omega arith
 names-gave-up x q (fault n p) t e k = let z : ◌≡◌ {A = ℕ} 0 1 = cc in omega arith

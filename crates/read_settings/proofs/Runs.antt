@@ -7,25 +7,26 @@ use mathlib.Core.Option.{none, some}
 use lib.ListN.{length, drop}
 use native.Mathlib.Omega.{arith}
 use Rattle.lists.specs.Lists.{all}
+use Rattle.std.specs.Prelude.{Option as Answer, None}
+use Rattle.text.specs.declared.Parsed.{Parsed}
 use Rattle.text.specs.Words.{Word, word_of}
 use Rattle.text.specs.Rest.{Rest, rest_at, push, word_at, end_of, WordMet}
 use Rattle.digits.specs.Said.{says, wrong}
 use Rattle.digits.specs.Degree.{name_of}
 use Rattle.tables.specs.declared.NameRun.{NameRun}
 use Rattle.statements.specs.declared.Carried.{Carried}
-use Rattle.statements.specs.Rules.{rules_of, counted_by}
+use Rattle.statements.specs.Rules.{rules_of}
+use Rattle.statements.specs.declared.rules.Rules.{Rules}
 use Rattle.model.specs.Layout.{last_end}
 use Rattle.read_state.specs.declared.Names.{Names}
 use Rattle.read_settings.specs.declared.words.NamesRead.{NamesRead}
-use Rattle.read_settings.specs.declared.words.NamesRead.TheVariants as read
-use Rattle.read_settings.specs.declared.TakenNames.TheVariants as names
-use Rattle.read_settings.specs.Words.{on_fine, is_name, names_read}
-use Rattle.read_settings.specs.Steps.{named_by}
+use Rattle.read_settings.specs.Words.{on_fine, is_name, run-read, names_read, names_counted}
+use Rattle.read_settings.specs.Steps.{renamed, named_by}
 
 -- a run that begins at `at`, from its word w on, which is its n-th
-abbrev pub run_from : ℕ → ℕ → Word → Rest → NamesRead
+abbrev pub run_from : ℕ → ℕ → Word → Rest → Answer NamesRead
 run_from at n w x =
-    cond (all is_name (w ∷ x.words)) (on_fine x.bad (read.Run (record { place = at; length = last_end w x.words - at }) (n + length x.words) x.next) read.Refused) read.Refused
+    cond (all is_name (w ∷ x.words)) (on_fine x.bad (run-read (record { place = at; length = last_end w x.words - at }) (n + length x.words) x.next) None) None
 
 pub record Running (s : List ℕ) (at place n : ℕ) : Type 0 where
   pub from : at ≤ place
@@ -50,13 +51,13 @@ run-next at n w v x h =
     rw (h, c) refl
 
 run-last : (at n : ℕ) (w : Word) (q l : ℕ) → is_name w ≡ true → l ≡ (w.place + length w.bytes) - at
-    → read.Run (record { place = at; length = l }) n q ≡ run_from at n w (record { words = []; bad = none; next = q })
+    → run-read (record { place = at; length = l }) n q ≡ run_from at n w (record { words = []; bad = none; next = q })
 run-last at n w q l h k = let c : n + 0 ≡ n = omega arith in rw (h, k, c) refl
 
-run-no : (at n : ℕ) (w : Word) (x : Rest) → is_name w ≡ false → read.Refused ≡ run_from at n w x
+run-no : (at n : ℕ) (w : Word) (x : Rest) → is_name w ≡ false → None ≡ run_from at n w x
 run-no at n w x h = rw h refl
 
-run-spoilt : (at n : ℕ) (w : Word) (x : Rest) {p : ℕ} → is_name w ≡ true → x.words ≡ [] → x.bad ≡ some p → read.Refused ≡ run_from at n w x
+run-spoilt : (at n : ℕ) (w : Word) (x : Rest) {p : ℕ} → is_name w ≡ true → x.words ≡ [] → x.bad ≡ some p → None ≡ run_from at n w x
 run-spoilt at n w x h e k = rw (h, e, k) refl
 
 module _ (s : List ℕ) (at place n : ℕ) (k : Running s at place n) where
@@ -81,35 +82,25 @@ module _ (s : List ℕ) (at place n : ℕ) (k : Running s at place n) where
       )
 
   pub run_end : (e : ℕ) {q : ℕ} → e ≡ end_of s place → name_of (word_of (drop place s)) ≡ says (word_of (drop place s)) → rest_at s e ≡ record { words = []; bad = none; next = q }
-      → read.Run (record { place = at; length = e - at }) n q ≡ names_read (push (word_at s at) (rest_at s (end_of s at)))
+      → run-read (record { place = at; length = e - at }) n q ≡ names_read (push (word_at s at) (rest_at s (end_of s at)))
   run_end e {q} d h m =
       let r : rest_at s (end_of s place) ≡ record { words = []; bad = none; next = q } = ap (rest_at s) (sym d) ∙ m in
       run-last at n (word_at s place) q (e - at) (named (word_at s place) h) (ap (λ (y : ℕ). y - at) d) ∙ sym (ap (run_from at n (word_at s place)) r) ∙ k.rest
 
   pub run-bad : (e : ℕ) {p : ℕ} → e ≡ end_of s place → name_of (word_of (drop place s)) ≡ says (word_of (drop place s)) → (rest_at s e).words ≡ [] → (rest_at s e).bad ≡ some p
-      → read.Refused ≡ names_read (push (word_at s at) (rest_at s (end_of s at)))
+      → None ≡ names_read (push (word_at s at) (rest_at s (end_of s at)))
   run-bad e d h w b =
       run-spoilt at n (word_at s place) (rest_at s e) (named (word_at s place) h) w b
       ∙ ap (λ (y : ℕ). run_from at n (word_at s place) (rest_at s y)) d
       ∙ k.rest
 
-  pub run-unnamed : name_of (word_of (drop place s)) ≡ wrong 6 → read.Refused ≡ names_read (push (word_at s at) (rest_at s (end_of s at)))
+  pub run-unnamed : {m : ℕ} → name_of (word_of (drop place s)) ≡ wrong m → None ≡ names_read (push (word_at s at) (rest_at s (end_of s at)))
   run-unnamed h = run-no at n (word_at s place) (rest_at s (end_of s place)) (unnamed (word_at s place) h) ∙ k.rest
 
-pub run-empty : (x : Rest) {p : ℕ} → x.words ≡ [] → x.bad ≡ some p → read.Refused ≡ names_read x
+pub run-empty : (x : Rest) {p : ℕ} → x.words ≡ [] → x.bad ≡ some p → None ≡ names_read x
 run-empty x e k = rw (e, k) refl
 
--- ---- the names held against the statement's row
-module _ (k : Carried) (f : NameRun → Names) {y r : NamesRead} (e : r ≡ y) where
-  pub named-no : r ≡ read.Refused → names.Rejected ≡ named_by k f y
-  named-no h = ap (named_by k f) (sym h ∙ e)
-
-  module _ {c : NameRun} {n q : ℕ} (h : r ≡ read.Run c n q) where
-    named-run : named_by k f (read.Run c n q) ≡ named_by k f y
-    named-run = ap (named_by k f) (sym h ∙ e)
-
-    pub named-counted : true ≡ counted_by (rules_of k).count n → names.Accepted (f c) q ≡ named_by k f y
-    named-counted t = (let z : names.Accepted (f c) q ≡ named_by k f (read.Run c n q) = rw (← t) refl in z) ∙ named-run
-
-    pub named-not : false ≡ counted_by (rules_of k).count n → names.Rejected ≡ named_by k f y
-    named-not t = (let z : names.Rejected ≡ named_by k f (read.Run c n q) = rw (← t) refl in z) ∙ named-run
+-- ---- the names held against the statement's row, which r is
+module _ (k : Carried) (f : NameRun → Names) (y : Answer NamesRead) {r : Rules} (e : r ≡ rules_of k) where
+  pub named-is : (o : Answer (Parsed NameRun)) → o ≡ names_counted r.count y → renamed f o ≡ named_by k f y
+  named-is o h = ap (renamed f) (h ∙ ap (λ (x : Rules). names_counted x.count y) e)

@@ -1,16 +1,18 @@
 -- What the code finds of a settings line's words: where the first two stand and how many there are; or the run of its names.
-use Rattle.std.specs.Prelude.{ℕ, ◌≤◌, ◌≡◌, List, [], ◌∷◌, Bool, true, false, cond, length}
+use Rattle.std.specs.Prelude.{ℕ, ◌≤◌, ◌≡◌, List, [], ◌∷◌, Bool, true, false, cond, length, Option as Answer, Some, None}
 use Rattle.std.proofs.Math.Option.{Option, none, some}
 use Rattle.lists.specs.Lists.{all}
 use Rattle.text.specs.Words.{Word}
+use Rattle.text.specs.declared.Parsed.{Parsed}
 use Rattle.text.specs.Rest.{Rest, word_at}
 use Rattle.digits.specs.Said.{Said, says, wrong}
 use Rattle.digits.specs.Degree.{name_of}
 use Rattle.model.specs.Layout.{run_of}
+use Rattle.tables.specs.declared.NameRun.{NameRun}
+use Rattle.statements.specs.declared.rules.Count.{Count}
+use Rattle.statements.specs.Rules.{counted_by}
 use Rattle.read_settings.specs.declared.words.Line.{Line}
-use Rattle.read_settings.specs.declared.words.Line.TheVariants as line
 use Rattle.read_settings.specs.declared.words.NamesRead.{NamesRead}
-use Rattle.read_settings.specs.declared.words.NamesRead.TheVariants as read
 
 -- what the line gives where no byte of it is refused, and what else
 abbrev pub on_fine : {A : Type 0} → Option ℕ → A → A → A
@@ -35,13 +37,26 @@ pub record LineAt (s : List ℕ) (x : Rest) (first second count behind : ℕ) : 
   pub first-in : first ≤ length s
   pub second-in : second ≤ length s
 
-abbrev pub SettingLineIs : List ℕ → Rest → Line → Type 0
-SettingLineIs s x (line.Words first second count next) = LineAt s x first second count next
-SettingLineIs s x line.Refused = x.bad ≡ none → ⊥
+abbrev pub SettingLineIs : List ℕ → Rest → Answer Line → Type 0
+SettingLineIs s x (Some l) = LineAt s x l.first l.second l.count l.next
+SettingLineIs s x None = x.bad ≡ none → ⊥
+
+-- with as many words as are allowed
+abbrev pub CountedLineIs : Count → List ℕ → Rest → Answer Line → Type 0
+CountedLineIs c s x (Some l) = LineAt s x l.first l.second l.count l.next × (true ≡ counted_by c l.count)
+CountedLineIs c s x None = x.bad ≡ none → counted_by c (length x.words) ≡ false
 
 -- ---- names: "from the first name to the last"
 abbrev pub is_name : Word → Bool
 is_name w = said_or (name_of w.bytes) (λ b. true) false
 
-abbrev pub names_read : Rest → NamesRead
-names_read x = cond (all is_name x.words) (on_fine x.bad (read.Run (run_of x.words) (length x.words) x.next) read.Refused) read.Refused
+abbrev pub run-read : NameRun → ℕ → ℕ → Answer NamesRead
+run-read r n q = Some (record { run = r; count = n; next = q })
+
+abbrev pub names_read : Rest → Answer NamesRead
+names_read x = cond (all is_name x.words) (on_fine x.bad (run-read (run_of x.words) (length x.words) x.next) None) None
+
+-- as many as are allowed
+abbrev pub names_counted : Count → Answer NamesRead → Answer (Parsed NameRun)
+names_counted c None = None
+names_counted c (Some r) = cond (counted_by c r.count) (Some (record { value = r.run; next = r.next })) None

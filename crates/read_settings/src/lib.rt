@@ -5,267 +5,153 @@ pub mod words; // the words of such a line
 
 ghost use Rattle.std.specs.Prelude.{◌≡◌, ◌≤◌, length};
 ghost use Rattle.text.specs.Rest.{rest_at};
-ghost use Rattle.digits.specs.Answers.{said_whole, ends_at};
-ghost use Rattle.keywords.specs.Lookup.{table_of_arguments};
+ghost use Rattle.digits.specs.Answers.{said, ends_at};
 ghost use Rattle.read_settings.specs.Steps.{basis_or, is_rational, typed, type_taken, second_said, second_end, degree_taken, smoothing_taken, material_taken, group_taken};
 ghost use Rattle.model.specs.Parse.{type_said};
 
-use crate::words::{Line, NamesRead, line_names, line_words};
-use digits::whole::{Whole, degree_at, smoothing_at};
+use crate::words::{counted_line, counted_names};
+use digits::whole::{degree_at, smoothing_at};
 use keywords::{Argument, argument_at};
 use read_state::{Form, Names};
+use refusals::Reason;
 use statements::rows::{degree_rules, group_rules, material_rules, smoothing_rules, type_rules};
-use statements::rules::counted;
 use tables::bases;
+use text::Parsed;
 
-#[derive(Clone, Copy)]
-pub enum TakenForm {
-    Accepted { form: Form, next: usize },
-    Rejected,
-}
-
-#[derive(Clone, Copy)]
-pub enum TakenNames {
-    Accepted { names: Names, next: usize },
-    Rejected,
-}
-
-// The number of a type, 0 for what is none.
-fn basis_of(argument: Argument) -> u32
+// The number of a type. None for what is none.
+fn basis_of(argument: Argument) -> Option<u32>
     ensures { result ≡ basis_or (type_said argument) }
 {
     match argument {
-        Argument::Rational => 0,
-        Argument::BasisMatrix => 0,
-        Argument::Bezier => bases::BEZIER,
-        Argument::Bspline => bases::BSPLINE,
-        Argument::Cardinal => bases::CARDINAL,
-        Argument::Taylor => bases::TAYLOR,
-        Argument::DirectionU => 0,
-        Argument::DirectionV => 0,
-        Argument::Off => 0,
-        Argument::Other => 0,
+        Argument::Bezier => Some(bases::BEZIER),
+        Argument::Bspline => Some(bases::BSPLINE),
+        Argument::Cardinal => Some(bases::CARDINAL),
+        Argument::Taylor => Some(bases::TAYLOR),
+        _ => None,
     }
 }
 
 fn is_rational(argument: Argument) -> bool
     ensures { result ≡ is_rational argument }
 {
-    match argument {
-        Argument::Rational => true,
-        Argument::BasisMatrix => false,
-        Argument::Bezier => false,
-        Argument::Bspline => false,
-        Argument::Cardinal => false,
-        Argument::Taylor => false,
-        Argument::DirectionU => false,
-        Argument::DirectionV => false,
-        Argument::Off => false,
-        Argument::Other => false,
-    }
+    matches!(argument, Argument::Rational)
 }
 
 // The form with the type that the line's last word says.
-fn with_type(argument: Argument, rational: u32, form: Form, next: usize) -> TakenForm
+fn with_type(argument: Argument, rational: u32, form: Form, next: usize) -> Option<Parsed<Form>>
     ensures { result ≡ typed rational form (basis_or (type_said argument)) next }
 {
-    let basis = basis_of(argument);
-    if basis == 0 {
-        return TakenForm::Rejected;
-    }
-    TakenForm::Accepted {
-        form: Form {
-            basis: basis,
-            rational: rational,
+    let basis = basis_of(argument)?;
+    Some(Parsed {
+        value: Form {
+            basis,
+            rational,
             degree_u: form.degree_u,
             degree_v: form.degree_v,
         },
-        next: next,
-    }
+        next,
+    })
 }
 
 // A cstype line, `at` just after its keyword; 01: "of two the first is rat; the last is a type".
-pub fn take_type(text: &[u8], at: usize, form: Form, argument_table: &[u8; 108]) -> TakenForm
-    requires at_in_bounds { at ≤ length text.now }
-    requires argument_table_value { argument_table.now ≡ table_of_arguments }
+pub fn take_type(text: &[u8], at: usize, form: Form) -> Option<Parsed<Form>>
+    requires { at ≤ length text.now }
     ensures { result ≡ type_taken form (rest_at text.now at) }
 {
-    match line_words(text, at) {
-        Line::Refused => TakenForm::Rejected,
-        Line::Words {
-            first,
-            second,
-            count,
-            next,
-        } => {
-            let rules = type_rules();
-            let allowed = rules.count;
-            if !counted(allowed, count) {
-                return TakenForm::Rejected;
-            }
-            let argument = argument_at(text, first, argument_table);
-            if count == 1 {
-                return with_type(argument, 0, form, next);
-            }
-            if !is_rational(argument) {
-                return TakenForm::Rejected;
-            }
-            with_type(argument_at(text, second, argument_table), 1, form, next)
-        }
+    let rules = type_rules();
+    let line = counted_line(text, at, rules.count)?;
+    let argument = argument_at(text, line.first);
+    if line.count == 1 {
+        return with_type(argument, 0, form, line.next);
     }
+    if !is_rational(argument) {
+        return None;
+    }
+    with_type(argument_at(text, line.second), 1, form, line.next)
 }
 
 // The v degree of a line of `count` words, the second at `place`; 01: "A deg with one number clears the v degree".
-fn second_degree(text: &[u8], place: usize, count: usize) -> Whole
+fn second_degree(text: &[u8], place: usize, count: usize) -> Result<Parsed<u32>, Reason>
     requires { place ≤ length text.now }
-    ensures { said_whole result ≡ ends_at (second_said text.now place count) (second_end text.now place count) }
+    ensures { said result ≡ ends_at (second_said text.now place count) (second_end text.now place count) }
 {
     if count == 1 {
-        return Whole::Value {
+        return Ok(Parsed {
             value: 0,
-            end: place,
-        };
+            next: place,
+        });
     }
     degree_at(text, place)
 }
 
 // A deg line, `at` just after its keyword.
-pub fn take_degree(text: &[u8], at: usize, form: Form) -> TakenForm
+pub fn take_degree(text: &[u8], at: usize, form: Form) -> Option<Parsed<Form>>
     requires { at ≤ length text.now }
     ensures { result ≡ degree_taken form (rest_at text.now at) }
 {
-    match line_words(text, at) {
-        Line::Refused => TakenForm::Rejected,
-        Line::Words {
-            first,
-            second,
-            count,
-            next,
-        } => {
-            let rules = degree_rules();
-            let allowed = rules.count;
-            if !counted(allowed, count) {
-                return TakenForm::Rejected;
-            }
-            match degree_at(text, first) {
-                Whole::Value {
-                    value: degree_u,
-                    end: _,
-                } => match second_degree(text, second, count) {
-                    Whole::Value {
-                        value: degree_v,
-                        end: _,
-                    } => TakenForm::Accepted {
-                        form: Form {
-                            basis: form.basis,
-                            rational: form.rational,
-                            degree_u: degree_u,
-                            degree_v: degree_v,
-                        },
-                        next: next,
-                    },
-                    Whole::Malformed => TakenForm::Rejected,
-                    Whole::OutOfRange => TakenForm::Rejected,
-                },
-                Whole::Malformed => TakenForm::Rejected,
-                Whole::OutOfRange => TakenForm::Rejected,
-            }
-        }
-    }
+    let rules = degree_rules();
+    let line = counted_line(text, at, rules.count)?;
+    let degree_u = degree_at(text, line.first).ok()?;
+    let degree_v = second_degree(text, line.second, line.count).ok()?;
+    Some(Parsed {
+        value: Form {
+            basis: form.basis,
+            rational: form.rational,
+            degree_u: degree_u.value,
+            degree_v: degree_v.value,
+        },
+        next: line.next,
+    })
 }
 
 // An s line, `at` just after its keyword.
-pub fn take_smoothing(
-    text: &[u8],
-    at: usize,
-    names: Names,
-    argument_table: &[u8; 108],
-) -> TakenNames
-    requires at_in_bounds { at ≤ length text.now }
-    requires argument_table_value { argument_table.now ≡ table_of_arguments }
+pub fn take_smoothing(text: &[u8], at: usize, names: Names) -> Option<Parsed<Names>>
+    requires { at ≤ length text.now }
     ensures { result ≡ smoothing_taken names (rest_at text.now at) }
 {
-    match line_words(text, at) {
-        Line::Refused => TakenNames::Rejected,
-        Line::Words {
-            first,
-            second: _,
-            count,
-            next,
-        } => {
-            let rules = smoothing_rules();
-            let allowed = rules.count;
-            if !counted(allowed, count) {
-                return TakenNames::Rejected;
-            }
-            match smoothing_at(text, first, argument_table) {
-                Whole::Value { value, end: _ } => {
-                    let group = names.group;
-                    let material = names.material;
-                    TakenNames::Accepted {
-                        names: Names {
-                            group: group,
-                            material: material,
-                            smoothing: value,
-                        },
-                        next: next,
-                    }
-                }
-                Whole::Malformed => TakenNames::Rejected,
-                Whole::OutOfRange => TakenNames::Rejected,
-            }
-        }
-    }
+    let rules = smoothing_rules();
+    let line = counted_line(text, at, rules.count)?;
+    let smoothing = smoothing_at(text, line.first).ok()?;
+    Some(Parsed {
+        value: Names {
+            group: names.group,
+            material: names.material,
+            smoothing: smoothing.value,
+        },
+        next: line.next,
+    })
 }
 
 // A usemtl line, `at` just after its keyword.
-pub fn take_material(text: &[u8], at: usize, names: Names) -> TakenNames
+pub fn take_material(text: &[u8], at: usize, names: Names) -> Option<Parsed<Names>>
     requires { (at ≤ length text.now) × (length text.now ≤ 16777216) }
     ensures { result ≡ material_taken names (rest_at text.now at) }
 {
-    match line_names(text, at) {
-        NamesRead::Refused => TakenNames::Rejected,
-        NamesRead::Run { run, count, next } => {
-            let rules = material_rules();
-            let allowed = rules.count;
-            if !counted(allowed, count) {
-                return TakenNames::Rejected;
-            }
-            let group = names.group;
-            TakenNames::Accepted {
-                names: Names {
-                    group: group,
-                    material: run,
-                    smoothing: names.smoothing,
-                },
-                next: next,
-            }
-        }
-    }
+    let rules = material_rules();
+    let run = counted_names(text, at, rules.count)?;
+    Some(Parsed {
+        value: Names {
+            group: names.group,
+            material: run.value,
+            smoothing: names.smoothing,
+        },
+        next: run.next,
+    })
 }
 
 // A g line, `at` just after its keyword.
-pub fn take_group(text: &[u8], at: usize, names: Names) -> TakenNames
+pub fn take_group(text: &[u8], at: usize, names: Names) -> Option<Parsed<Names>>
     requires { (at ≤ length text.now) × (length text.now ≤ 16777216) }
     ensures { result ≡ group_taken names (rest_at text.now at) }
 {
-    match line_names(text, at) {
-        NamesRead::Refused => TakenNames::Rejected,
-        NamesRead::Run { run, count, next } => {
-            let rules = group_rules();
-            let allowed = rules.count;
-            if !counted(allowed, count) {
-                return TakenNames::Rejected;
-            }
-            let material = names.material;
-            TakenNames::Accepted {
-                names: Names {
-                    group: run,
-                    material: material,
-                    smoothing: names.smoothing,
-                },
-                next: next,
-            }
-        }
-    }
+    let rules = group_rules();
+    let run = counted_names(text, at, rules.count)?;
+    Some(Parsed {
+        value: Names {
+            group: run.value,
+            material: names.material,
+            smoothing: names.smoothing,
+        },
+        next: run.next,
+    })
 }

@@ -1,11 +1,11 @@
-// What is in force while a text is read, as numbers.
+// What is in force while a text is read, as the numbers that the records of the tables hold: a type, a degree and a kind go there as they stand here.
 #![tactic(auto)]
 
-ghost use Rattle.std.specs.Prelude.{◌≡◌};
+ghost use Rattle.std.specs.Prelude.{◌≡◌, ◌&&◌, ◌||◌, not, cond, eqb, leb};
 ghost use Rattle.model.specs.Layout.{free_number};
 
 use statements::Free;
-use tables::{NameRun, Used, kinds};
+use tables::{NameRun, Used, bases, kinds};
 
 // Where the names in force stand in the text, and the smoothing.
 #[derive(Clone, Copy)]
@@ -53,4 +53,12 @@ pub fn kind_of(free: Free) -> u32
         Free::Curve2 => kinds::CURVE2,
         Free::Surface => kinds::SURFACE,
     }
+}
+
+// Whether a type is set and the degrees that it needs; 01: "Cardinal needs no deg".
+pub fn in_force(surface: bool, form: Form) -> bool
+    ensures { result ≡ (not (eqb form.basis 0) && (eqb form.basis 3 || cond surface (leb 1 form.degree_u && leb 1 form.degree_v) (leb 1 form.degree_u))) }
+{
+    let degrees = form.degree_u != 0 && (!surface || form.degree_v != 0);
+    form.basis != 0 && (form.basis == bases::CARDINAL || degrees)
 }

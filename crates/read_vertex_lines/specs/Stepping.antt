@@ -1,6 +1,9 @@
 -- What the code does with a line that it knows the keyword of: the state after it, or that it is rejected.
-use Rattle.std.specs.Prelude.{ℕ, ◌≡◌, List, length, ℤ, Bool}
+use Rattle.std.specs.Prelude.{ℕ, ◌≡◌, List, length, ℤ, Bool, Result, Ok, Err, Option as Answer}
 use Rattle.std.proofs.Math.Option.{none}
+use Rattle.refusals.specs.declared.Reason.{Reason}
+use Rattle.refusals.specs.Reasons.{reason_number}
+use Rattle.text.specs.declared.Parsed.{Parsed}
 use Rattle.text.specs.Words.{Word}
 use Rattle.text.specs.Rest.{rest_at, push}
 use Rattle.tables.specs.VertexTables.{VertexTables}
@@ -17,11 +20,10 @@ use Rattle.model.specs.Read.{carried_in}
 use Rattle.read_state.specs.declared.State.{State}
 use Rattle.read_state.specs.Changed.{with_vertices, with_elements, kind_stored, kind_in, range_stored, loops_stored, body_stored}
 use Rattle.read_vertices.specs.Vertex.{VertexIs}
-use Rattle.read_vertices.specs.declared.Vertex.{Vertex}
 use Rattle.read_bodies.specs.Loops.{loop_word}
 use Rattle.read_diagnosis.specs.Diagnosis.{parse_before, GivenIn}
-use Rattle.read_vertex_lines.specs.declared.Step.{Step}
-use Rattle.read_vertex_lines.specs.declared.Step.TheVariants.{Accepted, Refuses, Rejected}
+use Rattle.read_vertex_lines.specs.declared.LineFault.{LineFault}
+use Rattle.read_vertex_lines.specs.declared.LineFault.TheVariants.{AtKeyword, Unknown}
 use Rattle.read_vertex_lines.specs.Bounds.{Keeps}
 use Rattle.read_vertex_lines.specs.Holding.{Holds, line_says, WithinLimit, NextLine}
 
@@ -42,6 +44,19 @@ abbrev pub with_used : Used → State → State
 with_used u c = record { used = u; curves = c.curves; names = c.names; form = c.form; «open» = c.«open» }
 
 -- ---- what a line's function promises of the tables
+-- what it answers: the state after the line and where the next one starts, or why not
+abbrev pub Step : Type 0
+Step = Result (Parsed State) LineFault
+
+abbrev pub accepted : State → ℕ → Step
+accepted d q = Ok (record { value = d; next = q })
+
+-- at its keyword, or at what is still to be found
+abbrev pub refuses : Reason → Step
+refuses r = Err (AtKeyword r)
+
+abbrev pub rejected : Step
+rejected = Err Unknown
 
 -- the line of s at p, read after n bytes, begins with the word w, which is the keyword k, and its other words stand from `at` on
 pub record Began (R : Rooms) (s : List ℕ) (p at n : ℕ) (x : model.State) (c : State) (t : Tables) (w : Word) (k : Keyword) : Type 0 where
@@ -57,14 +72,15 @@ pub record Left (R : Rooms) (s : List ℕ) (p at : ℕ) (x : model.State) (u : T
 
 -- the tables held t and then hold u; the bounds are kept in whatever state the line is taken
 abbrev pub StepIs : List ℕ → ℕ → Keyword → State → Tables → Tables → Step → Type 0
-StepIs s at k c t u (Accepted d q) =
-    Keeps s at c d q × ((R : Rooms) (p n : ℕ) (x : model.State) (w : Word) → Began R s p at n x c t w k → NextLine R s p n x d u q × (q ≡ (rest_at s p).next))
-StepIs s at k c t u (Refuses i) = (R : Rooms) (p n : ℕ) (x : model.State) (w : Word) → Began R s p at n x c t w k → line_says R s p x ≡ fault i w.place
-StepIs s at k c t u Rejected = (R : Rooms) (p n : ℕ) (x : model.State) (w : Word) → Began R s p at n x c t w k → Left R s p at x u w k
+StepIs s at k c t u (Ok a) =
+    Keeps s at c a.value a.next × ((R : Rooms) (p n : ℕ) (x : model.State) (w : Word) → Began R s p at n x c t w k → NextLine R s p n x a.value u a.next × (a.next ≡ (rest_at s p).next))
+StepIs s at k c t u (Err (AtKeyword r)) =
+    (R : Rooms) (p n : ℕ) (x : model.State) (w : Word) → Began R s p at n x c t w k → line_says R s p x ≡ fault (reason_number r) w.place
+StepIs s at k c t u (Err Unknown) = (R : Rooms) (p n : ℕ) (x : model.State) (w : Word) → Began R s p at n x c t w k → Left R s p at x u w k
 
 -- each family by the tables that it is lent; the others stay
 -- what `vertex_into` answers: a vertex goes into the table of its kind, and the other three stay
-abbrev pub VertexInto : VertexKind → List ℕ → ℕ → ℕ → VertexTables → VertexTables → Vertex → Type 0
+abbrev pub VertexInto : VertexKind → List ℕ → ℕ → ℕ → VertexTables → VertexTables → Answer ℕ → Type 0
 VertexInto k s at n a b r = VertexIs k s at n (kind_in k a) (kind_in k b) r × (b ≡ kind_stored k (kind_in k b) a)
 
 abbrev pub VertexStep : VertexKind → List ℕ → ℕ → State → VertexTables → VertexTables → Step → Type 0

@@ -5,21 +5,30 @@
 ghost use Rattle.std.specs.Prelude.{◌≡◌, ◌+◌, ◌≤◌, length};
 ghost use Rattle.read_vertex_lines.specs.Bounds.{InBounds};
 ghost use Rattle.tables.specs.VertexTables.{vertex_tables};
+ghost use Rattle.read_vertex_lines.specs.declared.LineFault.TheVariants.{AtKeyword};
 ghost use Rattle.read_vertex_lines.specs.Stepping.{count_in, with_count, with_used, VertexInto, VertexStep};
 
 use read_state::State;
-use read_vertices::Vertex;
+use refusals::Reason;
 use statements::VertexKind;
 use statements::rows::vertex_rules;
 use statements::rules::allowed;
 use tables::Used;
+use text::Parsed;
 
-// What a line whose keyword is known comes to: the state after it, a refusal at its keyword, or a fault still to be found.
+// Why a line whose keyword is known is not taken: it is refused at its keyword, or its fault is still to be found.
 #[derive(Clone, Copy)]
-pub enum Step {
-    Accepted { state: State, next: usize },
-    Refuses(u32),
-    Rejected,
+pub enum LineFault {
+    AtKeyword(Reason),
+    Unknown,
+}
+
+impl From<Reason> for LineFault {
+    ghost from_gives = { λ r f. f ≡ AtKeyword r };
+
+    fn from(reason: Reason) -> LineFault {
+        LineFault::AtKeyword(reason)
+    }
 }
 
 fn count_of(kind: VertexKind, used: Used) -> u32
@@ -36,30 +45,18 @@ fn count_of(kind: VertexKind, used: Used) -> u32
 fn counted(kind: VertexKind, count: u32, used: Used) -> Used
     ensures { result ≡ with_count kind count used }
 {
-    let mut after = used;
     match kind {
-        VertexKind::Geometric => {
-            after.v = count;
-        }
-        VertexKind::Texture => {
-            after.vt = count;
-        }
-        VertexKind::Normal => {
-            after.vn = count;
-        }
-        VertexKind::Parametric => {
-            after.vp = count;
-        }
+        VertexKind::Geometric => Used { v: count, ..used },
+        VertexKind::Texture => Used { vt: count, ..used },
+        VertexKind::Normal => Used { vn: count, ..used },
+        VertexKind::Parametric => Used { vp: count, ..used },
     }
-    after
 }
 
 pub fn with_used(used: Used, state: State) -> State
     ensures { result ≡ with_used used state }
 {
-    let mut after = state;
-    after.used = used;
-    after
+    State { used, ..state }
 }
 
 // The vertex of a line into the table of its kind, of which `used` records are used.
@@ -72,7 +69,7 @@ fn vertex_into(
     vt: &mut [i32],
     vn: &mut [i32],
     vp: &mut [i32],
-) -> Vertex
+) -> Option<usize>
     requires { at ≤ length text.now }
     ensures { VertexInto kind text.now at used (vertex_tables v.old vt.old vn.old vp.old) (vertex_tables v.new vt.new vn.new vp.new) result }
 {
@@ -94,23 +91,20 @@ pub fn vertex_line(
     vt: &mut [i32],
     vn: &mut [i32],
     vp: &mut [i32],
-) -> Step
+) -> Result<Parsed<State>, LineFault>
     requires { InBounds text.now at state }
     ensures { VertexStep kind text.now at state (vertex_tables v.old vt.old vn.old vp.old) (vertex_tables v.new vt.new vn.new vp.new) result }
 {
-    let open = state.open;
     let rules = vertex_rules(kind);
-    let standing = rules.standing;
-    if !allowed(standing, open.kind, false) {
-        return Step::Rejected;
+    if !allowed(rules.standing, state.open.kind, false) {
+        return Err(LineFault::Unknown);
     }
-    let used = state.used;
-    let count = count_of(kind, used);
-    match vertex_into(kind, text, at, count, v, vt, vn, vp) {
-        Vertex::Rejected => Step::Rejected,
-        Vertex::Accepted { next } => Step::Accepted {
-            state: with_used(counted(kind, count + 1, used), state),
-            next: next,
-        },
-    }
+    let count = count_of(kind, state.used);
+    let Some(next) = vertex_into(kind, text, at, count, v, vt, vn, vp) else {
+        return Err(LineFault::Unknown);
+    };
+    Ok(Parsed {
+        value: with_used(counted(kind, count + 1, state.used), state),
+        next,
+    })
 }

@@ -1,4 +1,3 @@
-pub mod Layouts
 pub mod Walking
 pub mod Closed
 pub mod Rows

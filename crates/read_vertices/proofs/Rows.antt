@@ -7,13 +7,12 @@ use lib.ListN.{length}
 use lib.Seq.{length-sets}
 use lib.IntN.{ℤ}
 use native.Mathlib.Omega.{arith}
+use Rattle.std.specs.Prelude.{Some}
 use Rattle.text.specs.Rest.{Rest, rest_at, WordMet, EndMet, BadMet}
 use Rattle.read_state.specs.Numbers.{Walk, ended, full, stuck, numbers_walk}
-use Rattle.read_vertices.specs.Into.{EndedAfter, FullAfter, StoppedAfter, NumbersIs, line_ended, WholeRow, NoRow, RowIs}
+use Rattle.read_vertices.specs.Into.{EndedAfter, FullAfter, StoppedAfter, NumbersIs, line_ended, WholeRow, NoRow}
 use Rattle.read_vertices.specs.declared.Numbers.{Numbers}
-use Rattle.read_vertices.specs.declared.Numbers.TheVariants.{Ended, Full, Stopped}
-use Rattle.read_vertices.specs.declared.NumberRow.{NumberRow}
-use Rattle.read_vertices.specs.declared.NumberRow.TheVariants.{Whole, Incomplete}
+use Rattle.read_vertices.specs.declared.Numbers.TheVariants.{Ended, Full}
 use Rattle.read_vertices.proofs.Walking.{before-stored}
 use Rattle.read_vertices.proofs.Closed.{nothing, closing-some, row-some, some-row}
 
@@ -28,15 +27,12 @@ stopped-short n first (full ys r) f g zs q e =
 stopped-short n first stuck f g zs q e = nothing e
 
 module _ (least most : ℕ) (s : List ℕ) (at first : ℕ) (l m : List ℤ) where
-  module _ {r : Numbers} (is : NumbersIs most s at first l m r) where
-    pub is-ended : {n q : ℕ} → r ≡ Ended n q → EndedAfter most s at first l m n q
+  module _ {v : Numbers} (is : NumbersIs most s at first l m (Some v)) where
+    pub is-ended : {n q : ℕ} → v ≡ Ended n q → EndedAfter most s at first l m n q
     is-ended e = rw e at is
 
-    pub is-full : {n : ℕ} → r ≡ Full n → FullAfter most s at first l m n
+    pub is-full : {n : ℕ} → v ≡ Full n → FullAfter most s at first l m n
     is-full e = rw e at is
-
-    pub is-stopped : r ≡ Stopped → StoppedAfter most s at first l m
-    is-stopped e = rw e at is
 
   pub no_row : StoppedAfter most s at first l m → NoRow least most s at first l m
   no_row h =
@@ -111,10 +107,3 @@ module _ (least most : ℕ) (s : List ℕ) (at first : ℕ) (l m : List ℤ) whe
           room = h.room;
           stored = h.stored;
         }
-
-  module _ {r : NumberRow} (is : RowIs least most s at first l m r) where
-    pub is_whole : {n q : ℕ} → r ≡ Whole n q → WholeRow least most s at first l m n q
-    is_whole e = rw e at is
-
-    pub is-not : r ≡ Incomplete → NoRow least most s at first l m
-    is-not e = rw e at is

@@ -11,16 +11,9 @@ use lib.IntN.{ℤ, pos}
 use borrow.Author.Tests.{leb-true, leb-false}
 use native.Mathlib.Omega.{arith}
 use Rattle.text.specs.Words.{word_of}
-use Rattle.text.specs.Rest.{Rest, rest_at, end_of, WordMet, EndMet, BadMet, AfterBlanksIs}
-use Rattle.text.specs.declared.AfterBlanks.{AfterBlanks}
-use Rattle.text.specs.declared.AfterBlanks.TheVariants.{Start, End, Bad}
+use Rattle.text.specs.Rest.{Rest, rest_at, end_of, WordMet, EndMet, BadMet}
 use Rattle.digits.specs.Said.{Said, says, wrong}
-use Rattle.digits.specs.Answers.{ends_at as ended_at}
 use Rattle.decimals.specs.Number.{number_of}
-use Rattle.word_numbers.specs.Answers.{said_number}
-use Rattle.word_numbers.specs.declared.Number.{Number}
-use Rattle.word_numbers.specs.declared.Number.TheVariants.{Value, Malformed, OutOfRange}
-use Rattle.digits.proofs.Saids.{ended-says, ended-wrong}
 use Rattle.read_state.specs.Numbers.{Walk, ended, full, stuck, onto_walk, on_number, numbers_walk}
 use Rattle.read_vertices.specs.Into.{EndedAfter, FullAfter, StoppedAfter}
 use Rattle.lists.proofs.Laws.{sets-append}
@@ -92,27 +85,6 @@ begin most s at first l h =
 pub place-fits : (first count n k : ℕ) → (0 < count → first + count ≤ k) → first < n → k < n → first + count < n
 place-fits first zero n k h f g = omega arith
 place-fits first (suc count) n k h f g = let r = h (omega arith) in omega arith
-
--- by the answers of the readers
-module _ (s : List ℕ) (i : ℕ) {r : AfterBlanks} (g : AfterBlanksIs s i r) where
-  pub met-word : {p : ℕ} → r ≡ Start p → WordMet s i p
-  met-word e = rw e at g
-
-  pub met-end : {q : ℕ} → r ≡ End q → EndMet s i q
-  met-end e = rw e at g
-
-  pub met-bad : {p : ℕ} → r ≡ Bad p → BadMet s i p
-  met-bad e = rw e at g
-
-module _ (s : List ℕ) (p : ℕ) {r : Number} (g : said_number r ≡ ended_at (number_of (word_of (drop p s))) (end_of s p)) where
-  pub is-value : {z : ℤ} {e : ℕ} → r ≡ Value z e → (number_of (word_of (drop p s)) ≡ says z) × (e ≡ end_of s p)
-  is-value {z} {e} h = ended-says (number_of (word_of (drop p s))) z (end_of s p) e (sym (ap said_number h) ∙ g)
-
-  pub is-malformed : r ≡ Malformed → number_of (word_of (drop p s)) ≡ wrong 6
-  is-malformed h = ended-wrong (number_of (word_of (drop p s))) 6 (end_of s p) (sym (ap said_number h) ∙ g)
-
-  pub is-out : r ≡ OutOfRange → number_of (word_of (drop p s)) ≡ wrong 7
-  is-out h = ended-wrong (number_of (word_of (drop p s))) 7 (end_of s p) (sym (ap said_number h) ∙ g)
 
 module _ (most : ℕ) (s : List ℕ) (at first : ℕ) (l : List ℤ) (i count : ℕ) (t : List ℤ) (w : Walking most s at first l i count t) where
   pub filled : most ≤ count → FullAfter most s at first l t i

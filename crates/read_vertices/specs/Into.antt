@@ -1,14 +1,13 @@
 -- What is found where a line's numbers are stored from entry `first` of a table on, which held l and then holds m.
-use Rattle.std.specs.Prelude.{ℕ, ◌+◌, ◌≤◌, ◌<◌, ◌≡◌, cond, List, [], ◌∷◌, length, get_or, leb, ℤ, pos}
+use Rattle.std.specs.Prelude.{ℕ, ◌+◌, ◌≤◌, ◌<◌, ◌≡◌, cond, List, [], ◌∷◌, length, get_or, leb, ℤ, pos, Option as Answer, Some, None}
 use Rattle.std.proofs.Math.Option.{Option, none, some}
 use Rattle.std.proofs.lemmas.List.Edits.{sets}
 use Rattle.text.specs.Words.{Word}
 use Rattle.text.specs.Rest.{Rest, rest_at}
+use Rattle.text.specs.declared.Parsed.{Parsed}
 use Rattle.read_state.specs.Numbers.{Walk, ended, full, stuck, numbers_walk}
 use Rattle.read_vertices.specs.declared.Numbers.{Numbers}
-use Rattle.read_vertices.specs.declared.Numbers.TheVariants.{Ended, Full, Stopped}
-use Rattle.read_vertices.specs.declared.NumberRow.{NumberRow}
-use Rattle.read_vertices.specs.declared.NumberRow.TheVariants.{Whole, Incomplete}
+use Rattle.read_vertices.specs.declared.Numbers.TheVariants.{Ended, Full}
 
 -- the line ended after `count` numbers, fewer than were asked for
 pub record EndedAfter (most : ℕ) (s : List ℕ) (at first : ℕ) (l m : List ℤ) (count next : ℕ) : Type 0 where
@@ -35,10 +34,10 @@ pub record StoppedAfter (most : ℕ) (s : List ℕ) (at first : ℕ) (l m : List
   pub ended-short : (zs : List ℤ) (q : ℕ) → numbers_walk most (rest_at s at) ≡ ended zs q → length l < first + length zs
   pub full-short : (zs : List ℤ) (r : Rest) → numbers_walk most (rest_at s at) ≡ full zs r → length l < first + length zs
 
-abbrev pub NumbersIs : ℕ → List ℕ → ℕ → ℕ → List ℤ → List ℤ → Numbers → Type 0
-NumbersIs most s at first l m (Ended n q) = EndedAfter most s at first l m n q
-NumbersIs most s at first l m (Full e) = FullAfter most s at first l m e
-NumbersIs most s at first l m Stopped = StoppedAfter most s at first l m
+abbrev pub NumbersIs : ℕ → List ℕ → ℕ → ℕ → List ℤ → List ℤ → Answer Numbers → Type 0
+NumbersIs most s at first l m (Some (Ended n q)) = EndedAfter most s at first l m n q
+NumbersIs most s at first l m (Some (Full e)) = FullAfter most s at first l m e
+NumbersIs most s at first l m None = StoppedAfter most s at first l m
 
 -- ---- a line of numbers alone: from `least` to `most` of them, and where the next line starts
 abbrev pub closing : List ℤ → List Word → Option ℕ → ℕ → Option (List ℤ × ℕ)
@@ -71,6 +70,6 @@ pub record NoRow (least most : ℕ) (s : List ℕ) (at first : ℕ) (l m : List 
   pub before : (i : ℕ) → i < first → get_or m i (pos 0) ≡ get_or l i (pos 0)
   pub short : (zs : List ℤ) (q : ℕ) → row_said least most (rest_at s at) ≡ some (zs, q) → length l < first + length zs
 
-abbrev pub RowIs : ℕ → ℕ → List ℕ → ℕ → ℕ → List ℤ → List ℤ → NumberRow → Type 0
-RowIs least most s at first l m (Whole n q) = WholeRow least most s at first l m n q
-RowIs least most s at first l m Incomplete = NoRow least most s at first l m
+abbrev pub RowIs : ℕ → ℕ → List ℕ → ℕ → ℕ → List ℤ → List ℤ → Answer (Parsed ℕ) → Type 0
+RowIs least most s at first l m (Some p) = WholeRow least most s at first l m p.value p.next
+RowIs least most s at first l m None = NoRow least most s at first l m

@@ -1,5 +1,5 @@
 -- v, vt, vn, vp: what the rest of a line says as a vertex of a kind, its record and where the next line starts.
-use Rattle.std.specs.Prelude.{ℕ, ◌+◌, ◌*◌, ◌≤◌, ◌<◌, ◌≡◌, cond, List, [], ◌∷◌, length, get_or, eqb, ℤ, pos}
+use Rattle.std.specs.Prelude.{ℕ, ◌+◌, ◌*◌, ◌≤◌, ◌<◌, ◌≡◌, cond, List, [], ◌∷◌, length, get_or, eqb, ℤ, pos, Option as Answer, Some, None}
 use Rattle.std.proofs.Math.Option.{Option, none, some}
 use Rattle.std.proofs.lemmas.List.Edits.{sets}
 use Rattle.text.specs.Rest.{Rest, rest_at}
@@ -9,8 +9,6 @@ use Rattle.model.specs.Model.{VertexKind, geometric, texture, normal, parametric
 use Rattle.model.specs.Parse.{vertex_record}
 use Rattle.read_vertices.specs.Into.{row_said}
 use Rattle.read_vertices.specs.declared.Layout.{Layout}
-use Rattle.read_vertices.specs.declared.Vertex.{Vertex}
-use Rattle.read_vertices.specs.declared.Vertex.TheVariants.{Accepted, Rejected}
 
 -- the fewest and the most numbers of a line, by its row; a record of four holds no more
 abbrev pub fewest_numbers : VertexKind → ℕ
@@ -62,6 +60,6 @@ pub record NoVertex (k : VertexKind) (s : List ℕ) (at used : ℕ) (l m : List 
   pub before : (i : ℕ) → i < width k * used → get_or m i (pos 0) ≡ get_or l i (pos 0)
   pub short : (z : List ℤ) (q : ℕ) → vertex_said k (rest_at s at) ≡ some (z, q) → length l < width k * used + width k
 
-abbrev pub VertexIs : VertexKind → List ℕ → ℕ → ℕ → List ℤ → List ℤ → Vertex → Type 0
-VertexIs k s at used l m (Accepted q) = TakenVertex k s at used l m q
-VertexIs k s at used l m Rejected = NoVertex k s at used l m
+abbrev pub VertexIs : VertexKind → List ℕ → ℕ → ℕ → List ℤ → List ℤ → Answer ℕ → Type 0
+VertexIs k s at used l m (Some q) = TakenVertex k s at used l m q
+VertexIs k s at used l m None = NoVertex k s at used l m

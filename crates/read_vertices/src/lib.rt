@@ -9,64 +9,45 @@ ghost use Rattle.read_vertices.specs.Vertex.{layout_of, blank, VertexIs};
 use statements::VertexKind;
 use statements::rules::{fewest_words, most_words, vertex_count};
 use tables::{vertices, widths};
-use text::AfterBlanks;
-use word_numbers::Number;
+use text::{AfterBlanks, Parsed};
 
-// What a line's numbers come to: the line ended; as many as were asked for were found; or it has a word that is no number, a byte that is not allowed, or
-// more numbers than the table has room for.
+// What a line's numbers come to: the line ended, or as many as were asked for were found.
 #[derive(Clone, Copy)]
 pub enum Numbers {
     Ended { count: usize, next: usize },
     Full { end: usize },
-    Stopped,
 }
 
-// At most `most` numbers of the line from `at` on, which is between words, stored from entry `first` on.
-pub fn numbers_into(text: &[u8], at: usize, most: usize, table: &mut [i32], first: usize) -> Numbers
+// At most `most` numbers of the line from `at` on, which is between words, stored from entry `first` on. None where the line has a word that is no number,
+// a byte that is not allowed, or more numbers than the table has room for.
+pub fn numbers_into(
+    text: &[u8],
+    at: usize,
+    most: usize,
+    table: &mut [i32],
+    first: usize,
+) -> Option<Numbers>
     requires { at ≤ length text.now }
     ensures { NumbersIs most text.now at first table.old table.new result }
 {
     let mut i = at;
-    let mut count: usize = 0;
-    while count < most {
+    for count in 0..most {
         match text::skip_blanks(text, i) {
-            AfterBlanks::Start(p) => match word_numbers::quick_number_at(text, p) {
-                Number::Value { value, end } => {
-                    if !table_store::put_i32(table, first + count, &[value]) {
-                        return Numbers::Stopped;
-                    }
-                    count += 1;
-                    i = end;
+            AfterBlanks::Start(p) => {
+                let number = word_numbers::quick_number_at(text, p).ok()?;
+                if !table_store::put(table, first + count, &[number.value]) {
+                    return None;
                 }
-                Number::Malformed => {
-                    return Numbers::Stopped;
-                }
-                Number::OutOfRange => {
-                    return Numbers::Stopped;
-                }
-            },
-            AfterBlanks::End(q) => {
-                return Numbers::Ended {
-                    count: count,
-                    next: q,
-                };
+                i = number.next;
             }
-            AfterBlanks::Bad(_) => {
-                return Numbers::Stopped;
-            }
+            AfterBlanks::End(next) => return Some(Numbers::Ended { count, next }),
+            AfterBlanks::Bad(_) => return None,
         }
     }
-    Numbers::Full { end: i }
+    Some(Numbers::Full { end: i })
 }
 
-// A line of numbers alone, as many as it may have.
-#[derive(Clone, Copy)]
-pub enum NumberRow {
-    Whole { count: usize, next: usize },
-    Incomplete,
-}
-
-// From `least` to `most` numbers and nothing else from `at` on, stored from entry `first` on.
+// From `least` to `most` numbers and nothing else from `at` on, stored from entry `first` on: how many.
 pub fn row_into(
     text: &[u8],
     at: usize,
@@ -74,34 +55,27 @@ pub fn row_into(
     most: usize,
     table: &mut [i32],
     first: usize,
-) -> NumberRow
+) -> Option<Parsed<usize>>
     requires { at ≤ length text.now }
     ensures { RowIs least most text.now at first table.old table.new result }
 {
-    match numbers_into(text, at, most, table, first) {
+    match numbers_into(text, at, most, table, first)? {
         Numbers::Ended { count, next } => {
             if count < least {
-                return NumberRow::Incomplete;
+                return None;
             }
-            NumberRow::Whole {
-                count: count,
-                next: next,
-            }
+            Some(Parsed { value: count, next })
         }
         Numbers::Full { end } => {
             if most < least {
-                return NumberRow::Incomplete;
+                return None;
             }
             match text::skip_blanks(text, end) {
-                AfterBlanks::Start(_) => NumberRow::Incomplete,
-                AfterBlanks::End(q) => NumberRow::Whole {
-                    count: most,
-                    next: q,
-                },
-                AfterBlanks::Bad(_) => NumberRow::Incomplete,
+                AfterBlanks::End(next) => Some(Parsed { value: most, next }),
+                AfterBlanks::Start(_) => None,
+                AfterBlanks::Bad(_) => None,
             }
         }
-        Numbers::Stopped => NumberRow::Incomplete,
     }
 }
 
@@ -118,33 +92,17 @@ fn layout_of(kind: VertexKind) -> Layout
     ensures { result ≡ layout_of kind }
 {
     let count = vertex_count(kind);
-    let least = fewest_words(count);
-    let most = most_words(count, 4);
-    match kind {
-        VertexKind::Geometric => Layout {
-            least: least,
-            most: most,
-            width: widths::V,
-            lead: vertices::V_START,
-        },
-        VertexKind::Texture => Layout {
-            least: least,
-            most: most,
-            width: widths::VT,
-            lead: 0,
-        },
-        VertexKind::Normal => Layout {
-            least: least,
-            most: most,
-            width: widths::VN,
-            lead: 0,
-        },
-        VertexKind::Parametric => Layout {
-            least: least,
-            most: most,
-            width: widths::VP,
-            lead: vertices::VP_START,
-        },
+    let (width, lead) = match kind {
+        VertexKind::Geometric => (widths::V, vertices::V_START),
+        VertexKind::Texture => (widths::VT, 0),
+        VertexKind::Normal => (widths::VN, 0),
+        VertexKind::Parametric => (widths::VP, vertices::VP_START),
+    };
+    Layout {
+        least: fewest_words(count),
+        most: most_words(count, 4),
+        width,
+        lead,
     }
 }
 
@@ -154,42 +112,38 @@ fn put_blank(table: &mut [i32], at: usize, width: usize) -> bool
     ensures table_after { table.new ≡ cond result (sets table.old at (blank width)) table.old }
 {
     if width == widths::V {
-        return table_store::put_i32(table, at, &[0, 0, 0, vertices::WEIGHT]);
+        table_store::put(table, at, &[0, 0, 0, vertices::WEIGHT])
+    } else {
+        table_store::put(table, at, &[0, 0, 0])
     }
-    table_store::put_i32(table, at, &[0, 0, 0])
 }
 
-#[derive(Clone, Copy)]
-pub enum Vertex {
-    Accepted { next: usize },
-    Rejected,
-}
-
-// A line of v, vt, vn or vp from just after its keyword on, into its table, of which `used` records are used.
-pub fn take_vertex(kind: VertexKind, text: &[u8], at: usize, used: u32, table: &mut [i32]) -> Vertex
+// A line of v, vt, vn or vp from just after its keyword on, into its table, of which `used` records are used: where the next line starts.
+pub fn take_vertex(
+    kind: VertexKind,
+    text: &[u8],
+    at: usize,
+    used: u32,
+    table: &mut [i32],
+) -> Option<usize>
     requires { at ≤ length text.now }
     ensures { VertexIs kind text.now at used table.old table.new result }
 {
     let layout = layout_of(kind);
     let first = layout.width * (used as usize);
     if !put_blank(table, first, layout.width) {
-        return Vertex::Rejected;
+        return None;
     }
-    match row_into(
+    let row = row_into(
         text,
         at,
         layout.least,
         layout.most,
         table,
         first + layout.lead,
-    ) {
-        NumberRow::Whole { count, next } => {
-            if layout.lead == 0 {
-                return Vertex::Accepted { next: next };
-            }
-            table[first] = count as i32;
-            Vertex::Accepted { next: next }
-        }
-        NumberRow::Incomplete => Vertex::Rejected,
+    )?;
+    if layout.lead != 0 {
+        table[first] = row.value as i32;
     }
+    Some(row.next)
 }

@@ -8,30 +8,21 @@ use lib.IntN.{ℤ}
 use native.Mathlib.Omega.{arith}
 use native.Mathlib.Numerals.{add-one}
 use Rattle.text.specs.Words.{Word}
-use Rattle.text.specs.Rest.{Rest, rest_at, word_at, end_of, WordMet, EndMet, BadMet, AfterBlanksIs}
-use Rattle.text.specs.declared.AfterBlanks.{AfterBlanks}
-use Rattle.text.specs.declared.AfterBlanks.TheVariants.{Start, End, Bad}
-use Rattle.text.proofs.Found.{word-found, end-found, bad-found}
+use Rattle.text.specs.Rest.{Rest, rest_at, word_at, end_of, WordMet, EndMet}
 use Rattle.keywords.specs.declared.Argument.TheVariants.{DirectionV}
 use Rattle.keywords.specs.Arguments.{is_argument}
 use Rattle.keywords.specs.Lookup.{argument_at}
 use Rattle.model.specs.Parse as parse
-use Rattle.read_word_checks.specs.declared.word.WordCheck.{WordCheck}
-use Rattle.read_word_checks.specs.declared.word.WordCheck.TheVariants.{Valid, Fault}
 use Rattle.read_word_checks.specs.declared.tests.Tests.{Tests}
-use Rattle.read_word_checks.specs.declared.Refusal.TheVariants.{Refused, Nothing}
-use Rattle.read_word_checks.specs.Faults.{check_of, tested_by, test_by, on_check, fault_in}
+use Rattle.read_word_checks.specs.Faults.{WordCheck, Valid, Fault, Refused, Nothing, check_of, tested_by, test_by, on_check, fault_in}
 
--- ---- no word is left
-module _ (s : List ℕ) (i : ℕ) (r : AfterBlanks) (m : AfterBlanksIs s i r) where
-  pub end-words : {q : ℕ} → r ≡ End q → (rest_at s i).words ≡ []
-  end-words {q} e = let k : EndMet s i q = end-found s i r m e in ap (λ (x : Rest). x.words) k.rest
+-- ---- the words that are left
+module _ (s : List ℕ) (i : ℕ) where
+  pub end-words : {q : ℕ} → EndMet s i q → (rest_at s i).words ≡ []
+  end-words m = ap (λ (x : Rest). x.words) m.rest
 
-  pub bad-words : {p : ℕ} → r ≡ Bad p → (rest_at s i).words ≡ []
-  bad-words {p} e = let k : BadMet s i p = bad-found s i r m e in k.no_words
-
-  pub start-words : {p : ℕ} → r ≡ Start p → (rest_at s i).words ≡ word_at s p ∷ (rest_at s (end_of s p)).words
-  start-words {p} e = let k : WordMet s i p = word-found s i r m e in ap (λ (x : Rest). x.words) k.rest
+  pub start-words : {p : ℕ} → WordMet s i p → (rest_at s i).words ≡ word_at s p ∷ (rest_at s (end_of s p)).words
+  start-words m = ap (λ (x : Rest). x.words) m.rest
 
 -- ---- words passed over
 pub record Skipping (s : List ℕ) (at count i left : ℕ) : Type 0 where
@@ -69,6 +60,12 @@ module _ (s : List ℕ) (at count i left : ℕ) (k : Skipping s at count i left)
 
   pub skip-done : left ≡ 0 → (i ≤ length s) × ((rest_at s i).words ≡ drop count (rest_at s at).words)
   skip-done e = (k.to, sym (ap (λ (l : ℕ). drop l (rest_at s i).words) e) ∙ k.rest)
+
+pub skip-further : (s : List ℕ) (at count i k : ℕ) → Skipping s at count i (count - k - 1) → Skipping s at count i (count - (k + 1))
+skip-further s at count i k w = let e : count - k - 1 ≡ count - (k + 1) = omega arith in rw e at w
+
+pub skip-none : (s : List ℕ) (at count : ℕ) → at ≤ length s → Skipping s at count at (count - 0)
+skip-none s at count h = let e : count ≡ count - 0 = omega arith in record { to = h; rest = ap (λ (l : ℕ). drop l (rest_at s at).words) (sym e) }
 
 -- ---- words held against their tests
 module _ (n : parse.Seen) (t : List ℤ) (f : Tests) (m : ℕ) where

@@ -1,13 +1,11 @@
 -- What the code finds wrong with a line's words, from the numbers that it holds and in its own order.
-use Rattle.std.specs.Prelude.{ℕ, suc, ◌-◌, ◌*◌, List, [], ◌∷◌, Bool, true, false, cond, ◌&&◌, ◌||◌, not, drop, get_or, leb, eqb, ℤ, pos, nat_abs}
+use Rattle.std.specs.Prelude.{ℕ, suc, ◌-◌, ◌*◌, List, [], ◌∷◌, Bool, true, false, cond, ◌&&◌, ◌||◌, not, drop, get_or, leb, eqb, ℤ, pos, nat_abs, Result, Ok, Err}
 use Rattle.text.specs.Words.{Word}
 use Rattle.digits.specs.Said.{Said, says, wrong}
 use Rattle.references.specs.Corner.{Corner, Counts, corner_of, agree}
 use Rattle.references.specs.Reference.{reference_of}
 use Rattle.model.specs.Parse as parse
 use Rattle.read_state.specs.declared.Form.{Form}
-use Rattle.read_word_checks.specs.declared.word.WordCheck.{WordCheck}
-use Rattle.read_word_checks.specs.declared.word.WordCheck.TheVariants.{Valid, Fault}
 use Rattle.read_word_checks.specs.declared.word.Seen.{Seen}
 use Rattle.read_word_checks.specs.declared.tests.Test.{Test}
 use Rattle.read_word_checks.specs.declared.tests.Test.TheVariants as test
@@ -17,17 +15,27 @@ use Rattle.statements.specs.declared.Free.{Free}
 use Rattle.statements.specs.declared.Free.TheVariants.{Curve, Curve2, Surface}
 use Rattle.statements.specs.declared.rules.Held.{Held}
 use Rattle.statements.specs.declared.rules.Held.TheVariants as held
-use Rattle.read_word_checks.specs.declared.Refusal.{Refusal}
-use Rattle.read_word_checks.specs.declared.Refusal.TheVariants.{Refused, Nothing}
+use Rattle.refusals.specs.declared.Reason.{Reason}
+use Rattle.refusals.specs.declared.Refusal as Placed
+use Rattle.refusals.specs.Reasons.{reason_number}
 use Rattle.statements.specs.Rules.{range_words, form_by}
 
--- ---- one word
+-- ---- one word: nothing is wrong with it, or what 01's number says
+pub data WordCheck : Type 0 where
+  Valid : WordCheck
+  Fault : ℕ → WordCheck
+
+-- what an answer of the code says
+abbrev pub check_said : {A : Type 0} → Result A Reason → WordCheck
+check_said (Ok a) = Valid
+check_said (Err r) = Fault (reason_number r)
+
 abbrev pub check_of : {A : Type 0} → Said A → WordCheck
 check_of (says a) = Valid
 check_of (wrong n) = Fault n
 
 abbrev pub counts_by : Seen → Counts
-counts_by n = record { v = n.v; vt = n.vt; vn = n.vn }
+counts_by n = record { v = n.counts.v; vt = n.counts.vt; vn = n.counts.vn }
 
 abbrev pub seen_by : Seen → parse.Seen
 seen_by n = record { counts = counts_by n; vp = n.vp; curves = n.curves }
@@ -48,7 +56,7 @@ wide_said t (wrong m) = wrong m
 -- the word w by the test
 abbrev pub tested_by : parse.Seen → List ℤ → Test → Word → Said parse.Value
 tested_by n t (test.Form f) w = parse.said_of n f w
-tested_by n t (test.Alike a b bare flat) w = alike_said bare flat (corner_of n.counts (record { vt = a; vn = b }) w.bytes)
+tested_by n t (test.Alike k bare flat) w = alike_said bare flat (corner_of n.counts k w.bytes)
 tested_by n t test.Wide w = wide_said t (reference_of n.vp w.bytes)
 
 -- the test of word i of n
@@ -56,7 +64,16 @@ abbrev pub test_by : Tests → ℕ → ℕ → Test
 test_by (tests.Each f) n i = test.Form (form_by f n i)
 test_by (tests.All x) n i = x
 
--- ---- the words of a line
+-- ---- the words of a line: nothing is wrong with them, or a number and a place
+pub data Refusal : Type 0 where
+  Nothing : Refusal
+  Refused : ℕ → ℕ → Refusal
+
+-- what an answer of the code says
+abbrev pub refusal_said : {A : Type 0} → Result A Placed.Refusal → Refusal
+refusal_said (Ok a) = Nothing
+refusal_said (Err f) = Refused (reason_number f.reason) f.place
+
 abbrev pub on_check : WordCheck → ℕ → Refusal → Refusal
 on_check Valid p b = b
 on_check (Fault n) p b = Refused n p
@@ -68,7 +85,7 @@ fault_in n t f m i (w ∷ ws) = on_check (check_of (tested_by n t (test_by f m i
 
 -- 9, of words that are corners
 abbrev pub alike_tests : Bool → Bool → Corner → Tests
-alike_tests a b c = tests.All (test.Alike a b (eqb c.vt 0) (eqb c.vn 0))
+alike_tests a b c = tests.All (test.Alike (record { vt = a; vn = b }) (eqb c.vt 0) (eqb c.vn 0))
 
 abbrev pub on_first : Said Corner → (Corner → Refusal) → Refusal
 on_first (says c) f = f c

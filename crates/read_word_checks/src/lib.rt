@@ -5,9 +5,3 @@ pub mod tests; // what a word is tested for
 pub mod word; // what is wrong with a word
 pub mod walk; // the first word at fault
 pub mod held; // what is held against a line whose words have their forms
-
-#[derive(Clone, Copy)]
-pub enum Refusal {
-    Refused { number: u32, place: usize },
-    Nothing,
-}

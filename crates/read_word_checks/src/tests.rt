@@ -1,15 +1,14 @@
 ghost use Rattle.std.specs.Prelude.{◌≡◌};
 ghost use Rattle.read_word_checks.specs.Faults.{test_by};
 
-use statements::rules::{Forms, WordForm, form_at};
+use statements::rules::{Forms, Parts, WordForm, form_at};
 
 // What a word is tested for: its form; a corner also for the first corner's pattern, which has no vt or no vn; a control for two coordinates given.
 #[derive(Clone, Copy)]
 pub enum Test {
     Form(WordForm),
     Alike {
-        texture: bool,
-        normal: bool,
+        parts: Parts,
         bare: bool,
         flat: bool,
     },

@@ -1,11 +1,10 @@
 ghost use Rattle.std.specs.Prelude.{◌≡◌, ◌≤◌, length, drop};
 ghost use Rattle.text.specs.Rest.{rest_at};
-ghost use Rattle.keywords.specs.Lookup.{table_of_arguments};
-ghost use Rattle.read_word_checks.specs.Faults.{seen_by, fault_in};
+ghost use Rattle.read_word_checks.specs.Faults.{refusal_said, seen_by, fault_in};
 
-use crate::Refusal;
 use crate::tests::{Tests, test_at};
-use crate::word::{Seen, WordCheck, word_fault};
+use crate::word::{Seen, word_fault};
+use refusals::Refusal;
 use text::AfterBlanks;
 
 // The first word from `at` on that fails its test, the tests being those of a line of `words` words.
@@ -16,37 +15,27 @@ pub fn first_fault(
     words: usize,
     seen: Seen,
     vp: &[i32],
-    argument_table: &[u8; 108],
-) -> Refusal
-    requires at_in_bounds { at ≤ length text.now }
-    requires argument_table_value { argument_table.now ≡ table_of_arguments }
-    ensures { result ≡ fault_in (seen_by seen) vp.now tests words 0 (rest_at text.now at).words }
+) -> Result<(), Refusal>
+    requires { at ≤ length text.now }
+    ensures { refusal_said result ≡ fault_in (seen_by seen) vp.now tests words 0 (rest_at text.now at).words }
 {
     let mut i = at;
     let mut index: usize = 0;
+    // No range counts the places: each word ends where it is read to.
     loop {
         match text::skip_blanks(text, i) {
             AfterBlanks::Start(p) => {
                 let test = test_at(tests, words, index);
-                match word_fault(text, p, test, seen, vp, argument_table) {
-                    WordCheck::Fault(number) => {
-                        return Refusal::Refused {
-                            number: number,
-                            place: p,
-                        };
-                    }
-                    WordCheck::Valid => {
+                match word_fault(text, p, test, seen, vp) {
+                    Err(reason) => return Err(Refusal { reason, place: p }),
+                    Ok(()) => {
                         i = text::word_end(text, p);
                         index += 1;
                     }
                 }
             }
-            AfterBlanks::End(_) => {
-                return Refusal::Nothing;
-            }
-            AfterBlanks::Bad(_) => {
-                return Refusal::Nothing;
-            }
+            AfterBlanks::End(_) => return Ok(()),
+            AfterBlanks::Bad(_) => return Ok(()),
         }
     }
 }
@@ -57,19 +46,13 @@ pub fn skip(text: &[u8], at: usize, count: usize) -> usize
     ensures { (result ≤ length text.now) × ((rest_at text.now result).words ≡ drop count (rest_at text.now at).words) }
 {
     let mut i = at;
-    let mut left = count;
-    while 0 < left {
+    for _passed in 0..count {
         match text::skip_blanks(text, i) {
             AfterBlanks::Start(p) => {
                 i = text::word_end(text, p);
-                left -= 1;
             }
-            AfterBlanks::End(_) => {
-                return i;
-            }
-            AfterBlanks::Bad(_) => {
-                return i;
-            }
+            AfterBlanks::End(_) => return i,
+            AfterBlanks::Bad(_) => return i,
         }
     }
     i

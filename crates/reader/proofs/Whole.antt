@@ -8,8 +8,10 @@ use Rattle.text.specs.Rest.{lines_at}
 use Rattle.model.specs.Model.{start}
 use Rattle.model.specs.Room.{Rooms}
 use Rattle.model.specs.Read.{Answer, read_lines}
-use Rattle.read_lines.specs.declared.ReadResult.{ReadResult}
-use Rattle.read_lines.specs.declared.ReadResult.TheVariants.{Refused}
+use Rattle.std.specs.Prelude.{Result, Err}
+use Rattle.refusals.specs.declared.Reason.TheVariants.{TextTooLong}
+use Rattle.refusals.specs.declared.Refusal.{Refusal}
+use Rattle.tables.specs.declared.Used.{Used}
 use Rattle.read_lines.specs.Answered.{read_answer, rooms_of, answered}
 use Rattle.read_lines.specs.Lines.{lines_read}
 use Rattle.read_lines.proofs.Cleared.{zeros-rooms, answered-same}
@@ -17,11 +19,11 @@ use Rattle.read_lines.proofs.Going.{read_short, read-long}
 use Rattle.reader.specs.Reading.{read_into}
 
 module _ (s : List ℕ) (t u : Tables) (e : u ≡ zeros t) where
-  pub read-too-long : 16777216 < length s → read_answer (Refused 1 0) u ≡ read_into s t
+  pub read-too-long : 16777216 < length s → read_answer (Err (record { reason = TextTooLong; place = 0 })) u ≡ read_into s t
   unfolding read_into
-  read-too-long h = ap (λ (y : Tables). read_answer (Refused 1 0) y) e ∙ ap (answered t) (sym (read-long (rooms_of t) s h))
+  read-too-long h = ap (λ (y : Tables). read_answer (Err (record { reason = TextTooLong; place = 0 })) y) e ∙ ap (answered t) (sym (read-long (rooms_of t) s h))
 
-  pub read_whole : length s ≤ 16777216 → (y : Tables) (a : ReadResult) → read_answer a y ≡ lines_read s u → read_answer a y ≡ read_into s t
+  pub read_whole : length s ≤ 16777216 → (y : Tables) (a : Result Used Refusal) → read_answer a y ≡ lines_read s u → read_answer a y ≡ read_into s t
   unfolding read_into
   read_whole h y a k =
       let same : rooms_of u ≡ rooms_of t = ap rooms_of e ∙ zeros-rooms t in

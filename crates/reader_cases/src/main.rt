@@ -4,24 +4,29 @@
 
 ghost use Rattle.std.specs.Prelude.{◌≤◌, ◌<◌, IfOk, length};
 
-use case_files::{least, line_end, number_at};
-use reader::ReadResult;
+use case_files::{line_end, number_at};
+use refusals::Refusal;
 use std::io;
 use std::process::ExitCode;
 use streams::Failure;
-use tables::Used;
+use tables::{TablesMut, Used};
 
-fn put_number(rt: &impl Print, n: u64) -> io::Result<()> {
-    print!(rt; " {n}")
+// A table's number as one that is not below zero.
+trait Unsigned {
+    fn unsigned(self) -> u64;
+}
+
+impl Unsigned for u32 {
+    fn unsigned(self) -> u64 {
+        u64::from(self)
+    }
 }
 
 // Twice its magnitude, and one more below zero.
-fn unsigned(n: i32) -> u64 {
-    let m = word_format::magnitude(n) as u64;
-    if n < 0 {
-        return 2 * m + 1;
+impl Unsigned for i32 {
+    fn unsigned(self) -> u64 {
+        2 * u64::from(self.unsigned_abs()) + u64::from(self < 0)
     }
-    2 * m
 }
 
 fn added(sum: u64, n: u64) -> u64
@@ -31,107 +36,59 @@ fn added(sum: u64, n: u64) -> u64
 }
 
 // A table's numbers in one: 0 where all are 0.
-fn sum_i32(table: &[i32]) -> u64 {
+fn sum<T: Unsigned + Copy>(table: &[T]) -> u64 {
     let mut sum: u64 = 0;
-    let mut i: usize = 0;
-    while i < table.len() {
-        sum = added(sum, unsigned(table[i]));
-        i += 1;
+    for n in table {
+        sum = added(sum, n.unsigned());
     }
     sum
 }
 
-fn sum_u32(table: &[u32]) -> u64 {
-    let mut sum: u64 = 0;
-    let mut i: usize = 0;
-    while i < table.len() {
-        sum = added(sum, wide(table[i]));
-        i += 1;
-    }
-    sum
-}
-
-fn wide(n: u32) -> u64 {
-    n as u64
-}
-
-fn put_used(rt: &impl Print, used: Used) -> io::Result<()> {
-    print!(rt; "read")?;
-    put_number(rt, used.v as u64)?;
-    put_number(rt, used.vt as u64)?;
-    put_number(rt, used.vn as u64)?;
-    put_number(rt, used.vp as u64)?;
-    put_number(rt, used.corners as u64)?;
-    put_number(rt, used.elements as u64)?;
-    put_number(rt, used.bodies as u64)?;
-    put_number(rt, used.parameters as u64)?;
-    put_number(rt, used.loops as u64)
-}
-
-fn put_reading(rt: &impl Print, reading: ReadResult) -> io::Result<()> {
+fn put_reading(rt: &impl Print, reading: Result<Used, Refusal>) -> io::Result<()> {
     match reading {
-        ReadResult::Read(used) => put_used(rt, used),
-        ReadResult::Refused { number, place } => {
-            print!(rt; "refused")?;
-            put_number(rt, number as u64)?;
-            print!(rt; " at")?;
-            put_number(rt, place as u64)
+        Ok(
+            Used {
+                v,
+                vt,
+                vn,
+                vp,
+                corners,
+                elements,
+                bodies,
+                parameters,
+                loops,
+            },
+        ) => print!(rt;
+            "read {v} {vt} {vn} {vp} {corners} {elements} {bodies} {parameters} {loops}"
+        ),
+        Err(refusal) => {
+            let number = refusal.reason.number();
+            let place = refusal.place;
+            print!(rt; "refused {number} at {place}")
         }
     }
 }
 
-fn report(
-    rt: &impl Print,
-    reading: ReadResult,
-    v: &[i32],
-    vt: &[i32],
-    vn: &[i32],
-    vp: &[i32],
-    corners: &[u32],
-    elements: &[u32],
-    bodies: &[u32],
-    ranges: &[i32],
-    parameters: &[i32],
-    loops: &[u32],
-    spans: &[i32],
-) -> io::Result<()> {
-    put_reading(rt, reading)?;
-    print!(rt; " |")?;
-    put_number(rt, sum_i32(v))?;
-    put_number(rt, sum_i32(vt))?;
-    put_number(rt, sum_i32(vn))?;
-    put_number(rt, sum_i32(vp))?;
-    put_number(rt, sum_u32(corners))?;
-    put_number(rt, sum_u32(elements))?;
-    put_number(rt, sum_u32(bodies))?;
-    put_number(rt, sum_i32(ranges))?;
-    put_number(rt, sum_i32(parameters))?;
-    put_number(rt, sum_u32(loops))?;
-    put_number(rt, sum_i32(spans))?;
-    println!(rt)
+fn put_sum<T: Unsigned + Copy>(rt: &impl Print, table: &[T]) -> io::Result<()> {
+    let sum = sum(table);
+    print!(rt; " {sum}")
 }
 
-fn read_into(
-    rt: &impl Print,
-    text: &[u8],
-    v: &mut [i32],
-    vt: &mut [i32],
-    vn: &mut [i32],
-    vp: &mut [i32],
-    corners: &mut [u32],
-    elements: &mut [u32],
-    bodies: &mut [u32],
-    ranges: &mut [i32],
-    parameters: &mut [i32],
-    loops: &mut [u32],
-    spans: &mut [i32],
-) -> io::Result<()> {
-    let reading = reader::read(
-        text, v, vt, vn, vp, corners, elements, bodies, ranges, parameters, loops, spans,
-    );
-    report(
-        rt, reading, v, vt, vn, vp, corners, elements, bodies, ranges, parameters, loops, spans,
-    )
+fn read_into(rt: &impl Print, text: &[u8], t: &mut TablesMut) -> io::Result<()> {
+    put_reading(rt, reader::read(text, t))?;
+    print!(rt; " |")?;
+    put_sum(rt, t.v)?;
+    put_sum(rt, t.vt)?;
+    put_sum(rt, t.vn)?;
+    put_sum(rt, t.vp)?;
+    put_sum(rt, t.corners)?;
+    put_sum(rt, t.elements)?;
+    put_sum(rt, t.bodies)?;
+    put_sum(rt, t.ranges)?;
+    put_sum(rt, t.parameters)?;
+    put_sum(rt, t.loops)?;
+    put_sum(rt, t.spans)?;
+    println!(rt)
 }
 
 // The tables hold sevens before a text is read into them.
@@ -147,21 +104,20 @@ fn with_tables(rt: &impl Print, text: &[u8]) -> io::Result<()> {
     let mut parameters = [7i32; 16384];
     let mut loops = [7u32; 16384];
     let mut spans = [7i32; 16384];
-    read_into(
-        rt,
-        text,
-        &mut v,
-        &mut vt,
-        &mut vn,
-        &mut vp,
-        &mut corners,
-        &mut elements,
-        &mut bodies,
-        &mut ranges,
-        &mut parameters,
-        &mut loops,
-        &mut spans,
-    )
+    let mut lent = TablesMut {
+        v: &mut v,
+        vt: &mut vt,
+        vn: &mut vn,
+        vp: &mut vp,
+        corners: &mut corners,
+        elements: &mut elements,
+        bodies: &mut bodies,
+        ranges: &mut ranges,
+        parameters: &mut parameters,
+        loops: &mut loops,
+        spans: &mut spans,
+    };
+    read_into(rt, text, &mut lent)
 }
 
 // The case at `at`; the place after its text.
@@ -174,8 +130,8 @@ fn read_case(rt: &impl Print, cases: &[u8], at: usize) -> io::Result<usize>
     let end = line_end(cases, label);
     rt.write_all(&cases[label..end])?;
     print!(rt; " | ")?;
-    let from = least(end + 1, cases.len());
-    let to = from + least(count.value, cases.len() - from);
+    let from = (end + 1).min(cases.len());
+    let to = from + count.value.min(cases.len() - from);
     with_tables(rt, &cases[from..to])?;
     Ok(to)
 }

@@ -1,11 +1,9 @@
 -- An element's corners, as their loop finds them: by the first corner that breaks a rule, or by their number.
 use Prim.Native.Nat.{ℕ, ◌<◌, ◌≤◌}
 use mathlib.Core.Path.{◌≡◌}
-use mathlib.Core.List.{[]}
 use mathlib.Core.Bool.{Bool, true, false}
-use Rattle.tables.specs.Tables.{Tables, tables}
+use Rattle.tables.specs.Tables.{Tables}
 use Rattle.tables.specs.Records.{corner_at}
-use Rattle.tables.specs.declared.Corner.{Corner}
 use Rattle.tables.specs.declared.CornerRun.{CornerRun}
 use Rattle.tables.specs.declared.Used.{Used}
 use Rattle.record_rules.specs.Numbers.{all_below}
@@ -15,12 +13,6 @@ use Rattle.record_rules.proofs.Below.{below_fails, below-ends}
 module _ (used : Used) (t : Tables) (kind : ℕ) (run : CornerRun) where
   abbrev pub at_corner : ℕ → Bool
   at_corner k = corner_obeys used t kind (corner_at t run 0) (corner_at t run k)
-
-  -- a corner looks at the vertices alone
-  pub corner-here : (r : Bool) (a b : Corner) (k : ℕ) → r ≡ corner_obeys used (tables t.vertices.v t.vertices.vt t.vertices.vn t.vertices.vp [] [] [] [] [] [] []) kind a b
-      → a ≡ corner_at t run 0 → b ≡ corner_at t run k → r ≡ at_corner k
-  unfolding corner_obeys
-  corner-here r a b k h e f = rw (e, f) at h
 
   pub each-fails : (k : ℕ) → k < run.count → at_corner k ≡ false → each_corner used t kind run ≡ false
   unfolding each_corner

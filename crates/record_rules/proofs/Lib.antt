@@ -1,5 +1,4 @@
 pub mod Below
-pub mod Small
 pub mod Runs
 pub mod OneVertex
 pub mod EachCorner

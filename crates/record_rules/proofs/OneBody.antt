@@ -35,11 +35,6 @@ pub loops-lent : (used : ℕ) (t : Tables) (curves first count : ℕ)
 unfolding loops_obey each_part
 loops-lent used t curves first count = refl
 
-pub record-lent : (used : Used) (t : Tables) (curves kind count : ℕ) (b : Body)
-    → record_obeys used (tables [] [] [] [] [] [] [] [] t.bodies.parameters t.bodies.loops t.bodies.spans) curves kind count b ≡ record_obeys used t curves kind count b
-unfolding record_obeys surface_obeys loops_obey each_part
-record-lent used t curves kind count b = refl
-
 -- a body without loop parts is the same after however many curv2 elements
 pub record-counted : (used : Used) (t : Tables) (curves kind count : ℕ) (b : Body)
     → record_obeys used t (cond (eqb b.loops 0) 0 curves) kind count b ≡ record_obeys used t curves kind count b

@@ -11,22 +11,15 @@ use tables::{Corner, CornerRun, widths};
 fn reach(values: &[i32], used: u32) -> usize
     ensures { Reach (length values.now) used result }
 {
-    let lent = values.len() / widths::V;
-    let used = used as usize;
-    if used < lent {
-        return used;
-    }
-    lent
+    (used as usize).min(values.len() / widths::V)
 }
 
+#[tactic(auto, unfolding(crate::specs::Bare::reached_obeys))]
 fn reached(values: &[i32], reach: usize, number: usize) -> bool
     requires { v_width * reach ≤ length values.now }
     ensures { result ≡ reached_obeys values.now reach number }
 {
-    if number < 1 {
-        return false;
-    }
-    if reach < number {
+    if number < 1 || reach < number {
         return false;
     }
     let vertex = lent_vertex(values, number - 1);
@@ -37,10 +30,7 @@ fn bare_corner(values: &[i32], reach: usize, corner: Corner) -> bool
     requires { v_width * reach ≤ length values.now }
     ensures { result ≡ (reached_obeys values.now reach corner.v && eqb corner.vt 0 && eqb corner.vn 0) }
 {
-    if !reached(values, reach, corner.v as usize) {
-        return false;
-    }
-    (corner.vt == 0) & (corner.vn == 0)
+    reached(values, reach, corner.v as usize) && (corner.vt == 0) & (corner.vn == 0)
 }
 
 pub fn each_bare(values: &[i32], used: u32, corners: &[u32], run: CornerRun) -> bool
@@ -48,13 +38,10 @@ pub fn each_bare(values: &[i32], used: u32, corners: &[u32], run: CornerRun) -> 
     ensures { result ≡ each_bare values.now used corners.now run }
 {
     let reach = reach(values, used);
-    let count = run.count as usize;
-    let mut k = 0;
-    while k < count {
+    for k in 0..run.count as usize {
         if !bare_corner(values, reach, tables::lent_corner(corners, run, k)) {
             return false;
         }
-        k += 1;
     }
     true
 }

@@ -7,49 +7,35 @@ ghost use Rattle.tables.specs.Tables.{tables};
 use crate::numbers::in_range;
 use tables::{kinds, parts, widths};
 
+#[tactic(auto, unfolding(crate::specs::Loops::begins_obeys))]
 fn begins_obeys(k: usize, begins: u32) -> bool
     ensures { result ≡ begins_obeys k begins }
 {
-    if parts::HOLE < begins {
-        return false;
-    }
-    if k == 0 {
-        return parts::TRIM <= begins;
-    }
-    true
+    begins <= parts::HOLE && (k != 0 || parts::TRIM <= begins)
 }
 
 // The loop part at index i, which is part k of its body.
+#[tactic(auto, unfolding(crate::specs::Loops::part_obeys))]
 fn part_obeys(loops: &[u32], spans: &[i32], curves: u32, k: usize, i: usize) -> bool
     requires { (loop_width * i + loop_width ≤ length loops.now) × (span_width * i + span_width ≤ length spans.now) }
     ensures { result ≡ part_obeys curves k (part_at (tables [] [] [] [] [] [] [] [] [] loops.now spans.now) i) }
 {
     let part = parts::lent_part(loops, spans, i);
-    if !begins_obeys(k, part.begins) {
-        return false;
-    }
-    if part.curve < 1 {
-        return false;
-    }
-    if curves < part.curve {
-        return false;
-    }
-    if !in_range(part.from) {
-        return false;
-    }
-    in_range(part.to)
+    begins_obeys(k, part.begins)
+        && 1 <= part.curve
+        && part.curve <= curves
+        && in_range(part.from)
+        && in_range(part.to)
 }
 
 fn each_part(loops: &[u32], spans: &[i32], curves: u32, first: usize, count: usize) -> bool
     requires { (loop_width * (first + count) ≤ length loops.now) × (span_width * (first + count) ≤ length spans.now) }
     ensures { result ≡ each_part (tables [] [] [] [] [] [] [] [] [] loops.now spans.now) curves first count }
 {
-    let mut k = 0;
-    while k < count {
+    for k in 0..count {
         if !part_obeys(loops, spans, curves, k, first + k) {
             return false;
         }
-        k += 1;
     }
     true
 }
@@ -58,10 +44,7 @@ fn each_part(loops: &[u32], spans: &[i32], curves: u32, first: usize, count: usi
 pub fn curve_or_none(kind: u32) -> u32
     ensures { (result ≡ cond (eqb kind curve2_kind) 1 0) × (result ≤ 1) }
 {
-    if kind == kinds::CURVE2 {
-        return 1;
-    }
-    0
+    u32::from(kind == kinds::CURVE2)
 }
 
 // How many curv2 elements stand at indices below `index`; there are no more elements than entries.
@@ -69,13 +52,11 @@ fn curves_before(elements: &[u32], index: u32) -> u32
     ensures { result ≡ curves_among elements.now index }
 {
     let mut before = 0;
-    let mut i = 0;
-    while i < index {
+    for i in 0..index {
         if elements.len() <= i as usize {
             return before;
         }
         before += curve_or_none(tables::kind_in(elements, i));
-        i += 1;
     }
     before
 }
@@ -85,12 +66,14 @@ pub fn curves_for(elements: &[u32], index: u32, parts: u32) -> u32
     ensures { result ≡ cond (eqb parts 0) 0 (curves_among elements.now index) }
 {
     if parts == 0 {
-        return 0;
+        0
+    } else {
+        curves_before(elements, index)
     }
-    curves_before(elements, index)
 }
 
 // The `count` loop parts from `first` on of a surface after `curves` curv2 elements.
+#[tactic(auto, unfolding(crate::specs::Loops::loops_obey))]
 pub fn loops_with(
     used: u32,
     loops: &[u32],
@@ -105,14 +88,8 @@ pub fn loops_with(
         return first == 0;
     }
     let end = first as usize + count as usize;
-    if (used as usize) < end {
-        return false;
-    }
-    if loops.len() < widths::LOOP * end {
-        return false;
-    }
-    if spans.len() < widths::SPAN * end {
-        return false;
-    }
-    each_part(loops, spans, curves, first as usize, count as usize)
+    end <= used as usize
+        && widths::LOOP * end <= loops.len()
+        && widths::SPAN * end <= spans.len()
+        && each_part(loops, spans, curves, first as usize, count as usize)
 }

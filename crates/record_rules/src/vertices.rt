@@ -1,46 +1,28 @@
 ghost use Rattle.std.specs.Prelude.{◌≡◌};
 ghost use Rattle.record_rules.specs.Vertices.{vertex_obeys, given_obeys, parameter_vertex_obeys, control_obeys};
 
-use crate::numbers::{run_in_range, same};
+use crate::numbers::run_in_range;
 use tables::vertices::{WEIGHT, lent_parameter_vertex};
 use tables::widths;
 
 // Whether record `number`, of `width` numbers, is used and lent, its numbers in range.
+#[tactic(auto, unfolding(crate::specs::Vertices::vertex_obeys))]
 pub fn vertex(values: &[i32], width: u32, used: u32, number: u32) -> bool
     ensures { result ≡ vertex_obeys width values.now used number }
 {
-    if number < 1 {
-        return false;
-    }
-    if used < number {
-        return false;
-    }
     let width = width as usize;
-    run_in_range(values, width * (number as usize - 1), width)
+    1 <= number && number <= used && run_in_range(values, width * (number as usize - 1), width)
 }
 
 // v is 0 where fewer than two were given, w 1.000000 where fewer than three.
+#[tactic(auto, unfolding(crate::specs::Vertices::given_obeys))]
 fn given(count: i32, v: i32, w: i32) -> bool
     ensures { result ≡ given_obeys count v w }
 {
-    if count < 1 {
-        return false;
-    }
-    if 3 < count {
-        return false;
-    }
-    if 3 <= count {
-        return true;
-    }
-    if !same(w, WEIGHT) {
-        return false;
-    }
-    if 2 <= count {
-        return true;
-    }
-    same(v, 0)
+    1 <= count && count <= 3 && (2 <= count || v == 0) && (3 <= count || w == WEIGHT)
 }
 
+#[tactic(auto, unfolding(crate::specs::Vertices::parameter_vertex_obeys))]
 pub fn parameter_vertex(values: &[i32], used: u32, number: u32) -> bool
     ensures { result ≡ parameter_vertex_obeys values.now used number }
 {
@@ -52,11 +34,10 @@ pub fn parameter_vertex(values: &[i32], used: u32, number: u32) -> bool
 }
 
 // A curv2's control has at least two coordinates given.
+#[tactic(auto, unfolding(crate::specs::Vertices::control_obeys))]
 pub fn control(values: &[i32], used: u32, number: u32) -> bool
     ensures { result ≡ control_obeys values.now used number }
 {
-    if !parameter_vertex(values, used, number) {
-        return false;
-    }
-    2 <= lent_parameter_vertex(values, number as usize - 1).given
+    parameter_vertex(values, used, number)
+        && 2 <= lent_parameter_vertex(values, number as usize - 1).given
 }

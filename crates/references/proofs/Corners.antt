@@ -14,7 +14,7 @@ use Rattle.text.specs.Words.{word_of}
 use Rattle.text.specs.Rest.{end_of}
 use Rattle.digits.specs.Digits.{is_digit, unminus}
 use Rattle.references.specs.Reference.{is_reference, refer}
-use Rattle.references.specs.Corner.{onto, split}
+use Rattle.references.specs.Corner.{Corner, Counts, onto, split}
 use Rattle.digits.specs.Straight.{first, is_empty, past}
 use Rattle.references.specs.Straight.{is_piece, piece, places, PartRead}
 use Rattle.digits.proofs.Fronts.{digit-word, next-at, byte-in}
@@ -151,3 +151,7 @@ module _ {count : ℕ} {s : List ℕ} {at number end : ℕ} (p : PartRead count 
 
 pub no_part : (s : List ℕ) (at : ℕ) → (leb 1 (length (places (drop at s))) && leb (length (places (drop at s))) 10) ≡ false → is_reference (piece (drop at s)) ≡ false
 no_part s at h = refer-bad is_piece digit-piece refl (drop at s) h
+
+-- how many there are of each kind, as the code holds them
+abbrev pub counts : Corner → Counts
+counts c = record { v = c.v; vt = c.vt; vn = c.vn }

@@ -11,6 +11,7 @@ use borrow.Author.Tests.{le-leb, lt-leb, eq-eqb, ne_eqb}
 use native.Mathlib.Omega.{arith}
 use Rattle.lists.proofs.Tests.{and_first, and_second, test}
 use Rattle.text.specs.Bytes.{is_word}
+use mir.Val.{bool_byte}
 use Rattle.text.specs.Words.{word_of}
 use Rattle.text.specs.Rest.{end_of}
 use Rattle.digits.specs.Said.{says, wrong}
@@ -22,7 +23,7 @@ use Rattle.references.specs.Straight.{places, PartRead}
 use Rattle.digits.proofs.Fronts.{word-front, digit-word}
 use Rattle.digits.proofs.Lengths.{ten-digits}
 use Rattle.references.proofs.Pieces.{negative-first, minus-drop, refer-yes, refer-not, refer-bad, refer-is, refer-length, beyond}
-use Rattle.digits.proofs.Saids.{said}
+use Rattle.digits.proofs.Saids.{says-ends}
 
 minus-in : (l : List ℕ) → cond (negative l) 1 0 ≤ length l
 minus-in [] = omega arith
@@ -30,6 +31,10 @@ minus-in (b ∷ bs) =
     ⊎_elim (λ (t : eqb b 45 ≡ true). rw t (omega arith)) (λ (t : eqb b 45 ≡ false). rw t (omega arith)) (test (eqb b 45))
 
 -- ---- part_from
+pub one_if : (t : Bool) → bool_byte t ≡ cond t 1 0
+one_if true = refl
+one_if false = refl
+
 module _ (s : List ℕ) (at n : ℕ) (back : Bool) (h : at ≤ length s) (e : back ≡ negative (drop at s)) (k : n ≡ cond back 1 0) where
   minus : n ≡ cond (negative (drop at s)) 1 0
   minus = k ∙ ap (λ (t : Bool). cond t 1 0) e
@@ -105,7 +110,7 @@ module _ (count : ℕ) (s : List ℕ) (at number end : ℕ) (p : PartRead count 
 
     pub reference-item : (number ≡ 0 → ⊥) → says (number, end) ≡ ends_at (reference_of count (word_of (drop at s))) (end_of s at)
     reference-item z =
-        said (reference_of count (word_of (drop at s))) number (end_of s at) end found
+        says-ends (reference_of count (word_of (drop at s))) number (end_of s at) end found
         (p.end_is ∙ ap (λ (n : ℕ). at + n) (sym (ap length (word-front (drop at s)) ∙ refer-length is_word digit-word refl (drop at s) (overs true o))))
       where
         found : reference_of count (word_of (drop at s)) ≡ says number

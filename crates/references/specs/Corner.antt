@@ -4,14 +4,10 @@
 use Rattle.std.specs.Prelude.{ℕ, List, [], ◌∷◌, Bool, cond, ◌&&◌, not, leb, eqb}
 -- which parts a statement's corners may have besides v
 pub use Rattle.statements.specs.declared.rules.Parts.{Parts}
+-- "v, vt, vn (0 for none)"
+pub use Rattle.tables.specs.declared.Corner.{Corner}
 use Rattle.digits.specs.Said.{Said, says, wrong, must}
 use Rattle.references.specs.Reference.{is_reference, refer}
-
--- "(0 for none)"
-pub record Corner : Type 0 where
-  pub v : ℕ
-  pub vt : ℕ
-  pub vn : ℕ
 
 -- how many of each kind there are so far
 pub record Counts : Type 0 where

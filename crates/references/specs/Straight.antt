@@ -1,15 +1,14 @@
 -- What the code computes on the way, from a place in the text to where its digits stop; the laws of proofs/ say that it comes to the forms of the word there.
 use Prim.{Unit}
-use Rattle.std.specs.Prelude.{ℕ, ◌+◌, ◌≤◌, ◌≡◌, ◌⊎◌, List, [], ◌∷◌, Bool, false, cond, ◌&&◌, not, length, drop, leb, eqb}
+use Rattle.std.specs.Prelude.{ℕ, ◌+◌, ◌≤◌, ◌≡◌, ◌⊎◌, Option, Some, None, Result, Ok, Err, List, [], ◌∷◌, Bool, false, cond, ◌&&◌, not, length, drop, leb, eqb}
 use Rattle.digits.specs.Said.{Said, wrong, must}
 use Rattle.text.specs.Bytes.{is_word}
 use Rattle.digits.specs.Digits.{nat_of, negative, unminus}
 use Rattle.references.specs.Reference.{is_reference, item, refer}
 use Rattle.references.specs.Corner.{Corner, formed}
-use Rattle.references.specs.declared.reference.Part.{Part}
-use Rattle.references.specs.declared.reference.Part.TheVariants.{Of, Malformed}
-use Rattle.references.specs.declared.corner.Second.{Second}
-use Rattle.references.specs.declared.corner.Second.TheVariants as part
+use Rattle.refusals.specs.declared.Reason.{Reason}
+use Rattle.refusals.specs.declared.Reason.TheVariants.{Malformed}
+use Rattle.text.specs.declared.Parsed.{Parsed}
 use Rattle.digits.specs.Straight.{first, run, front, UptoRead}
 
 -- a part of a corner goes to a slash or to the end of its word
@@ -31,9 +30,9 @@ pub record PartRead (count : ℕ) (s : List ℕ) (at number end : ℕ) : Type 0 
   pub number_is : number ≡ item (negative (drop at s)) count (nat_of 0 (places (drop at s)))
   pub end_is : end ≡ at + (cond (negative (drop at s)) 1 0 + length (places (drop at s)))
 
-abbrev pub CornerPartIs : ℕ → List ℕ → ℕ → Part → Type 0
-CornerPartIs count s at (Of number end) = PartRead count s at number end
-CornerPartIs count s at Malformed = (leb 1 (length (places (drop at s))) && leb (length (places (drop at s))) 10) ≡ false
+abbrev pub CornerPartIs : ℕ → List ℕ → ℕ → Result (Parsed ℕ) Reason → Type 0
+CornerPartIs count s at (Ok p) = PartRead count s at p.value p.next
+CornerPartIs count s at (Err r) = (r ≡ Malformed) × ((leb 1 (length (places (drop at s))) && leb (length (places (drop at s))) 10) ≡ false)
 
 -- digits at `at`, at most ten of them read, refer to one of `count`
 pub record AheadRead (count : ℕ) (s : List ℕ) (at number end : ℕ) : Type 0 where
@@ -47,9 +46,9 @@ pub record NoneRead (s : List ℕ) (at number end : ℕ) : Type 0 where
   pub end_is : end ≡ at
   pub slash : first (drop at s) ≡ 47
 
-abbrev pub SecondIs : ℕ → List ℕ → ℕ → Second → Type 0
-SecondIs count s at (part.Of number end) = NoneRead s at number end ⊎ AheadRead count s at number end
-SecondIs count s at part.Other = Unit {0}
+abbrev pub SecondIs : ℕ → List ℕ → ℕ → Option (Parsed ℕ) → Type 0
+SecondIs count s at (Some p) = NoneRead s at p.value p.next ⊎ AheadRead count s at p.value p.next
+SecondIs count s at None = Unit {0}
 
 -- a corner from its second part on, after the vertex v; and from its third part on, `there` when all before it are
 abbrev pub third : Bool → ℕ → Bool → ℕ → ℕ → List (List ℕ) → Said Corner

@@ -1,15 +1,14 @@
 -- The machine's signed numbers: sizes are all that their operations ask, and a number that fits is read back from its bits.
-use mathlib.Core.Path.{◌≡◌, refl, ap, ◌∙◌, subst}
+use mathlib.Core.Path.{◌≡◌, refl, ap, ◌∙◌}
 use mathlib.Core.Bool.{Bool, true, false}
-use Prim.Native.Nat.{ℕ, ◌^◌, ◌≤◌, ◌<◌}
+use Prim.Native.Nat.{ℕ, ◌^◌, ◌<◌}
 use native.Mathlib.Omega.{arith}
-use borrow.Author.Tests.{ltb-true, leb-true, ltb-false}
-use lib.Dec.{T}
-use lib.IntN.{ℤ, pos, negsuc, neg_ℤ, nat_abs, ◌-ℤ◌, +ℤ_idl}
+use borrow.Author.Tests.{leb-true, ltb-false}
+use lib.IntN.{ℤ, pos, negsuc, nat_abs}
 use lib.Signed.{lt_z, le_z, mag}
 use mir.Syntax.{Width, w32, w64}
 use mir.Val.{SFits, to_z, of_z, hbits}
-use mir.Facts.{to_z-of_z, to_z_pos, sfits_widen}
+use mir.Facts.{to_z-of_z, sfits_widen}
 use Rattle.lists.specs.Signs.{with_sign}
 use Rattle.rounding.specs.Range.{InRange}
 use Rattle.rounding.proofs.IntLaws.{abs_neg}
@@ -22,9 +21,6 @@ abs-signed false m = refl
 pub fits-abs : (w : Width) (z : ℤ) → nat_abs z < 2 ^ hbits w → SFits w z
 fits-abs w (pos n) h = record { sfits = h }
 fits-abs w (negsuc n) h = record { sfits = omega arith }
-
-pub fits_signed : (t : Bool) (m : ℕ) → m ≤ 2000000000 → SFits w32 (with_sign t m)
-fits_signed t m h = fits-abs w32 (with_sign t m) (omega (arith, abs-signed t m))
 
 -- the number that the bits of z stand for
 pub read_back : (w : Width) (z : ℤ) → nat_abs z < 2 ^ hbits w → to_z w (of_z w z) ≡ z
@@ -39,19 +35,6 @@ read-back-given {z} h = to_z-of_z {w = w32} (record { sfits = h })
 
 pub widened : {x : ℤ} → SFits w32 x → to_z w64 (of_z w64 (to_z w32 (of_z w32 x))) ≡ x
 widened f = ap (λ (z : ℤ). to_z w64 (of_z w64 z)) (to_z-of_z f) ∙ to_z-of_z {w = w64} (sfits_widen (tt {0}) f)
-
--- `-n` below zero, and n from zero up
-pub minus : (n : ℤ) → lt_z n (pos 0) ≡ true → pos 0 -ℤ n ≡ pos (nat_abs n)
-minus (pos m) h = absurd (omega (arith, ltb-true m 0 h))
-minus (negsuc m) h = ap pos (omega arith)
-
-pub plus : (n : ℤ) → lt_z n (pos 0) ≡ false → n ≡ pos (nat_abs n)
-plus (pos m) h = refl
-plus (negsuc m) h = absurd (subst T h tt)
-
--- `-(m as i32)`
-pub negated : (m : ℕ) → m ≤ 2000000000 → pos 0 -ℤ to_z w32 m ≡ with_sign true m
-negated m h = rw (to_z_pos w32 {n = m} (omega arith)) (+ℤ_idl (neg_ℤ (pos m)))
 
 -- the two tests that tell a small number
 pub small_of : (z : ℤ) → lt_z z (negsuc 1999999999) ≡ false → le_z z (pos 2000000000) ≡ true → InRange z

@@ -19,7 +19,7 @@ fn size(n: i64) -> u64
     requires { nat_abs n < 2 ^ 63 }
     ensures { result ≡ nat_abs n }
 {
-    if n < 0 { (-n) as u64 } else { n as u64 }
+    n.unsigned_abs()
 }
 
 // m, or -m.
@@ -60,5 +60,5 @@ pub fn distance(a: i32, b: i32) -> u64
     requires { InRange a × InRange b }
     ensures { (result ≡ nat_abs (b -ℤ a)) × (result ≤ 4000000000) }
 {
-    size(b as i64 - a as i64)
+    a.abs_diff(b) as u64
 }

@@ -18,7 +18,10 @@ use Rattle.record_rules.specs.Loops.{each_part, loops_obey}
 use Rattle.record_rules.specs.Bodies.{surface_obeys, record_obeys, body_obeys}
 use Rattle.record_rules.specs.Rules.{element_obeys, obeys, curves_among}
 use Rattle.sampler.specs.Points.{axes_of, control_of, curve_at, surface_at, run_numbers}
-use Rattle.sampler.specs.Answers.{PointAnswer, wanted, carried, element_of, body_of, refusal_of, inside, refused_point, curve_point, point_on_curve, surface_point, point_on_surface, run_into}
+use Rattle.std.specs.Prelude.{Option, Some, None}
+use Rattle.refusals.specs.declared.Reason.{Reason}
+use Rattle.refusals.specs.declared.Reason.TheVariants.{BrokenRecord, NoSuchElement, NotSampled, ParameterOutside}
+use Rattle.sampler.specs.Answers.{PointAnswer, wanted, carried, element_of, body_of, refusal_of, unless, inside, refused_point, curve_point, point_on_curve, surface_point, point_on_surface, run_into}
 use Rattle.sampler.specs.Demand3.{sampling}
 use Rattle.tidy_form.proofs.Layouts.{with_element_table}
 use Rattle.sampled_files.specs.Joined.{SampledAlike}
@@ -79,10 +82,10 @@ module _ (u : Used) (t : Tables) (k l : List ℕ) (same : (i j : ℕ) → j < 5 
     refusal-same : (surface : Bool) → refusal_of surface u T number ≡ refusal_of surface u W number
     unfolding refusal_of
     refusal-same surface =
-        let inner : (o : Bool) (b : Body) (kind len : ℕ) → ℕ =
+        let inner : (o : Bool) (b : Body) (kind len : ℕ) → Option Reason =
         λ o b kind len.
         cond (leb 1 number && leb number u.elements)
-        (cond (leb (element_width * number) len) (cond (wanted surface kind) (cond o (cond (carried b.rational b.basis) 0 18) 15) 17) 15) 17 in
+        (cond (leb (element_width * number) len) (cond (wanted surface kind) (cond o (cond (carried b.rational b.basis) None (Some NotSampled)) (Some BrokenRecord)) (Some NoSuchElement)) (Some BrokenRecord)) (Some NoSuchElement) in
         ap₂ (λ (o : Bool) (b : Body). inner o b (element_of T number).kind (length k))
         (ap (λ (n : ℕ). obeys u T n i) (curves-same i) ∙ obeys-same (curves_among l i) i) body_same
         ∙ ap₂ (λ (kind len : ℕ). inner (obeys u W (curves_among l i) i) (body_of W number) kind len) (same i 0 (omega arith)) long
@@ -111,17 +114,17 @@ module _ (u : Used) (t : Tables) (k l : List ℕ) (same : (i j : ℕ) → j < 5 
     answer-curve : (p : ℤ) → point_on_curve u T number p ≡ point_on_curve u W number p
     unfolding point_on_curve
     answer-curve p =
-        let answer : ℕ → Body → PointAnswer → PointAnswer =
-        λ r b c. cond (eqb r 0) (cond (inside b.start_u b.end_u p) c (refused_point 19)) (refused_point r) in
-        ap₂ (λ (r : ℕ) (b : Body). answer r b (curve_point T (element_of T number) (body_of T number) p)) (refusal-same false) body_same
+        let answer : Option Reason → Body → PointAnswer → PointAnswer =
+        λ r b c. unless r refused_point (cond (inside b.start_u b.end_u p) c (refused_point ParameterOutside)) in
+        ap₂ (λ (r : Option Reason) (b : Body). answer r b (curve_point T (element_of T number) (body_of T number) p)) (refusal-same false) body_same
         ∙ ap (answer (refusal_of false u W number) (body_of W number)) (curve-same p)
 
     answer-surface : (p q : ℤ) → point_on_surface u T number p q ≡ point_on_surface u W number p q
     unfolding point_on_surface
     answer-surface p q =
-        let answer : ℕ → Body → PointAnswer → PointAnswer =
-        λ r b c. cond (eqb r 0) (cond (inside b.start_u b.end_u p && inside b.start_v b.end_v q) c (refused_point 19)) (refused_point r) in
-        ap₂ (λ (r : ℕ) (b : Body). answer r b (surface_point T (element_of T number) (body_of T number) p q)) (refusal-same true) body_same
+        let answer : Option Reason → Body → PointAnswer → PointAnswer =
+        λ r b c. unless r refused_point (cond (inside b.start_u b.end_u p && inside b.start_v b.end_v q) c (refused_point ParameterOutside)) in
+        ap₂ (λ (r : Option Reason) (b : Body). answer r b (surface_point T (element_of T number) (body_of T number) p q)) (refusal-same true) body_same
         ∙ ap (answer (refusal_of true u W number) (body_of W number)) (surface-same p q)
 
     answer-run : (steps at : ℕ) (points : List ℤ) → run_into u T number steps at points ≡ run_into u W number steps at points

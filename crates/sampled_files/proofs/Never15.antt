@@ -16,6 +16,9 @@ use Rattle.model.specs.Read.{read, read_of}
 use Rattle.model.specs.Layout.{tables_of, used_of}
 use Rattle.record_rules.specs.Rules.{obeys, curves_before}
 use Rattle.record_rules.proofs.Element.{obeys-facts}
+use Rattle.std.specs.Prelude.{Option, Some, None}
+use Rattle.refusals.specs.declared.Reason.{Reason}
+use Rattle.refusals.specs.declared.Reason.TheVariants.{BrokenRecord, NoSuchElement, NotSampled}
 use Rattle.sampler.specs.Answers.{wanted, carried, element_of, body_of, refusal_of}
 use Rattle.sampled_files.specs.Accepted.{SamplingNever15}
 use Rattle.sampled_files.proofs.Obeyed.{every-element-obeys}
@@ -35,13 +38,14 @@ module _ (R : Rooms) (s : List ℕ) (m : Model) (h : read_of R s ≡ read m) (nu
   lent a b = let o = obeys-facts (used_of m) t (curves_before t (number - 1)) (number - 1) (obeyed a b) in omega (arith, o.lent_one)
 
 -- ---- 15
-passes : (a b w o c : Bool) → (a ≡ true → b ≡ true) → (a ≡ true → o ≡ true) → ◌≡◌ {A = ℕ} (cond a (cond b (cond w (cond o (cond c 0 18) 15) 17) 15) 17) 15 → ⊥
-passes false b w o c f g e = omega arith
+passes : (a b w o c : Bool) → (a ≡ true → b ≡ true) → (a ≡ true → o ≡ true) → ◌≡◌ {A = Option Reason}
+    (cond a (cond b (cond w (cond o (cond c None (Some NotSampled)) (Some BrokenRecord)) (Some NoSuchElement)) (Some BrokenRecord)) (Some NoSuchElement)) (Some BrokenRecord) → ⊥
+passes false b w o c f g e = cc
 passes true false w o c f g e = never (f refl)
-passes true true false o c f g e = omega arith
+passes true true false o c f g e = cc
 passes true true true false c f g e = never (g refl)
-passes true true true true false f g e = omega arith
-passes true true true true true f g e = omega arith
+passes true true true true false f g e = cc
+passes true true true true true f g e = cc
 
 pub sampling-never-15 : SamplingNever15
 unfolding refusal_of

@@ -1,5 +1,5 @@
 -- What is proved of accepted texts on the definitions: the reader joined to the sampler and to polylines.
-use Rattle.std.specs.Prelude.{ℕ, ◌+◌, ◌*◌, ◌≤◌, ◌<◌, ◌≡◌, Bool, true, ◌⊎◌, List, length, ℤ, pos, ◌≤ℤ◌}
+use Rattle.std.specs.Prelude.{ℕ, ◌+◌, ◌*◌, ◌≤◌, ◌<◌, ◌≡◌, Bool, true, ◌⊎◌, List, Some, length, ℤ, pos, ◌≤ℤ◌}
 use Rattle.model.specs.Model.{curve, curve2, surface, Body, Model}
 use Rattle.model.specs.Room.{Rooms}
 use Rattle.model.specs.Read.{read, read_of}
@@ -7,6 +7,7 @@ use Rattle.model.specs.Layout.{tables_of, used_of}
 use Rattle.tidy_form.specs.declared.Weights.{Weights}
 use Rattle.tidy_form.specs.Printed.{tidy_text}
 use Rattle.record_rules.specs.Rules.{obeys, curves_before}
+use Rattle.refusals.specs.declared.Reason.TheVariants.{BrokenRecord}
 use Rattle.sampler.specs.Answers.{refusal_of, point_on_curve, point_on_surface, run_into}
 use Rattle.sampler.specs.Demand3.{sampling}
 use Rattle.polyline.specs.Answers.{parameters_of, polyline_into}
@@ -24,7 +25,7 @@ EveryElementObeys =
 abbrev pub SamplingNever15 : Type 0
 SamplingNever15 =
     (R : Rooms) (s : List ℕ) (m : Model) → read_of R s ≡ read m
-    → (asked : Bool) (number : ℕ) → refusal_of asked (used_of m) (tables_of R m) number ≡ 15 → ⊥
+    → (asked : Bool) (number : ℕ) → refusal_of asked (used_of m) (tables_of R m) number ≡ Some BrokenRecord → ⊥
 
 -- ---- demand 3, from the text on: points on curves, runs, points on surfaces, polylines
 abbrev pub AcceptedCurves : Type 0

@@ -22,6 +22,7 @@ use Rattle.point_exact.specs.Rules.{Rules}
 use Rattle.point_exact.proofs.CurveNear.{curve-near}
 use Rattle.point_runs.specs.Runs.{joined, tabulated, parameter_at}
 use Rattle.sampler.specs.Points.{direction_u, control_of, axes_of, curve_at, run_numbers}
+use Rattle.std.specs.Prelude.{None}
 use Rattle.sampler.specs.Answers.{PointAnswer, RunAnswer, wanted, carried, element_of, body_of, refusal_of, filled_run, curve_point, point_on_curve, run_into}
 use Rattle.sampler.specs.Demand3.{Obeying, IsCurve, PointClaim, OnCurve, RunClaim}
 use Rattle.sampler.specs.Sampling.{Curved}
@@ -40,18 +41,18 @@ plain_carried rational type e (inl h) = rw (e, h)
 plain_carried rational type e (inr h) = rw (e, h)
 
 -- nothing up to 18 is given for an element of the kind wanted that obeys and is carried
-pub all-passed : (surface : Bool) (used : Used) (t : Tables) (number : ℕ) → Obeying used t number → wanted surface (element_of t number).kind ≡ true → refusal_of surface used t number ≡ 0
+pub all-passed : (surface : Bool) (used : Used) (t : Tables) (number : ℕ) → Obeying used t number → wanted surface (element_of t number).kind ≡ true → refusal_of surface used t number ≡ None
 all-passed surface used t number (c, obeyed) kind =
     let o = obeys-facts used t (curves_before t (number - 1)) (number - 1) obeyed in
     let l : 9 * number ≤ length t.elements.elements = omega (arith, o.lent_one, c.some) in
-    sym (none-given surface used t number c.some c.in_use l kind obeyed (plain_carried (body_of t number).rational (body_of t number).basis c.plain c.type))
+    none-given surface used t number c.some c.in_use l kind obeyed (plain_carried (body_of t number).rational (body_of t number).basis c.plain c.type)
 
 -- a curve in tables that obey the rules
 abbrev pub Curve : Used → Tables → (number : ℕ) → Type 0
 Curve used t number = Obeying used t number × IsCurve t number
 
 module _ {used : Used} {t : Tables} {number : ℕ} (c : Curve used t number) where
-  pub curve-given : refusal_of false used t number ≡ 0
+  pub curve-given : refusal_of false used t number ≡ None
   curve-given = all-passed false used t number c.0 (curve-wanted (element_of t number).kind c.1)
 
   pub curve-facts : Curved t (element_of t number) (body_of t number)

@@ -1,9 +1,8 @@
 -- The answers by the tests that lead to each, and the points of the parts that are lent as those of the tables.
-use mathlib.Core.Path.{◌≡◌, refl, sym, ap, ap₂, ◌∙◌}
+use mathlib.Core.Path.{◌≡◌, refl, ap, ap₂, ◌∙◌}
 use mathlib.Core.Bool.{Bool, true, false, cond}
-use mathlib.Core.List.{List, []}
+use mathlib.Core.List.{List}
 use Prim.Native.Nat.{ℕ, ◌+◌, ◌-◌}
-use borrow.Author.Tests.{ne_eqb}
 use lib.Dec.{eqb}
 use lib.IntN.{ℤ}
 use lib.ListN.{take, drop}
@@ -11,7 +10,7 @@ use native.Mathlib.Omega.{arith}
 use lib.Signed.{le_z}
 use Rattle.lists.proofs.Tests.{and_left, and_right}
 use Rattle.rounding.proofs.Order.{yes_le}
-use Rattle.tables.specs.Tables.{Tables, tables}
+use Rattle.tables.specs.Tables.{Tables}
 use Rattle.tables.specs.Records.{parameters_u}
 use Rattle.tables.specs.declared.Body.{Body}
 use Rattle.tables.specs.declared.Used.{Used}
@@ -24,11 +23,15 @@ use Rattle.point_rows.specs.Controls.{control_at, ControlsLent}
 use Rattle.point_runs.specs.Inner.{Ranged}
 use Rattle.point_rows.specs.declared.BodyDirection.{BodyDirection}
 use Rattle.sampler.specs.Points.{body_direction, control_of, curve_at}
-use Rattle.sampler.specs.Answers.{point_answer, inside, curve_point, point_on_curve}
+use Rattle.std.specs.Prelude.{Some, Ok}
+use Rattle.refusals.specs.declared.Reason.{Reason}
+use Rattle.refusals.specs.declared.Reason.TheVariants.{ParameterOutside}
+use Rattle.sampler.specs.declared.Point.{Point}
+use Rattle.sampler.specs.Answers.{point_answer, refusal_of, refused_point, plane_point, inside, curve_point, point_on_curve}
 use Rattle.sampler.specs.Inner.{point_by, coordinate_by}
-use Rattle.sampler.specs.declared.PointResult.TheVariants as sampled
+use Rattle.sampler.specs.declared.Point.TheVariants as sampled
 use Rattle.sampler.specs.Sampling.{Curved, answer_on_curve}
-use Rattle.sampler.proofs.Refusals.{Missed, Looked}
+use Rattle.sampler.proofs.Refusals.{Looked}
 use Rattle.sampler.proofs.Obeyed.{granted, curved}
 
 -- a coordinate of the lent parts is one of the tables
@@ -60,46 +63,33 @@ pub space-eq : {a b c d e f : ℤ} → a ≡ d → b ≡ e → c ≡ f → sampl
 space-eq p q r = cc
 
 point-is : (t : Tables) (e : Element) (b : Body) (p : ℤ) (q : Bool) → eqb e.kind 5 ≡ q
-    → point_answer (point_by e.kind t.vertices.v t.vertices.vp t.elements.corners e.corners.first (body_direction b.basis b.degree_u b.count_u) (parameters_u t b) p) ≡ curve_point t e b p
+    → point_answer (Ok (point_by e.kind t.vertices.v t.vertices.vp t.elements.corners e.corners.first (body_direction b.basis b.degree_u b.count_u) (parameters_u t b) p)) ≡ curve_point t e b p
 unfolding point_by curve_point
-point-is t e b p true h = rw h (ap point_answer (ap₂ sampled.Plane (plane-coordinate t e b p 0 h) (plane-coordinate t e b p 1 h)))
-point-is t e b p false h = rw h (ap point_answer (space-eq (space-coordinate t e b p 0 h) (space-coordinate t e b p 1 h) (space-coordinate t e b p 2 h)))
-
--- the tables that a curve's points are made of
-abbrev pub curve-tables : Tables → Tables
-curve-tables t = tables t.vertices.v [] [] t.vertices.vp t.elements.corners [] [] [] t.bodies.parameters [] []
-
-pub curve-lent : {t : Tables} {e : Element} {b : Body} → Curved t e b → Curved (curve-tables t) e b
-curve-lent c = record { run = c.run; counted = c.counted; held = c.held; along = c.along }
+point-is t e b p true h = rw h (ap₂ plane_point (plane-coordinate t e b p 0 h) (plane-coordinate t e b p 1 h))
+point-is t e b p false h =
+    rw h (ap (λ (q : Point). point_answer (Ok q)) (space-eq (space-coordinate t e b p 0 h) (space-coordinate t e b p 1 h) (space-coordinate t e b p 2 h)))
 
 pub curve-found : {used : Used} {t : Tables} {number : ℕ} {e : Element} {b : Body} → Looked false used t number e b → Curved t e b
 curve-found {used} {t} {number} l = rw (l.element-is, l.body_is) (curved used t number (granted false used t number l.given))
 
 module _ (t : Tables) (e : Element) (b : Body) (p : ℤ) where
-  pub curve-outside : inside b.start_u b.end_u p ≡ false → point_answer (sampled.Refused 19) ≡ answer_on_curve t e b p
+  pub curve-outside : inside b.start_u b.end_u p ≡ false → refused_point ParameterOutside ≡ answer_on_curve t e b p
   unfolding answer_on_curve
   curve-outside h = rw h
 
   pub curve-there : inside b.start_u b.end_u p ≡ true
-      → point_answer (point_by e.kind t.vertices.v t.vertices.vp t.elements.corners e.corners.first (body_direction b.basis b.degree_u b.count_u) (parameters_u t b) p) ≡ answer_on_curve t e b p
+      → point_answer (Ok (point_by e.kind t.vertices.v t.vertices.vp t.elements.corners e.corners.first (body_direction b.basis b.degree_u b.count_u) (parameters_u t b) p)) ≡ answer_on_curve t e b p
   unfolding answer_on_curve
   curve-there h = rw h (point-is t e b p (eqb e.kind 5) refl)
 
-  curve-parts : answer_on_curve (curve-tables t) e b p ≡ answer_on_curve t e b p
-  unfolding answer_on_curve curve_point curve_at control_of
-  curve-parts = refl
-
-module _ {used : Used} {t : Tables} {number : ℕ} (p : ℤ) where
-  pub refused-curve : {n : ℕ} → Missed false used t number n → point_answer (sampled.Refused n) ≡ point_on_curve used t number p
+module _ (used : Used) (t : Tables) (number : ℕ) (p : ℤ) where
+  pub refused-curve : {r : Reason} → refusal_of false used t number ≡ Some r → refused_point r ≡ point_on_curve used t number p
   unfolding point_on_curve
-  refused-curve {n} m = rw (sym m.is, ne_eqb n 0 m.some)
+  refused-curve m = rw m
 
-  found-curve : {e : Element} {b : Body} → Looked false used t number e b → answer_on_curve t e b p ≡ point_on_curve used t number p
+  pub curve-answered : {e : Element} {b : Body} → Looked false used t number e b → answer_on_curve t e b p ≡ point_on_curve used t number p
   unfolding point_on_curve answer_on_curve
-  found-curve l = rw (l.given, l.element-is, l.body_is)
-
-  pub curve-answered : {e : Element} {b : Body} → Looked false used t number e b → answer_on_curve (curve-tables t) e b p ≡ point_on_curve used t number p
-  curve-answered {e} {b} l = curve-parts t e b p ∙ found-curve l
+  curve-answered l = rw (l.given, l.element-is, l.body_is)
 
 -- a parameter that was found inside is sound in its direction
 pub sound-inside : {a : BodyDirection} {x : List ℤ} {s e : ℤ} → Ranged a x s e → (p : ℤ) → inside s e p ≡ true → Sound a x p

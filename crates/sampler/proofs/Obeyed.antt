@@ -25,6 +25,9 @@ use Rattle.basis.proofs.Basis.{curve-enough, surface-enough-u, surface-enough-v}
 use Rattle.point_exact.specs.Directions.{at}
 use Rattle.point_rows.specs.Controls.{control_at, ControlsLent}
 use Rattle.sampler.specs.Points.{body_direction}
+use Rattle.std.specs.Prelude.{Option, Some, None}
+use Rattle.refusals.specs.declared.Reason.{Reason}
+use Rattle.refusals.specs.declared.Reason.TheVariants.{BrokenRecord, NoSuchElement, NotSampled}
 use Rattle.sampler.specs.Answers.{wanted, carried, element_of, body_of, refusal_of}
 use Rattle.sampler.specs.Sampling.{Directed, Curved, Surfaced}
 use Rattle.sampler.proofs.Ranges.{ranged-of}
@@ -95,15 +98,17 @@ pub record Granted (surface : Bool) (used : Used) (t : Tables) (number : ℕ) : 
   pub obeyed : obeys used t (curves_before t (number - 1)) (number - 1) ≡ true
   pub type : ((body_of t number).basis ≡ 1) ⊎ ((body_of t number).basis ≡ 2)
 
-five : (a b c d e : Bool) → ◌≡◌ {A = ℕ} (cond a (cond b (cond c (cond d (cond e 0 18) 15) 17) 15) 17) 0 → (a ≡ true) × (b ≡ true) × (c ≡ true) × (d ≡ true) × (e ≡ true)
+five : (a b c d e : Bool)
+    → ◌≡◌ {A = Option Reason} (cond a (cond b (cond c (cond d (cond e None (Some NotSampled)) (Some BrokenRecord)) (Some NoSuchElement)) (Some BrokenRecord)) (Some NoSuchElement)) None
+    → (a ≡ true) × (b ≡ true) × (c ≡ true) × (d ≡ true) × (e ≡ true)
 five true true true true true h = (refl, refl, refl, refl, refl)
-five true true true true false h = absurd (omega arith)
-five true true true false e h = absurd (omega arith)
-five true true false d e h = absurd (omega arith)
-five true false c d e h = absurd (omega arith)
-five false b c d e h = absurd (omega arith)
+five true true true true false h = cc
+five true true true false e h = cc
+five true true false d e h = cc
+five true false c d e h = cc
+five false b c d e h = cc
 
-pub granted : (surface : Bool) (used : Used) (t : Tables) (number : ℕ) → refusal_of surface used t number ≡ 0 → Granted surface used t number
+pub granted : (surface : Bool) (used : Used) (t : Tables) (number : ℕ) → refusal_of surface used t number ≡ None → Granted surface used t number
 unfolding refusal_of
 granted surface used t number h =
     let b = body_of t number in

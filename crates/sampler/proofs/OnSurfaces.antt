@@ -17,6 +17,7 @@ use Rattle.point_exact.specs.Rules.{Rules}
 use Rattle.point_exact.proofs.SurfaceNear.{surface-near}
 use Rattle.point_runs.specs.Runs.{tabulated}
 use Rattle.sampler.specs.Points.{direction_u, direction_v, grid_of, surface_at}
+use Rattle.std.specs.Prelude.{None}
 use Rattle.sampler.specs.Answers.{PointAnswer, element_of, body_of, refusal_of, surface_point, point_on_surface}
 use Rattle.sampler.specs.Demand3.{sampling, Obeying, PointClaim, OnSurface, ElementsSampled}
 use Rattle.sampler.specs.Sampling.{Surfaced}
@@ -34,7 +35,7 @@ module _ {used : Used} {t : Tables} {number : ℕ} (c : Surface used t number) w
   abbrev b : Body
   b = body_of t number
 
-  surface-given : refusal_of true used t number ≡ 0
+  surface-given : refusal_of true used t number ≡ None
   surface-given = all-passed true used t number c.0 (eq-eqb e.kind 6 c.1)
 
   pub surface-facts : Surfaced t e b

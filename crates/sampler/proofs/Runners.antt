@@ -4,7 +4,7 @@ use mathlib.Core.Bool.{Bool, true, false, cond, ◌&&◌}
 use mathlib.Core.List.{List, [], ◌∷◌, ◌++◌, append-nil}
 use Prim.Native.Nat.{ℕ, zero, suc, ◌+◌, ◌*◌, ◌-◌, ◌≤◌, ◌<◌}
 use native.Mathlib.Omega.{arith}
-use borrow.Author.Tests.{ne_eqb, le-leb, lt-leb}
+use borrow.Author.Tests.{le-leb, lt-leb}
 use borrow.Rule.Slice.PartMut.{put_mid}
 use lib.Dec.{leb, eqb}
 use lib.IntN.{ℤ}
@@ -19,15 +19,16 @@ use Rattle.tables.specs.declared.Element.{Element}
 use Rattle.point_rows.specs.Controls.{ControlsLent}
 use Rattle.point_runs.specs.Runs.{joined, tabulated, parameter_at}
 use Rattle.point_runs.specs.Inner.{curve_point_at, points_upto, Ranged}
-use Rattle.sampler.specs.Points.{body_direction, axes_of, control_of, curve_at, run_numbers}
-use Rattle.sampler.specs.Answers.{run_answer, element_of, body_of, refusal_of, filled_run, run_into}
+use Rattle.sampler.specs.Points.{body_direction, axes_of, run_numbers}
+use Rattle.std.specs.Prelude.{Some, None, Result, Ok, Err}
+use Rattle.refusals.specs.declared.Reason.{Reason}
+use Rattle.refusals.specs.declared.Reason.TheVariants.{NoOutputRoom, ParameterOutside}
+use Rattle.sampler.specs.Answers.{run_answer, refused_run, element_of, body_of, refusal_of, filled_run, run_into}
 use Rattle.point_runs.specs.Inner.{run_by}
 use Rattle.point_rows.specs.declared.BodyDirection.{BodyDirection}
-use Rattle.sampler.specs.declared.RunResult.{RunResult}
-use Rattle.sampler.specs.declared.RunResult.TheVariants as ran
 use Rattle.sampler.specs.Sampling.{Curved, answer_of_run}
-use Rattle.sampler.proofs.Refusals.{Missed, Looked}
-use Rattle.sampler.proofs.Entries.{curve-tables, Read, run_is, plane-coordinate, space-coordinate}
+use Rattle.sampler.proofs.Refusals.{Looked}
+use Rattle.sampler.proofs.Entries.{Read, run_is, plane-coordinate, space-coordinate}
 
 joined-cong : (n : ℕ) (f g : ℕ → List ℤ) → ((i : ℕ) → f i ≡ g i) → joined n f ≡ joined n g
 joined-cong zero f g h = refl
@@ -45,21 +46,21 @@ run-numbers t e b steps false h =
     rw h (joined-cong (steps + 1) _ _ (λ j. listed-cong 3 _ _ (λ k. space-coordinate t e b (parameter_at b.start_u b.end_u steps j) k h)))
 
 module _ (t : Tables) (e : Element) (b : Body) (steps at : ℕ) (points : List ℤ) where
-  abbrev pub Same : RunResult → List ℤ → Type 0
+  abbrev pub Same : Result ℕ Reason → List ℤ → Type 0
   Same r last = run_answer r last ≡ answer_of_run t e b steps at points
 
-  run-steps : (leb 1 steps && leb steps 65536) ≡ false → Same (ran.Refused 19) points
+  run-steps : (leb 1 steps && leb steps 65536) ≡ false → Same (Err ParameterOutside) points
   unfolding answer_of_run
   run-steps h = rw h
 
-  pub run_none : steps < 1 → Same (ran.Refused 19) points
+  pub run_none : steps < 1 → Same (Err ParameterOutside) points
   run_none h = run-steps (and_first (leb steps 65536) (lt-leb 1 steps h))
 
-  pub run-many : 65536 < steps → Same (ran.Refused 19) points
+  pub run-many : 65536 < steps → Same (Err ParameterOutside) points
   run-many h = run-steps (and_second (leb 1 steps) (lt-leb steps 65536 h))
 
   module _ (some : 1 ≤ steps) (most : steps ≤ 65536) where
-    pub run_room : length points < at + axes_of e * (steps + 1) → Same (ran.Refused 16) points
+    pub run_room : length points < at + axes_of e * (steps + 1) → Same (Err NoOutputRoom) points
     unfolding answer_of_run
     run_room h = rw (le-leb 1 steps some, le-leb steps 65536 most, lt-leb (at + axes_of e * (steps + 1)) (length points) h)
 
@@ -70,9 +71,9 @@ module _ (t : Tables) (e : Element) (b : Body) (steps at : ℕ) (points : List �
 
       -- the part from `at` on was lent
       pub run-filled : {last : List ℤ} → last ≡ run_numbers t e b steps ++ drop (axes_of e * (steps + 1)) (take (length points - at) (drop at points))
-          → Same (ran.Filled (axes_of e * (steps + 1))) (put_mid at (length points - at) points last)
+          → Same (Ok (axes_of e * (steps + 1))) (put_mid at (length points - at) points last)
       run-filled {last} z =
-          ap (run_answer (ran.Filled (axes_of e * (steps + 1))))
+          ap (run_answer (Ok (axes_of e * (steps + 1))))
           (ap (λ (q : List ℤ). take at points ++ (last ++ q)) none ∙ ap (λ (q : List ℤ). take at points ++ q) (append-nil last ∙ z ∙ ap (λ (q : List ℤ). run_numbers t e b steps ++ drop (axes_of e * (steps + 1)) q) every))
           ∙ filled_is
         where
@@ -85,27 +86,20 @@ module _ (t : Tables) (e : Element) (b : Body) (steps at : ℕ) (points : List �
           none : drop (length points - at) (drop at points) ≡ []
           none = ap (λ (k : ℕ). drop k (drop at points)) (sym rest) ∙ drop-length (drop at points)
 
-  run-parts : answer_of_run (curve-tables t) e b steps at points ≡ answer_of_run t e b steps at points
-  unfolding answer_of_run run_numbers curve_at control_of
-  run-parts = refl
-
-module _ {used : Used} {t : Tables} {number : ℕ} (steps at : ℕ) (points : List ℤ) where
-  pub run-refused : {n : ℕ} → Missed false used t number n → run_answer (ran.Refused n) points ≡ run_into used t number steps at points
+module _ (used : Used) (t : Tables) (number steps at : ℕ) (points : List ℤ) where
+  pub run-refused : {r : Reason} → refusal_of false used t number ≡ Some r → refused_run points r ≡ run_into used t number steps at points
   unfolding run_into
-  run-refused {n} m = rw (sym m.is, ne_eqb n 0 m.some)
+  run-refused m = rw m
 
-  found-run : {e : Element} {b : Body} → Looked false used t number e b → answer_of_run t e b steps at points ≡ run_into used t number steps at points
+  pub run-answered : {e : Element} {b : Body} → Looked false used t number e b → answer_of_run t e b steps at points ≡ run_into used t number steps at points
   unfolding run_into answer_of_run
-  found-run l = rw (l.given, l.element-is, l.body_is)
+  run-answered l = rw (l.given, l.element-is, l.body_is)
 
-  pub run-answered : {e : Element} {b : Body} → Looked false used t number e b → answer_of_run (curve-tables t) e b steps at points ≡ run_into used t number steps at points
-  run-answered {e} {b} l = run-parts t e b steps at points ∙ found-run l
-
-pub run-given : (used : Used) (t : Tables) (number steps at : ℕ) (points : List ℤ) → refusal_of false used t number ≡ 0 → 1 ≤ steps → steps ≤ 65536
+pub run-given : (used : Used) (t : Tables) (number steps at : ℕ) (points : List ℤ) → refusal_of false used t number ≡ None → 1 ≤ steps → steps ≤ 65536
     → at + axes_of (element_of t number) * (steps + 1) ≤ length points
     → filled_run (axes_of (element_of t number) * (steps + 1)) at (run_numbers t (element_of t number) (body_of t number) steps) points ≡ run_into used t number steps at points
 run-given used t number steps at points g some most room =
-    filled_is t (element_of t number) (body_of t number) steps at points some most room ∙ found-run steps at points (record { given = g; element-is = refl; body_is = refl })
+    filled_is t (element_of t number) (body_of t number) steps at points some most room ∙ run-answered used t number steps at points (record { given = g; element-is = refl; body_is = refl })
 
 module _ {t : Tables} {e : Element} {b : Body} {kind first from count : ℕ} {a : BodyDirection} (r : Read t e b kind first from count a) where
   pub run-asked : (s f : ℤ) → s ≡ b.start_u → f ≡ b.end_u → Curved t e b

@@ -1,14 +1,13 @@
 -- A surface's answers by the tests that lead to each, and its points of the parts that are lent as those of the tables.
-use mathlib.Core.Path.{◌≡◌, sym, ap, ◌∙◌}
-use mathlib.Core.Bool.{true, false, cond, ◌&&◌}
-use mathlib.Core.List.{[]}
+use mathlib.Core.Path.{◌≡◌, ap, ◌∙◌}
+use mathlib.Core.Bool.{true, false}
 use Prim.Native.Nat.{ℕ, ◌+◌, ◌*◌, ◌-◌}
 use native.Mathlib.Omega.{arith}
 use borrow.Author.Tests.{ne_eqb}
 use lib.Dec.{eqb}
 use lib.IntN.{ℤ}
 use lib.ListN.{take, drop}
-use Rattle.tables.specs.Tables.{Tables, tables}
+use Rattle.tables.specs.Tables.{Tables}
 use Rattle.tables.specs.Records.{parameters_u, parameters_v}
 use Rattle.tables.specs.declared.Body.{Body}
 use Rattle.tables.specs.declared.Used.{Used}
@@ -19,11 +18,14 @@ use Rattle.point_rows.specs.Finding.{Sound}
 use Rattle.point_rows.specs.Controls.{control_at, ControlsLent}
 use Rattle.point_rows.specs.declared.BodyDirection.{BodyDirection}
 use Rattle.sampler.specs.Points.{body_direction, grid_of, surface_at}
-use Rattle.sampler.specs.Answers.{PointAnswer, point_answer, refused_point, inside, surface_point, point_on_surface}
+use Rattle.std.specs.Prelude.{Some, Ok}
+use Rattle.refusals.specs.declared.Reason.{Reason}
+use Rattle.refusals.specs.declared.Reason.TheVariants.{ParameterOutside}
+use Rattle.sampler.specs.declared.Point.{Point}
+use Rattle.sampler.specs.Answers.{point_answer, refusal_of, refused_point, inside, surface_point, point_on_surface}
 use Rattle.sampler.specs.Inner.{across_by, surface_by}
-use Rattle.sampler.specs.declared.PointResult.TheVariants as sampled
 use Rattle.sampler.specs.Sampling.{Surfaced, answer_on_surface}
-use Rattle.sampler.proofs.Refusals.{Missed, Looked}
+use Rattle.sampler.proofs.Refusals.{Looked}
 use Rattle.sampler.proofs.Obeyed.{granted, surfaced}
 use Rattle.sampler.proofs.Entries.{space-control, space-eq, sound-inside, part-is}
 
@@ -41,58 +43,40 @@ module _ (t : Tables) (e : Element) (b : Body) (p q : ℤ) (other : eqb e.kind 5
       (λ i j. control_at t.vertices.v t.elements.corners e.corners.first axis (j * along-u.controls + i)) (grid_of t e b axis)
       (λ i j. space-control t e b p axis other (j * along-u.controls + i))
 
-  surface-is : point_answer (surface_by t.vertices.v t.elements.corners e.corners.first along-u along-v (parameters_u t b) (parameters_v t b) p q) ≡ surface_point t e b p q
+  surface-is : point_answer (Ok (surface_by t.vertices.v t.elements.corners e.corners.first along-u along-v (parameters_u t b) (parameters_v t b) p q)) ≡ surface_point t e b p q
   unfolding surface_by surface_point
-  surface-is = ap point_answer (space-eq (across-is 0) (across-is 1) (across-is 2))
+  surface-is = ap (λ (q : Point). point_answer (Ok q)) (space-eq (across-is 0) (across-is 1) (across-is 2))
 
 no-curve2 : (kind : ℕ) → kind ≡ 6 → eqb kind 5 ≡ false
 no-curve2 kind s = ne_eqb kind 5 (λ k. omega (arith, s))
-
--- the tables that a surface's points are made of
-abbrev pub surface-tables : Tables → Tables
-surface-tables t = tables t.vertices.v [] [] [] t.elements.corners [] [] [] t.bodies.parameters [] []
-
-pub surface-lent : {t : Tables} {e : Element} {b : Body} → Surfaced t e b → Surfaced (surface-tables t) e b
-surface-lent c = record { kind = c.kind; run = c.run; counted = c.counted; held = c.held; along-u = c.along-u; along-v = c.along-v }
 
 pub surface-found : {used : Used} {t : Tables} {number : ℕ} {e : Element} {b : Body} → Looked true used t number e b → Surfaced t e b
 surface-found {used} {t} {number} l = rw (l.element-is, l.body_is) (surfaced used t number (granted true used t number l.given))
 
 module _ (t : Tables) (e : Element) (b : Body) (p q : ℤ) where
-  pub outside-u : inside b.start_u b.end_u p ≡ false → point_answer (sampled.Refused 19) ≡ answer_on_surface t e b p q
+  pub outside-u : inside b.start_u b.end_u p ≡ false → refused_point ParameterOutside ≡ answer_on_surface t e b p q
   unfolding answer_on_surface
   outside-u h = rw h
 
   module _ (in-u : inside b.start_u b.end_u p ≡ true) where
-    pub outside-v : inside b.start_v b.end_v q ≡ false → point_answer (sampled.Refused 19) ≡ answer_on_surface t e b p q
+    pub outside-v : inside b.start_v b.end_v q ≡ false → refused_point ParameterOutside ≡ answer_on_surface t e b p q
     unfolding answer_on_surface
     outside-v h = rw (in-u, h)
 
     pub surface-there : e.kind ≡ 6 → inside b.start_v b.end_v q ≡ true
-        → point_answer (surface_by t.vertices.v t.elements.corners e.corners.first (body_direction b.basis b.degree_u b.count_u) (body_direction b.basis b.degree_v b.count_v) (parameters_u t b) (parameters_v t b) p q)
+        → point_answer (Ok (surface_by t.vertices.v t.elements.corners e.corners.first (body_direction b.basis b.degree_u b.count_u) (body_direction b.basis b.degree_v b.count_v) (parameters_u t b) (parameters_v t b) p q))
         ≡ answer_on_surface t e b p q
     unfolding answer_on_surface
     surface-there k h = rw (in-u, h) (surface-is t e b p q (no-curve2 e.kind k))
 
--- a surface's controls are v's, whatever vp holds
-surface-parts : (t : Tables) (e : Element) (b : Body) (p q : ℤ) → e.kind ≡ 6 → answer_on_surface (surface-tables t) e b p q ≡ answer_on_surface t e b p q
-unfolding answer_on_surface
-surface-parts t e b p q k =
-    let o = no-curve2 e.kind k in
-    ap (λ (x : PointAnswer). cond (inside b.start_u b.end_u p && inside b.start_v b.end_v q) x (refused_point 19))
-    (sym (surface-is (surface-tables t) e b p q o) ∙ surface-is t e b p q o)
-
-module _ {used : Used} {t : Tables} {number : ℕ} (p q : ℤ) where
-  pub refused-surface : {n : ℕ} → Missed true used t number n → point_answer (sampled.Refused n) ≡ point_on_surface used t number p q
+module _ (used : Used) (t : Tables) (number : ℕ) (p q : ℤ) where
+  pub refused-surface : {r : Reason} → refusal_of true used t number ≡ Some r → refused_point r ≡ point_on_surface used t number p q
   unfolding point_on_surface
-  refused-surface {n} m = rw (sym m.is, ne_eqb n 0 m.some)
+  refused-surface m = rw m
 
-  found-surface : {e : Element} {b : Body} → Looked true used t number e b → answer_on_surface t e b p q ≡ point_on_surface used t number p q
+  pub surface-answered : {e : Element} {b : Body} → Looked true used t number e b → answer_on_surface t e b p q ≡ point_on_surface used t number p q
   unfolding point_on_surface answer_on_surface
-  found-surface l = rw (l.given, l.element-is, l.body_is)
-
-  pub surface-answered : {e : Element} {b : Body} → Looked true used t number e b → answer_on_surface (surface-tables t) e b p q ≡ point_on_surface used t number p q
-  surface-answered {e} {b} l = surface-parts t e b p q (surface-found l).kind ∙ found-surface l
+  surface-answered l = rw (l.given, l.element-is, l.body_is)
 
 -- what was read of the element and its body
 pub record Laid (t : Tables) (e : Element) (b : Body) (first from m n : ℕ) (u v : BodyDirection) : Type 0 where

@@ -2,7 +2,7 @@
 #![tactic(auto)]
 
 ghost use Rattle.std.specs.Prelude.{◌≡◌};
-ghost use Rattle.tables.specs.Tables.{tables};
+ghost use Rattle.tables.specs.Lent.{lent};
 ghost use Rattle.sampler.specs.Answers.{point_answer, point_on_curve, point_on_surface, run_answer, run_into};
 ghost use Rattle.sampler.specs.Sampling.{lookup_of};
 
@@ -10,167 +10,86 @@ use crate::records::{is_carried, is_wanted};
 use crate::sampling::{curve_at, run_at, surface_at};
 use record_rules::loops::curves_for;
 use record_rules::records_obey;
-use tables::{Body, Element, Used};
+use refusals::Reason;
+use tables::{Body, Element, Tables, Used};
 
 mod points;
 mod records;
 pub mod sampling;
 
+// A point's coordinates: of a curv or a surf in space, of a curv2 in the plane of its parameters.
 #[derive(Clone, Copy)]
-pub enum PointResult {
+pub enum Point {
     Space { x: i32, y: i32, z: i32 },
     Plane { u: i32, v: i32 },
-    Refused { number: u32 },
 }
 
-// How many numbers a run wrote, or why it wrote none.
+// An element that can be sampled, with its body.
 #[derive(Clone, Copy)]
-pub enum RunResult {
-    Filled { numbers: usize },
-    Refused { number: u32 },
-}
-
-// An element that can be sampled, with its body; or the refusal.
-#[derive(Clone, Copy)]
-pub enum Lookup {
-    Found { element: Element, body: Body },
-    Refused { number: u32 },
+pub struct Found {
+    pub element: Element,
+    pub body: Body,
 }
 
 // 17, 15 and 18, in this order; where none of them is given, what was read.
-pub fn look_up(
-    surface: bool,
-    used: Used,
-    v: &[i32],
-    vt: &[i32],
-    vn: &[i32],
-    vp: &[i32],
-    corners: &[u32],
-    elements: &[u32],
-    bodies: &[u32],
-    ranges: &[i32],
-    parameters: &[i32],
-    loops: &[u32],
-    spans: &[i32],
-    element: u32,
-) -> Lookup
-    ensures { result ≡ lookup_of surface used (tables v.now vt.now vn.now vp.now corners.now elements.now bodies.now ranges.now parameters.now loops.now spans.now) element }
+pub fn look_up(surface: bool, used: Used, t: &Tables, element: u32) -> Result<Found, Reason>
+    ensures { result ≡ lookup_of surface used (lent t.now) element }
 {
-    if element < 1 {
-        return Lookup::Refused { number: 17 };
-    }
-    if used.elements < element {
-        return Lookup::Refused { number: 17 };
+    if element < 1 || used.elements < element {
+        return Err(Reason::NoSuchElement);
     }
     let index = element - 1;
-    if !tables::element_fits(elements, index) {
-        return Lookup::Refused { number: 15 };
+    if !tables::element_fits(t.elements, index) {
+        return Err(Reason::BrokenRecord);
     }
-    let e = tables::lent_element(elements, index);
-    if !is_wanted(surface, e.kind) {
-        return Lookup::Refused { number: 17 };
+    let element = tables::lent_element(t.elements, index);
+    if !is_wanted(surface, element.kind) {
+        return Err(Reason::NoSuchElement);
     }
-    let body = table_asking::body_of(used, bodies, ranges, e.body);
-    let curves = curves_for(elements, index, body.loops);
-    if !records_obey(
-        used, v, vt, vn, vp, corners, parameters, loops, spans, curves, e, body,
-    ) {
-        return Lookup::Refused { number: 15 };
+    let body = table_asking::body_of(used, t.bodies, t.ranges, element.body);
+    let curves = curves_for(t.elements, index, body.loops);
+    if !records_obey(used, t, curves, element, body) {
+        return Err(Reason::BrokenRecord);
     }
     if !is_carried(body.rational, body.basis) {
-        return Lookup::Refused { number: 18 };
+        return Err(Reason::NotSampled);
     }
-    Lookup::Found { element: e, body }
+    Ok(Found { element, body })
 }
 
-// The point at t of the curv or curv2 of that number, counted from 1 over all elements.
-pub fn point_on_curve(
-    used: Used,
-    v: &[i32],
-    vt: &[i32],
-    vn: &[i32],
-    vp: &[i32],
-    corners: &[u32],
-    elements: &[u32],
-    bodies: &[u32],
-    ranges: &[i32],
-    parameters: &[i32],
-    loops: &[u32],
-    spans: &[i32],
-    element: u32,
-    t: i32,
-) -> PointResult
-    ensures { point_answer result ≡ point_on_curve used (tables v.now vt.now vn.now vp.now corners.now elements.now bodies.now ranges.now parameters.now loops.now spans.now) element t }
+// The point at `at` of the curv or curv2 of that number, counted from 1 over all elements.
+pub fn point_on_curve(used: Used, t: &Tables, element: u32, at: i32) -> Result<Point, Reason>
+    ensures { point_answer result ≡ point_on_curve used (lent t.now) element at }
 {
-    let found = look_up(
-        false, used, v, vt, vn, vp, corners, elements, bodies, ranges, parameters, loops, spans,
-        element,
-    );
-    match found {
-        Lookup::Refused { number } => PointResult::Refused { number },
-        Lookup::Found { element, body } => curve_at(v, vp, corners, parameters, element, body, t),
-    }
+    let found = look_up(false, used, t, element)?;
+    curve_at(t, found.element, found.body, at)
 }
 
-// The point at s along u and t along v of the surf of that number.
+// The point at `along_u` and `along_v` of the surf of that number.
 pub fn point_on_surface(
     used: Used,
-    v: &[i32],
-    vt: &[i32],
-    vn: &[i32],
-    vp: &[i32],
-    corners: &[u32],
-    elements: &[u32],
-    bodies: &[u32],
-    ranges: &[i32],
-    parameters: &[i32],
-    loops: &[u32],
-    spans: &[i32],
+    t: &Tables,
     element: u32,
-    s: i32,
-    t: i32,
-) -> PointResult
-    ensures { point_answer result ≡ point_on_surface used (tables v.now vt.now vn.now vp.now corners.now elements.now bodies.now ranges.now parameters.now loops.now spans.now) element s t }
+    along_u: i32,
+    along_v: i32,
+) -> Result<Point, Reason>
+    ensures { point_answer result ≡ point_on_surface used (lent t.now) element along_u along_v }
 {
-    let found = look_up(
-        true, used, v, vt, vn, vp, corners, elements, bodies, ranges, parameters, loops, spans,
-        element,
-    );
-    match found {
-        Lookup::Refused { number } => PointResult::Refused { number },
-        Lookup::Found { element, body } => surface_at(v, corners, parameters, element, body, s, t),
-    }
+    let found = look_up(true, used, t, element)?;
+    surface_at(t, found.element, found.body, along_u, along_v)
 }
 
-// A run of `steps` steps on a curv or curv2: its points fill the table from entry `at` on, counted in numbers.
+// A run of `steps` steps on a curv or curv2: its points fill the table from entry `at` on, counted in numbers. How many numbers were written.
 pub fn run_on_curve(
     used: Used,
-    v: &[i32],
-    vt: &[i32],
-    vn: &[i32],
-    vp: &[i32],
-    corners: &[u32],
-    elements: &[u32],
-    bodies: &[u32],
-    ranges: &[i32],
-    parameters: &[i32],
-    loops: &[u32],
-    spans: &[i32],
+    t: &Tables,
     element: u32,
     steps: u32,
     points: &mut [i32],
     at: usize,
-) -> RunResult
-    ensures { run_answer result points.new ≡ run_into used (tables v.now vt.now vn.now vp.now corners.now elements.now bodies.now ranges.now parameters.now loops.now spans.now) element steps at points.old }
+) -> Result<usize, Reason>
+    ensures { run_answer result points.new ≡ run_into used (lent t.now) element steps at points.old }
 {
-    let found = look_up(
-        false, used, v, vt, vn, vp, corners, elements, bodies, ranges, parameters, loops, spans,
-        element,
-    );
-    match found {
-        Lookup::Refused { number } => RunResult::Refused { number },
-        Lookup::Found { element, body } => run_at(
-            v, vp, corners, parameters, element, body, steps, points, at,
-        ),
-    }
+    let found = look_up(false, used, t, element)?;
+    run_at(t, found.element, found.body, steps, points, at)
 }

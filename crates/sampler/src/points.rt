@@ -4,7 +4,7 @@ ghost use Rattle.point_rows.specs.Finding.{Sound};
 ghost use Rattle.point_rows.specs.Controls.{ControlsLent};
 ghost use Rattle.sampler.specs.Inner.{point_by, surface_by};
 
-use crate::PointResult;
+use crate::Point;
 use point_rows::BodyDirection;
 use point_rows::search::find;
 use point_single::across;
@@ -21,17 +21,17 @@ pub fn curve_point(
     x: &[i32],
     along: BodyDirection,
     t: i32,
-) -> PointResult
+) -> Point
     requires { ControlsLent (cond (eqb kind curve2_kind) vp.now v.now) corners.now first 0 along.controls × Sound along x.now t }
     ensures { result ≡ point_by kind v.now vp.now corners.now first along x.now t }
 {
     let chosen = find(x, along, t);
     if kind == kinds::CURVE2 {
         let p = point_single::curve_point(vp, corners, first, VP_START, x, along, chosen, t);
-        return PointResult::Plane { u: p.x, v: p.y };
+        return Point::Plane { u: p.x, v: p.y };
     }
     let p = point_single::curve_point(v, corners, first, V_START, x, along, chosen, t);
-    PointResult::Space {
+    Point::Space {
         x: p.x,
         y: p.y,
         z: p.z,
@@ -49,14 +49,14 @@ pub fn surface_point(
     y: &[i32],
     v: BodyDirection,
     t: i32,
-) -> PointResult
+) -> Point
     requires { ControlsLent values.now corners.now first 0 (u.controls * v.controls) × Sound u x.now s × Sound v y.now t }
     ensures { result ≡ surface_by values.now corners.now first u v x.now y.now s t }
 {
     let in_u = find(x, u, s);
     let in_v = find(y, v, t);
     let p = across(values, corners, first, x, u, s, in_u, y, v, t, in_v);
-    PointResult::Space {
+    Point::Space {
         x: p.x,
         y: p.y,
         z: p.z,

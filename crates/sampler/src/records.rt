@@ -13,22 +13,13 @@ pub fn is_wanted(surface: bool, kind: u32) -> bool
     if surface {
         return kind == kinds::SURFACE;
     }
-    if kind == kinds::CURVE {
-        return true;
-    }
-    kind == kinds::CURVE2
+    kind == kinds::CURVE || kind == kinds::CURVE2
 }
 
 pub fn is_carried(rational: u32, basis: u32) -> bool
     ensures { result ≡ carried rational basis }
 {
-    if rational != 0 {
-        return false;
-    }
-    if basis == bases::BEZIER {
-        return true;
-    }
-    basis == bases::BSPLINE
+    rational == 0 && (basis == bases::BEZIER || basis == bases::BSPLINE)
 }
 
 // A direction of type 1 or 2 from its degree and the count of its parameters.
@@ -38,17 +29,15 @@ pub fn body_direction(basis: u32, degree: u32, count: u32) -> BodyDirection
 {
     let n = degree as usize;
     let p = count as usize;
-    if basis == bases::BSPLINE {
-        return BodyDirection {
-            basis,
-            degree: n,
-            controls: p - n - 1,
-        };
-    }
+    let controls = if basis == bases::BSPLINE {
+        p - n - 1
+    } else {
+        n * (p - 1) + 1
+    };
     BodyDirection {
         basis,
         degree: n,
-        controls: n * (p - 1) + 1,
+        controls,
     }
 }
 
@@ -56,18 +45,12 @@ pub fn body_direction(basis: u32, degree: u32, count: u32) -> BodyDirection
 pub fn is_inside(start: i32, end: i32, t: i32) -> bool
     ensures { result ≡ inside start end t }
 {
-    if t < start {
-        return false;
-    }
-    t <= end
+    start <= t && t <= end
 }
 
 // A curv2 has u v, every other kind x y z.
 pub fn axes_of(kind: u32) -> usize
     ensures { (result ≡ axes_by kind) × (result ≤ 3) }
 {
-    if kind == kinds::CURVE2 {
-        return 2;
-    }
-    3
+    if kind == kinds::CURVE2 { 2 } else { 3 }
 }

@@ -5,310 +5,101 @@
 
 ghost use Rattle.std.specs.Prelude.{◌≤◌, ◌<◌, IfOk, length};
 
-use case_files::{least, line_end, number_at};
-use polyline::PolylineResult;
-use reader::ReadResult;
-use sampler::{PointResult, RunResult};
+use case_files::{line_end, number_at};
+use refusals::Reason;
+use sampler::Point;
+use std::fmt::Display;
 use std::io;
 use std::process::ExitCode;
 use streams::Failure;
-use tables::Used;
+use tables::{Tables, TablesMut, Used};
 
-fn put_whole(rt: &impl Print, n: u64) -> io::Result<()> {
-    print!(rt; " {n}")
-}
-
-fn put_number(rt: &impl Print, n: i32) -> io::Result<()> {
-    print!(rt; " {n}")
-}
-
-fn put_refusal(rt: &impl Print, number: u32) -> io::Result<()> {
-    print!(rt; " refused")?;
-    put_whole(rt, number as u64)
+fn put_refusal(rt: &impl Print, reason: Reason) -> io::Result<()> {
+    let number = reason.number();
+    print!(rt; " refused {number}")
 }
 
 fn put_numbers(rt: &impl Print, numbers: &[i32]) -> io::Result<()> {
-    let mut i: usize = 0;
-    while i < numbers.len() {
-        put_number(rt, numbers[i])?;
-        i += 1;
+    for n in numbers {
+        print!(rt; " {n}")?;
     }
     Ok(())
 }
 
-fn put_point(rt: &impl Print, sampled: PointResult) -> io::Result<()> {
+fn put_point(rt: &impl Print, sampled: Result<Point, Reason>) -> io::Result<()> {
     match sampled {
-        PointResult::Space { x, y, z } => {
-            put_number(rt, x)?;
-            put_number(rt, y)?;
-            put_number(rt, z)
-        }
-        PointResult::Plane { u, v } => {
-            put_number(rt, u)?;
-            put_number(rt, v)
-        }
-        PointResult::Refused { number } => put_refusal(rt, number),
+        Ok(Point::Space { x, y, z }) => print!(rt; " {x} {y} {z}"),
+        Ok(Point::Plane { u, v }) => print!(rt; " {u} {v}"),
+        Err(reason) => put_refusal(rt, reason),
     }
 }
 
-// A run's answer, and the whole table that it was to fill.
-fn put_run(rt: &impl Print, ran: RunResult, points: &[i32]) -> io::Result<()> {
-    match ran {
-        RunResult::Filled { numbers } => put_whole(rt, numbers as u64)?,
-        RunResult::Refused { number } => put_refusal(rt, number)?,
-    }
-    print!(rt; ":")?;
-    put_numbers(rt, points)
-}
-
-// A polyline's answer, and the whole table that it was to fill.
-fn put_polyline(rt: &impl Print, res: PolylineResult, table: &[i32]) -> io::Result<()> {
-    match res {
-        PolylineResult::Filled { points } => put_whole(rt, points as u64)?,
-        PolylineResult::Refused { number } => put_refusal(rt, number)?,
+// How much was written to a table or why nothing was, and the whole table that it was written to.
+fn put_filled<T: Display + Copy>(
+    rt: &impl Print,
+    filled: Result<T, Reason>,
+    table: &[i32],
+) -> io::Result<()> {
+    match filled {
+        Ok(count) => print!(rt; " {count}")?,
+        Err(reason) => put_refusal(rt, reason)?,
     }
     print!(rt; ":")?;
     put_numbers(rt, table)
 }
 
-// The polyline fills its table from entry 2 on.
-fn cut(
-    rt: &impl Print,
-    used: Used,
-    v: &[i32],
-    vt: &[i32],
-    vn: &[i32],
-    vp: &[i32],
-    corners: &[u32],
-    elements: &[u32],
-    bodies: &[u32],
-    ranges: &[i32],
-    parameters: &[i32],
-    loops: &[u32],
-    spans: &[i32],
-    element: u32,
-    tolerance: i32,
-) -> io::Result<()> {
-    let mut points = [7i32; 64];
-    let result = polyline::polyline(
-        used,
-        v,
-        vt,
-        vn,
-        vp,
-        corners,
-        elements,
-        bodies,
-        ranges,
-        parameters,
-        loops,
-        spans,
-        element,
-        tolerance,
-        &mut points,
-        2,
-    );
-    put_polyline(rt, result, &points)
-}
-
-// The run fills its table from entry 2 on.
-fn run(
-    rt: &impl Print,
-    used: Used,
-    v: &[i32],
-    vt: &[i32],
-    vn: &[i32],
-    vp: &[i32],
-    corners: &[u32],
-    elements: &[u32],
-    bodies: &[u32],
-    ranges: &[i32],
-    parameters: &[i32],
-    loops: &[u32],
-    spans: &[i32],
-    element: u32,
-    steps: u32,
-) -> io::Result<()> {
-    let mut points = [7i32; 64];
-    let ran = sampler::run_on_curve(
-        used,
-        v,
-        vt,
-        vn,
-        vp,
-        corners,
-        elements,
-        bodies,
-        ranges,
-        parameters,
-        loops,
-        spans,
-        element,
-        steps,
-        &mut points,
-        2,
-    );
-    put_run(rt, ran, &points)
-}
-
-fn sample(
-    rt: &impl Print,
-    used: Used,
-    v: &[i32],
-    vt: &[i32],
-    vn: &[i32],
-    vp: &[i32],
-    corners: &[u32],
-    elements: &[u32],
-    bodies: &[u32],
-    ranges: &[i32],
-    parameters: &[i32],
-    loops: &[u32],
-    spans: &[i32],
-    element: u32,
+// What is asked of an element: the steps of a run, the parameters of points, the tolerance of a polyline.
+#[derive(Clone, Copy)]
+struct Asked {
     steps: u32,
     s: i32,
     t: i32,
     tolerance: i32,
-) -> io::Result<()> {
+}
+
+// The run and the polyline fill their table from entry 2 on.
+fn sample(rt: &impl Print, used: Used, t: &Tables, element: u32, asked: Asked) -> io::Result<()> {
     print!(rt; " | curve")?;
-    put_point(
-        rt,
-        sampler::point_on_curve(
-            used, v, vt, vn, vp, corners, elements, bodies, ranges, parameters, loops, spans,
-            element, s,
-        ),
-    )?;
+    put_point(rt, sampler::point_on_curve(used, t, element, asked.s))?;
     print!(rt; " | cubic")?;
-    put_point(
-        rt,
-        point_cubics::cubic_at(
-            used, v, vt, vn, vp, corners, elements, bodies, ranges, parameters, loops, spans,
-            element, 0, steps,
-        ),
-    )?;
+    put_point(rt, point_cubics::cubic_at(used, t, element, 0, asked.steps))?;
     print!(rt; " | surface")?;
     put_point(
         rt,
-        sampler::point_on_surface(
-            used, v, vt, vn, vp, corners, elements, bodies, ranges, parameters, loops, spans,
-            element, s, t,
-        ),
+        sampler::point_on_surface(used, t, element, asked.s, asked.t),
     )?;
     print!(rt; " | run")?;
-    run(
-        rt, used, v, vt, vn, vp, corners, elements, bodies, ranges, parameters, loops, spans,
-        element, steps,
-    )?;
+    let mut points = [7i32; 64];
+    let ran = sampler::run_on_curve(used, t, element, asked.steps, &mut points, 2);
+    put_filled(rt, ran, &points)?;
     print!(rt; " | polyline")?;
-    cut(
-        rt, used, v, vt, vn, vp, corners, elements, bodies, ranges, parameters, loops, spans,
-        element, tolerance,
-    )
+    let mut corners = [7i32; 64];
+    let cut = polyline::polyline(used, t, element, asked.tolerance, &mut corners, 2);
+    put_filled(rt, cut, &corners)
 }
 
 // Three numbers of element, one after the other.
 fn sample_elements(
     rt: &impl Print,
     used: Used,
-    v: &[i32],
-    vt: &[i32],
-    vn: &[i32],
-    vp: &[i32],
-    corners: &[u32],
-    elements: &[u32],
-    bodies: &[u32],
-    ranges: &[i32],
-    parameters: &[i32],
-    loops: &[u32],
-    spans: &[i32],
+    t: &Tables,
     steps: u32,
     first: usize,
 ) -> io::Result<()> {
-    if vn.len() < 3 {
+    if t.vn.len() < 3 {
         return Ok(());
     }
-    let s = vn[0];
-    let t = vn[1];
-    let tolerance = vn[2];
-    let from = least(first, 1000) as u32;
-    let mut element: u32 = 0;
-    while element < 3 {
-        sample(
-            rt,
-            used,
-            v,
-            vt,
-            vn,
-            vp,
-            corners,
-            elements,
-            bodies,
-            ranges,
-            parameters,
-            loops,
-            spans,
-            from + element,
-            steps,
-            s,
-            t,
-            tolerance,
-        )?;
-        element += 1;
+    let asked = Asked {
+        steps,
+        s: t.vn[0],
+        t: t.vn[1],
+        tolerance: t.vn[2],
+    };
+    let from = first.min(1000) as u32;
+    for element in from..from + 3 {
+        sample(rt, used, t, element, asked)?;
     }
     println!(rt)
-}
-
-fn answer(
-    rt: &impl Print,
-    reading: ReadResult,
-    v: &[i32],
-    vt: &[i32],
-    vn: &[i32],
-    vp: &[i32],
-    corners: &[u32],
-    elements: &[u32],
-    bodies: &[u32],
-    ranges: &[i32],
-    parameters: &[i32],
-    loops: &[u32],
-    spans: &[i32],
-    steps: u32,
-    first: usize,
-) -> io::Result<()> {
-    match reading {
-        ReadResult::Read(used) => sample_elements(
-            rt, used, v, vt, vn, vp, corners, elements, bodies, ranges, parameters, loops, spans,
-            steps, first,
-        ),
-        ReadResult::Refused { number, place: _ } => put_refusal(rt, number),
-    }
-}
-
-fn read_into(
-    rt: &impl Print,
-    text: &[u8],
-    v: &mut [i32],
-    vt: &mut [i32],
-    vn: &mut [i32],
-    vp: &mut [i32],
-    corners: &mut [u32],
-    elements: &mut [u32],
-    bodies: &mut [u32],
-    ranges: &mut [i32],
-    parameters: &mut [i32],
-    loops: &mut [u32],
-    spans: &mut [i32],
-    steps: u32,
-    first: usize,
-) -> io::Result<()> {
-    let reading = reader::read(
-        text, v, vt, vn, vp, corners, elements, bodies, ranges, parameters, loops, spans,
-    );
-    answer(
-        rt, reading, v, vt, vn, vp, corners, elements, bodies, ranges, parameters, loops, spans,
-        steps, first,
-    )
 }
 
 fn with_tables(rt: &impl Print, text: &[u8], steps: u32, first: usize) -> io::Result<()> {
@@ -323,23 +114,23 @@ fn with_tables(rt: &impl Print, text: &[u8], steps: u32, first: usize) -> io::Re
     let mut parameters = [0i32; 16384];
     let mut loops = [0u32; 16384];
     let mut spans = [0i32; 16384];
-    read_into(
-        rt,
-        text,
-        &mut v,
-        &mut vt,
-        &mut vn,
-        &mut vp,
-        &mut corners,
-        &mut elements,
-        &mut bodies,
-        &mut ranges,
-        &mut parameters,
-        &mut loops,
-        &mut spans,
-        steps,
-        first,
-    )
+    let mut lent = TablesMut {
+        v: &mut v,
+        vt: &mut vt,
+        vn: &mut vn,
+        vp: &mut vp,
+        corners: &mut corners,
+        elements: &mut elements,
+        bodies: &mut bodies,
+        ranges: &mut ranges,
+        parameters: &mut parameters,
+        loops: &mut loops,
+        spans: &mut spans,
+    };
+    match reader::read(text, &mut lent) {
+        Ok(used) => sample_elements(rt, used, &lent.shared(), steps, first),
+        Err(refusal) => put_refusal(rt, refusal.reason),
+    }
 }
 
 // The case at `at`; the place after its text.
@@ -353,12 +144,12 @@ fn sample_case(rt: &impl Print, cases: &[u8], at: usize) -> io::Result<usize>
     let label = first.next;
     let end = line_end(cases, label);
     rt.write_all(&cases[label..end])?;
-    let from = least(end + 1, cases.len());
-    let to = from + least(count.value, cases.len() - from);
+    let from = (end + 1).min(cases.len());
+    let to = from + count.value.min(cases.len() - from);
     with_tables(
         rt,
         &cases[from..to],
-        least(steps.value, 65537) as u32,
+        steps.value.min(65537) as u32,
         first.value,
     )?;
     Ok(to)

@@ -6,6 +6,7 @@ use mathlib.Core.List.{List, [], ◌∷◌}
 use mathlib.Core.Bool.{true, false, cond}
 use native.Mathlib.Omega.{arith}
 use borrow.Author.Tests.{ltb-true, ltb-false, eq-eqb, ne_eqb}
+use Rattle.std.specs.Prelude.{Option, Some, None}
 use lib.Dec.{ltb}
 use lib.ListN.{length, drop, get_or, drop_of_length-le}
 use lib.Seq.{drop-cons}
@@ -81,8 +82,8 @@ pub record Compared (s : List ℕ) (at : ℕ) (t : List ℕ) (from i j : ℕ) : 
   pub rest : same (word_of (drop at s)) (word_of (drop from t)) ≡ same (word_of (drop i s)) (word_of (drop j t))
   pub end : end_of s at ≡ end_of s i
 
-abbrev pub compare_of : List ℕ → ℕ → List ℕ → ℕ → ℕ
-compare_of s at t from = cond (same (word_of (drop at s)) (word_of (drop from t))) (end_of s at) at
+abbrev pub compare_of : List ℕ → ℕ → List ℕ → ℕ → Option ℕ
+compare_of s at t from = cond (same (word_of (drop at s)) (word_of (drop from t))) (Some (end_of s at)) None
 
 module _ {s : List ℕ} {at : ℕ} {t : List ℕ} {from i j : ℕ} (c : Compared s at t from i j) where
   pub turn : word_ahead (drop i s) ≡ true → j < length t → get_or s i 0 ≡ get_or t j 0 → Compared s at t from (i + 1) (j + 1)
@@ -95,23 +96,24 @@ module _ {s : List ℕ} {at : ℕ} {t : List ℕ} {from i j : ℕ} (c : Compared
       let n = ap length (word_at s i h) in
       record { rest = c.rest ∙ b; end = c.end ∙ omega arith }
 
-  no : same (word_of (drop i s)) (word_of (drop j t)) ≡ false → at ≡ compare_of s at t from
+  no : same (word_of (drop i s)) (word_of (drop j t)) ≡ false → None ≡ compare_of s at t from
   no f = rw (c.rest ∙ f) refl
 
-  pub short : word_ahead (drop i s) ≡ true → length t ≤ j → at ≡ compare_of s at t from
+  pub short : word_ahead (drop i s) ≡ true → length t ≤ j → None ≡ compare_of s at t from
   short h k = no (other-ends (drop i s) (drop j t) h (past t j k))
 
-  pub differ : word_ahead (drop i s) ≡ true → j < length t → (get_or s i 0 ≡ get_or t j 0 → ⊥) → at ≡ compare_of s at t from
+  pub differ : word_ahead (drop i s) ≡ true → j < length t → (get_or s i 0 ≡ get_or t j 0 → ⊥) → None ≡ compare_of s at t from
   differ h k n = no (first-differs s t i j h k n)
 
-  pub longer : word_ahead (drop i s) ≡ false → word_ahead (drop j t) ≡ true → at ≡ compare_of s at t from
+  pub longer : word_ahead (drop i s) ≡ false → word_ahead (drop j t) ≡ true → None ≡ compare_of s at t from
   longer h k = no (other-goes-on (drop i s) (drop j t) h k)
 
-  pub done : word_ahead (drop i s) ≡ false → word_ahead (drop j t) ≡ false → i ≡ compare_of s at t from
+  pub done : word_ahead (drop i s) ≡ false → word_ahead (drop j t) ≡ false → Some i ≡ compare_of s at t from
   done h k =
       let e : same (word_of (drop at s)) (word_of (drop from t)) ≡ true = c.rest ∙ rw (word_none (drop i s) h, word_none (drop j t) k) refl in
       let l : length (word_of (drop i s)) ≡ 0 = rw (word_none (drop i s) h) refl in
-      rw e (omega (arith, c.end))
+      let k : i ≡ end_of s at = omega (arith, c.end) in
+      rw e (ap Some k)
 
 pub word_some : (s : List ℕ) (i : ℕ) → word_ahead (drop i s) ≡ true → i < end_of s i
 word_some s i h = let n = ap length (word_at s i h) in omega arith

@@ -14,9 +14,13 @@ use Rattle.spellings.specs.Rows.{fitting}
 use Rattle.spellings.specs.Lookup.{lettered_in, word_ahead}
 use Rattle.spellings.proofs.Compare.{word_at, word_none}
 
-pub record Sought (t : List ℕ) (k rows from left : ℕ) : Type 0 where
-  pub rest : lettered_in rows t k ≡ lettered_in left (drop from t) k
-  pub room : from + 12 * left ≤ length t
+pub record Sought (t : List ℕ) (k rows row : ℕ) : Type 0 where
+  pub rest : lettered_in rows t k ≡ lettered_in (rows - row) (drop (12 * row) t) k
+  pub place : row ≤ rows
+  pub room : 12 * rows ≤ length t
+
+pub sought : (t : List ℕ) (k rows : ℕ) → 12 * rows ≤ length t → Sought t k rows 0
+sought t k rows h = let e : rows - 0 ≡ rows = omega arith in record { rest = rw e refl; place = omega arith; room = h }
 
 past_row : (n : ℕ) (t : List ℕ) (k : ℕ) → 0 < n → eqb k (get_or t 11 0) ≡ false → lettered_in n t k ≡ lettered_in (n - 1) (drop 12 t) k
 past_row zero t k h f = absurd (omega arith)
@@ -26,19 +30,26 @@ at_row : (n : ℕ) (t : List ℕ) (k : ℕ) → 0 < n → eqb k (get_or t 11 0) 
 at_row zero t k h f = absurd (omega arith)
 at_row (suc n) t k h f = rw f refl
 
-module _ {t : List ℕ} {k rows from left : ℕ} (c : Sought t k rows from left) where
-  pub further : 0 < left → (k ≡ get_or t (from + 11) 0 → ⊥) → Sought t k rows (from + 12) (left - 1)
+module _ {t : List ℕ} {k rows row : ℕ} (c : Sought t k rows row) where
+  pub further : row < rows → (k ≡ get_or t (12 * row + 11) 0 → ⊥) → Sought t k rows (row + 1)
   further h n =
-      let e : eqb k (get_or (drop from t) 11 0) ≡ false = rw (get_or-drop from t 11 0) (ne_eqb k (get_or t (from + 11) 0) n) in
-      record { rest = c.rest ∙ (past_row left (drop from t) k h e ∙ rw drop-drop refl); room = omega (arith, c.room) }
+      let e : eqb k (get_or (drop (12 * row) t) 11 0) ≡ false = rw (get_or-drop (12 * row) t 11 0) (ne_eqb k (get_or t (12 * row + 11) 0) n) in
+      let m : (rows - row) - 1 ≡ rows - (row + 1) = omega arith in
+      let a : 12 * row + 12 ≡ 12 * (row + 1) = omega arith in
+      let d : drop 12 (drop (12 * row) t) ≡ drop (12 * (row + 1)) t = drop-drop 12 (12 * row) t ∙ rw a refl in
+      record {
+        rest = c.rest ∙ (past_row (rows - row) (drop (12 * row) t) k (omega arith) e ∙ rw (m, d) refl);
+        place = omega arith;
+        room = c.room;
+      }
 
-  pub row_here : 0 < left → k ≡ get_or t (from + 11) 0 → (from ≤ length t) × (word_of (drop from t) ≡ lettered_in rows t k)
+  pub row_here : row < rows → k ≡ get_or t (12 * row + 11) 0 → (12 * row ≤ length t) × (word_of (drop (12 * row) t) ≡ lettered_in rows t k)
   row_here h n =
-      let e : eqb k (get_or (drop from t) 11 0) ≡ true = rw (get_or-drop from t 11 0) (eq-eqb k (get_or t (from + 11) 0) n) in
-      (omega (arith, c.room), sym (c.rest ∙ at_row left (drop from t) k h e))
+      let e : eqb k (get_or (drop (12 * row) t) 11 0) ≡ true = rw (get_or-drop (12 * row) t 11 0) (eq-eqb k (get_or t (12 * row + 11) 0) n) in
+      (omega (arith, c.room), sym (c.rest ∙ at_row (rows - row) (drop (12 * row) t) k (omega arith) e))
 
-  pub no_row : left ≡ 0 → (length t ≤ length t) × (word_of (drop (length t) t) ≡ lettered_in rows t k)
-  no_row z = (omega arith, sym (c.rest ∙ rw (z, drop-length t) refl))
+  pub no_row : rows ≤ row → (length t ≤ length t) × (word_of (drop (length t) t) ≡ lettered_in rows t k)
+  no_row h = let z : rows - row ≡ 0 = omega arith in (omega arith, sym (c.rest ∙ rw (z, drop-length t) refl))
 
 pub record Copied (s : List ℕ) (from : ℕ) (o : List ℕ) (at : ℕ) (l : List ℕ) (i j : ℕ) : Type 0 where
   pub rest : sets l j (word_of (drop i s)) ≡ sets o at (word_of (drop from s))

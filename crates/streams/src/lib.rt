@@ -39,10 +39,7 @@ pub fn read_input<R: Read>(input: &mut R, buffer: &mut [u8]) -> Result<usize, Fa
 pub fn write_output<W: Write>(output: &mut W, bytes: &[u8]) -> Result<(), Failure>
     ensures { OnOk result (Appends (W.contents output.old) (W.contents output.new) bytes.now) }
 {
-    match output.write_all(bytes) {
-        Ok(()) => Ok(()),
-        Err(error) => Err(Failure::Output(error)),
-    }
+    output.write_all(bytes).map_err(Failure::Output)
 }
 
 // The text of an error, as far as it has room.

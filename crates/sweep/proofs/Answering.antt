@@ -29,7 +29,12 @@ use Rattle.sweep.specs.Named.{named, reference, used_of_kind, new_number, new_nu
 use Rattle.sweep.specs.Swept.{sweep_answer, sweep_into, swept_used, dropped_of, swept_tables, swept_numbers, numbers_needed, kept_in, dropped_in, swept_answer, refused_sweep}
 use Rattle.sweep.specs.Vertices.{VerticesSwept, fewer, sweep_refusal}
 use Rattle.sweep.specs.declared.Dropped.{Dropped}
-use Rattle.sweep.specs.declared.SweepResult.TheVariants as result
+use Rattle.std.specs.Prelude.{Result, Ok, Err}
+use Rattle.refusals.specs.declared.Reason.{Reason}
+use Rattle.refusals.specs.declared.Reason.TheVariants.{BrokenRecord, NoOutputRoom}
+use Rattle.tables.specs.VertexTables.{VertexTables, vertex_tables}
+use Rattle.tables.specs.ElementTables.{element_tables}
+use Rattle.tables.specs.BodyTables.{body_tables}
 use Rattle.table_rules.proofs.Lent.{Lent, lent-facts}
 use Rattle.sweep.proofs.Whole.{whole_parts}
 use Rattle.sweep.proofs.References.{references-within, corners-follow, corners-end}
@@ -126,29 +131,29 @@ module _ (used : Used) (t : Tables) (rest : List ℕ) where
 
 -- ---- refused
 module _ (used : Used) (t : Tables) (list : List ℕ) where
-  pub refused-is : {n : ℕ} → n ≡ sweep_refusal used t (length list) → (n ≡ 0 → ⊥) → sweep_answer (result.Refused n) t list ≡ sweep_into used t list
+  pub refused-is : {r : Reason} → Err r ≡ sweep_refusal used t (length list) → sweep_answer (Err r) t list ≡ sweep_into used t list
   unfolding sweep_refusal sweep_into
-  refused-is {n} e z = go (whole_obeys used t) (leb (numbers_needed used) (length list)) e
+  refused-is {r} e = go (whole_obeys used t) (leb (numbers_needed used) (length list)) e
     where
-      go : (w r : Bool) → n ≡ cond w (cond r 0 16) 15 →
-          sweep_answer (result.Refused n) t list ≡ cond w (cond r (swept_answer used t list) (refused_sweep 16 t list)) (refused_sweep 15 t list)
-      go true true a = absurd (z a)
-      go true false a = rw a
-      go false r a = rw a
+      go : (w room : Bool) → Err r ≡ cond w (cond room (Ok (tt {0})) (Err NoOutputRoom)) (Err BrokenRecord) →
+          sweep_answer (Err r) t list ≡ cond w (cond room (swept_answer used t list) (refused_sweep NoOutputRoom t list)) (refused_sweep BrokenRecord t list)
+      go true true a = let z : ◌≡◌ {A = Result (Unit {0}) Reason} (Err r) (Ok (tt {0})) = a in cc
+      go true false a = let z : r ≡ NoOutputRoom = cc in rw z
+      go false room a = let z : r ≡ BrokenRecord = cc in rw z
 
   -- what no refusal says
   pub record Passed : Type 0 where
     pub whole : whole_obeys used t ≡ true
     pub room : numbers_needed used ≤ length list
 
-  pub passed : {n : ℕ} → n ≡ sweep_refusal used t (length list) → n ≡ 0 → Passed
+  pub passed : {x : Unit {0}} → Ok x ≡ sweep_refusal used t (length list) → Passed
   unfolding sweep_refusal
-  passed {n} e z = go (whole_obeys used t) (leb (numbers_needed used) (length list)) refl refl (sym e ∙ z)
+  passed {x} e = go (whole_obeys used t) (leb (numbers_needed used) (length list)) refl refl e
     where
-      go : (w r : Bool) → whole_obeys used t ≡ w → leb (numbers_needed used) (length list) ≡ r → ◌≡◌ {A = ℕ} (cond w (cond r 0 16) 15) 0 → Passed
+      go : (w room : Bool) → whole_obeys used t ≡ w → leb (numbers_needed used) (length list) ≡ room → Ok x ≡ cond w (cond room (Ok (tt {0})) (Err NoOutputRoom)) (Err BrokenRecord) → Passed
       go true true a b h = record { whole = a; room = leb-true (numbers_needed used) (length list) b }
-      go true false a b h = absurd (omega arith)
-      go false r a b h = absurd (omega arith)
+      go true false a b h = let z : ◌≡◌ {A = Result (Unit {0}) Reason} (Ok x) (Err NoOutputRoom) = h in cc
+      go false room a b h = let z : ◌≡◌ {A = Result (Unit {0}) Reason} (Ok x) (Err BrokenRecord) = h in cc
 
   -- ---- swept: by the tables that the passes look at
   abbrev looked : Tables
@@ -173,9 +178,10 @@ module _ (used : Used) (t : Tables) (list : List ℕ) where
     unfolding swept_used dropped_of
     dropped-are = rw (in-full.counts, left_over geometric, left_over texture, left_over normal, left_over parametric)
 
-    pub swept-is : Passed → {once corners elements bodies loops : List ℕ} {ranges parameters spans : List ℤ} {dropped : Dropped}
+    pub swept-is : Passed → {once corners elements bodies loops : List ℕ} {ranges parameters spans : List ℤ} {vertices : VertexTables} {dropped : Dropped}
         → used.corners ≤ length t.elements.corners
         → once ≡ sets t.elements.corners 0 (runs_by used numbers t.elements.elements t.elements.corners used.elements)
+        → vertices ≡ vertex_tables v vt vn vp
         → corners ≡ filled (length once) 0 (take used.corners once)
         → elements ≡ filled (length t.elements.elements) 0 (take (9 * used.elements) t.elements.elements)
         → bodies ≡ filled (length t.bodies.bodies) 0 (take (9 * used.bodies) t.bodies.bodies)
@@ -184,20 +190,20 @@ module _ (used : Used) (t : Tables) (list : List ℕ) where
         → loops ≡ filled (length t.bodies.loops) 0 (take (2 * used.loops) t.bodies.loops)
         → spans ≡ filled (length t.bodies.spans) (pos 0) (take (2 * used.loops) t.bodies.spans)
         → dropped ≡ fewer used after
-        → sweep_answer (result.Swept after dropped) (tables v vt vn vp corners elements bodies ranges parameters loops spans) numbers ≡ sweep_into used t list
+        → sweep_answer (Ok (record { used = after; dropped = dropped })) (record { vertices = vertices; elements = element_tables corners elements; bodies = body_tables bodies ranges parameters loops spans }) numbers ≡ sweep_into used t list
     unfolding sweep_into swept_tables
-    swept-is p {once} {corners} {elements} {bodies} {loops} {ranges} {parameters} {spans} {dropped} lent a c e b r q l x d =
+    swept-is p {once} {corners} {elements} {bodies} {loops} {ranges} {parameters} {spans} {vertices} {dropped} lent a w c e b r q l x d =
         let f = in-full in
         let moved : once ≡ sets t.elements.corners 0 (runs_by used (swept_numbers used t ++ drop (numbers_needed used) list) t.elements.elements t.elements.corners used.elements) =
         a ∙ ap (λ (k : List ℕ). sets t.elements.corners 0 (runs_by used k t.elements.elements t.elements.corners used.elements)) f.numbers-are in
-        let all : tables v vt vn vp corners elements bodies ranges parameters loops spans ≡ swept_tables used t =
-        tables-eq (vertex-tables-eq f.v-is f.vt_is f.vn_is f.vp-is)
+        let all : ◌≡◌ {A = Tables} (record { vertices = vertices; elements = element_tables corners elements; bodies = body_tables bodies ranges parameters loops spans }) (swept_tables used t) =
+        tables-eq (w ∙ vertex-tables-eq f.v-is f.vt_is f.vn_is f.vp-is)
         (element-tables-eq (corners-are used t (drop (numbers_needed used) list) p.whole lent moved c) e) (body-tables-eq b r q l x) in
         let left : dropped ≡ dropped_of used t = d ∙ dropped-are in
         let counts : after ≡ swept_used used t = f.counts in
         let listed : numbers ≡ swept_numbers used t ++ drop (numbers_needed used) list = f.numbers-are in
-        ap₂ (λ (y : Used) (z : Dropped). sweep_answer (result.Swept y z) (tables v vt vn vp corners elements bodies ranges parameters loops spans) numbers) counts left
-        ∙ ap₂ (λ (y : Tables) (z : List ℕ). sweep_answer (result.Swept (swept_used used t) (dropped_of used t)) y z) all listed
+        ap₂ (λ (y : Used) (z : Dropped). sweep_answer (Ok (record { used = y; dropped = z })) (record { vertices = vertices; elements = element_tables corners elements; bodies = body_tables bodies ranges parameters loops spans }) numbers) counts left
+        ∙ ap₂ (λ (y : Tables) (z : List ℕ). sweep_answer (Ok (record { used = swept_used used t; dropped = dropped_of used t })) y z) all listed
         ∙ rw (p.whole, le-leb (numbers_needed used) (length list) p.room)
 
 -- ---- what the passes ask for

@@ -1,6 +1,6 @@
 -- Must be believed: a promise reaches every definition of this file.
 -- Q-6, the retention sweep: its answer, and what every lent table and the list of new numbers hold at the end, for all used counts and tables.
-use Rattle.std.specs.Prelude.{ℕ, ◌+◌, ◌*◌, List, ◌++◌, cond, length, take, drop, leb, ℤ}
+use Rattle.std.specs.Prelude.{ℕ, ◌+◌, ◌*◌, List, ◌++◌, cond, length, take, drop, leb, ℤ, Result, Ok, Err}
 use Rattle.tables.specs.VertexTables.{vertex_tables, vertex_lengths, vertex_filled}
 use Rattle.tables.specs.ElementTables.{element_tables, element_lengths, element_filled}
 use Rattle.tables.specs.BodyTables.{body_lengths, body_filled, body_first}
@@ -13,8 +13,10 @@ use Rattle.model.specs.Layout.{none_used}
 use Rattle.table_rules.specs.Whole.{whole_obeys}
 use Rattle.sweep.specs.Named.{used_of_kind, table_in, width_in, named, kept_upto, dropped_upto, new_numbers, kept_rows, corners_after}
 use Rattle.sweep.specs.declared.Dropped.{Dropped}
-use Rattle.sweep.specs.declared.SweepResult.{SweepResult}
-use Rattle.sweep.specs.declared.SweepResult.TheVariants as result
+use Rattle.sweep.specs.declared.Swept.{Swept}
+use Rattle.refusals.specs.Reasons.{reason_number}
+use Rattle.refusals.specs.declared.Reason.{Reason}
+use Rattle.refusals.specs.declared.Reason.TheVariants.{BrokenRecord, NoOutputRoom}
 
 -- ---- the answer
 
@@ -28,18 +30,18 @@ pub record SweepOutcome : Type 0 where
   pub used : Used
   pub dropped : Dropped
 
-abbrev pub sweep_outcome : SweepResult → SweepOutcome
-sweep_outcome (result.Swept u d) = record { number = 0; used = u; dropped = d }
-sweep_outcome (result.Refused n) = record { number = n; used = none_used; dropped = none_dropped }
+abbrev pub sweep_outcome : Result Swept Reason → SweepOutcome
+sweep_outcome (Ok s) = record { number = 0; used = s.used; dropped = s.dropped }
+sweep_outcome (Err r) = record { number = reason_number r; used = none_used; dropped = none_dropped }
 
 -- the answer, its number and values, and the final contents of the tables and of the list of new numbers
 pub record SweepAnswer : Type 0 where
-  pub answer : SweepResult
+  pub answer : Result Swept Reason
   pub outcome : SweepOutcome
   pub tables : Tables
   pub numbers : List ℕ
 
-abbrev pub sweep_answer : SweepResult → Tables → List ℕ → SweepAnswer
+abbrev pub sweep_answer : Result Swept Reason → Tables → List ℕ → SweepAnswer
 sweep_answer r t numbers = record { answer = r; outcome = sweep_outcome r; tables = t; numbers = numbers }
 
 -- ---- what is left
@@ -101,17 +103,17 @@ numbers_needed used = used.v + used.vt + used.vn + used.vp
 -- ---- the whole
 
 -- "both leave all tables and the list as they were"
-abbrev pub refused_sweep : ℕ → Tables → List ℕ → SweepAnswer
-refused_sweep n t numbers = sweep_answer (result.Refused n) t numbers
+abbrev pub refused_sweep : Reason → Tables → List ℕ → SweepAnswer
+refused_sweep r t numbers = sweep_answer (Err r) t numbers
 
 -- "in a lent list whose rest stays as it was"
 abbrev pub swept_answer : Used → Tables → List ℕ → SweepAnswer
 swept_answer used t numbers =
-    sweep_answer (result.Swept (swept_used used t) (dropped_of used t)) (swept_tables used t) (swept_numbers used t ++ drop (numbers_needed used) numbers)
+    sweep_answer (Ok (record { used = swept_used used t; dropped = dropped_of used t })) (swept_tables used t) (swept_numbers used t ++ drop (numbers_needed used) numbers)
 
 -- "15 if any record .. breaks a rule ..; 16 if the list of new numbers lacks room"
 unfoldable pub sweep_into : Used → Tables → List ℕ → SweepAnswer
 sweep_into used t numbers =
     cond (whole_obeys used t)
-    (cond (leb (numbers_needed used) (length numbers)) (swept_answer used t numbers) (refused_sweep 16 t numbers))
-    (refused_sweep 15 t numbers)
+    (cond (leb (numbers_needed used) (length numbers)) (swept_answer used t numbers) (refused_sweep NoOutputRoom t numbers))
+    (refused_sweep BrokenRecord t numbers)

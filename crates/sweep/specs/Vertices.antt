@@ -1,5 +1,7 @@
 -- What sweeping the four tables of vertices leaves, over the tables that it looks at. Only an inner contract cites this.
-use Rattle.std.specs.Prelude.{ℕ, ◌-◌, ◌≡◌, cond, leb, List, ◌++◌, ℤ, pos, length, drop}
+use Rattle.std.specs.Prelude.{ℕ, ◌-◌, ◌≡◌, cond, leb, List, ◌++◌, ℤ, pos, length, drop, Result, Ok, Err}
+use Rattle.refusals.specs.declared.Reason.{Reason}
+use Rattle.refusals.specs.declared.Reason.TheVariants.{BrokenRecord, NoOutputRoom}
 use Rattle.lists.specs.Lists.{filled}
 use Rattle.tables.specs.Tables.{Tables}
 use Rattle.tables.specs.declared.Used.{Used}
@@ -21,6 +23,6 @@ abbrev pub fewer : Used → Used → Dropped
 fewer before after =
     record { v = before.v - after.v; vt = before.vt - after.vt; vn = before.vn - after.vn; vp = before.vp - after.vp }
 
--- the number of refusal, 0 for none
-unfoldable pub sweep_refusal : Used → Tables → (room : ℕ) → ℕ
-sweep_refusal used t room = cond (whole_obeys used t) (cond (leb (numbers_needed used) room) 0 16) 15
+-- why a sweep is refused
+unfoldable pub sweep_refusal : Used → Tables → (room : ℕ) → Result (Unit {0}) Reason
+sweep_refusal used t room = cond (whole_obeys used t) (cond (leb (numbers_needed used) room) (Ok tt) (Err NoOutputRoom)) (Err BrokenRecord)

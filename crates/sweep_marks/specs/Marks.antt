@@ -1,5 +1,5 @@
 -- What the passes over one kind of record leave, each as a definition over lists: marks, numbers, rows, corners. Only inner contracts cite these.
-use Rattle.std.specs.Prelude.{ℕ, zero, suc, ◌+◌, List, Bool, false, cond, not, get_or, set, eqb}
+use Rattle.std.specs.Prelude.{ℕ, zero, suc, ◌+◌, List, Bool, false, cond, not, get_or, set, eqb, Option, None, Some}
 use Rattle.tables.specs.Rows.{corner_numbers}
 use Rattle.tables.specs.Records.{element_in, corner_in, corner_place, corners_length, curve2_kind}
 use Rattle.tables.specs.declared.Used.{Used}
@@ -17,12 +17,12 @@ kind_of table.Vt = texture
 kind_of table.Vn = normal
 kind_of table.Vp = parametric
 
--- which number of a corner names a record of that kind, in an element of kind e; 3 for none
-abbrev pub place_of : VertexKind → (e : ℕ) → ℕ
-place_of geometric e = cond (eqb e curve2_kind) 3 0
-place_of texture e = 1
-place_of normal e = 2
-place_of parametric e = cond (eqb e curve2_kind) 0 3
+-- which number of a corner names a record of that kind, in an element of kind e
+abbrev pub place_of : VertexKind → (e : ℕ) → Option ℕ
+place_of geometric e = cond (eqb e curve2_kind) None (Some 0)
+place_of texture e = Some 1
+place_of normal e = Some 2
+place_of parametric e = cond (eqb e curve2_kind) (Some 0) None
 
 -- `named`, over the two tables that it looks at
 unfoldable pub named_in_tables : ℕ → List ℕ → List ℕ → VertexKind → ℕ → Bool
@@ -47,10 +47,14 @@ abbrev pub mark_every : List ℕ → CornerRun → (place : ℕ) → ℕ → Lis
 mark_every corners run place zero l = l
 mark_every corners run place (suc n) l = mark_number (mark_every corners run place n l) (corner_number_in corners run n place)
 
+-- the marks after the number in that place of every corner of a run
+abbrev pub mark_placed : List ℕ → CornerRun → Option ℕ → List ℕ → List ℕ
+mark_placed corners run None l = l
+mark_placed corners run (Some place) l = mark_every corners run place run.count l
+
 -- the marks after an element, and after the first n
 abbrev pub mark_element : VertexKind → List ℕ → Element → List ℕ → List ℕ
-mark_element kind corners e l =
-    cond (eqb (place_of kind e.kind) 3) l (mark_every corners e.corners (place_of kind e.kind) e.corners.count l)
+mark_element kind corners e l = mark_placed corners e.corners (place_of kind e.kind) l
 
 abbrev pub mark_elements : VertexKind → List ℕ → List ℕ → ℕ → List ℕ → List ℕ
 mark_elements kind elements corners zero l = l

@@ -1,7 +1,7 @@
 // Which records of one kind the corners name, and their new numbers.
 #![tactic(auto)]
 
-ghost use Rattle.std.specs.Prelude.{◌≡◌, cond, ◌+◌, ◌≤◌, eqb, length, get_or, set};
+ghost use Rattle.std.specs.Prelude.{◌≡◌, ◌≤◌, length};
 ghost use Rattle.sweep_marks.specs.Counting.{kept_upto, new_numbers};
 ghost use Rattle.sweep_marks.specs.Marks.{kind_of, place_of, mark_number, mark_every, mark_element, mark_elements, marked_in};
 
@@ -16,25 +16,16 @@ pub enum VertexTable {
     Vp,
 }
 
-// Which number of a corner names a record of that table, in an element of that kind; 3 for none.
-fn place_of(table: VertexTable, kind: u32) -> u32
-    ensures { (result ≡ place_of (kind_of table) kind) × (result ≤ 3) }
+// Which number of a corner names a record of that table, in an element of that kind.
+fn place_of(table: VertexTable, kind: u32) -> Option<u32>
+    ensures { result ≡ place_of (kind_of table) kind }
 {
+    let curve2 = kind == kinds::CURVE2;
     match table {
-        VertexTable::V => {
-            if kind == kinds::CURVE2 {
-                return 3;
-            }
-            CORNER_V
-        }
-        VertexTable::Vt => CORNER_VT,
-        VertexTable::Vn => CORNER_VN,
-        VertexTable::Vp => {
-            if kind == kinds::CURVE2 {
-                return CORNER_V;
-            }
-            3
-        }
+        VertexTable::V => { if curve2 { None } else { Some(CORNER_V) } }
+        VertexTable::Vt => Some(CORNER_VT),
+        VertexTable::Vn => Some(CORNER_VN),
+        VertexTable::Vp => { if curve2 { Some(CORNER_V) } else { None } }
     }
 }
 
@@ -42,34 +33,25 @@ fn place_of(table: VertexTable, kind: u32) -> u32
 fn mark(marks: &mut [u32], number: u32)
     ensures { marks.new ≡ mark_number marks.old number }
 {
-    if number == 0 {
-        return;
-    }
-    let at = number as usize - 1;
-    if at < marks.len() {
-        marks[at] = 1;
+    if 1 <= number && number as usize <= marks.len() {
+        marks[number as usize - 1] = 1;
     }
 }
 
 fn mark_every(corners: &[u32], run: CornerRun, place: u32, marks: &mut [u32])
     ensures { marks.new ≡ mark_every corners.now run place run.count marks.old }
 {
-    let mut j: u32 = 0;
-    while j < run.count {
-        let number = tables::corner_number(corners, run, j, place);
-        mark(marks, number);
-        j += 1;
+    for j in 0..run.count {
+        mark(marks, tables::corner_number(corners, run, j, place));
     }
 }
 
 fn mark_element(table: VertexTable, corners: &[u32], element: Element, marks: &mut [u32])
     ensures { marks.new ≡ mark_element (kind_of table) corners.now element marks.old }
 {
-    let place = place_of(table, element.kind);
-    if place == 3 {
-        return;
+    if let Some(place) = place_of(table, element.kind) {
+        mark_every(corners, element.corners, place, marks);
     }
-    mark_every(corners, element.corners, place, marks);
 }
 
 pub fn mark_elements(
@@ -81,24 +63,9 @@ pub fn mark_elements(
 )
     ensures { marks.new ≡ mark_elements (kind_of table) elements.now corners.now count marks.old }
 {
-    let mut i: u32 = 0;
-    while i < count {
-        let element = table_asking::element_in(elements, i);
-        mark_element(table, corners, element, marks);
-        i += 1;
+    for i in 0..count {
+        mark_element(table, corners, table_asking::element_in(elements, i), marks);
     }
-}
-
-// The record at index `i` gets the next number if it is marked; how many have one then.
-fn number_mark(marks: &mut [u32], i: usize, before: u32) -> u32
-    requires { (i + 1 ≤ length marks.old) × (before + 1 ≤ 4294967295) }
-    ensures { (result ≡ before + cond (eqb (get_or marks.old i 0) 0) 0 1) × (marks.new ≡ set marks.old i (cond (eqb (get_or marks.old i 0) 0) 0 (before + 1))) }
-{
-    if marks[i] == 0 {
-        return before;
-    }
-    marks[i] = before + 1;
-    before + 1
 }
 
 // Each mark becomes the record's new number; how many are kept.
@@ -106,11 +73,12 @@ pub fn number_marks(marks: &mut [u32]) -> u32
     requires { length marks.old ≤ 4294967295 }
     ensures { (result ≡ kept_upto (marked_in marks.old) (length marks.old)) × (marks.new ≡ new_numbers (marked_in marks.old) (length marks.old)) }
 {
-    let mut kept: u32 = 0;
-    let mut i: usize = 0;
-    while i < marks.len() {
-        kept = number_mark(marks, i, kept);
-        i += 1;
+    let mut kept = 0;
+    for mark in marks.iter_mut() {
+        if *mark != 0 {
+            kept += 1;
+            *mark = kept;
+        }
     }
     kept
 }

@@ -1,7 +1,7 @@
 -- Rows copied down in place: one row, and the rows that have a number.
 use Prim.Native.Nat.{ℕ, zero, suc, ◌+◌, ◌*◌, ◌-◌, ◌≤◌, ◌<◌}
 use mathlib.Core.Path.{◌≡◌, refl, sym, ap, ap₂, ◌∙◌}
-use mathlib.Core.List.{List, [], ◌∷◌, ◌++◌, append-nil}
+use mathlib.Core.List.{List, [], ◌++◌, append-nil}
 use mathlib.Core.Bool.{Bool, true, false, cond}
 use mathlib.Core.Logic.{◌⊎◌, inl, inr}
 use native.Mathlib.Nat.{mul-zero, mul-suc, mul-le-mul_left}
@@ -10,44 +10,26 @@ use native.Mathlib.Omega.{arith}
 use borrow.Author.Tests.{eq-eqb, ne_eqb}
 use lib.Dec.{eqb}
 use lib.IntN.{ℤ, pos}
-use lib.ListN.{length, get_or, set, take, drop, replicate, length-append, length-drop}
-use lib.Seq.{sets, length-sets, take-suc, get_or-drop, length-take-le, take_at}
+use lib.ListN.{length, get_or, take, drop, replicate, length-append, length-drop}
+use Rattle.std.specs.List.{copy_within}
+use lib.Seq.{sets, sets-eq, length-sets, length-take-le, take_at}
 use Rattle.lists.specs.Lists.{filled}
-use Rattle.lists.proofs.Laws.{sets-append}
 use Rattle.lists.proofs.Tests.{test}
 use Rattle.sweep_marks.specs.Counting.{kept_upto, kept_rows, flat_below}
 use Rattle.sweep_marks.specs.Marks.{marked_in}
 use Rattle.sweep_marks.proofs.Counting.{kept-most}
 use Rattle.sweep_marks.proofs.FlatBelow.{flat_below-same}
-use Rattle.sweep_rows.proofs.Stored.{get_d-sets-past, drop_past, sets-front}
+use Rattle.sweep_rows.proofs.Stored.{drop_past, sets-front}
 
--- ---- one row: the first j of its numbers are copied
-pub record Copied (l m : List ℤ) (from to width j : ℕ) : Type 0 where
-  pub within : j ≤ width
-  pub long : length m ≡ length l
-  pub stored : m ≡ sets l to (take j (drop from l))
-
-pub copied_none : (l : List ℤ) (from to width : ℕ) → Copied l l from to width 0
-copied_none l from to width = record { within = omega arith; long = refl; stored = refl }
-
-module _ {l m : List ℤ} {from to width j : ℕ} (c : Copied l m from to width j) (down : to ≤ from) (lent : from + width ≤ length l) where
-  pub copied_more : j < width → Copied l (set m (to + j) (get_or m (from + j) (pos 0))) from to width (j + 1)
-  copied_more h =
-      let rest = drop from l in
-      let many : length rest ≡ length l - from = length-drop from l in
-      let short : length (take j rest) ≡ j = length-take-le j rest (omega arith) in
-      let past : get_or m (from + j) (pos 0) ≡ get_or rest j (pos 0) =
-      ap (λ (x : List ℤ). get_or x (from + j) (pos 0)) c.stored ∙ get_d-sets-past l to (take j rest) (from + j) (pos 0) (omega arith) ∙ sym (get_or-drop from l j (pos 0)) in
-      let more : take (j + 1) rest ≡ take j rest ++ (get_or rest j (pos 0) ∷ []) = rw add-one (take-suc rest j (pos 0) (omega arith)) in
-      let next : set m (to + j) (get_or m (from + j) (pos 0)) ≡ sets l to (take (j + 1) rest) =
-      ap₂ (λ (x : List ℤ) (a : ℤ). set x (to + j) a) c.stored past
-      ∙ ap (λ (k : ℕ). sets (sets l to (take j rest)) (to + k) (get_or rest j (pos 0) ∷ [])) (sym short)
-      ∙ sym (sets-append l to (take j rest) (get_or rest j (pos 0) ∷ []))
-      ∙ ap (λ (x : List ℤ). sets l to x) (sym more) in
-      record { within = omega arith; long = ap length next ∙ length-sets l to (take (j + 1) rest); stored = next }
-
-  pub copied_all : width ≤ j → m ≡ sets l to (take width (drop from l))
-  copied_all h = c.stored ∙ ap (λ (k : ℕ). sets l to (take k (drop from l))) (let w = c.within in let e : j ≡ width = omega arith in e)
+-- ---- one row
+pub copied-row : (l : List ℤ) (from to w : ℕ) → to ≤ from → from + w ≤ length l → copy_within l from (from + w) to ≡ sets l to (take w (drop from l))
+copied-row l from to w down lent =
+    let e : from + w - from ≡ w = omega arith in
+    let many : length (drop from l) ≡ length l - from = length-drop from l in
+    let long : length (take w (drop from l)) ≡ w = length-take-le w (drop from l) (omega arith) in
+    ap (λ (k : ℕ). take to l ++ take k (drop from l) ++ drop (to + k) l) e
+    ∙ ap (λ (k : ℕ). take to l ++ take w (drop from l) ++ drop (to + k) l) (sym long)
+    ∙ sym (sets-eq (take w (drop from l)) l to (omega arith))
 
 -- ---- all rows
 module _ (w : ℕ) (f : ℕ → Bool) (l : List ℤ) where

@@ -1,5 +1,5 @@
 -- Corners renumbered in place: one element's, then all of them, where the elements' corners follow on.
-use Prim.Native.Nat.{ℕ, zero, suc, ◌+◌, ◌*◌, ◌-◌, ◌≤◌, ◌<◌}
+use Prim.Native.Nat.{ℕ, zero, suc, ◌+◌, ◌*◌, ◌≤◌, ◌<◌}
 use mathlib.Core.Path.{◌≡◌, refl, sym, ap, ap₂, ◌∙◌}
 use mathlib.Core.List.{List}
 use mathlib.Core.Bool.{Bool, true, cond}
@@ -8,7 +8,7 @@ use native.Mathlib.Numerals.{add-one}
 use native.Mathlib.Omega.{arith}
 use borrow.Author.Tests.{le-leb}
 use lib.Dec.{leb}
-use lib.ListN.{length, get_or, length-append}
+use lib.ListN.{length, length-append}
 use lib.Seq.{sets, length-sets}
 use Rattle.lists.proofs.Laws.{sets-append}
 use Rattle.tables.specs.Records.{element_in, corner_in, corner_place, corners_end}
@@ -17,7 +17,7 @@ use Rattle.tables.specs.declared.Corner.{Corner}
 use Rattle.tables.specs.declared.CornerRun.{CornerRun}
 use Rattle.sweep_marks.specs.Counting.{flat_below}
 use Rattle.tables.specs.Rows.{corner_numbers}
-use Rattle.sweep_marks.specs.Marks.{number_listed, corner_by, marked_run, runs_by, corners_upto}
+use Rattle.sweep_marks.specs.Marks.{corner_by, marked_run, runs_by, corners_upto}
 use Rattle.sweep_marks.proofs.FlatBelow.{flat_below-same, flat_below-length}
 use Rattle.sweep_rows.proofs.Stored.{get_d-sets-past}
 
@@ -62,9 +62,6 @@ module _ (used : Used) (numbers : List ℕ) where
         ∙ sym (sets-append l run.first stores (corner_numbers (corner_by used numbers kind (corner_in l (corner_place run j))))) in
         record { within = omega arith; long = ap length next ∙ length-sets l run.first (marked_run used numbers l kind run (suc j)); stored = rw add-one next }
 
-    pub renumbered-all : run.count ≤ j → m ≡ sets l run.first (marked_run used numbers l kind run run.count)
-    renumbered-all h = c.stored ∙ ap (λ (k : ℕ). sets l run.first (marked_run used numbers l kind run k)) (let w = c.within in let e : j ≡ run.count = omega arith in e)
-
   -- ---- all elements
   module _ (elements : List ℕ) where
     pub length_runs : (l : List ℕ) (n : ℕ) → length (runs_by used numbers elements l n) ≡ corners_upto elements n
@@ -95,9 +92,6 @@ module _ (used : Used) (numbers : List ℕ) where
     runs_none l n = record { within = omega arith; long = refl; stored = refl }
 
     module _ {l m : List ℕ} {n i : ℕ} (c : RunsRenumbered l m n i) where
-      pub runs-all : n ≤ i → m ≡ sets l 0 (runs_by used numbers elements l n)
-      runs-all h = c.stored ∙ ap (λ (k : ℕ). sets l 0 (runs_by used numbers elements l k)) (let w = c.within in let e : i ≡ n = omega arith in e)
-
       module _ (h : i < n) (follows : (element_in elements i).corners.first ≡ corners_upto elements i) where
         pub run_fits : corners_upto elements n ≤ length l → (element_in elements i).corners.first + 3 * (element_in elements i).corners.count ≤ length m
         run_fits lent = let e = c.long in let q = upto-more i n h in omega arith
@@ -125,11 +119,6 @@ module _ (used : Used) (numbers : List ℕ) where
             ∙ ap (λ (k : ℕ). sets (sets l 0 runs) k run) (let many = length_runs l i in let z : e.corners.first ≡ 0 + length runs = omega arith in z)
             ∙ sym (sets-append l 0 runs run) in
             record { within = omega arith; long = ap length next ∙ length-sets l 0 (runs_by used numbers elements l (suc i)); stored = rw add-one next }
-
--- the lookup of one number
-pub number_past : (l : List ℕ) (base k : ℕ) → (k ≡ 0 → ⊥) → {r : ℕ} → r ≡ get_or l (base + (k - 1)) 0 → r ≡ number_listed l base k
-number_past l base zero h e = absurd (h refl)
-number_past l base (suc k) h e = e ∙ ap (λ (n : ℕ). get_or l (base + n) 0) (let z : suc k - 1 ≡ k = omega arith in z)
 
 pub corner-of : {c : Corner} {v vt vn : ℕ} → v ≡ c.v → vt ≡ c.vt → vn ≡ c.vn → record { v = v; vt = vt; vn = vn } ≡ c
 corner-of a b d = rw (a, b, d)

@@ -12,9 +12,10 @@ fn number_of(numbers: &[u32], base: usize, number: u32) -> u32
     ensures { result ≡ number_listed numbers.now base number }
 {
     if number == 0 {
-        return 0;
+        0
+    } else {
+        tables::entry_in(numbers, base + (number as usize - 1), 0)
     }
-    tables::number_in(numbers, base + (number as usize - 1))
 }
 
 // Where the numbers of the kind begin that an element's corners name in the first place.
@@ -22,11 +23,13 @@ fn point_base(used: Used, kind: u32) -> usize
     ensures { (result ≡ cond (eqb kind curve2_kind) (used.v + used.vt + used.vn) 0) × (result ≤ 12884901885) }
 {
     if kind == kinds::CURVE2 {
-        return used.v as usize + used.vt as usize + used.vn as usize;
+        used.v as usize + used.vt as usize + used.vn as usize
+    } else {
+        0
     }
-    0
 }
 
+#[tactic(auto, unfolding(sweep_marks::specs::Marks::corner_by))]
 fn corner_by(used: Used, numbers: &[u32], kind: u32, corner: Corner) -> Corner
     ensures { result ≡ corner_by used numbers.now kind corner }
 {
@@ -42,14 +45,11 @@ fn renumber_run(used: Used, numbers: &[u32], corners: &mut [u32], kind: u32, run
     requires { corners_end run ≤ length corners.old }
     ensures { corners.new ≡ sets corners.old run.first (marked_run used numbers.now corners.old kind run run.count) }
 {
-    let mut j: u32 = 0;
-    while j < run.count {
-        let k = j as usize;
+    for k in 0..run.count as usize {
         let old = tables::lent_corner(corners, run, k);
         let new = corner_by(used, numbers, kind, old);
         let row = tables::corner_row(new);
-        table_store::put_u32(corners, tables::corner_place(run, k), &row);
-        j += 1;
+        table_store::put(corners, tables::corner_place(run, k), &row);
     }
 }
 
@@ -57,10 +57,8 @@ pub fn renumber(used: Used, numbers: &[u32], elements: &[u32], corners: &mut [u3
     requires { ((i : ℕ) → i < used.elements → (element_in elements.now i).corners.first ≡ corners_upto elements.now i) × (corners_upto elements.now used.elements ≤ length corners.old) }
     ensures { corners.new ≡ sets corners.old 0 (runs_by used numbers.now elements.now corners.old used.elements) }
 {
-    let mut i: u32 = 0;
-    while i < used.elements {
+    for i in 0..used.elements {
         let e = table_asking::element_in(elements, i);
         renumber_run(used, numbers, corners, e.kind, e.corners);
-        i += 1;
     }
 }

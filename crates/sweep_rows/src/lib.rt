@@ -25,7 +25,7 @@ fn sweep_table(
     requires { (width * length numbers.old ≤ length values.old) × (width ≤ 4) × (length numbers.old ≤ 4294967295) }
     ensures { (result ≡ kept_upto (named_in_tables count elements.now corners.now (kind_of table)) (length numbers.old)) × (numbers.new ≡ new_numbers (named_in_tables count elements.now corners.now (kind_of table)) (length numbers.old)) × (values.new ≡ filled (length values.old) (pos 0) (kept_rows width (named_in_tables count elements.now corners.now (kind_of table)) values.old (length numbers.old))) }
 {
-    table_store::clear_u32(numbers);
+    numbers.fill(0);
     mark_elements(table, elements, count, corners, numbers);
     let kept = number_marks(numbers);
     rows::move_rows(values, width, numbers);

@@ -5,18 +5,6 @@ ghost use Rattle.lists.specs.Lists.{filled};
 ghost use Rattle.sweep_marks.specs.Counting.{kept_rows};
 ghost use Rattle.sweep_marks.specs.Marks.{marked_in};
 
-// `width` numbers from `from` on, copied to `to` and after; what lies between is read before it is written over.
-fn copy_row(values: &mut [i32], from: usize, to: usize, width: usize)
-    requires { (to ≤ from) × (from + width ≤ length values.old) }
-    ensures { values.new ≡ sets values.old to (take width (drop from values.old)) }
-{
-    let mut j: usize = 0;
-    while j < width {
-        values[to + j] = values[from + j];
-        j += 1;
-    }
-}
-
 // Row `i` moved to row `to` if it has a number; how many rows are kept then.
 fn move_row(values: &mut [i32], width: usize, number: u32, i: usize, to: usize) -> usize
     requires { (to ≤ i) × (width * i + width ≤ length values.old) × (i < 4294967295) × (width ≤ 4) }
@@ -25,7 +13,8 @@ fn move_row(values: &mut [i32], width: usize, number: u32, i: usize, to: usize) 
     if number == 0 {
         return to;
     }
-    copy_row(values, width * i, width * to, width);
+    let from = width * i;
+    values.copy_within(from..from + width, width * to);
     to + 1
 }
 
@@ -34,12 +23,10 @@ pub fn move_rows(values: &mut [i32], width: usize, numbers: &[u32])
     requires { (width * length numbers.now ≤ length values.old) × (width ≤ 4) × (length numbers.now ≤ 4294967295) }
     ensures { values.new ≡ filled (length values.old) (pos 0) (kept_rows width (marked_in numbers.now) values.old (length numbers.now)) }
 {
-    let mut to: usize = 0;
-    let mut i: usize = 0;
-    while i < numbers.len() {
-        to = move_row(values, width, numbers[i], i, to);
-        i += 1;
+    let mut to = 0;
+    for (i, number) in numbers.iter().enumerate() {
+        to = move_row(values, width, *number, i, to);
     }
     let rest = width * to;
-    table_store::clear_i32(&mut values[rest..]);
+    values[rest..].fill(0);
 }

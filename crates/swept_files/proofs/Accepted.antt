@@ -34,6 +34,7 @@ use Rattle.sampled_files.proofs.Never15.{used-elements}
 use Rattle.reader.specs.Reading.{rooms_of, read_into}
 use Rattle.end_to_end.proofs.Inside.{accepted}
 use Rattle.end_to_end.proofs.Third.{shown}
+use Rattle.refusals.specs.declared.Reason.TheVariants.{NoOutputRoom}
 use Rattle.sweep.specs.Swept.{SweepAnswer, numbers_needed, refused_sweep, sweep_into}
 use Rattle.swept_files.specs.Accepted.{AcceptedObeys, Sweeps, AcceptedSweeps}
 
@@ -219,7 +220,7 @@ module _ (u : Used) (t : Tables) (h : whole_obeys u t ≡ true) (numbers : List 
   unfolding sweep_into
   has_room q = rw (h, q)
 
-  lacks-room : leb (numbers_needed u) (length numbers) ≡ false → sweep_into u t numbers ≡ refused_sweep 16 t numbers
+  lacks-room : leb (numbers_needed u) (length numbers) ≡ false → sweep_into u t numbers ≡ refused_sweep NoOutputRoom t numbers
   unfolding sweep_into
   lacks-room q = rw (h, q)
 

@@ -18,7 +18,7 @@ use Rattle.table_rules.specs.Whole.{lent_all, vertices_obey, elements_obey, runs
 use Rattle.sweep_marks.specs.Counting.{new_numbers, kept_rows}
 use Rattle.sweep.specs.Named.{named, corners_after}
 use Rattle.sweep.specs.Swept.{swept_used, dropped_of, swept_tables, swept_numbers, sweep_into}
-use Rattle.sweep.specs.declared.SweepResult.TheVariants as result
+use Rattle.std.specs.Prelude.{Ok}
 
 abbrev pub m : ℤ
 m = pos 1000000
@@ -50,7 +50,7 @@ after =
 
 pub one-swept : sweep_into (counts 3 2 3) before (7 ∷ 7 ∷ 7 ∷ 7 ∷ 7 ∷ 7 ∷ 7 ∷ 7 ∷ 7 ∷ 7 ∷ [])
     ≡ record {
-      answer = result.Swept (counts 2 1 2) (record { v = 1; vt = 0; vn = 1; vp = 1 });
+      answer = Ok (record { used = counts 2 1 2; dropped = record { v = 1; vt = 0; vn = 1; vp = 1 } });
       outcome = record { number = 0; used = counts 2 1 2; dropped = record { v = 1; vt = 0; vn = 1; vp = 1 } };
       tables = after;
       numbers = 0 ∷ 1 ∷ 2 ∷ 1 ∷ 0 ∷ 1 ∷ 1 ∷ 0 ∷ 2 ∷ 7 ∷ [];

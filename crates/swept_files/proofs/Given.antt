@@ -10,13 +10,14 @@ use lib.Dec.{leb}
 use Rattle.tables.specs.Tables.{Tables}
 use Rattle.tables.specs.declared.Used.{Used}
 use Rattle.table_rules.specs.Whole.{whole_obeys}
+use Rattle.refusals.specs.declared.Reason.TheVariants.{BrokenRecord, NoOutputRoom}
 use Rattle.sweep.specs.Swept.{SweepAnswer, numbers_needed, refused_sweep, swept_answer, sweep_into}
 use Rattle.swept_files.specs.Samples.{Refusals}
 
 module _ (used : Used) (t : Tables) (numbers : List ℕ) where
   -- the answer, from the two tests
   abbrev chosen : Bool → Bool → SweepAnswer
-  chosen whole room = cond whole (cond room (swept_answer used t numbers) (refused_sweep 16 t numbers)) (refused_sweep 15 t numbers)
+  chosen whole room = cond whole (cond room (swept_answer used t numbers) (refused_sweep NoOutputRoom t numbers)) (refused_sweep BrokenRecord t numbers)
 
   sweep-chosen : sweep_into used t numbers ≡ chosen (whole_obeys used t) (leb (numbers_needed used) (length numbers))
   unfolding sweep_into

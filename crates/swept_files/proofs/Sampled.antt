@@ -2,10 +2,10 @@
 use Prim.Native.Nat.{ℕ, zero, suc, ◌+◌, ◌*◌, ◌-◌, ◌≤◌, ◌<◌}
 use mathlib.Core.Path.{◌≡◌, refl, sym, ap, ap₂, ◌∙◌, fun_ext}
 use mathlib.Core.Bool.{Bool, true, false, cond, ◌&&◌}
-use mathlib.Core.Logic.{⊎_elim}
+use mathlib.Core.Logic.{⊎_elim, inr}
 use mathlib.Core.List.{List, [], ◌∷◌, ◌++◌}
 use native.Mathlib.Omega.{arith}
-use borrow.Author.Tests.{leb-true, leb-false, le-leb, eqb-true}
+use borrow.Author.Tests.{leb-true, leb-false, le-leb}
 use lib.Dec.{leb, eqb}
 use lib.ListN.{length}
 use lib.IntN.{ℤ, pos}
@@ -22,10 +22,13 @@ use Rattle.table_rules.specs.Whole.{whole_obeys}
 use Rattle.point_runs.specs.Runs.{joined, tabulated, parameter_at}
 use Rattle.point_runs.proofs.Steps.{parameter-from, parameter-upto}
 use Rattle.sampler.specs.Points.{axes_of, curve_at, surface_at, run_numbers}
-use Rattle.sampler.specs.Answers.{PointAnswer, wanted, carried, element_of, body_of, refusal_of, RunAnswer, inside, refused_point, curve_point, point_on_curve, surface_point, point_on_surface, refused_run, filled_run, run_into}
+use Rattle.std.specs.Prelude.{Option, Some, None}
+use Rattle.refusals.specs.declared.Reason.{Reason}
+use Rattle.refusals.specs.declared.Reason.TheVariants.{NoOutputRoom, NoSuchElement, NotSampled, ParameterOutside}
+use Rattle.sampler.specs.Answers.{PointAnswer, wanted, carried, element_of, body_of, refusal_of, unless, RunAnswer, inside, refused_point, curve_point, point_on_curve, surface_point, point_on_surface, refused_run, filled_run, run_into}
 use Rattle.sampler.specs.Sampling.{Curved, Surfaced}
 use Rattle.sampler.proofs.Obeyed.{Granted, granted, curved, surfaced}
-use Rattle.sampler.proofs.Refusals.{kinds, past-used}
+use Rattle.sampler.proofs.Refusals.{kinds, none-such}
 use Rattle.sampler.proofs.Entries.{sound-inside}
 use Rattle.point_chords.specs.Chords.{parameters, numbers}
 use Rattle.polyline.specs.Answers.{PolylineAnswer, point_at, parameters_of, polyline_numbers, refused_polyline, filled_polyline, polyline_into}
@@ -49,8 +52,12 @@ axes-most true = omega arith
 axes-most false = omega arith
 
 -- 17 or 18, by the element's kind and its body, where all tables obey
-abbrev refusal_by : Bool → Element → Body → ℕ
-refusal_by surface e b = cond (wanted surface e.kind) (cond (carried b.rational b.basis) 0 18) 17
+abbrev refusal_by : Bool → Element → Body → Option Reason
+refusal_by surface e b = cond (wanted surface e.kind) (cond (carried b.rational b.basis) None (Some NotSampled)) (Some NoSuchElement)
+
+unless-where : {A : Type 0} (o : Option Reason) (f : Reason → A) {x y : A} → (o ≡ None → x ≡ y) → unless o f x ≡ unless o f y
+unless-where None f h = h refl
+unless-where (Some r) f h = refl
 
 refusal_is : (surface : Bool) (used : Used) (t : Tables) (number : ℕ) → whole_obeys used t ≡ true → 1 ≤ number → number ≤ used.elements
     → refusal_of surface used t number ≡ refusal_by surface (element_of t number) (body_of t number)
@@ -85,7 +92,7 @@ module _ (used : Used) (t : Tables) (u : Used) (w : Tables) (count : u.elements 
     refused-alike surface =
         refusal_is surface u w number k some (omega arith)
         ∙ ap (λ (x : Element). refusal_by surface x (body_of w number)) its-element
-        ∙ cond-where (wanted surface e.kind) 17 (λ q. ap (λ (x : Body). cond (carried x.rational x.basis) 0 18) (its-body (kinds surface e.kind q)))
+        ∙ cond-where (wanted surface e.kind) (Some NoSuchElement) (λ q. ap (λ (x : Body). cond (carried x.rational x.basis) None (Some NotSampled)) (its-body (kinds surface e.kind q)))
         ∙ sym (refusal_is surface used t number h some in_use)
 
   refusal-same : (surface : Bool) → refusal_of surface u w number ≡ refusal_of surface used t number
@@ -101,12 +108,12 @@ module _ (used : Used) (t : Tables) (u : Used) (w : Tables) (count : u.elements 
       past q = rw (count, q)
 
   -- ---- where nothing is refused
-  module _ (surface : Bool) (given : refusal_of surface used t number ≡ 0) where
+  module _ (surface : Bool) (given : refusal_of surface used t number ≡ None) where
     grant : Granted surface used t number
     grant = granted surface used t number given
 
     its-use : number ≤ used.elements
-    its-use = ⊎_elim (λ q. leb-true number used.elements q) (λ q. absurd (let no = past-used surface used t number grant.some (leb-false number used.elements q) in omega arith)) (test (leb number used.elements))
+    its-use = ⊎_elim (λ q. leb-true number used.elements q) (λ q. absurd (let no = none-such surface used t number (inr (leb-false number used.elements q)) in cc)) (test (leb number used.elements))
 
     its-kind : 4 ≤ e.kind
     its-kind = kinds surface e.kind grant.kind
@@ -117,7 +124,7 @@ module _ (used : Used) (t : Tables) (u : Used) (w : Tables) (count : u.elements 
     granted-body : body_of w number ≡ b
     granted-body = its-body grant.some its-use its-kind
 
-  module _ (given : refusal_of false used t number ≡ 0) where
+  module _ (given : refusal_of false used t number ≡ None) where
     curve-facts : Curved t e b
     curve-facts = curved used t number (grant false given)
 
@@ -141,7 +148,7 @@ module _ (used : Used) (t : Tables) (u : Used) (w : Tables) (count : u.elements 
         (and_both (le_yes b.start_u (p j) (parameter-from b.start_u b.end_u ordered steps j)) (le_yes (p j) b.end_u (parameter-upto b.start_u b.end_u ordered steps j (omega arith))))
         i (omega (arith, axes-most (eqb e.kind 5))))))
 
-  module _ (given : refusal_of true used t number ≡ 0) (p q : ℤ) (i : (inside b.start_u b.end_u p && inside b.start_v b.end_v q) ≡ true) where
+  module _ (given : refusal_of true used t number ≡ None) (p q : ℤ) (i : (inside b.start_u b.end_u p && inside b.start_v b.end_v q) ≡ true) where
     surface-facts : Surfaced t e b
     surface-facts = surfaced used t number (grant true given)
 
@@ -156,44 +163,40 @@ module _ (used : Used) (t : Tables) (u : Used) (w : Tables) (count : u.elements 
   curve-answer : (p : ℤ) → point_on_curve u w number p ≡ point_on_curve used t number p
   unfolding point_on_curve
   curve-answer p =
-      let answer : Element → Body → PointAnswer = λ x y. cond (inside y.start_u y.end_u p) (curve_point w x y p) (refused_point 19) in
-      ap (λ (r : ℕ). cond (eqb r 0) (answer (element_of w number) (body_of w number)) (refused_point r)) (refusal-same false)
-      ∙ cond-where (eqb (refusal_of false used t number) 0) (refused_point (refusal_of false used t number))
-      (λ q. let given = eqb-true (refusal_of false used t number) 0 q in
-      ap₂ answer (granted-element false given) (granted-body false given) ∙ cond-where (inside b.start_u b.end_u p) (refused_point 19) (point-same given p))
+      let answer : Element → Body → PointAnswer = λ x y. cond (inside y.start_u y.end_u p) (curve_point w x y p) (refused_point ParameterOutside) in
+      ap (λ (r : Option Reason). unless r refused_point (answer (element_of w number) (body_of w number))) (refusal-same false)
+      ∙ unless-where (refusal_of false used t number) refused_point
+      (λ given. ap₂ answer (granted-element false given) (granted-body false given) ∙ cond-where (inside b.start_u b.end_u p) (refused_point ParameterOutside) (point-same given p))
 
   run-answer : (steps at : ℕ) (points : List ℤ) → run_into u w number steps at points ≡ run_into used t number steps at points
   unfolding run_into
   run-answer steps at points =
       let answer : Element → List ℤ → RunAnswer = λ x y. cond (leb 1 steps && leb steps 65536)
-      (cond (leb (at + axes_of x * (steps + 1)) (length points)) (filled_run (axes_of x * (steps + 1)) at y points) (refused_run 16 points)) (refused_run 19 points) in
-      ap (λ (r : ℕ). cond (eqb r 0) (answer (element_of w number) (run_numbers w (element_of w number) (body_of w number) steps)) (refused_run r points)) (refusal-same false)
-      ∙ cond-where (eqb (refusal_of false used t number) 0) (refused_run (refusal_of false used t number) points)
-      (λ q. let given = eqb-true (refusal_of false used t number) 0 q in
-      ap₂ (λ (x : Element) (y : Body). answer x (run_numbers w x y steps)) (granted-element false given) (granted-body false given) ∙ ap (answer e) (run-same given steps))
+      (cond (leb (at + axes_of x * (steps + 1)) (length points)) (filled_run (axes_of x * (steps + 1)) at y points) (refused_run points NoOutputRoom)) (refused_run points ParameterOutside) in
+      ap (λ (r : Option Reason). unless r (refused_run points) (answer (element_of w number) (run_numbers w (element_of w number) (body_of w number) steps))) (refusal-same false)
+      ∙ unless-where (refusal_of false used t number) (refused_run points)
+      (λ given. ap₂ (λ (x : Element) (y : Body). answer x (run_numbers w x y steps)) (granted-element false given) (granted-body false given) ∙ ap (answer e) (run-same given steps))
 
   polyline-answer : (tolerance : ℤ) (at : ℕ) (points : List ℤ) → polyline_into u w number tolerance at points ≡ polyline_into used t number tolerance at points
   unfolding polyline_into parameters_of polyline_numbers
   polyline-answer tolerance at points =
       let answer : (ℤ → List ℤ) → Element → Body → PolylineAnswer = λ f x y.
       let ps = parameters f tolerance y.start_u y.end_u in
-      cond (le_z (pos 0) tolerance) (cond (leb (at + axes_of x * length ps) (length points)) (filled_polyline (length ps) at (numbers f ps) points) (refused_polyline 16 points)) (refused_polyline 19 points) in
-      ap (λ (r : ℕ). cond (eqb r 0) (answer (point_at u w number) (element_of w number) (body_of w number)) (refused_polyline r points)) (refusal-same false)
-      ∙ cond-where (eqb (refusal_of false used t number) 0) (refused_polyline (refusal_of false used t number) points)
-      (λ q. let given = eqb-true (refusal_of false used t number) 0 q in
-      ap₂ (answer (point_at u w number)) (granted-element false given) (granted-body false given)
+      cond (le_z (pos 0) tolerance) (cond (leb (at + axes_of x * length ps) (length points)) (filled_polyline (length ps) at (numbers f ps) points) (refused_polyline points NoOutputRoom)) (refused_polyline points ParameterOutside) in
+      ap (λ (r : Option Reason). unless r (refused_polyline points) (answer (point_at u w number) (element_of w number) (body_of w number))) (refusal-same false)
+      ∙ unless-where (refusal_of false used t number) (refused_polyline points)
+      (λ given. ap₂ (answer (point_at u w number)) (granted-element false given) (granted-body false given)
       ∙ ap (λ (f : ℤ → List ℤ). answer f e b) (fun_ext (λ p. ap (λ (r : PointAnswer). r.outcome.coordinates) (curve-answer p))))
 
   surface-answer : (p q : ℤ) → point_on_surface u w number p q ≡ point_on_surface used t number p q
   unfolding point_on_surface surface_point
   surface-answer p q =
       let answer : Element → Body → PointAnswer = λ x y.
-      cond (inside y.start_u y.end_u p && inside y.start_v y.end_v q) (surface_point w x y p q) (refused_point 19) in
-      ap (λ (r : ℕ). cond (eqb r 0) (answer (element_of w number) (body_of w number)) (refused_point r)) (refusal-same true)
-      ∙ cond-where (eqb (refusal_of true used t number) 0) (refused_point (refusal_of true used t number))
-      (λ o. let given = eqb-true (refusal_of true used t number) 0 o in
-      ap₂ answer (granted-element true given) (granted-body true given)
-      ∙ cond-where (inside b.start_u b.end_u p && inside b.start_v b.end_v q) (refused_point 19)
+      cond (inside y.start_u y.end_u p && inside y.start_v y.end_v q) (surface_point w x y p q) (refused_point ParameterOutside) in
+      ap (λ (r : Option Reason). unless r refused_point (answer (element_of w number) (body_of w number))) (refusal-same true)
+      ∙ unless-where (refusal_of true used t number) refused_point
+      (λ given. ap₂ answer (granted-element true given) (granted-body true given)
+      ∙ cond-where (inside b.start_u b.end_u p && inside b.start_v b.end_v q) (refused_point ParameterOutside)
       (λ i. let f = on-surface given p q i in rw (f 0 (omega arith), f 1 (omega arith), f 2 (omega arith))))
 
 -- tables that obey, with as many elements, that show the same are sampled alike

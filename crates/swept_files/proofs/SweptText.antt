@@ -7,6 +7,7 @@ use mathlib.Core.List.{List, [], ◌∷◌, map}
 use native.Mathlib.Omega.{arith}
 use lib.ListN.{length, length-map}
 use lib.IntN.{ℤ}
+use Rattle.end_to_end.specs.EntryPoints.{as_read}
 use Rattle.text.specs.Lines.{lines_of}
 use Rattle.tables.specs.Tables.{Tables}
 use Rattle.tables.specs.declared.Used.{Used}
@@ -18,7 +19,6 @@ use Rattle.model.specs.Layout.{tables_of, used_of}
 use Rattle.model.proofs.Rows.{bodies-summed}
 use Rattle.read_lines.proofs.Cleared.{answered-same}
 use Rattle.reader.specs.Reading.{rooms_of, read_into, ReadAnswer, answered}
-use Rattle.read_lines.specs.declared.ReadResult.TheVariants as reading
 use Rattle.tidy_form.specs.Printed.{tidy_text}
 use Rattle.tidy_form.specs.Agree.{TablesAgree}
 use Rattle.tidy_form.proofs.Words.{Small}
@@ -158,6 +158,6 @@ swept-texts c s S m h l T e =
     let b = subst (λ (u : Used). TablesAgree w (tables_of R g.0) u s (tables_of R k) (used_of k)) a.used a in
     let d = subst₂ (λ (u : Used) (t : Tables). TablesAgree w (tables_of R g.0) u s t u) (sym f.used) (sym f.tables) b in
     record {
-      answer = ap (λ (q : ReadAnswer). q.answer) r ∙ ap reading.Read (a.used ∙ sym f.used);
+      answer = ap (λ (q : ReadAnswer). q.answer) r ∙ ap as_read (a.used ∙ sym f.used);
       tables = subst (λ (q : ReadAnswer). TablesAgree w q.tables (used_left s S) s (tables_left s S) (used_left s S)) (sym r) d;
     }

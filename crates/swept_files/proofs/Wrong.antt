@@ -11,7 +11,7 @@ use Rattle.tables.specs.declared.Used.{Used}
 use Rattle.model.specs.Model.{geometric, texture, parametric}
 use Rattle.sweep.specs.Named.{named}
 use Rattle.sweep.specs.Swept.{SweepAnswer, sweep_answer}
-use Rattle.sweep.specs.declared.SweepResult.TheVariants as result
+use Rattle.std.specs.Prelude.{Ok}
 use Rattle.swept_files.specs.Promises.{AllNamed, SameShown, SameCounts, SweepCounted, number_after, Renumbered}
 use Rattle.swept_files.proofs.CornersAfter.{named-held}
 use Rattle.swept_files.proofs.Examples.{m, z, with, counts, before}
@@ -22,7 +22,7 @@ used = counts 3 2 3
 -- the example's answer but for its v, its corners, the number of v dropped and their new numbers
 abbrev answer : Used → ℕ → List ℤ → List ℕ → List ℕ → SweepAnswer
 answer u d v corners numbers =
-    sweep_answer (result.Swept u (record { v = d; vt = 0; vn = 1; vp = 1 }))
+    sweep_answer (Ok (record { used = u; dropped = record { v = d; vt = 0; vn = 1; vp = 1 } }))
     (with 0 v (z ∷ z ∷ pos 2 ∷ z ∷ z ∷ z ∷ z ∷ []) (pos 2 ∷ pos 1 ∷ z ∷ m ∷ pos 2 ∷ pos 3 ∷ z ∷ m ∷ z ∷ z ∷ z ∷ z ∷ z ∷ []) corners) numbers
 
 abbrev rows : (a b : ℕ) → List ℤ

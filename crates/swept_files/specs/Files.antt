@@ -1,5 +1,6 @@
 -- Must be believed: a promise reaches every definition of this file.
 -- Q-6 on files: the model of a file without the vertices that no corner of it names, and what a sweep leaves of the tables that a text was read into.
+use Rattle.end_to_end.specs.EntryPoints.{as_read}
 use Rattle.std.specs.Prelude.{ℕ, suc, ◌≤◌, ◌≡◌, Bool, false, cond, ◌||◌, List, [], ◌∷◌, ◌++◌, map, length, drop, eqb}
 use Rattle.references.specs.Corner.{Corner}
 use Rattle.tables.specs.Tables.{Tables}
@@ -9,7 +10,6 @@ use Rattle.model.specs.Statements.{Statement, vertex, element, group, smoothing,
 use Rattle.model.specs.Read.{read, read_of}
 use Rattle.model.specs.Layout.{tables_of, used_of}
 use Rattle.reader.specs.Reading.{rooms_of, read_into}
-use Rattle.read_lines.specs.declared.ReadResult.TheVariants as reading
 use Rattle.tidy_form.specs.Tidied.{vertex_lines, tidied}
 use Rattle.tidy_form.specs.declared.Weights.{Weights}
 use Rattle.tidy_form.specs.Printed.{tidy_text}
@@ -106,7 +106,7 @@ SameLines =
 -- where it is no longer than a text may be, it is read into any tables T of those lengths, and gives tables that agree with the swept ones: these hold
 -- the names' places in the text s
 pub record ReadAgain (w s : List ℕ) (S T : Tables) : Type 0 where
-  pub answer : (read_into w T).answer ≡ reading.Read (used_left s S)
+  pub answer : (read_into w T).answer ≡ as_read (used_left s S)
   pub tables : TablesAgree w (read_into w T).tables (used_left s S) s (tables_left s S) (used_left s S)
 
 abbrev pub SweptTexts : Type 0

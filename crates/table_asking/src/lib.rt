@@ -1,5 +1,5 @@
 // Asking for a record by its number, or at an index: zeros where there is none.
-#![tactic(auto)]
+#![tactic(auto, unfolding(tables::specs::Asking::held, tables::specs::Asking::asked_element, tables::specs::Asking::body_held, tables::specs::Asking::asked_body, tables::specs::Asking::corner_with, tables::specs::Asking::asked_corner, tables::specs::Asking::part_of, tables::specs::Asking::asked_group, tables::specs::Asking::asked_material))]
 
 ghost use Rattle.std.specs.Prelude.{◌≡◌, ◌+◌, ◌*◌, ◌≤◌, ◌&&◌, leb, length};
 ghost use Rattle.tables.specs.Records.{body_width, range_width, element_in, body_in};
@@ -12,13 +12,7 @@ fn is_held(number: u32, used: u32, width: usize, lent: usize) -> bool
     requires { width ≤ 4294967295 }
     ensures { result ≡ held number used width lent }
 {
-    if number < 1 {
-        return false;
-    }
-    if used < number {
-        return false;
-    }
-    width * (number as usize) <= lent
+    1 <= number && number <= used && width * (number as usize) <= lent
 }
 
 // The element at that index, counted from 0; a number past the table's end is 0.
@@ -29,7 +23,7 @@ pub fn element_in(elements: &[u32], index: u32) -> Element
         return tables::lent_element(elements, index);
     }
     let mut row = [0; widths::ELEMENT];
-    tables::numbers_from(elements, widths::ELEMENT * index as usize, &mut row);
+    tables::entries_from(elements, widths::ELEMENT * index as usize, 0, &mut row);
     tables::lent_element(&row, 0)
 }
 
@@ -47,10 +41,8 @@ pub fn element_of(used: Used, elements: &[u32], element: u32) -> Element
 fn body_fits(bodies: &[u32], ranges: &[i32], index: u32) -> bool
     ensures { result ≡ (leb (body_width * index + body_width) (length bodies.now) && leb (range_width * index + range_width) (length ranges.now)) }
 {
-    if widths::BODY * index as usize + widths::BODY <= bodies.len() {
-        return widths::RANGE * index as usize + widths::RANGE <= ranges.len();
-    }
-    false
+    widths::BODY * index as usize + widths::BODY <= bodies.len()
+        && widths::RANGE * index as usize + widths::RANGE <= ranges.len()
 }
 
 // The body at that index, counted from 0, with its range; a number past a table's end is 0.
@@ -61,9 +53,9 @@ pub fn body_in(bodies: &[u32], ranges: &[i32], index: u32) -> Body
         return tables::lent_body(bodies, ranges, index);
     }
     let mut row = [0; widths::BODY];
-    tables::numbers_from(bodies, widths::BODY * index as usize, &mut row);
+    tables::entries_from(bodies, widths::BODY * index as usize, 0, &mut row);
     let mut range = [0; widths::RANGE];
-    tables::values_from(ranges, widths::RANGE * index as usize, &mut range);
+    tables::entries_from(ranges, widths::RANGE * index as usize, 0, &mut range);
     tables::lent_body(&row, &range, 0)
 }
 
@@ -71,10 +63,8 @@ pub fn body_in(bodies: &[u32], ranges: &[i32], index: u32) -> Body
 pub fn has_body(used: Used, bodies: &[u32], ranges: &[i32], body: u32) -> bool
     ensures { result ≡ body_held used bodies.now ranges.now body }
 {
-    if is_held(body, used.bodies, widths::BODY, bodies.len()) {
-        return widths::RANGE * body as usize <= ranges.len();
-    }
-    false
+    is_held(body, used.bodies, widths::BODY, bodies.len())
+        && widths::RANGE * body as usize <= ranges.len()
 }
 
 // The body of that number, counted from 1; all zeros for no such body.
@@ -96,11 +86,8 @@ pub fn corner_with(used: Used, corners: &[u32], element: Element, k: u32) -> Cor
     if run.count <= k {
         return none;
     }
-    let at = tables::corner_place(run, k as usize);
-    if (used.corners as usize) < at + widths::CORNER {
-        return none;
-    }
-    if corners.len() < at + widths::CORNER {
+    let end = tables::corner_place(run, k as usize) + widths::CORNER;
+    if (used.corners as usize) < end || corners.len() < end {
         return none;
     }
     tables::corner_at(corners, run, k as usize)
@@ -119,12 +106,8 @@ pub fn part_of(text: &[u8], run: NameRun) -> &[u8]
     ensures { result.now ≡ part_of text.now run }
 {
     let from = run.place as usize;
-    let to = from + (run.length as usize);
-    if to <= text.len() {
-        return &text[from..to];
-    }
-    let none: usize = 0;
-    &text[none..none]
+    let to = from + run.length as usize;
+    text.get(from..to).unwrap_or(&[])
 }
 
 // The run of group names of the element of that number, counted from 1, as it stands in the caller's text.

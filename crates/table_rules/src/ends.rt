@@ -20,15 +20,10 @@ pub fn ends_after(ends: Ends, element: Element, body: Body) -> Ends
 {
     let corners = ends.corners + tables::corners_length(element.corners);
     if element.kind <= kinds::FACE {
-        return Ends {
-            corners: corners,
-            bodies: ends.bodies,
-            parameters: ends.parameters,
-            parts: ends.parts,
-        };
+        return Ends { corners, ..ends };
     }
     Ends {
-        corners: corners,
+        corners,
         bodies: ends.bodies + 1,
         parameters: ends.parameters + (body.count_u as usize + body.count_v as usize),
         parts: ends.parts + body.loops as usize,
@@ -38,13 +33,8 @@ pub fn ends_after(ends: Ends, element: Element, body: Body) -> Ends
 fn body_follows(ends: Ends, body: Body) -> bool
     ensures { result ≡ body_follows ends body }
 {
-    if body.first_parameter as usize != ends.parameters {
-        return false;
-    }
-    if body.loops == 0 {
-        return true;
-    }
-    body.first_loop as usize == ends.parts
+    body.first_parameter as usize == ends.parameters
+        && (body.loops == 0 || body.first_loop as usize == ends.parts)
 }
 
 // Whether an element and its body begin at the ends.
@@ -52,19 +42,9 @@ pub fn element_follows(ends: Ends, element: Element, body: Body) -> bool
     requires { ends.bodies ≤ 4294967295 }
     ensures { result ≡ element_follows ends element body }
 {
-    let run = element.corners;
-    let first = run.first as usize;
-    let end = ends.corners;
-    if first != end {
-        return false;
-    }
-    if element.kind <= kinds::FACE {
-        return true;
-    }
-    if element.body as usize != ends.bodies + 1 {
-        return false;
-    }
-    body_follows(ends, body)
+    element.corners.first as usize == ends.corners
+        && (element.kind <= kinds::FACE
+            || element.body as usize == ends.bodies + 1 && body_follows(ends, body))
 }
 
 // Whether the last run ends with the last used entry.

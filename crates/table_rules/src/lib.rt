@@ -2,12 +2,12 @@
 #![tactic(auto)]
 
 ghost use Rattle.std.specs.Prelude.{◌≡◌, ◌*◌, ◌≤◌, leb};
-ghost use Rattle.tables.specs.Tables.{tables};
+ghost use Rattle.tables.specs.Lent.{lent};
 ghost use Rattle.table_rules.specs.Whole.{lent_all, whole_obeys};
 
 use crate::elements::elements_obey;
 use crate::vertices::vertices_obey;
-use tables::{Used, widths};
+use tables::{Tables, Used, widths};
 
 mod elements;
 pub mod ends;
@@ -21,61 +21,26 @@ fn is_lent(width: usize, count: u32, lent: usize) -> bool
     width * (count as usize) <= lent
 }
 
-fn lent_all(
-    used: Used,
-    v: &[i32],
-    vt: &[i32],
-    vn: &[i32],
-    vp: &[i32],
-    corners: &[u32],
-    elements: &[u32],
-    bodies: &[u32],
-    ranges: &[i32],
-    parameters: &[i32],
-    loops: &[u32],
-    spans: &[i32],
-) -> bool
-    ensures { result ≡ lent_all used (tables v.now vt.now vn.now vp.now corners.now elements.now bodies.now ranges.now parameters.now loops.now spans.now) }
+fn lent_all(used: Used, t: &Tables) -> bool
+    ensures { result ≡ lent_all used (lent t.now) }
 {
-    is_lent(widths::V, used.v, v.len())
-        & is_lent(widths::VT, used.vt, vt.len())
-        & is_lent(widths::VN, used.vn, vn.len())
-        & is_lent(widths::VP, used.vp, vp.len())
-        & (used.corners as usize <= corners.len())
-        & is_lent(widths::ELEMENT, used.elements, elements.len())
-        & is_lent(widths::BODY, used.bodies, bodies.len())
-        & is_lent(widths::RANGE, used.bodies, ranges.len())
-        & (used.parameters as usize <= parameters.len())
-        & is_lent(widths::LOOP, used.loops, loops.len())
-        & is_lent(widths::SPAN, used.loops, spans.len())
+    is_lent(widths::V, used.v, t.v.len())
+        & is_lent(widths::VT, used.vt, t.vt.len())
+        & is_lent(widths::VN, used.vn, t.vn.len())
+        & is_lent(widths::VP, used.vp, t.vp.len())
+        & (used.corners as usize <= t.corners.len())
+        & is_lent(widths::ELEMENT, used.elements, t.elements.len())
+        & is_lent(widths::BODY, used.bodies, t.bodies.len())
+        & is_lent(widths::RANGE, used.bodies, t.ranges.len())
+        & (used.parameters as usize <= t.parameters.len())
+        & is_lent(widths::LOOP, used.loops, t.loops.len())
+        & is_lent(widths::SPAN, used.loops, t.spans.len())
 }
 
 // Whether nothing that 15 names is wrong with the tables.
-pub fn whole_obeys(
-    used: Used,
-    v: &[i32],
-    vt: &[i32],
-    vn: &[i32],
-    vp: &[i32],
-    corners: &[u32],
-    elements: &[u32],
-    bodies: &[u32],
-    ranges: &[i32],
-    parameters: &[i32],
-    loops: &[u32],
-    spans: &[i32],
-) -> bool
-    ensures { result ≡ whole_obeys used (tables v.now vt.now vn.now vp.now corners.now elements.now bodies.now ranges.now parameters.now loops.now spans.now) }
+#[tactic(auto, unfolding(crate::specs::Whole::whole_obeys))]
+pub fn whole_obeys(used: Used, t: &Tables) -> bool
+    ensures { result ≡ whole_obeys used (lent t.now) }
 {
-    if !lent_all(
-        used, v, vt, vn, vp, corners, elements, bodies, ranges, parameters, loops, spans,
-    ) {
-        return false;
-    }
-    if !vertices_obey(used, v, vt, vn, vp) {
-        return false;
-    }
-    elements_obey(
-        used, v, vt, vn, vp, corners, elements, bodies, ranges, parameters, loops, spans,
-    )
+    lent_all(used, t) && vertices_obey(used, t) && elements_obey(used, t)
 }

@@ -1,14 +1,13 @@
 -- What a put's loop has done after i turns, over the element type: the row's first i are stored from `at` on. And what a put's answer says to its caller.
-use Prim.Native.Nat.{ℕ, ◌+◌, ◌-◌, ◌≤◌, ◌<◌}
+use Prim.Native.Nat.{ℕ, ◌+◌, ◌≤◌, ◌<◌}
 use mathlib.Core.Path.{◌≡◌, refl, sym, ap, ◌∙◌}
 use mathlib.Core.List.{List, [], ◌∷◌}
-use mathlib.Core.Bool.{Bool, true, false, cond}
+use mathlib.Core.Bool.{Bool, cond}
 use native.Mathlib.Numerals.{add-one}
 use native.Mathlib.Omega.{arith}
-use borrow.Author.Tests.{le-leb, lt-leb}
 use lib.Dec.{leb}
 use lib.ListN.{length, get_or, set, take, length-set}
-use lib.Seq.{sets, take-suc, take_all, length-take-le}
+use lib.Seq.{sets, take-suc, length-take-le}
 use Rattle.lists.proofs.Laws.{sets-append}
 
 pub record StoredTo {A : Type 0} (before : List A) (at : ℕ) (row now : List A) (i : ℕ) : Type 0 where
@@ -36,15 +35,6 @@ module _ {A : Type 0} (before : List A) (at : ℕ) (row : List A) where
               ∙ ap (sets before at) (sym (take-suc row i z h))
               ∙ ap (λ (n : ℕ). sets before at (take n row)) (sym (add-one i));
         }
-
-    -- a put that found room, and one that did not
-    pub put-stored : at ≤ length before → length row ≤ length before - at → length row ≤ i
-        → (true ≡ leb (at + length row) (length before)) × (now ≡ sets before at row)
-    put-stored h k m =
-        (sym (le-leb (at + length row) (length before) (omega arith)), c.front ∙ ap (sets before at) (take_all i row m))
-
-  pub put_refused : length before < at + length row → (false ≡ leb (at + length row) (length before)) × (before ≡ before)
-  put_refused h = (sym (lt-leb (at + length row) (length before) h), refl)
 
 -- the answer to a put of a row that is vs
 pub put_of : {A : Type 0} (l : List A) (n : ℕ) {m row vs : List A} {r : Bool} → row ≡ vs

@@ -2,11 +2,8 @@
 use Prim.Native.Nat.{ℕ, zero, suc, ◌+◌, ◌-◌, ◌≤◌}
 use mathlib.Core.Path.{◌≡◌, refl, sym, ap, ◌∙◌}
 use mathlib.Core.List.{List, [], ◌∷◌, ◌++◌}
-use mathlib.Core.Bool.{Bool, true, false, cond}
 use native.Mathlib.Nat.{sub-zero}
 use native.Mathlib.Omega.{arith}
-use borrow.Author.Tests.{leb-true}
-use lib.Dec.{leb}
 use lib.ListN.{length, get_or, take, drop, replicate, length-append, length-replicate}
 use lib.Seq.{sets, sets-eq, take_at, take-append-le, drop-append-add}
 use Rattle.lists.specs.Lists.{filled}
@@ -32,19 +29,6 @@ module _ {A : Type 0} where
       sets-eq vs (filled n z xs) (length xs) k
       ∙ rw (take_at xs rest (length xs) refl, drop-append-add xs rest (length vs), drop-replicate (length vs) (n - length xs) z, length-append)
       (ap (λ (m : ℕ). xs ++ vs ++ replicate m z) (let e : n - length xs - length vs ≡ n - (length xs + length vs) = omega arith in e))
-
-  -- what a put says of a table that holds xs, where it found room and where not
-  module _ (n : ℕ) (z : A) (xs vs : List A) (h : length xs ≤ n) {r : Bool} (found : r ≡ leb (length xs + length vs) (length (filled n z xs))) where
-    pub put-room : r ≡ leb (length xs + length vs) n
-    put-room = found ∙ ap (λ (k : ℕ). leb (length xs + length vs) k) (length-filled n z xs h)
-
-    pub put-appends : {last : List A} → last ≡ cond r (sets (filled n z xs) (length xs) vs) (filled n z xs) → r ≡ true → last ≡ filled n z (xs ++ vs)
-    put-appends e t =
-        let room : length xs + length vs ≤ n = leb-true (length xs + length vs) n (sym put-room ∙ t) in
-        e ∙ ap (λ (b : Bool). cond b (sets (filled n z xs) (length xs) vs) (filled n z xs)) t ∙ sets-filled n z xs vs room
-
-    pub put_keeps : {last : List A} → last ≡ cond r (sets (filled n z xs) (length xs) vs) (filled n z xs) → r ≡ false → last ≡ filled n z xs
-    put_keeps e t = e ∙ ap (λ (b : Bool). cond b (sets (filled n z xs) (length xs) vs) (filled n z xs)) t
 
   get_d-zeros : (n i : ℕ) (z : A) → get_or (replicate n z) i z ≡ z
   get_d-zeros zero i z = refl

@@ -1,5 +1,4 @@
 pub mod Bits
-pub mod Rows
 pub mod Asked
 pub mod Filled
 pub mod Flat

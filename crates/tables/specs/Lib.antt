@@ -2,6 +2,7 @@ pub mod VertexTables
 pub mod ElementTables
 pub mod BodyTables
 pub mod Tables
+pub mod Lent
 pub mod Records
 pub mod Rows
 pub mod UsedRooms

@@ -1,16 +1,19 @@
 // The lent tables: how many records of each kind are used, and where the numbers of a record stand.
 #![tactic(auto)]
 
-ghost use Rattle.std.specs.Prelude.{◌≡◌, ◌+◌, ◌*◌, ◌^◌, ◌≤◌, pos, leb, length, get_or};
+ghost use Rattle.std.specs.Prelude.{◌≡◌, ◌+◌, ◌*◌, ◌^◌, ◌≤◌, leb, length, get_or};
 ghost use Rattle.tables.specs.Records.{element_width, body_width, range_width, corner_width, number_at, element_in, body_in, corner_start, corner_place, corners_length, corners_end, corner_in};
 ghost use Rattle.tables.specs.Rows.{corner_numbers, element_numbers, body_numbers, range_numbers, HoldsFrom};
 
 pub mod bases;
 pub mod kinds;
+mod lent;
 pub mod limits;
 pub mod parts;
 pub mod vertices;
 pub mod widths;
+
+pub use lent::{Tables, TablesMut};
 
 // Records, but for the corners, which count numbers.
 #[repr(C)]
@@ -79,45 +82,20 @@ pub struct Corner {
     pub vn: u32,
 }
 
-// The number at `at`, 0 past the table's end.
-pub fn number_in(numbers: &[u32], at: usize) -> u32
-    ensures { result ≡ get_or numbers.now at 0 }
+// The entry at `at`, `none` past the table's end.
+pub fn entry_in<T: Copy>(entries: &[T], at: usize, none: T) -> T
+    ensures { result ≡ get_or entries.now at none }
 {
-    if at < numbers.len() {
-        return numbers[at];
-    }
-    0
+    entries.get(at).copied().unwrap_or(none)
 }
 
-pub fn value_in(values: &[i32], at: usize) -> i32
-    ensures { result ≡ get_or values.now at (pos 0) }
+// The entries from `at` on into a row, `none` past the table's end.
+pub fn entries_from<T: Copy>(entries: &[T], at: usize, none: T, row: &mut [T])
+    ensures { HoldsFrom none entries.now at row.new }
 {
-    if at < values.len() {
-        return values[at];
-    }
-    0
-}
-
-// The numbers from `at` on into a row, zeros past the table's end.
-pub fn numbers_from(numbers: &[u32], at: usize, row: &mut [u32])
-    requires { at ≤ 2 ^ 63 }
-    ensures { HoldsFrom 0 numbers.now at row.new }
-{
-    let mut i: usize = 0;
-    while i < row.len() {
-        row[i] = number_in(numbers, at + i);
-        i += 1;
-    }
-}
-
-pub fn values_from(values: &[i32], at: usize, row: &mut [i32])
-    requires { at ≤ 2 ^ 63 }
-    ensures { HoldsFrom (pos 0) values.now at row.new }
-{
-    let mut i: usize = 0;
-    while i < row.len() {
-        row[i] = value_in(values, at + i);
-        i += 1;
+    let rest = &entries[at.min(entries.len())..];
+    for (i, entry) in row.iter_mut().enumerate() {
+        *entry = entry_in(rest, i, none);
     }
 }
 
@@ -132,7 +110,7 @@ pub fn element_fits(elements: &[u32], index: u32) -> bool
 pub fn kind_in(elements: &[u32], index: u32) -> u32
     ensures { result ≡ number_at element_width elements.now index 0 }
 {
-    number_in(elements, widths::ELEMENT * index as usize)
+    entry_in(elements, widths::ELEMENT * index as usize, 0)
 }
 
 // The element at that index, counted from 0, which stands whole within the lent entries.
@@ -288,7 +266,7 @@ pub fn corner_at(corners: &[u32], run: CornerRun, k: usize) -> Corner
         return lent_corner(corners, run, k);
     }
     let mut row = [0; widths::CORNER];
-    numbers_from(corners, at, &mut row);
+    entries_from(corners, at, 0, &mut row);
     lent_corner_from(&row, 0, 0)
 }
 
@@ -310,5 +288,5 @@ pub const CORNER_VN: u32 = 2;
 pub fn corner_number(corners: &[u32], run: CornerRun, k: u32, which: u32) -> u32
     ensures { result ≡ get_or corners.now (corner_place run k + which) 0 }
 {
-    number_in(corners, corner_place(run, k as usize) + which as usize)
+    entry_in(corners, corner_place(run, k as usize) + which as usize, 0)
 }

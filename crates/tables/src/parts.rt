@@ -3,7 +3,7 @@ ghost use Rattle.std.specs.Prelude.{◌≡◌, ◌+◌, ◌*◌, ◌≤◌, leng
 ghost use Rattle.tables.specs.Records.{loop_width, span_width, part_in};
 ghost use Rattle.tables.specs.Rows.{loop_numbers, span_numbers};
 
-use crate::{number_in, value_in, widths};
+use crate::{entry_in, widths};
 
 // What begins with the part, its curv2's number, its two numbers.
 #[derive(Clone, Copy)]
@@ -56,9 +56,9 @@ pub fn part_at(loops: &[u32], spans: &[i32], index: usize) -> LoopPart
     let at = widths::LOOP * index;
     let from = widths::SPAN * index;
     LoopPart {
-        begins: number_in(loops, at),
-        curve: number_in(loops, at + 1),
-        from: value_in(spans, from),
-        to: value_in(spans, from + 1),
+        begins: entry_in(loops, at, 0),
+        curve: entry_in(loops, at + 1, 0),
+        from: entry_in(spans, from, 0),
+        to: entry_in(spans, from + 1, 0),
     }
 }

@@ -3,7 +3,7 @@ ghost use Rattle.std.specs.Prelude.{◌≡◌, ◌+◌, ◌*◌, ◌≤◌, ◌<
 ghost use Rattle.tables.specs.Records.{v_width, vp_width, value_at};
 ghost use Rattle.tables.specs.Vertices.{vertex_in, parameter_vertex_in};
 
-use crate::{value_in, widths};
+use crate::{entry_in, widths};
 
 #[derive(Clone, Copy)]
 pub struct Vertex {
@@ -69,5 +69,5 @@ pub fn lent_number(values: &[i32], index: usize, entry: usize) -> i32
 pub fn given_at(vp: &[i32], index: u32) -> i32
     ensures { result ≡ value_at vp_width vp.now index 0 }
 {
-    value_in(vp, widths::VP * index as usize)
+    entry_in(vp, widths::VP * index as usize, 0)
 }

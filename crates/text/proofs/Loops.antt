@@ -3,6 +3,7 @@ use Prim.Native.Nat.{ℕ, ◌+◌, ◌≤◌, ◌<◌}
 use mathlib.Core.Path.{◌≡◌, refl, sym, ap, ◌∙◌}
 use mathlib.Core.List.{List, [], ◌∷◌}
 use mathlib.Core.Bool.{Bool, true, false}
+use mathlib.Core.Option.{none}
 use lib.ListN.{length, drop, get_or, drop_of_length-le}
 use native.Mathlib.Omega.{arith}
 use native.Mathlib.Numerals.{add-one}
@@ -22,12 +23,13 @@ pub record InWord (s : List ℕ) (at i : ℕ) : Type 0 where
   pub ends : end_of s i ≡ end_of s at
 
 module _ {s : List ℕ} {at i : ℕ} (w : InWord s at i) where
-  pub word-done : length s ≤ i → (i ≡ end_of s at) × (i ≤ length s)
+  pub word-done : length s ≤ i → (length s ≡ end_of s at) × (length s ≤ length s)
   word-done h =
       let z : word_of (drop i s) ≡ [] = rw (drop_of_length-le s h) refl in
       let y = ap length z in
       let x = w.ends in
-      (omega arith, w.to)
+      let t = w.to in
+      (omega arith, omega arith)
 
   module _ (h : i < length s) (t : Bool) (e : t ≡ is_word (get_or s i 0)) where
     pub word-turn : t ≡ true → InWord s at (i + 1)
@@ -62,14 +64,17 @@ comment-holds s at h e =
     }
 
 module _ {s : List ℕ} {at i : ℕ} (w : InComment s at i) where
-  pub comment-done : length s ≤ i → EndMet s at i
+  pub comment-done : length s ≤ i → EndMet s at (length s)
   comment-done h =
       let x = w.from in
+      let t = w.to in
+      let e : i ≡ length s = omega arith in
       record {
         from = omega arith;
-        ahead = λ l. w.from;
-        to = w.to;
-        rest = w.rest ∙ ap (W.rest_in comment i) (drop_of_length-le s h) ∙ W.rest-none comment i;
+        ahead = λ l. omega arith;
+        to = omega arith;
+        rest = w.rest ∙ ap (W.rest_in comment i) (drop_of_length-le s h) ∙ W.rest-none comment i
+            ∙ ap (λ (q : ℕ). record { words = []; bad = none; next = q }) e;
       }
 
   module _ (h : i < length s) where

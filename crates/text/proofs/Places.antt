@@ -2,7 +2,7 @@
 use Prim.Native.Nat.{ℕ, suc, ◌+◌, ◌≤◌, ◌<◌}
 use mathlib.Core.Path.{◌≡◌, refl, sym, ap, ◌∙◌}
 use mathlib.Core.List.{List, [], ◌∷◌}
-use mathlib.Core.Bool.{Bool, true, false, cond, ◌&&◌, not}
+use mathlib.Core.Bool.{Bool, true, false, ◌&&◌, not}
 use mathlib.Core.Option.{none}
 use mathlib.Core.Logic.{⊎_elim}
 use lib.ListN.{length, drop, get_or, drop_of_length-le, length-drop}
@@ -23,30 +23,6 @@ pub here : (s : List ℕ) (i : ℕ) → i < length s → drop i s ≡ get_or s i
 here s i h = rw (add-one, drop-cons s i 0 h) refl
 
 -- ---- the ending of a line
-break-cr : (bs : List ℕ) (t : Bool) → t ≡ lf bs → cond t 2 0 ≡ break_of (13 ∷ bs)
-break-cr bs true e = rw (sym e) refl
-break-cr bs false e = rw (sym e) refl
-
-module _ (s : List ℕ) (at : ℕ) where
-  pub lf-past : length s ≤ at → false ≡ lf (drop at s)
-  lf-past h = rw (drop_of_length-le s h) refl
-
-  pub lf-here : at < length s → eqb (get_or s at 0) 10 ≡ lf (drop at s)
-  lf-here h = rw (here s at h) refl
-
-  pub break-past : length s ≤ at → 0 ≡ break_of (drop at s)
-  break-past h = rw (drop_of_length-le s h) refl
-
-  module _ (h : at < length s) where
-    pub break-lf : get_or s at 0 ≡ 10 → 1 ≡ break_of (drop at s)
-    break-lf e = rw (here s at h, e) refl
-
-    pub break-cr-lf : get_or s at 0 ≡ 13 → (t : Bool) → t ≡ lf (drop (at + 1) s) → cond t 2 0 ≡ break_of (drop at s)
-    break-cr-lf e t p = rw (here s at h, e) (break-cr (drop (at + 1) s) t p)
-
-    pub break-none : (get_or s at 0 ≡ 10 → ⊥) → (get_or s at 0 ≡ 13 → ⊥) → 0 ≡ break_of (drop at s)
-    break-none a b = rw (here s at h, ne_eqb (get_or s at 0) 10 a, ne_eqb (get_or s at 0) 13 b) refl
-
 -- what its number of bytes tells
 break-some : (l : List ℕ) → 0 < break_of l → line_end l ≡ true
 break-some l h =

@@ -9,7 +9,8 @@ use Rattle.text.specs.Rest.{Rest, rest_at, end_of, WordMet, EndMet, BadMet, Afte
 use Rattle.text.specs.declared.AfterBlanks.{AfterBlanks}
 use Rattle.text.specs.declared.AfterBlanks.TheVariants.{End, Bad}
 use Rattle.text.proofs.Found.{end-found, bad-found}
-use Rattle.text.specs.declared.Scan.TheVariants.{Good, Bad as Fault}
+use Rattle.std.specs.Prelude.{Result, Ok, Err}
+use Rattle.text.specs.declared.Parsed.{Parsed}
 
 pub record Scanning (s : List ℕ) (at i count : ℕ) : Type 0 where
   pub to : i ≤ length s
@@ -18,10 +19,13 @@ pub record Scanning (s : List ℕ) (at i count : ℕ) : Type 0 where
   pub next-is : (rest_at s i).next ≡ (rest_at s at).next
   pub count-is : count + length (rest_at s i).words ≡ length (rest_at s at).words
 
-good : (r : Rest) (n q : ℕ) → r.bad ≡ none → length r.words ≡ n → r.next ≡ q → Good n q ≡ scan_of r
+abbrev pub counted : ℕ → ℕ → Result (Parsed ℕ) ℕ
+counted n q = Ok (record { value = n; next = q })
+
+good : (r : Rest) (n q : ℕ) → r.bad ≡ none → length r.words ≡ n → r.next ≡ q → counted n q ≡ scan_of r
 good r n q a b c = rw (a, b, c) refl
 
-fault : (r : Rest) (p : ℕ) → r.bad ≡ some p → Fault p ≡ scan_of r
+fault : (r : Rest) (p : ℕ) → r.bad ≡ some p → Err p ≡ scan_of r
 fault r p a = rw a refl
 
 module _ (s : List ℕ) (at i count : ℕ) (w : Scanning s at i count) where
@@ -47,7 +51,7 @@ module _ (s : List ℕ) (at i count : ℕ) (w : Scanning s at i count) where
       )
 
   module _ (r : AfterBlanks) (m : AfterBlanksIs s i r) where
-    pub scan-end : {q : ℕ} → r ≡ End q → Good count q ≡ scan_of (rest_at s at)
+    pub scan-end : {q : ℕ} → r ≡ End q → counted count q ≡ scan_of (rest_at s at)
     scan-end {q} e =
         let j : EndMet s i q = end-found s i r m e in
         let k = j.rest in
@@ -58,22 +62,24 @@ module _ (s : List ℕ) (at i count : ℕ) (w : Scanning s at i count) where
         (omega arith)
         (sym w.next-is ∙ ap (λ (r : Rest). r.next) k)
 
-    pub scan-bad : {p : ℕ} → r ≡ Bad p → Fault p ≡ scan_of (rest_at s at)
+    pub scan-bad : {p : ℕ} → r ≡ Bad p → Err p ≡ scan_of (rest_at s at)
     scan-bad {p} e =
         let j : BadMet s i p = bad-found s i r m e in
         fault (rest_at s at) p (sym w.bad-is ∙ j.bad-at)
 
 -- ---- the answers of `scan_line`, read back
-good-is : (b : Option ℕ) (n q c x : ℕ) → Good n q ≡ scanned b c x → (b ≡ none) × (c ≡ n) × (x ≡ q)
-good-is none n q c x e = (refl, cc, cc)
+good-is : (b : Option ℕ) (n q c x : ℕ) → counted n q ≡ scanned b c x → (b ≡ none) × (c ≡ n) × (x ≡ q)
+good-is none n q c x e =
+    let f : record { value = n; next = q } ≡ record { value = c; next = x } = cc in
+    (refl, sym (ap (λ (p : Parsed ℕ). p.value) f), sym (ap (λ (p : Parsed ℕ). p.next) f))
 good-is (some p) n q c x e = absurd (let z : ◌≡◌ {A = ℕ} 0 1 = cc in omega arith)
 
-fault-is : (b : Option ℕ) (p c x : ℕ) → Fault p ≡ scanned b c x → b ≡ some p
+fault-is : (b : Option ℕ) (p c x : ℕ) → Err p ≡ scanned b c x → b ≡ some p
 fault-is none p c x e = absurd (let z : ◌≡◌ {A = ℕ} 0 1 = cc in omega arith)
 fault-is (some q) p c x e = cc
 
-pub scan_good : (r : Rest) (n q : ℕ) → Good n q ≡ scan_of r → (r.bad ≡ none) × (length r.words ≡ n) × (r.next ≡ q)
+pub scan_good : (r : Rest) (n q : ℕ) → counted n q ≡ scan_of r → (r.bad ≡ none) × (length r.words ≡ n) × (r.next ≡ q)
 scan_good r n q e = good-is r.bad n q (length r.words) r.next e
 
-pub scan-fault : (r : Rest) (p : ℕ) → Fault p ≡ scan_of r → r.bad ≡ some p
+pub scan-fault : (r : Rest) (p : ℕ) → Err p ≡ scan_of r → r.bad ≡ some p
 scan-fault r p e = fault-is r.bad p (length r.words) r.next e

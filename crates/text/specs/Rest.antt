@@ -1,5 +1,5 @@
 -- What the code finds in a line from a place between words on: the line's words from there, its first byte that is not allowed, where the next line starts.
-use Rattle.std.specs.Prelude.{ℕ, ◌≤◌, ◌<◌, ◌+◌, ◌≡◌, cond, List, [], ◌∷◌, length, drop}
+use Rattle.std.specs.Prelude.{ℕ, ◌≤◌, ◌<◌, ◌+◌, ◌≡◌, cond, Result, Ok, Err, List, [], ◌∷◌, length, drop}
 use Rattle.std.proofs.Math.Option.{Option, none, some}
 use Rattle.text.specs.Bytes.{line_end}
 use Rattle.text.specs.Lines.{gap, line_of, stride_of, ending, Line, lines_from}
@@ -8,8 +8,7 @@ use Rattle.text.specs.declared.Turn.{Turn}
 use Rattle.text.specs.declared.Turn.TheVariants.{On, End as Over, Refused}
 use Rattle.text.specs.declared.AfterBlanks.{AfterBlanks}
 use Rattle.text.specs.declared.AfterBlanks.TheVariants.{Start, End, Bad}
-use Rattle.text.specs.declared.Scan.{Scan}
-use Rattle.text.specs.declared.Scan.TheVariants.{Good, Bad as Fault}
+use Rattle.text.specs.declared.Parsed.{Parsed}
 
 pub record Rest : Type 0 where
   pub words : List Word
@@ -74,11 +73,11 @@ AfterBlanksIs s at (End q) = EndMet s at q
 AfterBlanksIs s at (Bad p) = BadMet s at p
 
 -- what `scan_line` answers
-abbrev pub scanned : Option ℕ → ℕ → ℕ → Scan
-scanned none n q = Good n q
-scanned (some p) n q = Fault p
+abbrev pub scanned : Option ℕ → ℕ → ℕ → Result (Parsed ℕ) ℕ
+scanned none n q = Ok (record { value = n; next = q })
+scanned (some p) n q = Err p
 
-abbrev pub scan_of : Rest → Scan
+abbrev pub scan_of : Rest → Result (Parsed ℕ) ℕ
 scan_of r = scanned r.bad (length r.words) r.next
 
 -- how many bytes the line ending has that l begins with, 0 where no line ends there

@@ -1,44 +1,36 @@
 // Bytes, joined lines and words.
 #![tactic(auto)]
 
-ghost use Rattle.std.specs.Prelude.{◌≡◌, ◌+◌, ◌≤◌, ◌<◌, length, get_or, drop, true, false};
+ghost use Rattle.std.specs.Prelude.{◌≡◌, ◌+◌, ◌≤◌, ◌<◌, length, get_or, drop, false};
 ghost use Rattle.text.specs.Bytes.{is_blank, is_word, lf};
 ghost use Rattle.text.specs.Tokens.{starts_word};
 ghost use Rattle.text.specs.Rest.{rest_at, end_of, EndMet, TurnIs, AfterBlanksIs, scan_of, break_of};
+
+// What was read, and the place where reading goes on.
+#[derive(Clone, Copy)]
+pub struct Parsed<T> {
+    pub value: T,
+    pub next: usize,
+}
 
 // 01: "Words hold bytes 33 to 126"; a backslash is no word byte.
 pub fn is_word(b: u8) -> bool
     ensures { result ≡ is_word b }
 {
-    if b < 33 {
-        return false;
-    }
-    if 126 < b {
-        return false;
-    }
-    if b == 92 {
-        return false;
-    }
-    true
+    33 <= b && b <= 126 && b != 92
 }
 
 // 01: "A # at the start of a word opens a comment".
 fn starts_word(b: u8) -> bool
     ensures { result ≡ starts_word b }
 {
-    if is_word(b) {
-        return b != 35;
-    }
-    false
+    is_word(b) && b != 35
 }
 
 fn is_blank(b: u8) -> bool
     ensures { result ≡ is_blank b }
 {
-    if b == 32 {
-        return true;
-    }
-    b == 9
+    b == 32 || b == 9
 }
 
 // Where the word bytes from `at` end.
@@ -46,24 +38,18 @@ pub fn word_end(text: &[u8], at: usize) -> usize
     requires { at ≤ length text.now }
     ensures { (result ≡ end_of text.now at) × (result ≤ length text.now) }
 {
-    let mut i = at;
-    while i < text.len() {
-        if is_word(text[i]) {
-            i += 1;
-        } else {
+    for i in at..text.len() {
+        if !is_word(text[i]) {
             return i;
         }
     }
-    i
+    text.len()
 }
 
 fn lf_at(text: &[u8], at: usize) -> bool
     ensures { result ≡ lf (drop at text.now) }
 {
-    if text.len() <= at {
-        return false;
-    }
-    text[at] == 10
+    at < text.len() && text[at] == 10
 }
 
 // How many bytes the line's ending at `at` has: 1 or 2, and 0 where none stands.
@@ -73,16 +59,11 @@ fn line_end(text: &[u8], at: usize) -> usize
     if text.len() <= at {
         return 0;
     }
-    if text[at] == 10 {
-        return 1;
+    match text[at] {
+        10 => 1,
+        13 if lf_at(text, at + 1) => 2,
+        _ => 0,
     }
-    if text[at] == 13 {
-        if lf_at(text, at + 1) {
-            return 2;
-        }
-        return 0;
-    }
-    0
 }
 
 // Where the line after a comment starts: past the next LF, whatever stands before it.
@@ -90,14 +71,12 @@ fn comment_end(text: &[u8], at: usize) -> usize
     requires { (at < length text.now) × (get_or text.now at 0 ≡ 35) }
     ensures { EndMet text.now at result }
 {
-    let mut i = at + 1;
-    while i < text.len() {
+    for i in at + 1..text.len() {
         if text[i] == 10 {
             return i + 1;
         }
-        i += 1;
     }
-    i
+    text.len()
 }
 
 // What a byte between words does that is neither a blank nor the start of a word.
@@ -113,8 +92,7 @@ fn turn_at(text: &[u8], at: usize) -> Turn
     ensures { TurnIs text.now at result }
 {
     if text[at] == 35 {
-        let q = comment_end(text, at);
-        return Turn::End(q);
+        return Turn::End(comment_end(text, at));
     }
     let n = line_end(text, at);
     if 0 < n {
@@ -168,14 +146,8 @@ pub fn skip_blanks(text: &[u8], at: usize) -> AfterBlanks
     AfterBlanks::End(i)
 }
 
-#[derive(Clone, Copy)]
-pub enum Scan {
-    Good { count: usize, next: usize },
-    Bad(usize),
-}
-
-// The rest of the line from `at`, which is between words: its first byte that is not allowed, or how many words it has and where the next line starts.
-pub fn scan_line(text: &[u8], at: usize) -> Scan
+// The rest of the line from `at`, which is between words: how many words it has and where the next line starts, or the place of its first byte that is not allowed.
+pub fn scan_line(text: &[u8], at: usize) -> Result<Parsed<usize>, usize>
     requires { at ≤ length text.now }
     ensures { result ≡ scan_of (rest_at text.now at) }
 {
@@ -188,13 +160,13 @@ pub fn scan_line(text: &[u8], at: usize) -> Scan
                 count += 1;
             }
             AfterBlanks::End(q) => {
-                return Scan::Good {
-                    count: count,
+                return Ok(Parsed {
+                    value: count,
                     next: q,
-                };
+                });
             }
             AfterBlanks::Bad(p) => {
-                return Scan::Bad(p);
+                return Err(p);
             }
         }
     }

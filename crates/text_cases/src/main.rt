@@ -4,15 +4,19 @@
 ghost use Rattle.std.specs.Prelude.{◌≤◌, ◌<◌, IfOk, length};
 
 use std::io;
-use text::{AfterBlanks, Scan};
+use text::AfterBlanks;
 
 // What `scan_line` answers for the line at `at`.
 fn summary(rt: &impl Print, text: &[u8], at: usize) -> io::Result<()>
     requires { at ≤ length text.now }
 {
     match text::scan_line(text, at) {
-        Scan::Good { count, next } => print!(rt; "line at {at}: next {next}, words {count}"),
-        Scan::Bad(p) => print!(rt; "line at {at}: refused at {p}"),
+        Ok(line) => {
+            let count = line.value;
+            let next = line.next;
+            print!(rt; "line at {at}: next {next}, words {count}")
+        }
+        Err(place) => print!(rt; "line at {at}: refused at {place}"),
     }
 }
 

@@ -2,21 +2,37 @@
 #![tactic(auto)]
 
 ghost use Rattle.std.specs.Prelude.{◌≡◌};
-ghost use Rattle.tables.specs.Tables.{tables};
+ghost use Rattle.tables.specs.Lent.{lent, lent_mut, SameSlices};
+ghost use Rattle.read_lines.specs.Answered.{rooms_of};
 ghost use Rattle.tidy_writer.specs.TidyFrom.{tidy_from};
 ghost use Rattle.tidier.specs.Tidying.{tidy_answer, written, tidy_into};
+ghost use Rattle.tidier.specs.declared.TidyError.TheVariants as error;
 
-use reader::ReadResult;
-use tables::Used;
+use refusals::Refusal;
+use tables::{Tables, TablesMut, Used};
 use tidy_form::Weights;
 use tidy_writer::tidy_text::write_tidy;
 
-// What tidying a text comes to: the tidy text's length; a tidy text that does not fit (16 at place 0), with the length that it needs; or the reader's refusal.
+// The length of the tidy text that was written, and what the tables hold.
 #[derive(Clone, Copy)]
-pub enum TidyResult {
-    Written { length: usize, used: Used },
+pub struct Tidied {
+    pub length: usize,
+    pub used: Used,
+}
+
+// Why no tidy text was written: it does not fit (16 at place 0), with the length that it needs and what the tables hold; or the reader's refusal.
+#[derive(Clone, Copy)]
+pub enum TidyError {
     TooLong { needed: usize, used: Used },
-    Refused { number: u32, place: usize },
+    Refused(Refusal),
+}
+
+impl From<Refusal> for TidyError {
+    ghost from_gives = { λ r e. e ≡ error.Refused r };
+
+    fn from(refusal: Refusal) -> TidyError {
+        TidyError::Refused(refusal)
+    }
 }
 
 // The tidy text of what the tables hold, written where there is room for all of it.
@@ -24,72 +40,32 @@ fn write_whole(
     text: &[u8],
     weights: Weights,
     used: Used,
-    v: &[i32],
-    vt: &[i32],
-    vn: &[i32],
-    vp: &[i32],
-    corners: &[u32],
-    elements: &[u32],
-    bodies: &[u32],
-    ranges: &[i32],
-    parameters: &[i32],
-    loops: &[u32],
-    spans: &[i32],
+    t: &Tables,
     out: &mut [u8],
-) -> TidyResult
-    ensures { tidy_answer result (tables v.now vt.now vn.now vp.now corners.now elements.now bodies.now ranges.now parameters.now loops.now spans.now) out.new ≡ written (tidy_from weights text.now used (tables v.now vt.now vn.now vp.now corners.now elements.now bodies.now ranges.now parameters.now loops.now spans.now)) used (tables v.now vt.now vn.now vp.now corners.now elements.now bodies.now ranges.now parameters.now loops.now spans.now) out.old }
+) -> Result<Tidied, TidyError>
+    ensures { tidy_answer result (lent t.now) out.new ≡ written (tidy_from weights text.now used (lent t.now)) used (lent t.now) out.old }
 {
-    let length = write_tidy(
-        text, weights, used, v, vt, vn, vp, corners, elements, bodies, ranges, parameters, loops,
-        spans, out,
-    );
-    if out.len() < length {
-        return TidyResult::TooLong {
+    let length = write_tidy(text, weights, used, t, out);
+    if tidy_words::room_in(out.len()) < length {
+        return Err(TidyError::TooLong {
             needed: length,
-            used: used,
-        };
+            used,
+        });
     }
-    if 16_777_216 < length {
-        return TidyResult::TooLong {
-            needed: length,
-            used: used,
-        };
-    }
-    TidyResult::Written {
-        length: length,
-        used: used,
-    }
+    Ok(Tidied { length, used })
 }
 
-// Reads a text into the lent tables and writes its tidy text, its weights by the choice, from the front of `out` on.
+// Reads a text into the lent tables and writes its tidy text, its weights by the choice, from the front of `out` on. Each table stays as long as it was.
 pub fn tidy(
     text: &[u8],
     weights: Weights,
-    v: &mut [i32],
-    vt: &mut [i32],
-    vn: &mut [i32],
-    vp: &mut [i32],
-    corners: &mut [u32],
-    elements: &mut [u32],
-    bodies: &mut [u32],
-    ranges: &mut [i32],
-    parameters: &mut [i32],
-    loops: &mut [u32],
-    spans: &mut [i32],
+    t: &mut TablesMut,
     out: &mut [u8],
-) -> TidyResult
-    ensures { tidy_answer result (tables v.new vt.new vn.new vp.new corners.new elements.new bodies.new ranges.new parameters.new loops.new spans.new) out.new ≡ tidy_into weights text.now (tables v.old vt.old vn.old vp.old corners.old elements.old bodies.old ranges.old parameters.old loops.old spans.old) out.old }
+) -> Result<Tidied, TidyError>
+    ensures answer { tidy_answer result (lent_mut t.new) out.new ≡ tidy_into weights text.now (lent_mut t.old) out.old }
+    ensures lengths { rooms_of (lent_mut t.new) ≡ rooms_of (lent_mut t.old) }
+    ensures same { SameSlices t.old t.new }
 {
-    match reader::read(
-        text, v, vt, vn, vp, corners, elements, bodies, ranges, parameters, loops, spans,
-    ) {
-        ReadResult::Read(used) => write_whole(
-            text, weights, used, v, vt, vn, vp, corners, elements, bodies, ranges, parameters,
-            loops, spans, out,
-        ),
-        ReadResult::Refused { number, place } => TidyResult::Refused {
-            number: number,
-            place: place,
-        },
-    }
+    let used = reader::read(text, t)?;
+    write_whole(text, weights, used, &t.shared(), out)
 }

@@ -4,10 +4,11 @@
 use std::io::{Read, Write};
 use std::process::ExitCode;
 use streams::Failure;
+use tables::TablesMut;
 
 fn put_front(output: &mut impl Write, out: &[u8], count: usize) -> Result<(), Failure> {
     if count <= out.len() {
-        streams::write_output(output, &out[0..count])?;
+        streams::write_output(output, &out[..count])?;
     }
     Ok(())
 }
@@ -24,22 +25,21 @@ fn tidy_text(output: &mut impl Write, text: &[u8]) -> Result<(), Failure> {
     let mut parameters = [0i32; 16384];
     let mut loops = [0u32; 16384];
     let mut spans = [0i32; 16384];
+    let mut lent = TablesMut {
+        v: &mut v,
+        vt: &mut vt,
+        vn: &mut vn,
+        vp: &mut vp,
+        corners: &mut corners,
+        elements: &mut elements,
+        bodies: &mut bodies,
+        ranges: &mut ranges,
+        parameters: &mut parameters,
+        loops: &mut loops,
+        spans: &mut spans,
+    };
     let mut out = [0u8; 65536];
-    let count = tidy_output::tidy_output(
-        text,
-        &mut v,
-        &mut vt,
-        &mut vn,
-        &mut vp,
-        &mut corners,
-        &mut elements,
-        &mut bodies,
-        &mut ranges,
-        &mut parameters,
-        &mut loops,
-        &mut spans,
-        &mut out,
-    );
+    let count = tidy_output::tidy_output(text, &mut lent, &mut out);
     put_front(output, &out, count)
 }
 

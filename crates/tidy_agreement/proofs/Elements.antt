@@ -60,7 +60,7 @@ type-words b = go (eqb b.rational 1) (ap argument_bytes (basis-argument b.basis)
 
 module _ (W : Weights) (t : Tables) (r : records-element.Element) where
   abbrev own : List (List (List ℕ))
-  own = own_lines t.elements.corners t.bodies.bodies t.bodies.ranges t.bodies.parameters t.bodies.loops t.bodies.spans r
+  own = own_lines t r
 
   abbrev b : records-body.Body
   b = body_at t (r.body - 1)
@@ -125,7 +125,7 @@ named kind run number n =
 
 module _ (W : Weights) (s : List ℕ) (used : Used) (t : Tables) where
   abbrev pub lines_from : ℕ → ℕ → List (List (List ℕ))
-  lines_from n i = elements_from s used t.elements.elements t.elements.corners t.bodies.bodies t.bodies.ranges t.bodies.parameters t.bodies.loops t.bodies.spans n i
+  lines_from n i = elements_from s used t n i
 
   -- element i, which counts from 1, is e: its record, and what that gives
   pub record Told (i : ℕ) (e : Element) : Type 0 where

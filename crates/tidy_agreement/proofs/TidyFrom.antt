@@ -45,7 +45,7 @@ map-four {A} {C} f a b c d =
     map-append f a (b ++ (c ++ d)) ∙ ap (λ (q : List C). map f a ++ q) (map-append f b (c ++ d) ∙ ap (λ (q : List C). map f b ++ q) (map-append f c d))
 
 -- the vertices of any tables, as `model_in` reads them
-vertices-from : (W : Weights) (u : Used) (t : Tables) → vertices_from W u t.vertices.v t.vertices.vt t.vertices.vn t.vertices.vp ≡ map (printed W) (vertex_lines (model.vertices_from u t))
+vertices-from : (W : Weights) (u : Used) (t : Tables) → vertices_from W u t ≡ map (printed W) (vertex_lines (model.vertices_from u t))
 vertices-from W u t =
     let x = model.vertices_from u t in
     ap₂ (λ (a b : List (List (List ℕ))). a ++ b) (vertices-are W W geometric false (λ z. refl) v_width t.vertices.v u.v 0)
@@ -64,7 +64,7 @@ module _ (W : Weights) (R : Rooms) (s : List ℕ) (m : Model) (h : read_of R s �
   P : Placed s m
   P = read-placed R s m h
 
-  vertices : vertices_from W u T.vertices.v T.vertices.vt T.vertices.vn T.vertices.vp ≡ map (printed W) (vertex_lines m.vertices)
+  vertices : vertices_from W u T ≡ map (printed W) (vertex_lines m.vertices)
   unfolding model_in
   vertices = vertices-from W u T ∙ ap (λ (k : Model). map (printed W) (vertex_lines k.vertices)) (model_in-placed s R m P)
 

@@ -5,7 +5,6 @@ pub mod Standing
 pub mod Back
 pub mod Shapes
 pub mod Coordinates
-pub mod Weighted
 pub mod Ready
 pub mod Parsed
 pub mod Good

@@ -17,7 +17,7 @@ use Rattle.tables.specs.Asking.{part_of}
 use Rattle.model.specs.Model.{Free, Element, Model, Open, State, start}
 use Rattle.model.specs.Statements.{Statement, vertex, element, group, smoothing, material, type, degree, body, parameters, loop, end, passed, apply, on_open, with_body, with_parameters, with_loop, ended}
 use Rattle.model.specs.Parse.{fine, unless, Keyword, a-vertex, an-element, a-body, parm, trim, hole, ends, cstype, deg, g, s, usemtl, over, a-name, Value, name, Seen, said_of, placed, values_of, counted, checked, names_of, corners_of, unlike, in_force, narrow_in, range_words, complete, counts_agree, range_within, seen_in, parse, form_of, material_of}
-use Rattle.model.proofs.Pieces.{opened, finished}
+use Rattle.model.proofs.Pieces.{finished}
 use Rattle.model.specs.Room.{Rooms, fits}
 use Rattle.model.specs.Read.{carried_in, statement, step, read, read_lines, read_of}
 use Rattle.model.proofs.Placed.{WordsStand, NamesStand, ElementsStand}

@@ -15,7 +15,7 @@ use Rattle.text.specs.Words.{Word}
 use Rattle.references.specs.Corner.{Corner, alike}
 use Rattle.model.specs.Model.{VertexKind, Vertices, Shape, Free, curve, curve2, surface, ParmDirection, Part, Loop, Form, State, curves}
 use Rattle.model.specs.Statements.{Statement, vertex, element, group, body, parameters, loop}
-use Rattle.model.specs.Parse.{Parsed, fine, must, unless, a-vertex, an-element, a-body, parm, trim, hole, g, a-number, Value, number, corner, whole, direction, name, counted, form_of, allowed, numbers_of, corners_of, names_of, differing, unlike, narrow, narrow_in, vertex_record, opened_body, in_force, checked, is_surface, says_v, range_words, fewest_controls}
+use Rattle.model.specs.Parse.{Parsed, fine, must, unless, a-vertex, an-element, a-body, parm, trim, hole, g, a-number, Value, number, corner, direction, name, counted, form_of, allowed, numbers_of, corners_of, names_of, differing, unlike, narrow, narrow_in, vertex_record, opened_body, in_force, checked, is_surface, says_v, range_words, fewest_controls}
 use Rattle.model.specs.Standing.{outside_body, inside_body, is_v}
 use Rattle.model.proofs.Pieces.{opened}
 use Rattle.tidy_form.specs.declared.Weights.{Weights}

@@ -8,7 +8,7 @@ use lib.ListN.{length}
 use lib.Dec.{leb}
 use Rattle.lists.specs.Lists.{all}
 use Rattle.references.specs.Corner.{Corner, alike}
-use Rattle.model.specs.Model.{Vertices, Free, curve, curve2, surface, Body, Form, Open, curves, counts_of}
+use Rattle.model.specs.Model.{Vertices, Free, curve, curve2, surface, Body, Form, Open, counts_of}
 use Rattle.model.specs.Statements.{Statement, vertex, element, group, smoothing, material, type, degree, body, parameters, loop, end, passed}
 use Rattle.model.specs.Parse.{Seen, counted, form_of, vertex_record, opened_body, in_force, given, is_surface, complete, counts_agree, range_within}
 use Rattle.model.specs.Standing.{outside_body, inside_body, is_v}

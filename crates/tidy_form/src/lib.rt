@@ -4,6 +4,8 @@
 ghost use Rattle.std.specs.Prelude.{◌≡◌, ◌≤◌, take, drop};
 ghost use Rattle.tidy_form.specs.Printed.{weighted};
 
+use tables::vertices::WEIGHT;
+
 // Whether the w of a v, its weight, is written where it is 1.000000 too: Q-11, "the old form stays as a choice that the caller names".
 #[derive(Clone, Copy)]
 pub enum Weights {
@@ -19,13 +21,11 @@ pub fn weighted_count(weights: Weights, values: &[i32], width: usize, first: usi
     match weights {
         Weights::Always => width,
         Weights::WhenNeeded => {
-            if width < 4 {
-                return width;
+            if width == 4 && tables::entry_in(values, first + 3, 0) == WEIGHT {
+                3
+            } else {
+                width
             }
-            if tables::value_in(values, first + 3) == 1_000_000 {
-                return 3;
-            }
-            width
         }
     }
 }

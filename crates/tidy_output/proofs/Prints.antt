@@ -9,6 +9,10 @@ use borrow.Author.Tests.{le-leb, lt-leb, leb-true, leb-false}
 use lib.Dec.{leb}
 use lib.ListN.{length, take, drop, length-append, take-append-drop, drop_of_length-le}
 use lib.Seq.{length-take-le, take_all, sets-eq}
+use Rattle.std.specs.Prelude.{Result, Ok, Err}
+use Rattle.refusals.specs.declared.Refusal.{Refusal}
+use Rattle.refusals.specs.declared.Reason.TheVariants.{TextTooLong}
+use Rattle.refusals.specs.Reasons.{reason_number}
 use Rattle.lists.proofs.Tests.{test}
 use Rattle.spellings.specs.Rows.{bytes}
 use Rattle.references.specs.Written.{written_whole}
@@ -18,8 +22,9 @@ use Rattle.tables.specs.declared.Used.{Used}
 use Rattle.tidy_words.specs.Emitting.{Emitted}
 use Rattle.tidy_form.specs.declared.Weights.TheVariants.{WhenNeeded}
 use Rattle.tidier.specs.Tidying.{tidy_answer, tidy_into}
-use Rattle.tidier.specs.declared.TidyResult.{TidyResult}
-use Rattle.tidier.specs.declared.TidyResult.TheVariants.{Written, TooLong, Refused}
+use Rattle.tidier.specs.declared.Tidied.{Tidied}
+use Rattle.tidier.specs.declared.TidyError.{TidyError}
+use Rattle.tidier.specs.declared.TidyError.TheVariants.{TooLong, Refused}
 use Rattle.tidy_output.specs.Output.{refusal_line, answer_bytes, Printing, printing, printed_in, output, printed_for, output_of}
 
 module _ (w l : List ℕ) where
@@ -73,22 +78,22 @@ front-printed n r l e =
     (test (leb n (length l)))
 
 -- ---- an answer, and the program's whole output
-module _ (l : List ℕ) {a : TidyResult} {r : ℕ} where
-  pub text-answer : {n : ℕ} {u : Used} → a ≡ Written n u → r ≡ min n (length l) → printing r l ≡ printed_in (answer_bytes a l) l
-  text-answer {n} e h = front-printed n r l h ∙ ap (λ (x : TidyResult). printed_in (answer_bytes x l) l) (sym e)
+module _ (l : List ℕ) {a : Result Tidied TidyError} {r : ℕ} where
+  pub text-answer : {d : Tidied} → a ≡ Ok d → r ≡ min d.length (length l) → printing r l ≡ printed_in (answer_bytes a l) l
+  text-answer {d} e h = front-printed d.length r l h ∙ ap (λ (x : Result Tidied TidyError). printed_in (answer_bytes x l) l) (sym e)
 
-  pub long-answer : {k : ℕ} {u : Used} {m : List ℕ} → a ≡ TooLong k u → printing r m ≡ printed_in (refusal_line 16 0) l → printing r m ≡ printed_in (answer_bytes a l) l
-  long-answer e h = h ∙ ap (λ (x : TidyResult). printed_in (answer_bytes x l) l) (sym e)
+  pub long-answer : {k : ℕ} {u : Used} {m : List ℕ} → a ≡ Err (TooLong k u) → printing r m ≡ printed_in (refusal_line 16 0) l → printing r m ≡ printed_in (answer_bytes a l) l
+  long-answer e h = h ∙ ap (λ (x : Result Tidied TidyError). printed_in (answer_bytes x l) l) (sym e)
 
-  pub refused-answer : {n p : ℕ} {m : List ℕ} → a ≡ Refused n p → (q : ℕ) → q ≡ min p 4294967295 → printing r m ≡ printed_in (refusal_line n q) l → printing r m ≡ printed_in (answer_bytes a l) l
-  refused-answer {n} e q k h = h ∙ ap (λ (i : ℕ). printed_in (refusal_line n i) l) k ∙ ap (λ (x : TidyResult). printed_in (answer_bytes x l) l) (sym e)
+  pub refused-answer : {f : Refusal} {m : List ℕ} → a ≡ Err (Refused f) → (q : ℕ) → q ≡ min f.place 4294967295 → printing r m ≡ printed_in (refusal_line (reason_number f.reason) q) l → printing r m ≡ printed_in (answer_bytes a l) l
+  refused-answer {f} e q k h = h ∙ ap (λ (i : ℕ). printed_in (refusal_line (reason_number f.reason) i) l) k ∙ ap (λ (x : Result Tidied TidyError). printed_in (answer_bytes x l) l) (sym e)
 
 module _ (s : List ℕ) (t : Tables) (out : List ℕ) {r : ℕ} {m : List ℕ} where
-  pub output-long : 65536 < length s → printing r m ≡ printed_in (answer_bytes (Refused 1 0) out) out → output (printing r m) t ≡ output_of s t out
+  pub output-long : 65536 < length s → printing r m ≡ printed_in (answer_bytes (Err (Refused (record { reason = TextTooLong; place = 0 }))) out) out → output (printing r m) t ≡ output_of s t out
   unfolding output_of
   output-long h p = rw (lt-leb (length s) 65536 h) (ap (λ (x : Printing). output x t) p)
 
-  pub output-short : length s ≤ 65536 → (u : Tables) (a : TidyResult) (o : List ℕ) → tidy_answer a u o ≡ tidy_into WhenNeeded s t out → printing r m ≡ printed_in (answer_bytes a o) o
+  pub output-short : length s ≤ 65536 → (u : Tables) (a : Result Tidied TidyError) (o : List ℕ) → tidy_answer a u o ≡ tidy_into WhenNeeded s t out → printing r m ≡ printed_in (answer_bytes a o) o
       → output (printing r m) u ≡ output_of s t out
   unfolding output_of
   output-short h u a o e p = rw (le-leb (length s) 65536 h) (ap (λ (x : Printing). output x u) p ∙ ap printed_for e)

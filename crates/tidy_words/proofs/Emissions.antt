@@ -98,6 +98,10 @@ pub record Left (at₀ : ℕ) (all l : List ℕ) (at : ℕ) (rest m : List ℕ) 
 pub left-start : (at : ℕ) (all l : List ℕ) → at ≤ 16777217 → Left at all l at all l
 left-start at all l h = record { most = h; same = refl; onward = λ n r e. e }
 
+-- all is left at first, said otherwise
+pub left-begins : (at : ℕ) (l : List ℕ) {all rest : List ℕ} → at ≤ 16777217 → rest ≡ all → Left at all l at rest l
+left-begins at l {all} {rest} h e = record { most = h; same = refl; onward = λ (n : List ℕ) (r : ℕ) (c : Emitted at rest l n r). emitted-is e c }
+
 pub left-turn : {at₀ at at' : ℕ} {all l rest v rest' m m' : List ℕ} → Left at₀ all l at rest m → rest ≡ v ++ rest' → Emitted at v m m' at' → Left at₀ all l at' rest' m'
 left-turn {at₀} {at} {at'} {all} {l} {rest} {v} {rest'} {m} {m'} a e b =
     record {

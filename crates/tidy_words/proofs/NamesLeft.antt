@@ -6,12 +6,12 @@ use native.Mathlib.Omega.{arith}
 use lib.ListN.{length, drop}
 use lib.Seq.{sets}
 use Rattle.text.specs.Words.{word_of}
-use Rattle.text.specs.Rest.{end_of}
+use Rattle.text.specs.Rest.{rest_at, end_of, WordMet}
 use Rattle.tables.specs.Asking.{part_of}
 use Rattle.tables.specs.declared.NameRun.{NameRun}
 use Rattle.tidy_form.specs.Agree.{words_at}
 use Rattle.tidy_words.specs.Emitting.{Emitted}
-use Rattle.tidy_words.specs.Naming.{part_names, NextMet}
+use Rattle.tidy_words.specs.Naming.{part_names}
 use Rattle.tidy_words.specs.Emitting.{spaced}
 use Rattle.tidy_words.proofs.Emissions.{emitted_then, Left, left-turn, left-ends}
 use Rattle.tidy_words.proofs.Naming.{names_from, names-all, names-word, names-none, part-names}
@@ -40,19 +40,15 @@ names-start s at l to e =
       left = record { most = omega arith; same = refl; onward = λ n r h. emitted-capped e (rw z at h) };
     }
 
-module _ {s : List ℕ} {at : ℕ} {l m : List ℕ} {i to : ℕ} (c : NamesLeft s at l m i to) {p : ℕ} (n : NextMet s i p) where
-  pub names-done : length s ≤ p → Emitted at (spaced (part_names s)) l m to
-  names-done h = left-ends c.left (ap spaced (names-none s i (n.none h)))
+module _ {s : List ℕ} {at : ℕ} {l m : List ℕ} {i to : ℕ} (c : NamesLeft s at l m i to) where
+  pub names-done : (rest_at s i).words ≡ [] → Emitted at (spaced (part_names s)) l m to
+  names-done n = left-ends c.left (ap spaced (names-none s i n))
 
-  pub names-turn : p < length s → {m₁ m₂ : List ℕ} {first e to' : ℕ} → Emitted to (32 ∷ []) m m₁ first → e ≡ end_of s p → Emitted first (word_of (drop p s)) m₁ m₂ to'
+  pub names-turn : {p : ℕ} → WordMet s i p → {m₁ m₂ : List ℕ} {first e to' : ℕ} → Emitted to (32 ∷ []) m m₁ first → e ≡ end_of s p → Emitted first (word_of (drop p s)) m₁ m₂ to'
       → NamesLeft s at l m₂ e to' × (i < e)
-  names-turn h {m₁} {m₂} {first} {e} {to'} a d b =
-      let w = n.word h in
-      let x = w.from in
-      let y = w.more in
-      let z = w.to in
+  names-turn {p} w {m₁} {m₂} {first} {e} {to'} a d b =
       let k : spaced (names_from s i) ≡ spaced (word_of (drop p s) ∷ names_from s e) = ap spaced (names-word s i w) ∙ ap (λ (q : ℕ). spaced (word_of (drop p s) ∷ names_from s q)) (sym d) in
-      (record { within = omega arith; left = left-turn {v = 32 ∷ word_of (drop p s)} c.left k (emitted_then a b) }, omega arith)
+      (record { within = omega (arith, w.to); left = left-turn {v = 32 ∷ word_of (drop p s)} c.left k (emitted_then a b) }, omega (arith, w.from, w.more))
 
 pub names-emitted : (s : List ℕ) (run : NameRun) (at : ℕ) {r : ℕ} {k l m : List ℕ} → k ≡ part_of s run → Emitted at (spaced (part_names k)) l m r
     → Emitted at (spaced (words_at s run)) l m r

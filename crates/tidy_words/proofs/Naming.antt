@@ -5,9 +5,9 @@ use mathlib.Core.List.{List, [], ◌∷◌}
 use mathlib.Core.Bool.{Bool, true, false, cond, ◌&&◌}
 use lib.ListN.{length, drop}
 use mathlib.Core.Logic.{⊎_elim}
-use lib.Dec.{leb}
 use native.Mathlib.Omega.{arith}
-use borrow.Author.Tests.{leb-true, leb-false}
+use Rattle.std.proofs.Common.{Option, Some, None}
+use Rattle.std.specs.Prelude.{is_some, not}
 use Rattle.lists.specs.Lists.{same}
 use Rattle.lists.proofs.Tests.{test}
 use Rattle.lists.proofs.Laws.{same_refl}
@@ -22,7 +22,7 @@ use Rattle.model.specs.Layout.{run_of}
 use Rattle.tidy_form.specs.Tidied.{same_words}
 use Rattle.tidy_form.specs.Agree.{words_at}
 use Rattle.model.proofs.Placed.{WordsStand}
-use Rattle.tidy_words.specs.Naming.{same_bytes, part_names, NextMet}
+use Rattle.tidy_words.specs.Naming.{same_bytes, part_names, NextIs}
 
 -- ---- names compared as words
 pub bytes-refl : (b : List (List ℕ)) → same_bytes b b ≡ true
@@ -62,14 +62,7 @@ pub names-all : (s : List ℕ) → names_from s 0 ≡ part_names s
 unfolding rest_at
 names-all s = ap bytes_of (words-cut gap 0 s)
 
--- ---- `next_word`
 module _ (s : List ℕ) (at : ℕ) where
-  pub next_start : {p : ℕ} → WordMet s at p → NextMet s at p
-  next_start m = let x = m.more in let y = m.to in record { to = omega arith; word = λ l. m; none = λ l. absurd (omega arith) }
-
-  pub next-none : (rest_at s at).words ≡ [] → NextMet s at (length s)
-  next-none e = record { to = omega arith; word = λ l. absurd (omega arith); none = λ l. e }
-
   -- a word's names are its own and those after it
   pub names-word : {p : ℕ} → WordMet s at p → names_from s at ≡ word_of (drop p s) ∷ names_from s (end_of s p)
   names-word m = ap (λ (r : Rest). bytes_of r.words) m.rest
@@ -86,48 +79,35 @@ pub record Comparing (s t : List ℕ) (i j : ℕ) : Type 0 where
 pub comparing : (s t : List ℕ) → Comparing s t 0 0
 comparing s t = record { to = omega arith; other-to = omega arith; rest = ap₂ same_bytes (names-all s) (names-all t) }
 
-module _ {s t : List ℕ} {i j : ℕ} (c : Comparing s t i j) {p q : ℕ} (m : NextMet s i p) (n : NextMet t j q) where
+module _ {s t : List ℕ} {i j : ℕ} (c : Comparing s t i j) where
   -- one part has no word more: the same exactly where the other has none
-  pub compared-end : length s ≤ p → leb (length t) q ≡ same_bytes (part_names s) (part_names t)
-  compared-end h =
-      ⊎_elim
-      (λ (u : leb (length t) q ≡ true).
-      let k = names-none t j (n.none (leb-true (length t) q u)) in
-      rw u (sym (ap₂ same_bytes (names-none s i (m.none h)) k) ∙ c.rest))
-      (λ (u : leb (length t) q ≡ false).
-      let k = names-word t j (n.word (let z = leb-false (length t) q u in omega arith)) in
-      rw u (sym (ap₂ same_bytes (names-none s i (m.none h)) k) ∙ c.rest))
-      (test (leb (length t) q))
+  pub compared-end : (rest_at s i).words ≡ [] → (r : Option ℕ) → NextIs t j r → not (is_some r) ≡ same_bytes (part_names s) (part_names t)
+  compared-end m (Some q) n = sym (ap₂ same_bytes (names-none s i m) (names-word t j n)) ∙ c.rest
+  compared-end m None n = sym (ap₂ same_bytes (names-none s i m) (names-none t j n)) ∙ c.rest
 
-  pub compared-longer : p < length s → length t ≤ q → false ≡ same_bytes (part_names s) (part_names t)
-  compared-longer h k = sym (ap₂ same_bytes (names-word s i (m.word h)) (names-none t j (n.none k))) ∙ c.rest
+  pub compared-longer : {p : ℕ} → WordMet s i p → (rest_at t j).words ≡ [] → false ≡ same_bytes (part_names s) (part_names t)
+  compared-longer m n = sym (ap₂ same_bytes (names-word s i m) (names-none t j n)) ∙ c.rest
 
-  module _ (h : p < length s) (k : q < length t) where
-    abbrev both : (same (word_of (drop p s)) (word_of (drop q t)) && same_bytes (names_from s (end_of s p)) (names_from t (end_of t q))) ≡ same_bytes (part_names s) (part_names t)
-    both = sym (ap₂ same_bytes (names-word s i (m.word h)) (names-word t j (n.word k))) ∙ c.rest
+  module _ {p q : ℕ} (m : WordMet s i p) (n : WordMet t j q) where
+    both : (same (word_of (drop p s)) (word_of (drop q t)) && same_bytes (names_from s (end_of s p)) (names_from t (end_of t q))) ≡ same_bytes (part_names s) (part_names t)
+    both = sym (ap₂ same_bytes (names-word s i m) (names-word t j n)) ∙ c.rest
 
-    module _ (e : ℕ) (d : e ≡ cond (same (word_of (drop p s)) (word_of (drop q t))) (end_of s p) p) where
-      pub compared-differ : e ≤ p → false ≡ same_bytes (part_names s) (part_names t)
-      compared-differ l =
-          ⊎_elim
-          (λ (u : same (word_of (drop p s)) (word_of (drop q t)) ≡ true).
-          let z : e ≡ end_of s p = rw u at d in
-          let y = (m.word h).more in
-          absurd (omega arith))
-          (λ (u : same (word_of (drop p s)) (word_of (drop q t)) ≡ false). (rw u at both))
-          (test (same (word_of (drop p s)) (word_of (drop q t))))
+    pub compared-differ : None ≡ cond (same (word_of (drop p s)) (word_of (drop q t))) (Some (end_of s p)) None → false ≡ same_bytes (part_names s) (part_names t)
+    compared-differ d =
+        ⊎_elim
+        (λ (u : same (word_of (drop p s)) (word_of (drop q t)) ≡ true). let z : None ≡ Some (end_of s p) = rw u at d in cc)
+        (λ (u : same (word_of (drop p s)) (word_of (drop q t)) ≡ false). (rw u at both))
+        (test (same (word_of (drop p s)) (word_of (drop q t))))
 
-      pub compared-turn : p < e → {f : ℕ} → f ≡ end_of t q → Comparing s t e f × (i < e)
-      compared-turn l {f} g =
-          ⊎_elim
-          (λ (u : same (word_of (drop p s)) (word_of (drop q t)) ≡ true).
-          let z : e ≡ end_of s p = rw u at d in
-          let x = (m.word h).to in
-          let y = (n.word k).to in
-          let w = (m.word h).from in
-          (record { to = omega arith; other-to = omega arith; rest = rw (z, g) (rw u at both) }, omega arith))
-          (λ (u : same (word_of (drop p s)) (word_of (drop q t)) ≡ false). let z : e ≡ p = rw u at d in absurd (omega arith))
-          (test (same (word_of (drop p s)) (word_of (drop q t))))
+    pub compared-turn : {e f : ℕ} → Some e ≡ cond (same (word_of (drop p s)) (word_of (drop q t))) (Some (end_of s p)) None → f ≡ end_of t q → Comparing s t e f × (i < e)
+    compared-turn {e} {f} d g =
+        ⊎_elim
+        (λ (u : same (word_of (drop p s)) (word_of (drop q t)) ≡ true).
+        let z : Some e ≡ Some (end_of s p) = rw u at d in
+        let y : e ≡ end_of s p = cc in
+        (record { to = omega (arith, m.to); other-to = omega (arith, n.to); rest = rw (y, g) (rw u at both) }, omega (arith, m.from, m.more)))
+        (λ (u : same (word_of (drop p s)) (word_of (drop q t)) ≡ false). let z : Some e ≡ None = rw u at d in cc)
+        (test (same (word_of (drop p s)) (word_of (drop q t))))
 
 -- ---- `same_names`
 pub names_same : (s : List ℕ) (run other : NameRun) {l m : List ℕ} {r : Bool} → l ≡ part_of s run → m ≡ part_of s other

@@ -1,5 +1,5 @@
 -- 01, "The tidy text": "the names (as words)", as they stand in a part of the text.
-use Rattle.std.specs.Prelude.{ℕ, ◌≤◌, ◌<◌, ◌≡◌, List, [], ◌∷◌, Bool, true, false, ◌&&◌, length}
+use Rattle.std.specs.Prelude.{ℕ, ◌≡◌, List, [], ◌∷◌, Bool, true, false, ◌&&◌, Option, Some, None}
 use Rattle.lists.specs.Lists.{same}
 use Rattle.text.specs.Words.{words_of}
 use Rattle.text.specs.Rest.{rest_at, WordMet}
@@ -16,8 +16,7 @@ same_bytes (b ∷ bs) (c ∷ cs) = same b c && same_bytes bs cs
 abbrev pub part_names : List ℕ → List (List ℕ)
 part_names l = bytes_of (words_of (record { place = 0; bytes = l }))
 
--- ---- what `next_word` finds from the place `at` on, which is between words: a word, at p; p is the text's end where the line has none
-pub record NextMet (s : List ℕ) (at p : ℕ) : Type 0 where
-  pub to : p ≤ length s
-  pub word : p < length s → WordMet s at p
-  pub none : length s ≤ p → (rest_at s at).words ≡ []
+-- ---- what `next_word` finds from the place `at` on, which is between words: a word, at p, or none
+abbrev pub NextIs : List ℕ → ℕ → Option ℕ → Type 0
+NextIs s at (Some p) = WordMet s at p
+NextIs s at None = (rest_at s at).words ≡ []

@@ -1,14 +1,18 @@
 // One word of the tidy text or one byte between words, stored where there is room. Each answers the place after what it wrote, 16,777,217 for all that are too far.
 #![tactic(auto)]
 
-ghost use Rattle.std.specs.Prelude.{◌≡◌, [], ◌∷◌, ◌+◌, min};
+ghost use Rattle.std.specs.Prelude.{◌≡◌, ℕ, List, [], ◌∷◌, ◌+◌, ◌≤◌, length, min};
+ghost use Rattle.std.proofs.lemmas.List.Edits.{sets};
 ghost use Rattle.references.specs.Written.{written_whole, written_number, written_corner};
 ghost use Rattle.keywords.specs.Keywords.{keyword_of};
-ghost use Rattle.keywords.specs.Lookup.{table_of_keywords, table_of_arguments};
 ghost use Rattle.keywords.specs.Arguments.{argument_bytes};
 ghost use Rattle.tidy_words.specs.Emitting.{emission, emitted_whole, emitted_spaced};
 
 pub mod names;
+
+use keywords::Argument;
+use statements::Carried;
+use tables::Corner;
 
 const TOO_LONG: usize = 16_777_217;
 
@@ -16,128 +20,116 @@ const TOO_LONG: usize = 16_777_217;
 pub fn place_after(at: usize, length: usize) -> usize
     ensures { result ≡ min (at + length) 16777217 }
 {
-    if TOO_LONG <= at {
-        return TOO_LONG;
-    }
-    if TOO_LONG - at <= length {
-        return TOO_LONG;
-    }
-    at + length
+    at.saturating_add(length).min(TOO_LONG)
 }
 
 // How far a text may reach in a buffer of that length.
 pub fn room_in(lent: usize) -> usize
     ensures { result ≡ min lent 16777216 }
 {
-    if lent < TOO_LONG {
-        return lent;
-    }
-    TOO_LONG - 1
+    lent.min(TOO_LONG - 1)
 }
 
-pub fn emit_byte(out: &mut [u8], at: usize, b: u8) -> usize
-    ensures { emission result out.new ≡ emitted_whole at (b ∷ []) out.old }
-{
-    let end = place_after(at, 1);
-    if end <= room_in(out.len()) {
-        return word_format::put_byte(out, at, b);
-    }
-    end
+// What is written as bytes: how many they are, and the bytes to `at` of `out`, with the place after them.
+pub trait Written {
+    ghost bytes: { Self → List ℕ };
+
+    fn length(self) -> usize
+        ensures { result ≡ length (bytes self) };
+
+    fn write(self, out: &mut [u8], at: usize) -> usize
+        requires { at + length (bytes self) ≤ length out.old }
+        ensures { (result ≡ at + length (bytes self)) × (out.new ≡ sets out.old at (bytes self)) };
 }
 
-pub fn emit_keyword(
-    statement: statements::Carried,
-    table: &[u8; 528],
-    out: &mut [u8],
-    at: usize,
-) -> usize
-    requires { table.now ≡ table_of_keywords }
-    ensures { emission result out.new ≡ emitted_whole at (keyword_of statement) out.old }
-{
-    let end = place_after(at, keywords::keyword_length(statement, table));
-    if end <= room_in(out.len()) {
-        return keywords::write_keyword(statement, table, out, at);
+impl Written for u8 {
+    ghost bytes = { λ b. b ∷ [] };
+
+    fn length(self) -> usize {
+        1
     }
-    end
+
+    fn write(self, out: &mut [u8], at: usize) -> usize {
+        word_format::put_byte(out, at, self)
+    }
 }
 
-pub fn emit_argument(
-    argument: keywords::Argument,
-    table: &[u8; 108],
-    out: &mut [u8],
-    at: usize,
-) -> usize
-    requires { table.now ≡ table_of_arguments }
-    ensures { emission result out.new ≡ emitted_whole at (argument_bytes argument) out.old }
-{
-    let end = place_after(at, keywords::argument_length(argument, table));
-    if end <= room_in(out.len()) {
-        return keywords::write_argument(argument, table, out, at);
+impl Written for Carried {
+    ghost bytes = { keyword_of };
+
+    fn length(self) -> usize {
+        keywords::keyword_length(self)
     }
-    end
+
+    fn write(self, out: &mut [u8], at: usize) -> usize {
+        keywords::write_keyword(self, out, at)
+    }
 }
 
-pub fn emit_whole(out: &mut [u8], at: usize, n: u32) -> usize
-    ensures { emission result out.new ≡ emitted_whole at (written_whole n) out.old }
-{
-    let end = place_after(at, word_format::whole_length(n));
-    if end <= room_in(out.len()) {
-        return word_format::write_whole(out, at, n);
+impl Written for Argument {
+    ghost bytes = { argument_bytes };
+
+    fn length(self) -> usize {
+        keywords::argument_length(self)
     }
-    end
+
+    fn write(self, out: &mut [u8], at: usize) -> usize {
+        keywords::write_argument(self, out, at)
+    }
 }
 
-pub fn emit_number(out: &mut [u8], at: usize, value: i32) -> usize
-    ensures { emission result out.new ≡ emitted_whole at (written_number value) out.old }
-{
-    let end = place_after(at, word_format::number_length(value));
-    if end <= room_in(out.len()) {
-        return word_format::write_number(out, at, value);
+impl Written for u32 {
+    ghost bytes = { written_whole };
+
+    fn length(self) -> usize {
+        word_format::whole_length(self)
     }
-    end
+
+    fn write(self, out: &mut [u8], at: usize) -> usize {
+        word_format::write_whole(out, at, self)
+    }
 }
 
-pub fn emit_corner(out: &mut [u8], at: usize, v: u32, vt: u32, vn: u32) -> usize
-    ensures { emission result out.new ≡ emitted_whole at (written_corner (record { v = v; vt = vt; vn = vn })) out.old }
-{
-    let end = place_after(at, word_format::corner_length(v, vt, vn));
-    if end <= room_in(out.len()) {
-        return word_format::write_corner(out, at, v, vt, vn);
+impl Written for i32 {
+    ghost bytes = { written_number };
+
+    fn length(self) -> usize {
+        word_format::number_length(self)
     }
-    end
+
+    fn write(self, out: &mut [u8], at: usize) -> usize {
+        word_format::write_number(out, at, self)
+    }
+}
+
+impl Written for Corner {
+    ghost bytes = { λ c. written_corner (record { v = c.v; vt = c.vt; vn = c.vn }) };
+
+    fn length(self) -> usize {
+        word_format::corner_length(self.v, self.vt, self.vn)
+    }
+
+    fn write(self, out: &mut [u8], at: usize) -> usize {
+        word_format::write_corner(out, at, self.v, self.vt, self.vn)
+    }
+}
+
+// A word, where it has room.
+pub fn emit<W: Written + Copy>(word: W, out: &mut [u8], at: usize) -> usize
+    ensures { emission result out.new ≡ emitted_whole at (W.bytes word) out.old }
+{
+    let end = place_after(at, word.length());
+    if end <= room_in(out.len()) {
+        word.write(out, at)
+    } else {
+        end
+    }
 }
 
 // A space, and a word.
-pub fn emit_spaced_argument(
-    argument: keywords::Argument,
-    table: &[u8; 108],
-    out: &mut [u8],
-    at: usize,
-) -> usize
-    requires { table.now ≡ table_of_arguments }
-    ensures { emission result out.new ≡ emitted_spaced at (argument_bytes argument) out.old }
+pub fn emit_spaced<W: Written + Copy>(word: W, out: &mut [u8], at: usize) -> usize
+    ensures { emission result out.new ≡ emitted_spaced at (W.bytes word) out.old }
 {
-    let word = emit_byte(out, at, b' ');
-    emit_argument(argument, table, out, word)
-}
-
-pub fn emit_spaced_whole(out: &mut [u8], at: usize, n: u32) -> usize
-    ensures { emission result out.new ≡ emitted_spaced at (written_whole n) out.old }
-{
-    let word = emit_byte(out, at, b' ');
-    emit_whole(out, word, n)
-}
-
-pub fn emit_spaced_number(out: &mut [u8], at: usize, value: i32) -> usize
-    ensures { emission result out.new ≡ emitted_spaced at (written_number value) out.old }
-{
-    let word = emit_byte(out, at, b' ');
-    emit_number(out, word, value)
-}
-
-pub fn emit_spaced_corner(out: &mut [u8], at: usize, v: u32, vt: u32, vn: u32) -> usize
-    ensures { emission result out.new ≡ emitted_spaced at (written_corner (record { v = v; vt = vt; vn = vn })) out.old }
-{
-    let word = emit_byte(out, at, b' ');
-    emit_corner(out, word, v, vt, vn)
+    let from = emit(b' ', out, at);
+    emit(word, out, from)
 }

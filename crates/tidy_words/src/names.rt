@@ -4,29 +4,23 @@ ghost use Rattle.lists.specs.Lists.{flat};
 ghost use Rattle.text.specs.Words.{word_of};
 ghost use Rattle.text.specs.Rest.{end_of};
 ghost use Rattle.tidy_form.specs.Agree.{words_at};
-ghost use Rattle.tidy_words.specs.Naming.{same_bytes, part_names, NextMet};
+ghost use Rattle.tidy_words.specs.Naming.{same_bytes, part_names, NextIs};
 ghost use Rattle.tidy_words.specs.Emitting.{emission, emitted_whole, Emitted};
 
-use crate::{emit_byte, place_after, room_in};
+use crate::{emit, place_after, room_in};
 use table_asking::part_of;
 use tables::NameRun;
 use text::AfterBlanks;
 
-// Where the next word starts at or after `at`, which is between words; the text's end where none does before the line's end or a byte that is not allowed.
-fn next_word(text: &[u8], at: usize) -> usize
+// Where the next word starts at or after `at`, which is between words, if one does before the line's end and a byte that is not allowed.
+fn next_word(text: &[u8], at: usize) -> Option<usize>
     requires { at ≤ length text.now }
-    ensures { NextMet text.now at result }
+    ensures { NextIs text.now at result }
 {
     match text::skip_blanks(text, at) {
-        AfterBlanks::Start(p) => {
-            return p;
-        }
-        AfterBlanks::End(_) => {
-            return text.len();
-        }
-        AfterBlanks::Bad(_) => {
-            return text.len();
-        }
+        AfterBlanks::Start(p) => Some(p),
+        AfterBlanks::End(_) => None,
+        AfterBlanks::Bad(_) => None,
     }
 }
 
@@ -37,18 +31,15 @@ fn same_words(one: &[u8], other: &[u8]) -> bool
     let mut i = 0;
     let mut j = 0;
     loop {
-        let p = next_word(one, i);
-        let q = next_word(other, j);
-        if one.len() <= p {
-            return other.len() <= q;
-        }
-        if other.len() <= q {
+        let Some(p) = next_word(one, i) else {
+            return next_word(other, j).is_none();
+        };
+        let Some(q) = next_word(other, j) else {
             return false;
-        }
-        let end = spellings::same_word(one, p, other, q);
-        if end <= p {
+        };
+        let Some(end) = spellings::same_word(one, p, other, q) else {
             return false;
-        }
+        };
         i = end;
         j = text::word_end(other, q);
     }
@@ -59,10 +50,8 @@ pub fn same_names(text: &[u8], run: NameRun, other: NameRun) -> bool
     ensures { result ≡ same_bytes (words_at text.now run) (words_at text.now other) }
 {
     // most elements have the names of the one before, set by the same line
-    if run.place == other.place {
-        if run.length == other.length {
-            return true;
-        }
+    if run.place == other.place && run.length == other.length {
+        return true;
     }
     same_words(part_of(text, run), part_of(text, other))
 }
@@ -74,9 +63,10 @@ fn emit_word(text: &[u8], from: usize, to: usize, out: &mut [u8], at: usize) -> 
 {
     let end = place_after(at, to - from);
     if end <= room_in(out.len()) {
-        return spellings::copy_word(text, from, out, at);
+        spellings::copy_word(text, from, out, at)
+    } else {
+        end
     }
-    end
 }
 
 // Each word of a part, with a space before it.
@@ -85,15 +75,12 @@ fn emit_words(part: &[u8], out: &mut [u8], at: usize) -> usize
 {
     let mut i = 0;
     let mut to = place_after(at, 0);
-    loop {
-        let p = next_word(part, i);
-        if part.len() <= p {
-            return to;
-        }
-        let first = emit_byte(out, to, b' ');
+    while let Some(p) = next_word(part, i) {
+        let first = emit(b' ', out, to);
         i = text::word_end(part, p);
         to = emit_word(part, p, i, out, first);
     }
+    to
 }
 
 // The names that a part of the text holds, each with a space before it.

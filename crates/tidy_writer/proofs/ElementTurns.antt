@@ -1,13 +1,13 @@
 -- An element's lines as they are emitted, one part after the other, and one turn of the loop over elements.
-use Prim.Native.Nat.{ℕ, zero, suc, ◌+◌, ◌-◌, ◌≤◌, ◌<◌}
+use Prim.Native.Nat.{ℕ, zero, suc, ◌+◌, ◌≤◌, ◌<◌}
 use mathlib.Core.Path.{◌≡◌, sym, ap, ◌∙◌, refl}
 use mathlib.Core.List.{List, [], ◌∷◌, ◌++◌}
 use mathlib.Core.Bool.{Bool, cond}
 use native.Mathlib.Omega.{arith}
 use borrow.Author.Tests.{le-leb, lt-leb}
 use lib.Dec.{leb}
-use lib.IntN.{ℤ}
 use Rattle.text.specs.Written.{written_line, written_lines}
+use Rattle.tables.specs.Tables.{Tables}
 use Rattle.tables.specs.declared.Used.{Used}
 use Rattle.tidy_writer.specs.TidyFrom.{element_lines, elements_from}
 use Rattle.tidy_writer.proofs.Turns.{one_line, lines-append}
@@ -21,15 +21,15 @@ pub own_body : (F C : List (List (List ℕ))) (ws : List (List ℕ)) (k : ℕ) �
 own_body F C ws k h = lines-append F (ws ∷ C) ∙ ap (λ (t : Bool). written_lines (cond t (F ++ (ws ∷ C)) (ws ∷ []))) (sym (le-leb 4 k h))
 
 -- ---- the loop over elements
-module _ (s : List ℕ) (used : Used) (elements corners bodies : List ℕ) (ranges parameters : List ℤ) (loops : List ℕ) (spans : List ℤ) where
+module _ (s : List ℕ) (used : Used) (t : Tables) where
   abbrev pub onward : ℕ → ℕ → List ℕ
-  onward n number = written_lines (elements_from s used elements corners bodies ranges parameters loops spans n number)
+  onward n number = written_lines (elements_from s used t n number)
 
-  pub elements-turn : (n number : ℕ) → 0 < n → onward n number ≡ written_lines (element_lines s used elements corners bodies ranges parameters loops spans number) ++ onward (n - 1) (number + 1)
-  elements-turn zero number h = absurd (omega arith)
-  elements-turn (suc n) number h =
-      sym (lines-append (element_lines s used elements corners bodies ranges parameters loops spans number) (elements_from s used elements corners bodies ranges parameters loops spans n (number + 1)))
-      ∙ ap (λ (m : ℕ). written_lines (element_lines s used elements corners bodies ranges parameters loops spans number) ++ onward m (number + 1)) (let e : n ≡ suc n - 1 = omega arith in e)
+  pub elements-turn : (n m number : ℕ) → n ≡ m + 1 → onward n number ≡ written_lines (element_lines s used t number) ++ onward m (number + 1)
+  elements-turn zero m number e = absurd (omega arith)
+  elements-turn (suc n) m number e =
+      sym (lines-append (element_lines s used t number) (elements_from s used t n (number + 1)))
+      ∙ ap (λ (k : ℕ). written_lines (element_lines s used t number) ++ onward k (number + 1)) (let d : n ≡ m = omega arith in d)
 
   pub elements-none : (n number : ℕ) → n ≤ 0 → onward n number ≡ []
   elements-none zero number h = refl

@@ -8,6 +8,9 @@ use borrow.Author.Tests.{ne_eqb, eq-eqb}
 use lib.ListN.{length, get_or, take, drop}
 use lib.Seq.{take-nil, drop-nil, drop-cons, drop-drop, get_or-drop}
 use lib.Dec.{eqb}
+use Rattle.std.proofs.Common.{length-drop}
+use Rattle.std.proofs.Math.Seq.{take-length}
+use Rattle.std.proofs.lemmas.List.{drop_min, take_min}
 use lib.IntN.{ℤ, pos, nat_abs}
 use Rattle.tables.specs.Records.{part_in, loop_width, span_width, corner_in, corner_place}
 use Rattle.tables.specs.declared.parts.LoopPart.{LoopPart}
@@ -70,33 +73,36 @@ pub smoothed-line : (m n : ℕ) → (m ≡ n → ⊥) → written_line (keyword_
 smoothed-line m n e =
     one_line (keyword_of Smoothing ∷ written_whole n ∷ []) ∙ ap (λ (t : Bool). written_lines (cond t [] ((keyword_of Smoothing ∷ written_whole n ∷ []) ∷ []))) (sym (ne_eqb m n e))
 
--- ---- degrees
-pub degree-one : (m n : ℕ) → n ≡ 0 → written_whole m ∷ [] ≡ degree_words m n
-degree-one m n e = ap (λ (k : ℕ). degree_words m k) (sym e)
+-- ---- a word that stands only under a condition
+pub degree-words : (m n : ℕ) → degree_words m n ≡ written_whole m ∷ cond (eqb n 0) [] (written_whole n ∷ [])
+degree-words m zero = refl
+degree-words m (suc n) = rw (ne_eqb (suc n) 0 (λ (h : suc n ≡ 0). absurd (omega arith))) refl
 
-pub degree-two : (m n : ℕ) → (n ≡ 0 → ⊥) → written_whole m ∷ written_whole n ∷ [] ≡ degree_words m n
-degree-two m zero e = absurd (e refl)
-degree-two m (suc n) e = refl
+pub word-before : (b : Bool) (v w : List ℕ) → cond b (v ∷ w ∷ []) (w ∷ []) ≡ cond b (v ∷ []) [] ++ w ∷ []
+word-before true v w = refl
+word-before false v w = refl
 
 -- ---- numbers
-pub numbers-turn : (l : List ℤ) (i n : ℕ) → 0 < n → i < length l
-    → spaced (map written_number (take n (drop i l))) ≡ (32 ∷ written_number (get_or l i (pos 0))) ++ spaced (map written_number (take (n - 1) (drop (i + 1) l)))
-numbers-turn l i zero h k = absurd (omega arith)
-numbers-turn l i (suc n) h k =
-    ap (λ (t : List ℤ). spaced (map written_number (take (suc n) t))) (drop-cons l i (pos 0) k)
-    ∙ ap₂ (λ (m j : ℕ). (32 ∷ written_number (get_or l i (pos 0))) ++ spaced (map written_number (take m (drop j l)))) (let e : n ≡ suc n - 1 = omega arith in e) (let e : suc i ≡ i + 1 = omega arith in e)
+pub numbers-turn : (l : List ℤ) (i : ℕ) (x : ℤ) → (i < length l) × (x ≡ get_or l i x) → spaced (map written_number (drop i l)) ≡ (32 ∷ written_number x) ++ spaced (map written_number (drop (i + 1) l))
+numbers-turn l i x h =
+    ap (λ (t : List ℤ). spaced (map written_number t)) (drop-cons l i x h.0)
+    ∙ ap₂ (λ (z : ℤ) (j : ℕ). (32 ∷ written_number z) ++ spaced (map written_number (drop j l))) (sym h.1) (let e : suc i ≡ i + 1 = omega arith in e)
 
 drop_past : {A : Type 0} (i : ℕ) (l : List A) → length l ≤ i → drop i l ≡ []
 drop_past i [] h = drop-nil i
 drop_past zero (x ∷ l) h = absurd (omega arith)
 drop_past (suc i) (x ∷ l) h = drop_past i l (omega arith)
 
-pub numbers-past : (l : List ℤ) (i n : ℕ) → length l ≤ i → spaced (map written_number (take n (drop i l))) ≡ []
-numbers-past l i n h = ap (λ (t : List ℤ). spaced (map written_number (take n t))) (drop_past i l h) ∙ ap (λ (t : List ℤ). spaced (map written_number t)) (take-nil n)
+pub numbers-none : (l : List ℤ) (i : ℕ) → length l ≤ i → spaced (map written_number (drop i l)) ≡ []
+numbers-none l i h = ap (λ (t : List ℤ). spaced (map written_number t)) (drop_past i l h)
 
-pub numbers-none : (l : List ℤ) (i n : ℕ) → n ≤ 0 → spaced (map written_number (take n (drop i l))) ≡ []
-numbers-none l i zero h = refl
-numbers-none l i (suc n) h = absurd (omega arith)
+-- a part of a list, cut to what the list has
+pub part-is : {A : Type 0} (v : List A) (first count m k : ℕ) → m ≡ min first (length v) → k ≡ min count (length (take (length v - m) (drop m v)))
+    → take k (take (length v - m) (drop m v)) ≡ take count (drop first v)
+part-is {A} v first count m k e f =
+    let whole : take (length v - m) (drop m v) ≡ drop first v =
+    ap (λ (n : ℕ). take n (drop m v)) (sym (length-drop m v)) ∙ take-length (drop m v) ∙ ap (λ (n : ℕ). drop n v) e ∙ drop_min first v in
+    ap (λ (n : ℕ). take n (take (length v - m) (drop m v))) f ∙ take_min count (take (length v - m) (drop m v)) ∙ ap (take count) whole
 
 -- ---- records of vertices
 take-both : {A : Type 0} (a b m : ℕ) (xs : List A) → m ≡ min a b → take a (take b xs) ≡ take m xs
@@ -121,13 +127,13 @@ counted-row c l i w m h e =
     let f : m ≡ min (nat_abs (get_or (drop i l) 0 (pos 0))) (w - 1) = e ∙ ap (λ (z : ℤ). min (nat_abs z) (w - 1)) (sym g) in
     ap (λ (t : List ℤ). take m t) (sym (drop-drop 1 i l)) ∙ sym (counted-in c (drop i l) w m h f)
 
-pub rows-turn : (k : Carried) (c : Bool) (a : Weights) (w : ℕ) (l : List ℤ) (i n : ℕ) → 0 < n
-    → written_lines (vertex_rows k c a w n (drop i l))
-    ≡ written_line (keyword_of k ∷ map written_number (row_numbers c a (take w (drop i l)))) ++ written_lines (vertex_rows k c a w (n - 1) (drop (i + w) l))
-rows-turn k c a w l i zero h = absurd (omega arith)
-rows-turn k c a w l i (suc n) h =
-    ap₂ (λ (m : ℕ) (t : List ℤ). written_line (keyword_of k ∷ map written_number (row_numbers c a (take w (drop i l)))) ++ written_lines (vertex_rows k c a w m t))
-    (let e : n ≡ suc n - 1 = omega arith in e) (drop-drop w i l)
+pub rows-turn : (k : Carried) (c : Bool) (a : Weights) (w : ℕ) (l : List ℤ) (i n m : ℕ) → n ≡ m + 1
+    → written_lines (vertex_rows k c a w n (drop (w * i) l))
+    ≡ written_line (keyword_of k ∷ map written_number (row_numbers c a (take w (drop (w * i) l)))) ++ written_lines (vertex_rows k c a w m (drop (w * (i + 1)) l))
+rows-turn k c a w l i zero m e = absurd (omega arith)
+rows-turn k c a w l i (suc n) m e =
+    ap₂ (λ (j : ℕ) (t : List ℤ). written_line (keyword_of k ∷ map written_number (row_numbers c a (take w (drop (w * i) l)))) ++ written_lines (vertex_rows k c a w j t))
+    (let d : n ≡ m = omega arith in d) (drop-drop w (w * i) l ∙ ap (λ (j : ℕ). drop j l) (let d : w * i + w ≡ w * (i + 1) = omega arith in d))
 
 pub rows_none : (k : Carried) (c : Bool) (a : Weights) (w : ℕ) (l : List ℤ) (n : ℕ) → n ≤ 0 → written_lines (vertex_rows k c a w n l) ≡ []
 rows_none k c a w l zero h = refl
@@ -137,25 +143,25 @@ rows_none k c a w l (suc n) h = absurd (omega arith)
 pub first_read : (l : List ℕ) (i : ℕ) → get_or (drop i l) 0 0 ≡ get_or l i 0
 first_read l i = get_or-drop i l 0 0 ∙ ap (λ (j : ℕ). get_or l j 0) (let k : i + 0 ≡ i = omega arith in k)
 
-corners-turn : (l : List ℕ) (i n : ℕ) → 0 < n
+corners-turn : (l : List ℕ) (i n m : ℕ) → n ≡ m + 1
     → spaced (map written_corner (stored_corners n (drop i l)))
-    ≡ (32 ∷ written_corner (record { v = get_or l i 0; vt = get_or l (i + 1) 0; vn = get_or l (i + 2) 0 })) ++ spaced (map written_corner (stored_corners (n - 1) (drop (i + 3) l)))
-corners-turn l i zero h = absurd (omega arith)
-corners-turn l i (suc n) h =
+    ≡ (32 ∷ written_corner (record { v = get_or l i 0; vt = get_or l (i + 1) 0; vn = get_or l (i + 2) 0 })) ++ spaced (map written_corner (stored_corners m (drop (i + 3) l)))
+corners-turn l i zero m e = absurd (omega arith)
+corners-turn l i (suc n) m e =
     ap₂ (λ (x y : ℕ). row x y (get_or (drop i l) 2 0) n (drop 3 (drop i l))) (first_read l i) (get_or-drop i l 1 0)
     ∙ ap₂ (λ (z : ℕ) (t : List ℕ). row (get_or l i 0) (get_or l (i + 1) 0) z n t) (get_or-drop i l 2 0) (drop-drop 3 i l)
-    ∙ ap (λ (m : ℕ). row (get_or l i 0) (get_or l (i + 1) 0) (get_or l (i + 2) 0) m (drop (i + 3) l)) (let e : n ≡ suc n - 1 = omega arith in e)
+    ∙ ap (λ (j : ℕ). row (get_or l i 0) (get_or l (i + 1) 0) (get_or l (i + 2) 0) j (drop (i + 3) l)) (let d : n ≡ m = omega arith in d)
   where
     row : ℕ → ℕ → ℕ → ℕ → List ℕ → List ℕ
     row x y z m t = (32 ∷ written_corner (record { v = x; vt = y; vn = z })) ++ spaced (map written_corner (stored_corners m t))
 
 -- corner k of a run
-pub corner-turn : (l : List ℕ) (run : CornerRun) (k n : ℕ) (c : Corner) → 0 < n → c ≡ corner_in l (corner_place run k)
+pub corner-turn : (l : List ℕ) (run : CornerRun) (k n m : ℕ) (c : Corner) → n ≡ m + 1 → c ≡ corner_in l (corner_place run k)
     → spaced (map written_corner (stored_corners n (drop (corner_place run k) l)))
-    ≡ (32 ∷ written_corner (record { v = c.v; vt = c.vt; vn = c.vn })) ++ spaced (map written_corner (stored_corners (n - 1) (drop (corner_place run (k + 1)) l)))
-corner-turn l run k n c h e =
-    corners-turn l (corner_place run k) n h
-    ∙ ap₂ (λ (x : Corner) (i : ℕ). (32 ∷ written_corner (record { v = x.v; vt = x.vt; vn = x.vn })) ++ spaced (map written_corner (stored_corners (n - 1) (drop i l)))) (sym e)
+    ≡ (32 ∷ written_corner (record { v = c.v; vt = c.vt; vn = c.vn })) ++ spaced (map written_corner (stored_corners m (drop (corner_place run (k + 1)) l)))
+corner-turn l run k n m c h e =
+    corners-turn l (corner_place run k) n m h
+    ∙ ap₂ (λ (x : Corner) (i : ℕ). (32 ∷ written_corner (record { v = x.v; vt = x.vt; vn = x.vn })) ++ spaced (map written_corner (stored_corners m (drop i l)))) (sym e)
     (let d : corner_place run k + 3 ≡ corner_place run (k + 1) = omega arith in d)
 
 pub corners-none : (l : List ℕ) (n : ℕ) → n ≤ 0 → spaced (map written_corner (stored_corners n l)) ≡ []
@@ -190,12 +196,12 @@ module _ (l : List ℕ) (z : List ℤ) (i : ℕ) where
   spans-are : drop span_width span ≡ spans
   spans-are = drop-drop 2 (2 * i) z ∙ ap (λ (k : ℕ). drop k z) (let d : 2 * i + 2 ≡ 2 * (i + 1) = omega arith in d)
 
-  pub loops-turn : (n : ℕ) → 0 < n → written_lines (loop_lines n own span) ≡ written_lines (begun_lines (n - 1) own span) ++ written_lines (loop_lines (n - 1) owns spans)
-  loops-turn zero h = absurd (omega arith)
-  loops-turn (suc n) h =
+  pub loops-turn : (n m : ℕ) → n ≡ m + 1 → written_lines (loop_lines n own span) ≡ written_lines (begun_lines m own span) ++ written_lines (loop_lines m owns spans)
+  loops-turn zero m e = absurd (omega arith)
+  loops-turn (suc n) m e =
       sym (lines-append (begun_lines n own span) (loop_lines n (drop loop_width own) (drop span_width span)))
       ∙ ap₂ (λ (a : List ℕ) (b : List ℤ). written_lines (begun_lines n own span) ++ written_lines (loop_lines n a b)) owns-are spans-are
-      ∙ ap (λ (m : ℕ). written_lines (begun_lines m own span) ++ written_lines (loop_lines m owns spans)) (let q : n ≡ suc n - 1 = omega arith in q)
+      ∙ ap (λ (k : ℕ). written_lines (begun_lines k own span) ++ written_lines (loop_lines k owns spans)) (let d : n ≡ m = omega arith in d)
 
   module _ (p : LoopPart) (e : p ≡ part_in l z i) where
     pub begins-first : get_or own 0 0 ≡ p.begins
@@ -213,12 +219,12 @@ module _ (l : List ℕ) (z : List ℤ) (i : ℕ) where
         ∙ ap₂ (λ (a : List ℕ) (b : List ℤ). spaced (part_words own span) ++ spaced (going_on n a b)) (sym owns-are) (sym spans-are)
         ∙ spaced-append (part_words own span) (going_on n (drop loop_width own) (drop span_width span))
 
-    pub going-turn : (n : ℕ) → 0 < n → p.begins ≡ 0 → spaced (going_on n own span) ≡ spaced (words_of p) ++ spaced (going_on (n - 1) owns spans)
-    going-turn zero h b = absurd (omega arith)
-    going-turn (suc n) h b =
+    pub going-turn : (n m : ℕ) → n ≡ m + 1 → p.begins ≡ 0 → spaced (going_on n own span) ≡ spaced (words_of p) ++ spaced (going_on m owns spans)
+    going-turn zero m d b = absurd (omega arith)
+    going-turn (suc n) m d b =
         ap (λ (k : ℕ). spaced (cond (eqb k 0) (part_words own span ++ going_on n (drop loop_width own) (drop span_width span)) [])) (begins-first ∙ b)
         ∙ sym (loop-words n)
-        ∙ ap (λ (m : ℕ). spaced (words_of p) ++ spaced (going_on m owns spans)) (let q : n ≡ suc n - 1 = omega arith in q)
+        ∙ ap (λ (k : ℕ). spaced (words_of p) ++ spaced (going_on k owns spans)) (let q : n ≡ m = omega arith in q)
 
     pub going-stops : (n : ℕ) → 0 < p.begins → spaced (going_on n own span) ≡ []
     going-stops zero b = refl

@@ -11,6 +11,7 @@ use Rattle.statements.specs.declared.Carried.TheVariants.{BodyType, Degree, Para
 use Rattle.statements.specs.declared.Carried.TheVariants as carried
 use Rattle.statements.specs.declared.Shape.TheVariants.{Point, Line, Face}
 use Rattle.statements.specs.declared.Free.TheVariants.{Curve, Curve2, Surface}
+use Rattle.tables.specs.Tables.{Tables}
 use Rattle.tables.specs.Rows.{range_numbers}
 use Rattle.tables.specs.Records.{corner_width, loop_width, span_width, body_in, point_kind, line_kind, face_kind, curve_kind, curve2_kind, surface_kind}
 use Rattle.tables.specs.declared.Element.{Element}
@@ -95,9 +96,9 @@ abbrev pub end_line : List (List ℕ)
 end_line = keyword_of End ∷ []
 
 -- ---- an element without its names
-abbrev pub own_lines : List ℕ → List ℕ → List ℤ → List ℤ → List ℕ → List ℤ → Element → List (List (List ℕ))
-own_lines corners bodies ranges parameters loops spans e =
-    let b = body_in bodies ranges (body_index e.body) in
+abbrev pub own_lines : Tables → Element → List (List (List ℕ))
+own_lines t e =
+    let b = body_in t.bodies.bodies t.bodies.ranges (body_index e.body) in
     cond (leb curve_kind e.kind)
-    (form_lines b ++ (element_words corners b e ∷ (parameter_lines parameters e.kind b ++ (body_loops loops spans b ++ end_line ∷ []))))
-    (element_words corners b e ∷ [])
+    (form_lines b ++ (element_words t.elements.corners b e ∷ (parameter_lines t.bodies.parameters e.kind b ++ (body_loops t.bodies.loops t.bodies.spans b ++ end_line ∷ []))))
+    (element_words t.elements.corners b e ∷ [])

@@ -1,5 +1,5 @@
 -- The tidy text of what the tables hold: 01, "The tidy text". Elements count from 1; number 0 is none, whose record is zeros.
-use Rattle.std.specs.Prelude.{ℕ, zero, suc, ◌+◌, List, [], ◌∷◌, ◌++◌, true, false, cond, eqb, ℤ}
+use Rattle.std.specs.Prelude.{ℕ, zero, suc, ◌+◌, List, [], ◌∷◌, ◌++◌, true, false, cond, eqb}
 use Rattle.text.specs.Written.{written_lines}
 use Rattle.references.specs.Written.{written_whole}
 use Rattle.keywords.specs.Keywords.{keyword_of}
@@ -32,27 +32,22 @@ names_lines s p e =
     ++ changed Material (words_at s p.material) (words_at s e.material))
 
 -- "then elements in order": the one after the element of that number, and n of them
-abbrev pub element_lines : List ℕ → Used → List ℕ → List ℕ → List ℕ → List ℤ → List ℤ → List ℕ → List ℤ → ℕ → List (List (List ℕ))
-element_lines s used elements corners bodies ranges parameters loops spans number =
-    names_lines s (asked_element used elements number) (asked_element used elements (number + 1))
-    ++ own_lines corners bodies ranges parameters loops spans (asked_element used elements (number + 1))
+abbrev pub element_lines : List ℕ → Used → Tables → ℕ → List (List (List ℕ))
+element_lines s used t number =
+    names_lines s (asked_element used t.elements.elements number) (asked_element used t.elements.elements (number + 1))
+    ++ own_lines t (asked_element used t.elements.elements (number + 1))
 
-abbrev pub elements_from : List ℕ → Used → List ℕ → List ℕ → List ℕ → List ℤ → List ℤ → List ℕ → List ℤ → ℕ → ℕ → List (List (List ℕ))
-elements_from s used elements corners bodies ranges parameters loops spans zero number = []
-elements_from s used elements corners bodies ranges parameters loops spans (suc n) number =
-    element_lines s used elements corners bodies ranges parameters loops spans number
-    ++ elements_from s used elements corners bodies ranges parameters loops spans n (number + 1)
+abbrev pub elements_from : List ℕ → Used → Tables → ℕ → ℕ → List (List (List ℕ))
+elements_from s used t zero number = []
+elements_from s used t (suc n) number = element_lines s used t number ++ elements_from s used t n (number + 1)
 
 -- "All v, vt, vn (every coordinate), vp (those given)"
-abbrev pub vertices_from : Weights → Used → List ℤ → List ℤ → List ℤ → List ℤ → List (List (List ℕ))
-vertices_from c used v vt vn vp =
-    vertex_rows (Vertex Geometric) false c v_width used.v v
-    ++ (vertex_rows (Vertex Texture) false Always vt_width used.vt vt
-    ++ (vertex_rows (Vertex Normal) false Always vn_width used.vn vn
-    ++ vertex_rows (Vertex Parametric) true c vp_width used.vp vp))
+abbrev pub vertices_from : Weights → Used → Tables → List (List (List ℕ))
+vertices_from c used t =
+    vertex_rows (Vertex Geometric) false c v_width used.v t.vertices.v
+    ++ (vertex_rows (Vertex Texture) false Always vt_width used.vt t.vertices.vt
+    ++ (vertex_rows (Vertex Normal) false Always vn_width used.vn t.vertices.vn
+    ++ vertex_rows (Vertex Parametric) true c vp_width used.vp t.vertices.vp))
 
 unfoldable pub tidy_from : Weights → List ℕ → Used → Tables → List ℕ
-tidy_from c s used t =
-    written_lines
-    (vertices_from c used t.vertices.v t.vertices.vt t.vertices.vn t.vertices.vp
-    ++ elements_from s used t.elements.elements t.elements.corners t.bodies.bodies t.bodies.ranges t.bodies.parameters t.bodies.loops t.bodies.spans used.elements 0)
+tidy_from c s used t = written_lines (vertices_from c used t ++ elements_from s used t used.elements 0)

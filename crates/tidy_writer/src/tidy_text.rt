@@ -1,161 +1,78 @@
 // All that the tables hold, as the tidy text.
 ghost use Rattle.std.specs.Prelude.{◌≡◌, ◌≤◌, min, length};
 ghost use Rattle.text.specs.Written.{written_lines};
-ghost use Rattle.keywords.specs.Lookup.{table_of_keywords};
-ghost use Rattle.tables.specs.Tables.{tables};
+ghost use Rattle.tables.specs.Lent.{lent};
 ghost use Rattle.tidy_words.specs.Emitting.{emission, emitted_whole, Emitted};
 ghost use Rattle.tidy_writer.specs.TidyFrom.{vertices_from, tidy_from};
 
-use crate::{elements, vertices};
-use tables::widths;
+use crate::elements::elements_lines;
+use crate::vertices::{VertexRows, vertex_lines};
+use statements::{Carried, VertexKind};
+use tables::{Tables, Used, widths};
 use tidy_form::Weights;
 
-fn all_vertices(
-    weights: Weights,
-    table: &[u8; 528],
-    used: tables::Used,
-    v: &[i32],
-    vt: &[i32],
-    vn: &[i32],
-    vp: &[i32],
-    out: &mut [u8],
-    at: usize,
-) -> usize
-    requires table_value { table.now ≡ table_of_keywords }
-    requires at_bound { at ≤ 16777217 }
-    ensures { Emitted at (written_lines (vertices_from weights used v.now vt.now vn.now vp.now)) out.old out.new result }
+fn all_vertices(weights: Weights, used: Used, t: &Tables, out: &mut [u8], at: usize) -> usize
+    requires { at ≤ 16777217 }
+    ensures { Emitted at (written_lines (vertices_from weights used (lent t.now))) out.old out.new result }
 {
-    let second = vertices::vertex_lines(
-        statements::Carried::Vertex(statements::VertexKind::Geometric),
-        false,
+    let geometric = VertexRows {
+        statement: Carried::Vertex(VertexKind::Geometric),
+        counted: false,
         weights,
-        table,
-        v,
-        widths::V,
-        used.v,
-        out,
-        at,
-    );
-    let third = vertices::vertex_lines(
-        statements::Carried::Vertex(statements::VertexKind::Texture),
-        false,
-        Weights::Always,
-        table,
-        vt,
-        widths::VT,
-        used.vt,
-        out,
-        second,
-    );
-    let fourth = vertices::vertex_lines(
-        statements::Carried::Vertex(statements::VertexKind::Normal),
-        false,
-        Weights::Always,
-        table,
-        vn,
-        widths::VN,
-        used.vn,
-        out,
-        third,
-    );
-    vertices::vertex_lines(
-        statements::Carried::Vertex(statements::VertexKind::Parametric),
-        true,
+        width: widths::V,
+        values: t.v,
+    };
+    let texture = VertexRows {
+        statement: Carried::Vertex(VertexKind::Texture),
+        counted: false,
+        weights: Weights::Always,
+        width: widths::VT,
+        values: t.vt,
+    };
+    let normal = VertexRows {
+        statement: Carried::Vertex(VertexKind::Normal),
+        counted: false,
+        weights: Weights::Always,
+        width: widths::VN,
+        values: t.vn,
+    };
+    let parametric = VertexRows {
+        statement: Carried::Vertex(VertexKind::Parametric),
+        counted: true,
         weights,
-        table,
-        vp,
-        widths::VP,
-        used.vp,
-        out,
-        fourth,
-    )
+        width: widths::VP,
+        values: t.vp,
+    };
+    let second = vertex_lines(&geometric, used.v, out, at);
+    let third = vertex_lines(&texture, used.vt, out, second);
+    let fourth = vertex_lines(&normal, used.vn, out, third);
+    vertex_lines(&parametric, used.vp, out, fourth)
 }
 
 // The tidy text of what the tables hold, from the front of `out` on, word by word where there is room; the names in it are those of `text`.
-fn emit_tidy(
-    text: &[u8],
-    weights: Weights,
-    used: tables::Used,
-    v: &[i32],
-    vt: &[i32],
-    vn: &[i32],
-    vp: &[i32],
-    corners: &[u32],
-    elements: &[u32],
-    bodies: &[u32],
-    ranges: &[i32],
-    parameters: &[i32],
-    parts: &[u32],
-    spans: &[i32],
-    out: &mut [u8],
-) -> usize
-    ensures { Emitted 0 (tidy_from weights text.now used (tables v.now vt.now vn.now vp.now corners.now elements.now bodies.now ranges.now parameters.now parts.now spans.now)) out.old out.new result }
+fn emit_tidy(text: &[u8], weights: Weights, used: Used, t: &Tables, out: &mut [u8]) -> usize
+    ensures { Emitted 0 (tidy_from weights text.now used (lent t.now)) out.old out.new result }
 {
-    let table = keywords::keyword_table();
-    let arguments = keywords::argument_table();
-    let first = all_vertices(weights, &table, used, v, vt, vn, vp, out, 0);
-    elements::elements_lines(
-        &table, &arguments, text, used, elements, corners, bodies, ranges, parameters, parts,
-        spans, out, first,
-    )
+    let first = all_vertices(weights, used, t, out, 0);
+    elements_lines(text, used, t, out, first)
 }
 
 // The length of the tidy text, 16,777,217 for every one that is too long.
-fn measure(
-    text: &[u8],
-    weights: Weights,
-    used: tables::Used,
-    v: &[i32],
-    vt: &[i32],
-    vn: &[i32],
-    vp: &[i32],
-    corners: &[u32],
-    elements: &[u32],
-    bodies: &[u32],
-    ranges: &[i32],
-    parameters: &[i32],
-    parts: &[u32],
-    spans: &[i32],
-) -> usize
-    ensures { result ≡ min (length (tidy_from weights text.now used (tables v.now vt.now vn.now vp.now corners.now elements.now bodies.now ranges.now parameters.now parts.now spans.now))) 16777217 }
+fn measure(text: &[u8], weights: Weights, used: Used, t: &Tables) -> usize
+    ensures { result ≡ min (length (tidy_from weights text.now used (lent t.now))) 16777217 }
 {
     let mut none = [0u8; 1];
-    emit_tidy(
-        text, weights, used, v, vt, vn, vp, corners, elements, bodies, ranges, parameters, parts,
-        spans, &mut none,
-    )
+    emit_tidy(text, weights, used, t, &mut none)
 }
 
 // The tidy text of what the tables hold, from the front of `out` on, and its length, 16,777,217 for every one that is too long. It is measured first: a buffer
 // that it passes stays as it was.
-pub fn write_tidy(
-    text: &[u8],
-    weights: Weights,
-    used: tables::Used,
-    v: &[i32],
-    vt: &[i32],
-    vn: &[i32],
-    vp: &[i32],
-    corners: &[u32],
-    elements: &[u32],
-    bodies: &[u32],
-    ranges: &[i32],
-    parameters: &[i32],
-    parts: &[u32],
-    spans: &[i32],
-    out: &mut [u8],
-) -> usize
-    ensures { emission result out.new ≡ emitted_whole 0 (tidy_from weights text.now used (tables v.now vt.now vn.now vp.now corners.now elements.now bodies.now ranges.now parameters.now parts.now spans.now)) out.old }
+pub fn write_tidy(text: &[u8], weights: Weights, used: Used, t: &Tables, out: &mut [u8]) -> usize
+    ensures { emission result out.new ≡ emitted_whole 0 (tidy_from weights text.now used (lent t.now)) out.old }
 {
-    let length = measure(
-        text, weights, used, v, vt, vn, vp, corners, elements, bodies, ranges, parameters, parts,
-        spans,
-    );
+    let length = measure(text, weights, used, t);
     if length <= tidy_words::room_in(out.len()) {
-        return emit_tidy(
-            text, weights, used, v, vt, vn, vp, corners, elements, bodies, ranges, parameters,
-            parts, spans, out,
-        );
+        return emit_tidy(text, weights, used, t, out);
     }
     length
 }

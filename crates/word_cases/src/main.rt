@@ -4,14 +4,12 @@
 
 ghost use Rattle.std.specs.Prelude.{◌≤◌, ◌<◌, length};
 
-use digits::name::Name;
-use digits::whole::Whole;
-use references::corner::CornerWord;
-use references::reference::Reference;
+use refusals::Reason;
+use statements::rules::Parts;
 use std::io;
 use std::io::Read;
-use text::AfterBlanks;
-use word_numbers::Number;
+use tables::Corner;
+use text::{AfterBlanks, Parsed};
 
 fn put_whole(rt: &impl Print, n: u32) -> io::Result<()> {
     let mut out = [0u8; 64];
@@ -36,17 +34,28 @@ fn put_corner(rt: &impl Print, v: u32, vt: u32, vn: u32) -> io::Result<()> {
 // Whether the word is that number.
 fn put_back(rt: &impl Print, word: &[u8], value: i32) -> io::Result<()> {
     match word_numbers::number_at(word, 0) {
-        Number::Value {
-            value: read,
-            end: _,
-        } => {
-            if read == value {
+        Ok(read) => {
+            if read.value == value {
                 print!(rt; ", read back")?;
             }
             Ok(())
         }
-        Number::Malformed => print!(rt; ", back 6"),
-        Number::OutOfRange => print!(rt; ", back 7"),
+        Err(reason) => {
+            let n = reason.number();
+            print!(rt; ", back {n}")
+        }
+    }
+}
+
+fn refused(rt: &impl Print, reason: Reason) -> io::Result<()> {
+    let n = reason.number();
+    print!(rt; "refused {n}")
+}
+
+fn put_read(rt: &impl Print, read: Result<Parsed<u32>, Reason>) -> io::Result<()> {
+    match read {
+        Ok(number) => put_whole(rt, number.value),
+        Err(reason) => refused(rt, reason),
     }
 }
 
@@ -65,27 +74,24 @@ fn number(rt: &impl Print, text: &[u8], at: usize) -> io::Result<()>
     requires { at ≤ length text.now }
 {
     match word_numbers::number_at(text, at) {
-        Number::Value { value, end: _ } => put_number(rt, value),
-        Number::Malformed => print!(rt; "refused 6"),
-        Number::OutOfRange => print!(rt; "refused 7"),
+        Ok(number) => put_number(rt, number.value),
+        Err(reason) => refused(rt, reason),
     }
 }
 
 fn reference(rt: &impl Print, text: &[u8], at: usize, count: u32) -> io::Result<()>
     requires { at ≤ length text.now }
 {
-    match references::reference::reference_at(text, at, count) {
-        Reference::Item { number, end: _ } => put_whole(rt, number),
-        Reference::Malformed => print!(rt; "refused 6"),
-        Reference::Missing => print!(rt; "refused 8"),
-    }
+    put_read(rt, references::reference::reference_at(text, at, count))
 }
 
-fn corner(rt: &impl Print, text: &[u8], at: usize, texture: bool, normal: bool) -> io::Result<()>
+fn corner(rt: &impl Print, text: &[u8], at: usize, parts: Parts) -> io::Result<()>
     requires { at ≤ length text.now }
 {
-    match references::corner::corner_at(text, at, 4, 3, 2, texture, normal) {
-        CornerWord::Of { v, vt, vn, end: _ } => {
+    let counts = Corner { v: 4, vt: 3, vn: 2 };
+    match references::corner::corner_at(text, at, counts, parts) {
+        Ok(read) => {
+            let Corner { v, vt, vn } = read.value;
             put_whole(rt, v)?;
             print!(rt; " ")?;
             put_whole(rt, vt)?;
@@ -94,38 +100,28 @@ fn corner(rt: &impl Print, text: &[u8], at: usize, texture: bool, normal: bool) 
             print!(rt; ", ")?;
             put_corner(rt, v, vt, vn)
         }
-        CornerWord::Malformed => print!(rt; "refused 6"),
-        CornerWord::Missing => print!(rt; "refused 8"),
+        Err(reason) => refused(rt, reason),
     }
 }
 
 fn degree(rt: &impl Print, text: &[u8], at: usize) -> io::Result<()>
     requires { at ≤ length text.now }
 {
-    match digits::whole::degree_at(text, at) {
-        Whole::Value { value, end: _ } => put_whole(rt, value),
-        Whole::Malformed => print!(rt; "refused 6"),
-        Whole::OutOfRange => print!(rt; "refused 7"),
-    }
+    put_read(rt, digits::whole::degree_at(text, at))
 }
 
 fn smoothing(rt: &impl Print, text: &[u8], at: usize) -> io::Result<()>
     requires { at ≤ length text.now }
 {
-    let table = keywords::argument_table();
-    match digits::whole::smoothing_at(text, at, &table) {
-        Whole::Value { value, end: _ } => put_whole(rt, value),
-        Whole::Malformed => print!(rt; "refused 6"),
-        Whole::OutOfRange => print!(rt; "refused 7"),
-    }
+    put_read(rt, digits::whole::smoothing_at(text, at))
 }
 
 fn name(rt: &impl Print, text: &[u8], at: usize) -> io::Result<()>
     requires { at ≤ length text.now }
 {
     match digits::name::name_at(text, at) {
-        Name::Of { end: _ } => print!(rt; "a name"),
-        Name::Malformed => print!(rt; "refused 6"),
+        Ok(_) => print!(rt; "a name"),
+        Err(reason) => refused(rt, reason),
     }
 }
 
@@ -136,9 +132,25 @@ fn put_form(rt: &impl Print, form: u8, text: &[u8], at: usize) -> io::Result<()>
         b'n' => number(rt, text, at),
         b'r' => reference(rt, text, at, 4),
         b'R' => reference(rt, text, at, 4_294_967_295),
-        b'p' => corner(rt, text, at, false, false),
-        b'l' => corner(rt, text, at, true, false),
-        b'f' => corner(rt, text, at, true, true),
+        b'p' => corner(
+            rt,
+            text,
+            at,
+            Parts {
+                vt: false,
+                vn: false,
+            },
+        ),
+        b'l' => corner(
+            rt,
+            text,
+            at,
+            Parts {
+                vt: true,
+                vn: false,
+            },
+        ),
+        b'f' => corner(rt, text, at, Parts { vt: true, vn: true }),
         b'd' => degree(rt, text, at),
         b's' => smoothing(rt, text, at),
         b'g' => name(rt, text, at),
@@ -213,7 +225,7 @@ fn main(rt: HostRuntime) -> io::Result<()> {
     // a word that is not there
     number(&rt, b"", 0)?;
     reference(&rt, b"", 0, 4)?;
-    corner(&rt, b"", 0, true, true)?;
+    corner(&rt, b"", 0, Parts { vt: true, vn: true })?;
     degree(&rt, b"", 0)?;
     smoothing(&rt, b"", 0)?;
     name(&rt, b"", 0)?;

@@ -27,24 +27,22 @@ fn write_digits(out: &mut [u8], at: usize, count: usize, n: u32) -> usize
     requires { at + count ≤ length out.old }
     ensures { (result ≡ at + count) × (out.new ≡ sets out.old at (full count n)) }
 {
-    let mut left = count;
     let mut m = n;
-    while 0 < left {
-        left -= 1;
-        out[at + left] = digit(m % 10);
-        m = m / 10;
+    for k in 0..count {
+        out[at + (count - k - 1)] = digit(m % 10);
+        m /= 10;
     }
     at + count
 }
 
-// How many digits n has.
+// How many digits n has. A while: the count is what it finds.
 pub fn whole_length(n: u32) -> usize
     ensures { result ≡ length (written_whole n) }
 {
     let mut count: usize = 1;
     let mut m = n;
     while 10 <= m {
-        m = m / 10;
+        m /= 10;
         count += 1;
     }
     count
@@ -63,10 +61,7 @@ pub fn write_whole(out: &mut [u8], at: usize, n: u32) -> usize
 pub fn magnitude(value: i32) -> u32
     ensures { result ≡ nat_abs value }
 {
-    if value < 0 {
-        return (0 - value as i64) as u32;
-    }
-    value as u32
+    value.unsigned_abs()
 }
 
 fn write_millionths(out: &mut [u8], at: usize, m: u32) -> usize
@@ -74,7 +69,7 @@ fn write_millionths(out: &mut [u8], at: usize, m: u32) -> usize
     ensures { (result ≡ at + length (written_millionths m)) × (out.new ≡ sets out.old at (written_millionths m)) }
 {
     let point = write_whole(out, at, m / 1_000_000);
-    let places = put_byte(out, point, 46);
+    let places = put_byte(out, point, b'.');
     write_digits(out, places, 6, m % 1_000_000)
 }
 
@@ -96,7 +91,7 @@ pub fn write_number(out: &mut [u8], at: usize, value: i32) -> usize
 {
     let m = magnitude(value);
     if value < 0 { // zero has no minus
-        let first = put_byte(out, at, 45);
+        let first = put_byte(out, at, b'-');
         return write_millionths(out, first, m);
     }
     write_millionths(out, at, m)
@@ -107,7 +102,7 @@ fn write_part(out: &mut [u8], at: usize, n: u32) -> usize
     requires { at + length (written_part n) ≤ length out.old }
     ensures { (result ≡ at + length (written_part n)) × (out.new ≡ sets out.old at (written_part n)) }
 {
-    let first = put_byte(out, at, 47);
+    let first = put_byte(out, at, b'/');
     write_whole(out, first, n)
 }
 
@@ -138,7 +133,7 @@ fn write_parts(out: &mut [u8], at: usize, vt: u32, vn: u32) -> usize
         return write_part(out, at, vt);
     }
     if vt == 0 {
-        let second = put_byte(out, at, 47);
+        let second = put_byte(out, at, b'/');
         return write_part(out, second, vn);
     }
     let second = write_part(out, at, vt);

@@ -23,7 +23,7 @@ use Rattle.word_numbers.specs.declared.Exact.TheVariants.{Of, Scaled, Other}
 use Rattle.digits.proofs.Fronts.{low-no-word, low-stops, word_over, run-nil}
 use Rattle.digits.proofs.Runs.{few-all, all_whole}
 use Rattle.word_numbers.proofs.Numbers.{fraction-fits, fraction-of, measure-of}
-use Rattle.digits.proofs.Saids.{said}
+use Rattle.digits.proofs.Saids.{says-ends}
 use Rattle.word_numbers.proofs.Signs.{settle-in}
 
 pub exact-on : (far gar : ℕ) (x y : Said (ℕ × ℕ)) (p q : ℕ → ℕ → Type 0) (r : Exact) → x ≡ y → far ≤ gar → ((m e : ℕ) → p m e → q m e) → ExactIs far x p r → ExactIs gar y q r
@@ -114,4 +114,4 @@ bare_of {s} {at} {end} {value} {b} f e l n =
 pub settle-exact : (minus : Bool) (m end : ℕ) (z : ℤ) → m ≤ 2000000000 → z ≡ with_sign minus m → says (z, end) ≡ ends_at (settle_of minus (10 * m)) end
 settle-exact minus m end z h q =
     let e : m ≡ (10 * m + 5) / 10 = omega arith in
-    said (settle_of minus (10 * m)) z end end (settle-in minus (10 * m) z (omega arith) (q ∙ ap (with_sign minus) e)) refl
+    says-ends (settle_of minus (10 * m)) z end end (settle-in minus (10 * m) z (omega arith) (q ∙ ap (with_sign minus) e)) refl

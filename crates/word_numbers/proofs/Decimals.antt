@@ -90,8 +90,8 @@ module _ (n a : ℕ) (l : List ℕ) where
 pub size-plain : (u : List ℕ) (m e end : ℕ) → says (m, e) ≡ ends_at (magnitude_of u) end → says (m, e) ≡ ends_at (size_of u) end
 size-plain u m e end h = let q = ended-says (magnitude_of u) m end e h in rw q.0 (ap (λ (n : ℕ). says (m, n)) q.1)
 
-pub size-scaled : (u : List ℕ) (end : ℕ) (r : Said (ℕ × ℕ)) → wrong 6 ≡ ends_at (magnitude_of u) end → r ≡ ends_at (scaled_of u) end → r ≡ ends_at (size_of u) end
-size-scaled u end r h k = rw (ended-wrong (magnitude_of u) 6 end h) k
+pub size-scaled : (u : List ℕ) (n end : ℕ) (r : Said (ℕ × ℕ)) → wrong n ≡ ends_at (magnitude_of u) end → r ≡ ends_at (scaled_of u) end → r ≡ ends_at (size_of u) end
+size-scaled u n end r h k = rw (ended-wrong (magnitude_of u) n end h) k
 
 -- ---- the number
 lowered-pos : (x : List ℕ) (d : ℕ) → 0 < d → 0 < lowered x d
@@ -107,16 +107,18 @@ module _ (w : List ℕ) where
   unfolding number_of
   number-long h = rw (lt-leb (length w) 64 h) refl
 
-  pub number-bad : size_of (unsigned w) ≡ wrong 6 → number_of w ≡ wrong 6
+  pub number-bad : (m : ℕ) → size_of (unsigned w) ≡ wrong m → number_of w ≡ wrong m
   unfolding number_of magnitude_of scaled_of
-  number-bad h =
+  number-bad m h =
       let u : List ℕ = unsigned w in
       ⊎_elim
       (λ (t : decimal u ≡ true). let z : ◌≡◌ {A = ℕ} 0 1 = (let y = rw t at h in cc) in absurd (omega arith))
       (λ (t : decimal u ≡ false).
-      let y : must (decimal (mantissa u) && has_exponent (exponent u)) 6 (says (cap (shifted u))) ≡ wrong 6 = rw t at h in
-      let f = must-wrong (decimal (mantissa u) && has_exponent (exponent u)) 6 (cap (shifted u)) 6 y in
-      rw (and_second (leb (length w) 64) (must-have u t ∙ f)) refl)
+      let y : must (decimal (mantissa u) && has_exponent (exponent u)) 6 (says (cap (shifted u))) ≡ wrong m = rw t at h in
+      let f = must-wrong (decimal (mantissa u) && has_exponent (exponent u)) 6 (cap (shifted u)) m y in
+      let e : ◌≡◌ {A = Said ℕ} (wrong 6) (wrong m) = rw f at y in
+      let k : 6 ≡ m = cc in
+      rw (and_second (leb (length w) 64) (must-have u t ∙ f)) (ap wrong k))
       (test (decimal u))
 
   exact : decimal (unsigned w) ≡ true → (minus : Bool) → settle_of minus (ten_millionths (unsigned w)) ≡ limited minus (nearest (numerator (unsigned w)) (denominator (unsigned w)))

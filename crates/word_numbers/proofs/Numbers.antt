@@ -20,7 +20,7 @@ use Rattle.digits.proofs.Rows.{run-rest, scaled_small}
 use Rattle.digits.proofs.Fronts.{past-at, next-at, byte-in, word-all, word-run, past_word}
 use Rattle.decimals.proofs.Signed as sign
 use Rattle.word_numbers.proofs.Decimals.{point_at, bare-at, other_at, none-at, pointed-not, pointed-none, pointed-of, number-long, number-bad, number-of}
-use Rattle.digits.proofs.Saids.{said, unsaid, ended-says, ended-wrong}
+use Rattle.digits.proofs.Saids.{says-ends, unsaid, ended-says, ended-wrong}
 
 -- ---- fraction
 module _ (s : List ℕ) (at count whole last value end : ℕ) (f : UptoRead 7 s at whole last value) (g : end ≡ last + length (run (drop last s))) where
@@ -61,7 +61,7 @@ module _ (s : List ℕ) (at count whole last value end : ℕ) (f : UptoRead 7 s 
       let p : is_empty (word_of (past l)) ≡ true = sym (o ∙ ap (λ (l : List ℕ). is_empty (word_of l)) (past-at s at end stop)) in
       let m : 7 - (last - at) ≡ 7 - length (run l) = omega arith in
       let b : 1 ≤ count + length (run l) = omega arith in
-      said _ (value * k) (end_of s at) end
+      says-ends _ (value * k) (end_of s at) end
       (pointed-of count whole l p b
       ∙ ap says (sym (ap₂ (λ (a b : ℕ). a * b) f.value-is (e ∙ ap (λ (m : ℕ). 10 ^ m) m))))
       (q ∙ ap (λ (w : List ℕ). at + length w) (sym (word-all l p)))
@@ -110,7 +110,7 @@ module _ (s : List ℕ) (at end value : ℕ) (w : WholeRead s at end value) wher
         let l : List ℕ = drop at s in
         let y = w.end_is in
         let k : 1 ≤ length (run l) = omega arith in
-        said _ (value * 10000000) (end_of s at) end
+        says-ends _ (value * 10000000) (end_of s at) end
         (bare-at l (overs true o) k ∙ ap (λ (x : ℕ). says (x * 10000000)) (sym w.value-is))
         (y ∙ ap (λ (x : List ℕ). at + length x) (sym (word-all l (overs true o))))
 
@@ -125,9 +125,9 @@ module _ (s : List ℕ) (at b n : ℕ) (h : at ≤ length s) (e : b ≡ first (d
   ends : end_of s (at + n) ≡ end_of s at
   ends = sign.ends s at b n h e k
 
-  pub number-not : wrong 6 ≡ ends_at (size_of (word_of (drop (at + n) s))) (end_of s (at + n)) → wrong 6 ≡ ends_at (number_of (word_of (drop at s))) (end_of s at)
-  number-not m =
-      unsaid _ 6 (end_of s at) (number-bad (word_of (drop at s)) (ap size_of (sym unsigned_is) ∙ ended-wrong _ 6 (end_of s (at + n)) m))
+  pub number-not : (r : ℕ) → wrong r ≡ ends_at (size_of (word_of (drop (at + n) s))) (end_of s (at + n)) → wrong r ≡ ends_at (number_of (word_of (drop at s))) (end_of s at)
+  number-not r m =
+      unsaid _ r (end_of s at) (number-bad (word_of (drop at s)) r (ap size_of (sym unsigned_is) ∙ ended-wrong _ r (end_of s (at + n)) m))
 
   module _ (v end : ℕ) (m : says (v, end) ≡ ends_at (size_of (word_of (drop (at + n) s))) (end_of s (at + n))) where
     end_is : end ≡ end_of s at

@@ -1,10 +1,16 @@
--- By the one test.
-use mathlib.Core.Path.{refl}
-use borrow.Author.Tests.{lt-leb, le-leb}
+-- By the one test of `digit_of`; below 48 the byte wraps.
+use mathlib.Core.Path.{◌≡◌}
+use mathlib.Core.Bool.{true, false}
+use mathlib.Core.Logic.{⊎_elim}
+use lib.Dec.{leb}
+use borrow.Author.Tests.{leb-true, leb-false}
+use native.Mathlib.Omega.{arith}
+use Rattle.lists.proofs.Tests.{test}
 use Rattle.digits.proofs.digit.Goals as goal
 
-pub returns-then-b-lt48 : goal.returns-then-b-lt48
-returns-then-b-lt48 c = rw (lt-leb 48 c.args.b c.if-b-lt48.true) refl
-
 pub returns : goal.returns
-returns c = rw (le-leb 48 c.args.b c.if-b-lt48.false) refl
+returns c =
+    ⊎_elim
+    (λ (t : leb 48 c.args.b ≡ true). let h = leb-true 48 c.args.b t in rw t (omega arith))
+    (λ (t : leb 48 c.args.b ≡ false). let h = leb-false 48 c.args.b t in rw t (omega arith))
+    (test (leb 48 c.args.b))

@@ -1,6 +1,7 @@
 -- The loop is a turn of `Going` each time.
 use Prim.Native.Nat.{ℕ, ◌*◌, ◌+◌}
-use mathlib.Core.Path.{refl, ap, ◌∙◌}
+use mathlib.Core.Path.{◌≡◌, refl, ap, ◌∙◌}
+use lib.ListN.{length}
 use native.Mathlib.Omega.{arith}
 use Rattle.digits.specs.Straight.{cap}
 use Rattle.digits.proofs.Runs.{whole-stop, whole-turn, run-no, run_end}
@@ -15,9 +16,11 @@ returns-then-d-gt9 c =
 
 pub loop-i-preserved : goal.loop-i-preserved
 loop-i-preserved c =
-    whole-turn c.loop-i.invariant c.digit-d.result c.push-a.result c.loop-i-test.true c.digit-d.ensures c.if-d-gt9.false
-    (c.push-a.ensures ∙ ap (λ (n : ℕ). cap (c.loop-i.a * 10 + n)) c.wide.ensures)
+    whole-turn c.loop-i.invariant c.digit-d.result c.push-value.result c.loop-i-test.true c.digit-d.ensures c.if-d-gt9.false
+    (c.push-value.ensures ∙ ap (λ (n : ℕ). cap (c.loop-i.value * 10 + n)) c.from.ensures)
 
 pub returns : goal.returns
 returns c =
-    whole-stop c.loop-i.invariant (run_end c.args.text.now c.loop-i.i c.loop-i-test.false)
+    let to = c.loop-i.invariant.to in
+    let e : length c.args.text.now ≡ c.loop-i.i = omega arith in
+    rw e (whole-stop c.loop-i.invariant (run_end c.args.text.now c.loop-i.i c.loop-i-test.false))

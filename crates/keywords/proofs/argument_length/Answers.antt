@@ -7,5 +7,5 @@ use Rattle.keywords.proofs.argument_length.Goals as goal
 
 pub returns : goal.returns
 returns c =
-    let n = ap length (argument-row c.args.table.now c.row_of-from.result _ c.args.argument c.requires c.row_of-from.ensures.1 c.sign_of.ensures) in
+    let n = ap length (argument-row c.argument_table-table.result.now c.row_of-from.result _ c.args.argument c.argument_table-table.ensures c.row_of-from.ensures.1 c.sign_of.ensures) in
     omega arith

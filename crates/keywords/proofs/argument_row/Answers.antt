@@ -11,8 +11,8 @@ returns-then-text-at c =
 
 pub row_at-requires : goal.row_at-requires
 row_at-requires c =
-    record { at_in_bounds = search rules; rows_in_bounds = (search rules, rows-ahead laid c.args.table.now c.requires) }
+    record { at_in_bounds = search rules; rows_in_bounds = (search rules, rows-ahead laid c.argument_table.result.now c.argument_table.ensures) }
 
 pub returns : goal.returns
 returns c =
-    row-found laid c.args.text.now c.args.table.now c.args.at c.row_at.result c.requires c.row_at.ensures
+    row-found laid c.args.text.now c.argument_table.result.now c.args.at c.row_at.result c.argument_table.ensures c.row_at.ensures

@@ -7,5 +7,5 @@ use Rattle.keywords.proofs.keyword_length.Goals as goal
 
 pub returns : goal.returns
 returns c =
-    let n = ap length (keyword-row c.args.table.now c.row_of-from.result _ c.args.statement c.requires c.row_of-from.ensures.1 c.letter_of.ensures) in
+    let n = ap length (keyword-row c.keyword_table-table.result.now c.row_of-from.result _ c.args.statement c.keyword_table-table.ensures c.row_of-from.ensures.1 c.letter_of.ensures) in
     omega arith

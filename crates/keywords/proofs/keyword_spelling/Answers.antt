@@ -13,7 +13,7 @@ use Rattle.keywords.proofs.keyword_spelling.Goals as goal
 pub returns-then-row-lt-KEYWORD_ROWS : goal.returns-then-row-lt-KEYWORD_ROWS
 returns-then-row-lt-KEYWORD_ROWS c =
     let a = c.args in
-    subst (λ (x : List ℕ). Wrote a.out.now x c.write_row.result c.write_row.new.out) (spelled-in laid c.keyword_table-table.result a.row c.keyword_table-table.ensures c.if-row-lt-KEYWORD_ROWS.true) c.write_row.ensures
+    subst (λ (x : List ℕ). Wrote a.out.now x c.write_row.result c.write_row.new.out) (spelled-in laid c.keyword_table.result.now a.row c.keyword_table.ensures c.if-row-lt-KEYWORD_ROWS.true) c.write_row.ensures
 
 pub returns : goal.returns
 returns c =

@@ -1,26 +1,17 @@
 -- The row found by the letter has the spelling, and its word is copied.
-use mathlib.Core.Path.{◌≡◌, ap}
+use mathlib.Core.Path.{ap}
 use native.Mathlib.Omega.{arith}
-use lib.ListN.{length, drop}
-use Rattle.text.specs.Words.{word_of}
-use Rattle.keywords.specs.Arguments.{argument_bytes}
+use lib.ListN.{length}
 use Rattle.keywords.proofs.Arguments.{argument-row}
 use Rattle.keywords.proofs.write_argument.Goals as goal
-use Rattle.keywords.proofs.write_argument.Goals.{After-copy_word-arg-2-1, After-slice_known-2-1}
-
-word : (c : After-copy_word-arg-2-1) → word_of (drop c.row_of-from.result c.args.table.now) ≡ argument_bytes c.args.argument
-word c = argument-row c.args.table.now c.row_of-from.result _ c.args.argument c.requires.table_value c.row_of-from.ensures.1 c.sign_of.ensures
 
 pub copy_word-requires : goal.copy_word-requires
 copy_word-requires c =
-    let n = ap length (word c) in
-    omega (arith, c.requires.argument_in_bounds)
-
-word-at-After-slice_known-2-1 : (c : After-slice_known-2-1) → word_of (drop c.row_of-from.result c.args.table.now) ≡ argument_bytes c.args.argument
-word-at-After-slice_known-2-1 c = argument-row c.args.table.now c.row_of-from.result _ c.args.argument c.requires.table_value c.row_of-from.ensures.1 c.sign_of.ensures
+    let n = ap length (argument-row c.argument_table-table.result.now c.row_of-from.result _ c.args.argument c.argument_table-table.ensures c.row_of-from.ensures.1 c.sign_of.ensures) in
+    omega (arith, c.requires)
 
 pub returns : goal.returns
 returns c =
-    let w = word-at-After-slice_known-2-1 c in
+    let w = argument-row c.argument_table-table.result.now c.row_of-from.result _ c.args.argument c.argument_table-table.ensures c.row_of-from.ensures.1 c.sign_of.ensures in
     let e = c.copy_word.ensures in
     (rw w at e.0, rw w at e.1)

@@ -1,12 +1,11 @@
--- The table is the definition's, and no keyword is longer than the buffer.
+-- No keyword is longer than the buffer.
 use Rattle.std.proofs.Common.{arith, ◌≡◌, length, sym, ap, ◌∙◌}
 use lib.Seq.{length-sets, length-take-le}
 use Rattle.keywords.proofs.KeywordTable.{short}
 use Rattle.keywords_cases.proofs.put_keyword.Goals as goal
 
-pub write_keyword-n-requires-clause-statement_in_bounds :
-    goal.write_keyword-n-requires-clause-statement_in_bounds
-write_keyword-n-requires-clause-statement_in_bounds g c = let n = short c.args.statement in omega arith
+pub write_keyword-n-requires : goal.write_keyword-n-requires
+write_keyword-n-requires g c = let n = short c.args.statement in omega arith
 
 pub slice_bounds-out-end : goal.slice_bounds-out-end
 slice_bounds-out-end g c =

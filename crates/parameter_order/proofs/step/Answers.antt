@@ -1,14 +1,15 @@
--- Field by field.
-use mir.Facts.{to_z-of_z}
-use Rattle.rounding.proofs.Bits.{read-back-given}
-use mathlib.Core.Path.{refl, ◌∙◌}
+-- Each number of the order is the definition's.
+use Rattle.std.proofs.Common.{◌≡◌, cond, ◌&&◌, leb, refl, to_z, of_z, w32, rules}
+use Rattle.std.specs.Int.Signed.{lt_z}
+use Rattle.parameter_order.specs.Stepping.{may_follow}
 use Rattle.parameter_order.proofs.step.Goals as goal
 
 pub returns : goal.returns
 returns c =
-    let e₁ = rw (read-back-given {z = c.args.o.previous} c.struct_told-1.given.0.1, to_z-of_z c.ranges.b) at c.since_of.ensures in
-    let e₂ = rw (read-back-given {z = c.args.o.previous} c.struct_told-3-1.given.0.1, read-back-given {z = c.args.o.low} c.struct_told-2-1.given.1.1.1.0.1, to_z-of_z c.ranges.b) at c.may_follow.ensures in
-    let e₃ = rw e₂ at c.both.ensures in
-    let e₄ = read-back-given c.end_so_far.type_inv ∙ (rw (read-back-given {z = c.args.o.low} c.struct_told-4-1.given.1.1.1.0.1, to_z-of_z c.ranges.b) at c.end_so_far.ensures) in
-    let e₅ = read-back-given c.end_so_far-2.type_inv ∙ (rw (read-back-given {z = c.args.o.high} c.struct_told-5-1.given.1.1.1.1.0.1, to_z-of_z c.ranges.b) at c.end_so_far-2.ensures) in
-    rw (e₁, e₃, e₄, e₅, to_z-of_z c.ranges.b) refl
+    let s = c.args in
+    let previous : to_z w32 (of_z w32 s.b) ≡ s.b = search rules in
+    let since : c.if-o-b.result ≡ cond (lt_z s.o.previous s.b) s.i s.o.since = search rules in
+    let fine : c.if-o.result ≡ (s.o.fine && may_follow s.asked s.i s.o s.b) = search rules in
+    let low : to_z w32 (of_z w32 c.end_so_far.result) ≡ cond (leb s.i s.asked.low_at) s.b s.o.low = search rules in
+    let high : to_z w32 (of_z w32 c.end_so_far-2.result) ≡ cond (leb s.i s.asked.high_at) s.b s.o.high = search rules in
+    rw (previous, since, fine, low, high) refl

@@ -1,5 +1,5 @@
 -- The sum raised is not below zero, so that its half is rounded down.
-use mathlib.Core.Path.{◌≡◌, sym, ap, ◌∙◌, subst}
+use mathlib.Core.Path.{◌≡◌, ap, ◌∙◌}
 use Prim.Native.Nat.{ℕ, ◌≤◌}
 use native.Mathlib.Omega.{arith}
 use lib.IntN.{ℤ, pos, nat_abs, ◌+ℤ◌, ◌-ℤ◌}
@@ -8,10 +8,10 @@ use mir.Syntax.{w32, w64}
 use mir.Val.{to_z, of_z, SFits}
 use mir.Facts.{to_z-of_z, sfits_widen}
 use Rattle.rounding.proofs.IntLaws.{abs-+}
-use Rattle.rounding.proofs.Bits.{fits-abs, read_back}
+use Rattle.rounding.proofs.Bits.{read_back}
 use Rattle.point_chords.specs.Chords.{middle}
 use Rattle.point_chords.proofs.Middle.{lowered, half-size, middle-fits}
-use Rattle.point_chords.proofs.Sizes.{wide, kept, wide_fits, sum_fits, sum_is, sum-size}
+use Rattle.point_chords.proofs.Sizes.{wide, kept, sum_is, sum-size}
 use Rattle.point_chords.proofs.middle_of.Goals as goal
 
 module _ {a b : ℤ} (f : SFits w32 a) (g : SFits w32 b) where
@@ -23,25 +23,14 @@ module _ {a b : ℤ} (f : SFits w32 a) (g : SFits w32 b) where
     abbrev raised : ℤ
     raised = kept (wide a +ℤ wide b) +ℤ pos by
 
-    raised-fits : SFits w64 raised
-    raised-fits = rw (sum_is f g) (fits-abs w64 _ (omega (arith, raised-small)))
-
     raised_is : kept raised ≡ a +ℤ b +ℤ pos by
     raised_is = rw (sum_is f g) (read_back w64 (a +ℤ b +ℤ pos by) (omega (arith, raised-small)))
 
     half-small : nat_abs (quot_z (a +ℤ b +ℤ pos by) (pos 2)) ≤ 8589934592
     half-small = omega (arith, half-size (a +ℤ b +ℤ pos by), raised-small)
 
-    half-fits : SFits w64 (quot_z (kept raised) (pos 2))
-    half-fits = rw raised_is (fits-abs w64 _ (omega (arith, half-small)))
-
     half_is : kept (quot_z (kept raised) (pos 2)) ≡ quot_z (a +ℤ b +ℤ pos by) (pos 2)
     half_is = rw raised_is (read_back w64 (quot_z (a +ℤ b +ℤ pos by) (pos 2)) (omega (arith, half-small)))
-
-    low_fits : (z : ℤ) → nat_abs z ≤ 2147483648 → SFits w64 (kept (quot_z (kept raised) (pos 2)) +ℤ z)
-    low_fits z k =
-        let s : nat_abs (quot_z (a +ℤ b +ℤ pos by) (pos 2) +ℤ z) ≤ 10737418240 = omega (arith, abs-+ (quot_z (a +ℤ b +ℤ pos by) (pos 2)) z, half-small) in
-        rw half_is (fits-abs w64 _ (omega (arith, s)))
 
   abbrev low : ℤ
   low = kept (quot_z (kept (raised 4294967296 (omega arith))) (pos 2)) -ℤ pos 2147483648
@@ -52,27 +41,6 @@ module _ {a b : ℤ} (f : SFits w32 a) (g : SFits w32 b) where
   kept_low : kept low ≡ middle a b
   unfolding middle
   kept_low = rw (half_is 4294967296 (omega arith), lowered (a +ℤ b) (sum-size f g)) (to_z-of_z {w = w64} (sfits_widen {w = w32} {w' = w64} (tt {0}) middle-in))
-
-pub overflow_cast-raised : goal.overflow_cast-raised
-overflow_cast-raised c = wide_fits c.ranges.a
-
-pub overflow_cast-raised-2 : goal.overflow_cast-raised-2
-overflow_cast-raised-2 c = wide_fits c.ranges.b
-
-pub overflow_add-raised : goal.overflow_add-raised
-overflow_add-raised c = sum_fits c.ranges.a c.ranges.b
-
-pub overflow_add-raised-2 : goal.overflow_add-raised-2
-overflow_add-raised-2 c = raised-fits c.ranges.a c.ranges.b _ (omega arith)
-
-pub nonzero_div-result : goal.nonzero_div-result
-nonzero_div-result c = (omega arith, half-fits c.ranges.a c.ranges.b _ (omega arith))
-
-pub overflow_sub-result : goal.overflow_sub-result
-overflow_sub-result c = low_fits c.ranges.a c.ranges.b _ (omega arith) _ (omega arith)
-
-pub overflow_cast-result : goal.overflow_cast-result
-overflow_cast-result c = subst (λ (z : ℤ). SFits w32 z) (sym (kept_low c.ranges.a c.ranges.b)) (middle-in c.ranges.a c.ranges.b)
 
 pub returns : goal.returns
 returns c = ap (λ (z : ℤ). to_z w32 (of_z w32 z)) (kept_low c.ranges.a c.ranges.b) ∙ to_z-of_z (middle-in c.ranges.a c.ranges.b)

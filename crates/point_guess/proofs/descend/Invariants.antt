@@ -9,11 +9,8 @@ use Rattle.point_guess.proofs.descend.Given as goal
 
 abbrev pub invariant-loop-i : goal.invariant-loop-i
 invariant-loop-i l =
-    (l.i ≤ l.last) × (l.rest.count ≡ l.initial.rest.count) × (l.a ≡ place_at l.initial.rest.places l.i) × Left l.initial.rest.places l.rest.places l.i
+    (l.a ≡ place_at l.initial.rest.places l.i) × Left l.initial.rest.places l.rest.places l.i
     × Level (offset_at (direction l.along l.x) l.t (l.last - 1)) (gap_at (direction l.along l.x) l.t (l.last - 1)) l.initial.rest.places l.rest.places l.i
-
-abbrev pub decreases-loop-i : goal.decreases-loop-i
-decreases-loop-i l = l.last - l.i
 
 abbrev pub invariant-loop-rest : goal.invariant-loop-rest
 invariant-loop-rest l =

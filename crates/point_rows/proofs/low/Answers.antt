@@ -11,7 +11,7 @@ use Rattle.rounding.proofs.Bits.{read-back-small}
 use Rattle.point_exact.specs.Directions.{at}
 use Rattle.point_rows.proofs.Places.{deep, inside, spline-low, bezier-low, segment-inside}
 use Rattle.point_rows.proofs.low.Goals as goal
-use Rattle.point_rows.proofs.low.Goals.{After-result-1, After-result-2-1, Else-along-eq-BSPLINE, Then-along-eq-BSPLINE}
+use Rattle.point_rows.proofs.low.Goals.{Else-along-eq-BSPLINE, Then-along-eq-BSPLINE}
 
 is-spline : (c : Then-along-eq-BSPLINE) → eqb c.args.along.basis 2 ≡ true
 is-spline c = eq-eqb c.args.along.basis 2 c.if-along-eq-BSPLINE.true
@@ -31,17 +31,13 @@ offset_bounds-x-chosen c = omega (arith, within c)
 pub bounds-x-chosen : goal.bounds-x-chosen
 bounds-x-chosen c = omega (arith, within c)
 
-is-spline-at-After-result-1 : (c : After-result-1) → eqb c.args.along.basis 2 ≡ true
-is-spline-at-After-result-1 c = eq-eqb c.args.along.basis 2 c.if-along-eq-BSPLINE.true
-
-within-at-After-result-1 : (c : After-result-1) → (c.args.r ≤ c.args.chosen + c.args.j) × (c.args.chosen + c.args.j + 1 < length c.args.x.now)
-within-at-After-result-1 c = (omega (arith, deep c.args.along c.args.x.now c.args.t (is-spline-at-After-result-1 c) c.requires.0), inside c.args.along c.args.x.now c.args.t (is-spline-at-After-result-1 c) c.requires.0 c.args.j (omega arith))
-
-small : (c : After-result-1) → InRange (at c.args.x.now (c.args.chosen + c.args.j - c.args.r))
-small c = c.requires.0.sound.small (c.args.chosen + c.args.j - c.args.r) (omega (arith, (within-at-After-result-1 c)))
+small : (c : Then-along-eq-BSPLINE) → InRange (at c.args.x.now (c.args.chosen + c.args.j - c.args.r))
+small c = c.requires.0.sound.small (c.args.chosen + c.args.j - c.args.r) (omega (arith, (within c)))
 
 pub returns-then-along-eq-BSPLINE : goal.returns-then-along-eq-BSPLINE
-returns-then-along-eq-BSPLINE c = rw (read-back-small _ (small c)) (spline-low c.args.along c.args.x.now c.args.t (is-spline-at-After-result-1 c) c.args.chosen c.args.r c.args.j c.requires.0.is, small c)
+returns-then-along-eq-BSPLINE c =
+    let b = (goal.at.returns-then-along-eq-BSPLINE c).Then-along-eq-BSPLINE in
+    rw (read-back-small _ (small b)) (spline-low c.args.along c.args.x.now c.args.t (is-spline b) c.args.chosen c.args.r c.args.j c.requires.0.is, small b)
 
 is-bezier : (c : Else-along-eq-BSPLINE) → eqb c.args.along.basis 2 ≡ false
 is-bezier c = ne_eqb c.args.along.basis 2 c.if-along-eq-BSPLINE.false
@@ -55,14 +51,10 @@ offset_bounds-x-chosen-2 c = omega (arith, there c)
 pub bounds-x-chosen-2 : goal.bounds-x-chosen-2
 bounds-x-chosen-2 c = omega (arith, there c)
 
-is-bezier-at-After-result-2-1 : (c : After-result-2-1) → eqb c.args.along.basis 2 ≡ false
-is-bezier-at-After-result-2-1 c = ne_eqb c.args.along.basis 2 c.if-along-eq-BSPLINE.false
-
-there-at-After-result-2-1 : (c : After-result-2-1) → c.args.chosen + 1 < length c.args.x.now
-there-at-After-result-2-1 c = segment-inside c.args.along c.args.x.now c.args.t (is-bezier-at-After-result-2-1 c) c.requires.0
-
-small-too : (c : After-result-2-1) → InRange (at c.args.x.now c.args.chosen)
-small-too c = c.requires.0.sound.small c.args.chosen (omega (arith, (there-at-After-result-2-1 c)))
+small-too : (c : Else-along-eq-BSPLINE) → InRange (at c.args.x.now c.args.chosen)
+small-too c = c.requires.0.sound.small c.args.chosen (omega (arith, (there c)))
 
 pub returns : goal.returns
-returns c = rw (read-back-small _ (small-too c)) (bezier-low c.args.along c.args.x.now c.args.t (is-bezier-at-After-result-2-1 c) c.args.chosen c.args.r c.args.j c.requires.0.is, small-too c)
+returns c =
+    let b = (goal.at.returns c).Else-along-eq-BSPLINE in
+    rw (read-back-small _ (small-too b)) (bezier-low c.args.along c.args.x.now c.args.t (is-bezier b) c.args.chosen c.args.r c.args.j c.requires.0.is, small-too b)

@@ -10,7 +10,7 @@ use Rattle.point_rows.proofs.Grids.{first-is, reached, last-there, held-row, som
 use Rattle.point_single.specs.Points.{entry_of, Gathered}
 use Rattle.point_single.proofs.Making.{gathered_none, gathered-more, gathered-encoded, gathered-down, holds_as, has-as}
 use Rattle.point_single.proofs.across.Goals as goal
-use Rattle.point_single.proofs.across.Goals.{After-curve_place-p, After-point_at, After-to_nearest}
+use Rattle.point_single.proofs.across.Goals.{After-curve_place-p, After-to_nearest}
 
 pub first_control-top-requires : goal.first_control-top-requires
 first_control-top-requires c = reached c.requires.2
@@ -19,7 +19,7 @@ pub empty-column-requires : goal.empty-column-requires
 empty-column-requires c = c.requires.2.sound.few
 
 pub loop-j-init : goal.loop-j-init
-loop-j-init c = (omega arith, gathered_none c.empty-column.ensures.0 c.empty-column.ensures.1)
+loop-j-init c = gathered_none c.empty-column.ensures.0 c.empty-column.ensures.1
 
 pub overflow_add-base : goal.overflow_add-base
 overflow_add-base c =
@@ -54,38 +54,22 @@ offset_bounds-column-j c = omega (arith, few c)
 pub bounds-column-j : goal.bounds-column-j
 bounds-column-j c = omega (arith, few c)
 
-pub overflow_add-j : goal.overflow_add-j
-overflow_add-j c = omega (arith, few c)
-
-pub loop-j-smaller : goal.loop-j-smaller
-loop-j-smaller c = omega (arith, few c)
-
 pub loop-j-preserved : goal.loop-j-preserved
-loop-j-preserved c =
-    (omega arith, gathered-more c.curve_place-p.result c.loop-j.invariant.1 (omega (arith, few c)) c.curve_place-p.ensures)
+loop-j-preserved c = gathered-more c.curve_place-p.result c.loop-j.invariant (omega (arith, few c)) c.curve_place-p.ensures
 
 -- the column, once each of its places is set
 column : (l : After-to_nearest) → l.loop-j.j ≡ l.args.v.degree + 1 → let a = l.args in
     Gathered l.loop-j.column a.v.degree (a.v.degree + 1)
     (λ k i. curve_sampled (direction a.u a.x.now) a.s (λ m. control_at a.values.now a.corners.now a.first (entry_of 0 k) ((l.first_control-top.result + i) * a.u.controls + m)))
-column l e = rw (to_z-of_z l.ranges.s, e) at l.loop-j.invariant.1
-
-few-at-After-to_nearest : (l : After-to_nearest) → l.args.v.degree ≤ 20
-few-at-After-to_nearest l = l.requires.2.sound.few
+column l e = rw (to_z-of_z l.ranges.s, e) at l.loop-j.invariant
 
 pub descend-requires : goal.descend-requires
 descend-requires c =
     let g = column c (omega arith) in
-    rw (to_z-of_z c.ranges.t) (c.requires.2, gathered-encoded g (few-at-After-to_nearest c), g.count)
+    rw (to_z-of_z c.ranges.t) (c.requires.2, gathered-encoded g c.requires.2.sound.few, g.count)
 
 pub point_at-requires : goal.point_at-requires
 point_at-requires c = c.descend.ensures.whole
-
--- the column, once each of its places is set
-column-at-After-point_at : (l : After-point_at) → l.loop-j.j ≡ l.args.v.degree + 1 → let a = l.args in
-    Gathered l.loop-j.column a.v.degree (a.v.degree + 1)
-    (λ k i. curve_sampled (direction a.u a.x.now) a.s (λ m. control_at a.values.now a.corners.now a.first (entry_of 0 k) ((l.first_control-top.result + i) * a.u.controls + m)))
-column-at-After-point_at l e = rw (to_z-of_z l.ranges.s, e) at l.loop-j.invariant.1
 
 pub returns : goal.returns
 returns c =
@@ -93,6 +77,6 @@ returns c =
     let du = direction a.u a.x.now in
     let dv = direction a.v a.y.now in
     has-as c.point_at.ensures
-    (holds_as (gathered-down (column-at-After-point_at c (omega arith)) dv a.t refl (rw (to_z-of_z c.ranges.t) at c.descend.ensures))
+    (holds_as (gathered-down (column (goal.at.returns c).After-to_nearest (omega arith)) dv a.t refl (rw (to_z-of_z c.ranges.t) at c.descend.ensures))
     (λ k. grid-rows du dv a.s a.t a.values.now a.corners.now a.first (entry_of 0 k) a.u.controls c.first_control-top.result
     (first-is c.requires.2 c.first_control-top.ensures)))

@@ -1,4 +1,4 @@
-use Prim.Native.Nat.{◌+◌, ◌*◌, ◌-◌, ◌≤◌}
+use Prim.Native.Nat.{◌+◌, ◌*◌}
 use Rattle.point_exact.specs.Sampled.{curve_sampled}
 use Rattle.point_rows.specs.Places.{direction}
 use Rattle.point_rows.specs.Controls.{control_at}
@@ -7,7 +7,4 @@ use Rattle.point_single.proofs.across.Given as goal
 
 abbrev pub invariant-loop-j : goal.invariant-loop-j
 invariant-loop-j l =
-    (l.j ≤ l.v.degree + 1) × Gathered l.column l.v.degree l.j (λ k i. curve_sampled (direction l.u l.x) l.s (λ m. control_at l.values l.corners l.first (entry_of 0 k) ((l.top + i) * l.u.controls + m)))
-
-abbrev pub decreases-loop-j : goal.decreases-loop-j
-decreases-loop-j l = l.v.degree + 1 - l.j
+    Gathered l.column l.v.degree l.j (λ k i. curve_sampled (direction l.u l.x) l.s (λ m. control_at l.values l.corners l.first (entry_of 0 k) ((l.top + i) * l.u.controls + m)))

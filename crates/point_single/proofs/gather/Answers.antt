@@ -10,7 +10,7 @@ pub empty-row-requires : goal.empty-row-requires
 empty-row-requires c = c.requires.2
 
 pub loop-j-init : goal.loop-j-init
-loop-j-init c = (omega arith, gathered_none c.empty-row.ensures.0 c.empty-row.ensures.1)
+loop-j-init c = gathered_none c.empty-row.ensures.0 c.empty-row.ensures.1
 
 pub overflow_add-from : goal.overflow_add-from
 overflow_add-from c = let h = c.requires.0.within in omega arith
@@ -26,17 +26,11 @@ offset_bounds-row-j c = omega arith
 pub bounds-row-j : goal.bounds-row-j
 bounds-row-j c = omega arith
 
-pub overflow_add-j : goal.overflow_add-j
-overflow_add-j c = omega arith
-
-pub loop-j-smaller : goal.loop-j-smaller
-loop-j-smaller c = omega arith
-
 pub loop-j-preserved : goal.loop-j-preserved
-loop-j-preserved c = (omega arith, gathered-more c.place_of-p.result c.loop-j.invariant.1 (omega arith) c.place_of-p.ensures)
+loop-j-preserved c = gathered-more c.place_of-p.result c.loop-j.invariant (omega arith) c.place_of-p.ensures
 
 pub returns : goal.returns
 returns c =
     let l = c.loop-j in
     let e : c.loop-j.j ≡ c.args.n + 1 = omega arith in
-    rw e at c.loop-j.invariant.1
+    rw e at c.loop-j.invariant

@@ -1,17 +1,16 @@
 -- An interval that is not halved has its last point written; one that is halved has both halves written, one after the other.
 use mathlib.Core.Path.{◌≡◌, ap, ◌∙◌}
-use mathlib.Core.List.{[], ◌++◌}
+use mathlib.Core.List.{◌++◌}
 use Prim.Native.Nat.{◌-◌}
 use native.Mathlib.Omega.{arith}
 use lib.ListN.{length}
 use lib.Seq.{length-sets}
 use mir.Facts.{to_z-of_z}
-use Rattle.tables.specs.Tables.{tables}
-use Rattle.tables.proofs.Bits.{fitted}
+use Rattle.tables.specs.Lent.{lent}
 use Rattle.point_chords.specs.Chords.{ends, numbers}
 use Rattle.polyline.specs.Inner.{coordinates_of}
 use Rattle.polyline.proofs.Halves.{interval-read, numbers-chord, numbers-joined, room-first, room-second, both-written, room-read, written}
-use Rattle.polyline.proofs.Pieces.{whole, halved}
+use Rattle.polyline.proofs.Pieces.{whole, halved, middle-read}
 use Rattle.polyline.proofs.+write.Goals as goal
 
 pub split_of-split-requires : goal.split_of-split-requires
@@ -20,29 +19,28 @@ split_of-split-requires t c = (c.requires.1.0, interval-read (to_z-of_z c.ranges
 pub store-requires : goal.store-requires
 store-requires t c =
     let v = c.args in
-    let is-chord = numbers-chord c.requires.1.1 (whole (tables v.v.now [] [] v.vp.now v.corners.now [] [] [] v.parameters.now [] []) v.element v.body v.depth c.ranges.tolerance c.ranges.a c.ranges.b c.in_default.ensures) in
+    let is-chord = numbers-chord c.requires.1.1 (whole (lent v.t.now) v.element v.body v.depth c.ranges.tolerance c.ranges.a c.ranges.b c.in_default.ensures) in
     rw is-chord at c.requires.0
 
 pub returns-in_default : goal.returns-in_default
 returns-in_default t c =
     let v = c.args in
-    let is-chord = numbers-chord c.requires.1.1 (whole (tables v.v.now [] [] v.vp.now v.corners.now [] [] [] v.parameters.now [] []) v.element v.body v.depth c.ranges.tolerance c.ranges.a c.ranges.b c.in_default.ensures) in
+    let is-chord = numbers-chord c.requires.1.1 (whole (lent v.t.now) v.element v.body v.depth c.ranges.tolerance c.ranges.a c.ranges.b c.in_default.ensures) in
     rw is-chord c.store.ensures
 
 pub overflow_sub-depth : goal.overflow_sub-depth
 overflow_sub-depth t c =
     let v = c.args in
-    let h = halved (tables v.v.now [] [] v.vp.now v.corners.now [] [] [] v.parameters.now [] []) v.element v.body v.depth c.ranges.tolerance c.ranges.a c.ranges.b c.in-Halves.ensures in
+    let h = halved (lent v.t.now) v.element v.body v.depth c.ranges.tolerance c.ranges.a c.ranges.b c.in-Some.ensures in
     omega (arith, h.deep)
 
 pub write-next-requires : goal.write-next-requires
 write-next-requires t c =
     let v = c.args in
-    let m = c.in-Halves.middle in
-    let lent = tables v.v.now [] [] v.vp.now v.corners.now [] [] [] v.parameters.now [] [] in
-    let point = coordinates_of lent v.element v.body in
-    let h = halved lent v.element v.body v.depth c.ranges.tolerance c.ranges.a c.ranges.b c.in-Halves.ensures in
-    let middle-is = fitted {z = m} c.in-Halves.known_told-1-own.given.0.1 in
+    let m = c.in-Some.half.middle in
+    let point = coordinates_of (lent v.t.now) v.element v.body in
+    let h = halved (lent v.t.now) v.element v.body v.depth c.ranges.tolerance c.ranges.a c.ranges.b c.in-Some.ensures in
+    let middle-is = middle-read c.ranges.a c.ranges.b h in
     let first = numbers point (ends point v.tolerance (v.depth - 1) v.a m) in
     let second = numbers point (ends point v.tolerance (v.depth - 1) m v.b) in
     let halves : numbers point (ends point v.tolerance v.depth v.a v.b) ≡ first ++ second
@@ -58,17 +56,16 @@ write-next-requires t c =
 pub overflow_sub-depth-2 : goal.overflow_sub-depth-2
 overflow_sub-depth-2 t c =
     let v = c.args in
-    let h = halved (tables v.v.now [] [] v.vp.now v.corners.now [] [] [] v.parameters.now [] []) v.element v.body v.depth c.ranges.tolerance c.ranges.a c.ranges.b c.in-Halves.ensures in
+    let h = halved (lent v.t.now) v.element v.body v.depth c.ranges.tolerance c.ranges.a c.ranges.b c.in-Some.ensures in
     omega (arith, h.deep)
 
 pub write-requires : goal.write-requires
 write-requires t c =
     let v = c.args in
-    let m = c.in-Halves.middle in
-    let lent = tables v.v.now [] [] v.vp.now v.corners.now [] [] [] v.parameters.now [] [] in
-    let point = coordinates_of lent v.element v.body in
-    let h = halved lent v.element v.body v.depth c.ranges.tolerance c.ranges.a c.ranges.b c.in-Halves.ensures in
-    let middle-is = fitted {z = m} c.in-Halves.known_told-1-own.given.0.1 in
+    let m = c.in-Some.half.middle in
+    let point = coordinates_of (lent v.t.now) v.element v.body in
+    let h = halved (lent v.t.now) v.element v.body v.depth c.ranges.tolerance c.ranges.a c.ranges.b c.in-Some.ensures in
+    let middle-is = middle-read c.ranges.a c.ranges.b h in
     let first = numbers point (ends point v.tolerance (v.depth - 1) v.a m) in
     let second = numbers point (ends point v.tolerance (v.depth - 1) m v.b) in
     let halves : numbers point (ends point v.tolerance v.depth v.a v.b) ≡ first ++ second
@@ -87,11 +84,10 @@ write-requires t c =
 pub returns : goal.returns
 returns t c =
     let v = c.args in
-    let m = c.in-Halves.middle in
-    let lent = tables v.v.now [] [] v.vp.now v.corners.now [] [] [] v.parameters.now [] [] in
-    let point = coordinates_of lent v.element v.body in
-    let h = halved lent v.element v.body v.depth c.ranges.tolerance c.ranges.a c.ranges.b c.in-Halves.ensures in
-    let middle-is = fitted {z = m} c.in-Halves.known_told-1-own.given.0.1 in
+    let m = c.in-Some.half.middle in
+    let point = coordinates_of (lent v.t.now) v.element v.body in
+    let h = halved (lent v.t.now) v.element v.body v.depth c.ranges.tolerance c.ranges.a c.ranges.b c.in-Some.ensures in
+    let middle-is = middle-read c.ranges.a c.ranges.b h in
     let first = numbers point (ends point v.tolerance (v.depth - 1) v.a m) in
     let second = numbers point (ends point v.tolerance (v.depth - 1) m v.b) in
     let halves : numbers point (ends point v.tolerance v.depth v.a v.b) ≡ first ++ second

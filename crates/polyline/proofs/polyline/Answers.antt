@@ -1,63 +1,29 @@
 -- What was looked up is the definition's element and body, or its refusal.
-use mathlib.Core.Path.{sym, ap, ◌∙◌}
+use mathlib.Core.Path.{sym, ◌∙◌}
 use mathlib.Core.Bool.{false}
-use lib.IntN.{ℤ}
 use mir.Facts.{to_z-of_z}
-use Rattle.tables.specs.Tables.{Tables, tables}
-use Rattle.tables.specs.declared.Body.{Body}
-use Rattle.tables.specs.declared.Element.{Element}
+use Rattle.std.proofs.lemmas.Result.{err_from_is_err_and}
+use Rattle.tables.specs.Lent.{lent}
 use Rattle.sampler.proofs.Refusals.{missed, Looked, looked}
-use Rattle.sampler.proofs.Entries.{curve-tables, curve-found, curve-lent}
-use Rattle.polyline.specs.Inner.{polyline_by}
+use Rattle.sampler.proofs.Entries.{curve-found}
 use Rattle.polyline.proofs.Granted.{is-refused, answered}
 use Rattle.polyline.proofs.polyline.Goals as goal
-use Rattle.polyline.proofs.polyline.Goals.{After-points-1, After-polyline_at-arg-1, In-Refused}
+use Rattle.polyline.proofs.polyline.Goals.{In_ok-found}
 
-abbrev lent-tables : (s : After-polyline_at-arg-1) → Tables
-lent-tables s =
-    tables s.args.v.now s.args.vt.now s.args.vn.now s.args.vp.now s.args.corners.now s.args.elements.now
-    s.args.bodies.now s.args.ranges.now s.args.parameters.now s.args.loops.now s.args.spans.now
+pub returns-in_err-found : goal.returns-in_err-found
+returns-in_err-found c =
+    let a = c.args in
+    let p = err_from_is_err_and c.from_residual.result c.from_residual.ensures.1 in
+    rw (p.1, p.2) (is-refused a.used (lent a.t.now) a.element a.tolerance a.at a.points.now (missed false a.used (lent a.t.now) a.element (sym c.in_err-found.ensures)))
 
-abbrev el : (c : After-polyline_at-arg-1) → Element
-el c = c.in-Found.element
-
-abbrev bo : (c : After-polyline_at-arg-1) → Body
-bo c = c.in-Found.body
-
-there : (c : After-polyline_at-arg-1) → Looked false c.args.used (lent-tables c) c.args.element (el c) (bo c)
-there c = looked false c.args.used (lent-tables c) c.args.element (sym c.look_up-found.ensures ∙ c.in-Found.is)
+there : (c : In_ok-found) → let f = c.in_ok-found.found in Looked false c.args.used (lent c.args.t.now) c.args.element f.element f.body
+there c = looked false c.args.used (lent c.args.t.now) c.args.element (sym c.in_ok-found.ensures)
 
 pub polyline_at-requires : goal.polyline_at-requires
-polyline_at-requires c = curve-lent (curve-found (there c))
+polyline_at-requires c = curve-found (there (goal.at.polyline_at-requires c).In_ok-found)
 
-abbrev lent-tables-at-In-Refused : (s : In-Refused) → Tables
-lent-tables-at-In-Refused s =
-    tables s.args.v.now s.args.vt.now s.args.vn.now s.args.vp.now s.args.corners.now s.args.elements.now
-    s.args.bodies.now s.args.ranges.now s.args.parameters.now s.args.loops.now s.args.spans.now
-
-pub returns-in-Refused : goal.returns-in-Refused
-returns-in-Refused c =
+pub returns : goal.returns
+returns c =
     let a = c.args in
-    is-refused a.used (lent-tables-at-In-Refused c) a.element a.tolerance a.at a.points.now
-    (missed false a.used (lent-tables-at-In-Refused c) a.element (sym c.look_up-found.ensures ∙ c.in-Refused.is))
-
-abbrev lent-tables-at-After-points-1 : (s : After-points-1) → Tables
-lent-tables-at-After-points-1 s =
-    tables s.args.v.now s.args.vt.now s.args.vn.now s.args.vp.now s.args.corners.now s.args.elements.now
-    s.args.bodies.now s.args.ranges.now s.args.parameters.now s.args.loops.now s.args.spans.now
-
-abbrev el-at-After-points-1 : (c : After-points-1) → Element
-el-at-After-points-1 c = c.in-Found.element
-
-abbrev bo-at-After-points-1 : (c : After-points-1) → Body
-bo-at-After-points-1 c = c.in-Found.body
-
-there-at-After-points-1 : (c : After-points-1) → Looked false c.args.used (lent-tables-at-After-points-1 c) c.args.element (el-at-After-points-1 c) (bo-at-After-points-1 c)
-there-at-After-points-1 c = looked false c.args.used (lent-tables-at-After-points-1 c) c.args.element (sym c.look_up-found.ensures ∙ c.in-Found.is)
-
-pub returns-in-Found : goal.returns-in-Found
-returns-in-Found c =
-    let a = c.args in
-    c.polyline_at.ensures
-    ∙ ap (λ (z : ℤ). polyline_by (curve-tables (lent-tables-at-After-points-1 c)) (el-at-After-points-1 c) (bo-at-After-points-1 c) z a.at a.points.now) (to_z-of_z c.ranges.tolerance)
-    ∙ answered a.used (lent-tables-at-After-points-1 c) a.element a.tolerance a.at a.points.now (there-at-After-points-1 c)
+    rw (to_z-of_z c.ranges.tolerance) at c.polyline_at.ensures
+    ∙ answered a.used (lent a.t.now) a.element a.tolerance a.at a.points.now (there (goal.at.returns c).In_ok-found)

@@ -7,10 +7,10 @@ use Rattle.read_word_checks.proofs.Walks as W
 use Rattle.read_diagnosis.proofs.says_v.Goals as goal
 
 pub returns-in-Start : goal.returns-in-Start
-returns-in-Start c = let a = c.args in W.v-first a.text.now a.at c.in-Start.p (W.start-words a.text.now a.at _ c.skip_blanks.ensures c.in-Start.is) (c.is_v.ensures ∙ ap (λ y. is_argument y DirectionV) c.argument_at-argument.ensures)
+returns-in-Start c = let a = c.args in W.v-first a.text.now a.at c.in-Start.p (W.start-words a.text.now a.at c.in-Start.ensures) (c.is_v.ensures ∙ ap (λ y. is_argument y DirectionV) c.argument_at.ensures)
 
 pub returns-in-End : goal.returns-in-End
-returns-in-End c = let a = c.args in sym (ap says_v (W.end-words a.text.now a.at _ c.skip_blanks.ensures c.in-End.is))
+returns-in-End c = let a = c.args in sym (ap says_v (W.end-words a.text.now a.at c.in-End.ensures))
 
 pub returns-in-Bad : goal.returns-in-Bad
-returns-in-Bad c = let a = c.args in sym (ap says_v (W.bad-words a.text.now a.at _ c.skip_blanks.ensures c.in-Bad.is))
+returns-in-Bad c = sym (ap says_v c.in-Bad.ensures.no_words)

@@ -1,13 +1,15 @@
 -- The words, and then what is held against them.
-use mathlib.Core.Path.{sym, ◌∙◌}
-use Rattle.read_word_checks.specs.Faults.{seen_by}
+use Rattle.std.proofs.lemmas.Result.{err_from_is_err_and}
 use Rattle.text.specs.Rest.{rest_at}
-use Rattle.read_word_checks.specs.Faults.{held_fault}
+use Rattle.read_word_checks.specs.Faults.{seen_by, held_fault}
 use Rattle.read_word_checks.proofs.Steps as S
 use Rattle.read_diagnosis.proofs.words_fault.Goals as goal
 
-pub returns-in-Refused : goal.returns-in-Refused
-returns-in-Refused c = let a = c.args in S.or-refused (held_fault (seen_by a.seen) a.vp.now a.form a.key a.held (rest_at a.text.now a.at).words) (sym c.in-Refused.is ∙ c.first_fault.ensures)
+pub returns-in_err-first_fault : goal.returns-in_err-first_fault
+returns-in_err-first_fault c =
+    let a = c.args in
+    let p = err_from_is_err_and c.from_residual.result c.from_residual.ensures.1 in
+    rw (p.1, p.2) (S.or-refused (held_fault (seen_by a.seen) a.vp.now a.form a.key a.held (rest_at a.text.now a.at).words) c.in_err-first_fault.ensures)
 
-pub returns-in-Nothing : goal.returns-in-Nothing
-returns-in-Nothing c = S.or_nothing (sym c.in-Nothing.is ∙ c.first_fault.ensures) c.held_fault.ensures
+pub returns : goal.returns
+returns c = S.or_nothing c.in_ok-first_fault.ensures c.held_fault.ensures

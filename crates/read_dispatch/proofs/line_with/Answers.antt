@@ -1,50 +1,54 @@
 -- Each way out by the law of what stands first in the line.
-use native.Mathlib.Omega.{arith}
-use Rattle.tables.specs.Tables.{tables}
-use Rattle.read_dispatch.proofs.Sorted.{key-word, key-end, key-bad, keyword-bounds, line-empty, line-bad, line_taken, line-refuses, line-gave-up}
+use mathlib.Core.Path.{ap, ◌∙◌}
+use Rattle.std.specs.Prelude.{Err}
+use Rattle.std.proofs.lemmas.Result.{err_from_is_err_and}
+use Rattle.tables.specs.Lent.{lent_mut}
+use Rattle.read_vertex_lines.specs.declared.LineFault.{LineFault}
+use Rattle.read_dispatch.proofs.Sorted.{key-word, key-end, key-bad, keyword-bounds, line-empty, line-bad, line_taken, line-refuses, line-faulted, line-roomless}
 use Rattle.read_dispatch.proofs.line_with.Goals as goal
 
 pub take_line-requires : goal.take_line-requires
 take_line-requires c =
     let a = c.args in
     let word = key-word a.text.now a.at a.key c.requires.key_is c.in-Word.is in
-    record { in_bounds = keyword-bounds a.text.now a.at _ _ word.0 word.1 a.state c.requires.at_in_bounds.1; argument_table_value = c.requires.argument_table_value }
+    keyword-bounds a.text.now a.at _ _ word.0 word.1 a.state c.requires.at_in_bounds.1
 
-pub diagnose-refusal-requires : goal.diagnose-refusal-requires
-diagnose-refusal-requires c =
-    let below = c.requires.at_in_bounds.0 in
-    record { at_in_bounds = omega (arith, below); keyword_table_value = c.requires.keyword_table_value; argument_table_value = c.requires.argument_table_value }
-
-pub returns-in-End : goal.returns-in-End
-returns-in-End c =
+pub returns-in-End-clause-taken : goal.returns-in-End-clause-taken
+returns-in-End-clause-taken c =
     let a = c.args in
-    line-empty a.text.now a.at a.state (tables a.v.now a.vt.now a.vn.now a.vp.now a.corners.now a.elements.now a.bodies.now a.ranges.now a.parameters.now a.loops.now a.spans.now) c.requires.at_in_bounds.1 (key-end a.text.now a.at a.key c.requires.key_is c.in-End.is)
+    line-empty a.text.now a.at a.state (lent_mut a.t.now) c.requires.at_in_bounds.1 (key-end a.text.now a.at a.key c.requires.key_is c.in-End.is)
 
-pub returns-in-Bad : goal.returns-in-Bad
-returns-in-Bad c =
+pub returns-in-Bad-clause-taken : goal.returns-in-Bad-clause-taken
+returns-in-Bad-clause-taken c =
     let a = c.args in
-    line-bad a.text.now a.at a.state (tables a.v.now a.vt.now a.vn.now a.vp.now a.corners.now a.elements.now a.bodies.now a.ranges.now a.parameters.now a.loops.now a.spans.now) (key-bad a.text.now a.at a.key c.requires.key_is c.in-Bad.is)
+    line-bad a.text.now a.at a.state (lent_mut a.t.now) (key-bad a.text.now a.at a.key c.requires.key_is c.in-Bad.is)
 
-pub returns-in-Accepted : goal.returns-in-Accepted
-returns-in-Accepted c =
+pub returns-in-Ok-clause-taken : goal.returns-in-Ok-clause-taken
+returns-in-Ok-clause-taken c =
     let a = c.args in
-    let s = a.text.now in
-    let word = key-word s a.at a.key c.requires.key_is c.in-Word.is in
-    line_taken s a.at _ a.state (tables a.v.now a.vt.now a.vn.now a.vp.now a.corners.now a.elements.now a.bodies.now a.ranges.now a.parameters.now a.loops.now a.spans.now) (tables c.take_line.new.v c.take_line.new.vt c.take_line.new.vn c.take_line.new.vp c.take_line.new.corners c.take_line.new.elements c.take_line.new.bodies c.take_line.new.ranges c.take_line.new.parameters c.take_line.new.loops c.take_line.new.spans) _ c.family_of-family.result c.take_line.result
-    word.0 word.1 c.family_of-family.ensures c.take_line.ensures c.requires.at_in_bounds.1 _ _ c.in-Accepted.is
+    let word = key-word a.text.now a.at a.key c.requires.key_is c.in-Word.is in
+    line_taken a.text.now a.at _ a.state (lent_mut a.t.now) (lent_mut c.take_line.new.t) _ c.family_of.result c.take_line.result
+    word.0 word.1 c.family_of.ensures c.take_line.ensures.taken c.requires.at_in_bounds.1 _ c.in-Ok.is
 
-pub returns-in-Refuses : goal.returns-in-Refuses
-returns-in-Refuses c =
+pub returns-in-Err-AtKeyword-clause-taken : goal.returns-in-Err-AtKeyword-clause-taken
+returns-in-Err-AtKeyword-clause-taken c =
     let a = c.args in
-    let s = a.text.now in
-    let word = key-word s a.at a.key c.requires.key_is c.in-Word.is in
-    line-refuses s a.at _ a.state (tables a.v.now a.vt.now a.vn.now a.vp.now a.corners.now a.elements.now a.bodies.now a.ranges.now a.parameters.now a.loops.now a.spans.now) (tables c.take_line.new.v c.take_line.new.vt c.take_line.new.vn c.take_line.new.vp c.take_line.new.corners c.take_line.new.elements c.take_line.new.bodies c.take_line.new.ranges c.take_line.new.parameters c.take_line.new.loops c.take_line.new.spans) _ c.family_of-family.result c.take_line.result
-    word.0 word.1 c.family_of-family.ensures c.take_line.ensures _ c.in-Refuses.is
+    let word = key-word a.text.now a.at a.key c.requires.key_is c.in-Word.is in
+    line-refuses a.text.now a.at _ a.state (lent_mut a.t.now) (lent_mut c.take_line.new.t) _ c.family_of.result c.take_line.result
+    word.0 word.1 c.family_of.ensures c.take_line.ensures.taken _ (c.in-Err-AtKeyword.is ∙ ap (λ (f : LineFault). Err f) c.in-Err-AtKeyword.field-0-is)
 
-pub returns-in-Rejected : goal.returns-in-Rejected
-returns-in-Rejected c =
+pub returns-in_err-diagnose-in-Err-Unknown-clause-taken : goal.returns-in_err-diagnose-in-Err-Unknown-clause-taken
+returns-in_err-diagnose-in-Err-Unknown-clause-taken c =
     let a = c.args in
-    let s = a.text.now in
-    let word = key-word s a.at a.key c.requires.key_is c.in-Word.is in
-    line-gave-up s a.at _ a.state (tables a.v.now a.vt.now a.vn.now a.vp.now a.corners.now a.elements.now a.bodies.now a.ranges.now a.parameters.now a.loops.now a.spans.now) (tables c.take_line.new.v c.take_line.new.vt c.take_line.new.vn c.take_line.new.vp c.take_line.new.corners c.take_line.new.elements c.take_line.new.bodies c.take_line.new.ranges c.take_line.new.parameters c.take_line.new.loops c.take_line.new.spans) _ c.family_of-family.result c.take_line.result
-    word.0 word.1 c.family_of-family.ensures c.take_line.ensures c.in-Rejected.is c.diagnose-refusal.result c.diagnose-refusal.ensures c.stopped.result c.stopped.ensures
+    let word = key-word a.text.now a.at a.key c.requires.key_is c.in-Word.is in
+    let p = err_from_is_err_and c.from_residual.result c.from_residual.ensures.1 in
+    rw (p.1, p.2)
+    (line-faulted a.text.now a.at _ a.state (lent_mut a.t.now) (lent_mut c.take_line.new.t) _ c.family_of.result c.take_line.result
+    word.0 word.1 c.family_of.ensures c.take_line.ensures.taken (c.in-Err-Unknown.is ∙ ap (λ (f : LineFault). Err f) c.in-Err-Unknown.field-0-is) c.diagnose.result c.diagnose.ensures _ c.in_err-diagnose-in-Err-Unknown.was)
+
+pub returns-in_ok-diagnose-in-Err-Unknown-clause-taken : goal.returns-in_ok-diagnose-in-Err-Unknown-clause-taken
+returns-in_ok-diagnose-in-Err-Unknown-clause-taken c =
+    let a = c.args in
+    let word = key-word a.text.now a.at a.key c.requires.key_is c.in-Word.is in
+    line-roomless a.text.now a.at _ a.state (lent_mut a.t.now) (lent_mut c.take_line.new.t) _ c.family_of.result c.take_line.result
+    word.0 word.1 c.family_of.ensures c.take_line.ensures.taken (c.in-Err-Unknown.is ∙ ap (λ (f : LineFault). Err f) c.in-Err-Unknown.field-0-is) c.diagnose.result c.diagnose.ensures _ c.in_ok-diagnose-in-Err-Unknown.was

@@ -1,22 +1,19 @@
 -- By the answers of `reference_at`: the control is the reference, in the first place.
-use Rattle.read_elements.proofs.Walking.{control-ended}
-use Rattle.references.specs.Reference.{reference_of}
+use lib.ListN.{drop}
+use Rattle.std.proofs.lemmas.Result.{err_from_is_err_and}
 use Rattle.text.specs.Words.{word_of}
 use Rattle.text.specs.Rest.{end_of}
-use lib.ListN.{drop}
+use Rattle.references.specs.Reference.{reference_of}
+use Rattle.read_elements.proofs.Walking.{control-ended, control-wrong}
 use Rattle.read_elements.proofs.control_at.Goals as goal
 
-pub returns-in-Item : goal.returns-in-Item
-returns-in-Item c =
+pub returns : goal.returns
+returns c =
     let a = c.args in
-    control-ended (reference_of a.count (word_of (drop a.at a.text.now))) (end_of a.text.now a.at) _ _ c.reference_at.ensures c.in-Item.is
+    control-ended (reference_of a.count (word_of (drop a.at a.text.now))) (end_of a.text.now a.at) c.in_ok-control.ensures
 
-pub returns-in-Malformed : goal.returns-in-Malformed
-returns-in-Malformed c =
+pub returns-in_err-control : goal.returns-in_err-control
+returns-in_err-control c =
     let a = c.args in
-    control-ended (reference_of a.count (word_of (drop a.at a.text.now))) (end_of a.text.now a.at) _ _ c.reference_at.ensures c.in-Malformed.is
-
-pub returns-in-Missing : goal.returns-in-Missing
-returns-in-Missing c =
-    let a = c.args in
-    control-ended (reference_of a.count (word_of (drop a.at a.text.now))) (end_of a.text.now a.at) _ _ c.reference_at.ensures c.in-Missing.is
+    let p = err_from_is_err_and c.from_residual.result c.from_residual.ensures.1 in
+    rw (p.1, p.2) (control-wrong (reference_of a.count (word_of (drop a.at a.text.now))) (end_of a.text.now a.at) c.in_err-control.ensures)

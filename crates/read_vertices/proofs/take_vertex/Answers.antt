@@ -2,7 +2,6 @@
 use native.Mathlib.Omega.{arith}
 use borrow.Author.Tests.{not-true, not-false}
 use Rattle.word_numbers.proofs.Signs.{reads}
-use Rattle.read_vertices.proofs.Rows as R
 use Rattle.read_vertices.proofs.Taking as T
 use mathlib.Core.Path.{ap}
 use mathlib.Core.Bool.{not}
@@ -25,45 +24,30 @@ overflow_add-first c =
     let fits = T.inside a.kind a.text.now a.at a.used a.table.now c.layout_of-layout.ensures (c.put_blank.ensures.value, c.put_blank.ensures.table_after) (not-false _ (ap not c.if-not-put_blank.false)) in
     omega (arith, c.well_formed)
 
-pub returns-then-layout-eq0 : goal.returns-then-layout-eq0
-returns-then-layout-eq0 c =
+pub returns-in_err-row : goal.returns-in_err-row
+returns-in_err-row c =
     let a = c.args in
-    let whole = R.is_whole _ _ a.text.now a.at _ _ _ c.row_into.ensures c.in-Whole.is in
-    T.taken-plain a.kind a.text.now a.at a.used a.table.now c.layout_of-layout.ensures (c.put_blank.ensures.value, c.put_blank.ensures.table_after) (not-false _ (ap not c.if-not-put_blank.false)) whole c.if-layout-eq0.true
+    rw c.from_residual.ensures
+    (T.no-vertex a.kind a.text.now a.at a.used a.table.now c.layout_of-layout.ensures (c.put_blank.ensures.value, c.put_blank.ensures.table_after) (not-false _ (ap not c.if-not-put_blank.false)) c.in_err-row.ensures)
 
 pub overflow_cast-table : goal.overflow_cast-table
 overflow_cast-table c =
     let a = c.args in
-    let whole = R.is_whole _ _ a.text.now a.at _ _ _ c.row_into.ensures c.in-Whole.is in
-    let small = T.count_small a.kind a.text.now a.at a.used a.table.now c.layout_of-layout.ensures (c.put_blank.ensures.value, c.put_blank.ensures.table_after) (not-false _ (ap not c.if-not-put_blank.false)) whole in
-    omega arith
-
-pub offset_bounds-table-first : goal.offset_bounds-table-first
-offset_bounds-table-first c =
-    let a = c.args in
-    let fits = T.product a.kind a.text.now a.at a.used a.table.now c.layout_of-layout.ensures (omega (arith, c.ranges.used)) in
+    let small = T.count_small a.kind a.text.now a.at a.used a.table.now c.layout_of-layout.ensures (c.put_blank.ensures.value, c.put_blank.ensures.table_after) (not-false _ (ap not c.if-not-put_blank.false)) c.in_ok-row.ensures in
     omega arith
 
 pub bounds-table-first : goal.bounds-table-first
 bounds-table-first c =
     let a = c.args in
-    let whole = R.is_whole _ _ a.text.now a.at _ _ _ c.row_into.ensures c.in-Whole.is in
-    T.in_table a.kind a.text.now a.at a.used a.table.now c.layout_of-layout.ensures (c.put_blank.ensures.value, c.put_blank.ensures.table_after) (not-false _ (ap not c.if-not-put_blank.false)) whole c.if-layout-eq0.false
+    T.in_table a.kind a.text.now a.at a.used a.table.now c.layout_of-layout.ensures (c.put_blank.ensures.value, c.put_blank.ensures.table_after) (not-false _ (ap not c.if-not-put_blank.false)) c.in_ok-row.ensures c.if-layout-ne0.true
 
-pub shape_of-table-else-layout-eq0 : goal.shape_of-table-else-layout-eq0
-shape_of-table-else-layout-eq0 c =
+pub returns-then-layout-ne0 : goal.returns-then-layout-ne0
+returns-then-layout-ne0 c =
     let a = c.args in
-    let whole = R.is_whole _ _ a.text.now a.at _ _ _ c.row_into.ensures c.in-Whole.is in
-    T.still-long a.kind a.text.now a.at a.used a.table.now c.layout_of-layout.ensures (c.put_blank.ensures.value, c.put_blank.ensures.table_after) (not-false _ (ap not c.if-not-put_blank.false)) whole _ _
+    let small = T.count_small a.kind a.text.now a.at a.used a.table.now c.layout_of-layout.ensures (c.put_blank.ensures.value, c.put_blank.ensures.table_after) (not-false _ (ap not c.if-not-put_blank.false)) c.in_ok-row.ensures in
+    T.taken-led a.kind a.text.now a.at a.used a.table.now c.layout_of-layout.ensures (c.put_blank.ensures.value, c.put_blank.ensures.table_after) (not-false _ (ap not c.if-not-put_blank.false)) c.in_ok-row.ensures c.if-layout-ne0.true _ (reads c.in_ok-row.row.value (omega arith))
 
-pub returns-else-layout-eq0 : goal.returns-else-layout-eq0
-returns-else-layout-eq0 c =
+pub returns-else-layout-ne0 : goal.returns-else-layout-ne0
+returns-else-layout-ne0 c =
     let a = c.args in
-    let whole = R.is_whole _ _ a.text.now a.at _ _ _ c.row_into.ensures c.in-Whole.is in
-    let small = T.count_small a.kind a.text.now a.at a.used a.table.now c.layout_of-layout.ensures (c.put_blank.ensures.value, c.put_blank.ensures.table_after) (not-false _ (ap not c.if-not-put_blank.false)) whole in
-    T.taken-led a.kind a.text.now a.at a.used a.table.now c.layout_of-layout.ensures (c.put_blank.ensures.value, c.put_blank.ensures.table_after) (not-false _ (ap not c.if-not-put_blank.false)) whole c.if-layout-eq0.false _ (reads c.in-Whole.count (omega arith))
-
-pub returns-in-Incomplete : goal.returns-in-Incomplete
-returns-in-Incomplete c =
-    let a = c.args in
-    T.no-vertex a.kind a.text.now a.at a.used a.table.now c.layout_of-layout.ensures (c.put_blank.ensures.value, c.put_blank.ensures.table_after) (not-false _ (ap not c.if-not-put_blank.false)) (R.is-not _ _ a.text.now a.at _ _ _ c.row_into.ensures c.in-Incomplete.is)
+    T.taken-plain a.kind a.text.now a.at a.used a.table.now c.layout_of-layout.ensures (c.put_blank.ensures.value, c.put_blank.ensures.table_after) (not-false _ (ap not c.if-not-put_blank.false)) c.in_ok-row.ensures c.if-layout-ne0.false

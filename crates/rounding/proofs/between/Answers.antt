@@ -8,7 +8,7 @@ use mir.Val.{to_z, of_z}
 use mir.Facts.{to_z-of_z}
 use Rattle.rounding.specs.Round.{between}
 use Rattle.rounding.proofs.IntLaws.{abs-+}
-use Rattle.rounding.proofs.Bits.{fits-abs, read_back}
+use Rattle.rounding.proofs.Bits.{read_back}
 use Rattle.rounding.proofs.between.Goals as goal
 use Rattle.rounding.proofs.between.Goals.{After-weighted-2}
 
@@ -21,15 +21,6 @@ sum_is c =
     let x = c.weighted.result in
     let y = c.weighted-2.result in
     rw (read_back w64 x (omega arith), read_back w64 y (omega arith)) (read_back w64 (x +ℤ y) (omega (arith, sum-size c)))
-
-pub overflow_add-n : goal.overflow_add-n
-overflow_add-n c =
-    rw (read_back w64 c.weighted.result (omega arith), read_back w64 c.weighted-2.result (omega arith))
-    (fits-abs w64 (c.weighted.result +ℤ c.weighted-2.result) (omega (arith, sum-size c)))
-
-pub rounded-requires : goal.rounded-requires
-rounded-requires c =
-    (c.requires.3, c.requires.4, rw (sum_is c) (sum-size c))
 
 pub returns : goal.returns
 unfolding between

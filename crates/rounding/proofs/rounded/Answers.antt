@@ -7,13 +7,6 @@ use Rattle.rounding.proofs.Bits.{read_back}
 use Rattle.rounding.proofs.Rounding.{rounded-signed}
 use Rattle.rounding.proofs.rounded.Goals as goal
 
-pub size-requires : goal.size-requires
-size-requires c = rw (to_z-of_z c.ranges.n) (omega (arith, c.requires.1, c.requires.2))
-
-pub nearest-requires : goal.nearest-requires
-nearest-requires c =
-    (c.requires.0, c.requires.1, rw (c.size.ensures, to_z-of_z c.ranges.n) c.requires.2)
-
 pub returns : goal.returns
 returns c =
     rw (read_back w32 c.with_sign.result (omega arith)) (

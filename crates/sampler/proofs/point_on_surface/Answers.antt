@@ -1,56 +1,26 @@
 -- What was looked up is the definition's element and body, or its refusal.
-use mathlib.Core.Path.{sym, ap₂, ◌∙◌}
+use mathlib.Core.Path.{sym, ◌∙◌}
 use mathlib.Core.Bool.{true}
 use mir.Facts.{to_z-of_z}
-use Rattle.tables.specs.Tables.{Tables, tables}
-use Rattle.tables.specs.declared.Body.{Body}
-use Rattle.tables.specs.declared.Element.{Element}
-use Rattle.sampler.specs.Sampling.{answer_on_surface}
+use Rattle.std.proofs.lemmas.Result.{err_from_is_err_and}
+use Rattle.tables.specs.Lent.{lent}
 use Rattle.sampler.proofs.Refusals.{missed, Looked, looked}
-use Rattle.sampler.proofs.Surfaces.{surface-tables, surface-found, surface-lent, refused-surface, surface-answered}
+use Rattle.sampler.proofs.Surfaces.{surface-found, refused-surface, surface-answered}
 use Rattle.sampler.proofs.point_on_surface.Goals as goal
-use Rattle.sampler.proofs.point_on_surface.Goals.{After-surface_at, In-Found, In-Refused}
+use Rattle.sampler.proofs.point_on_surface.Goals.{In_ok-found}
 
-abbrev lent-tables : (s : In-Found) → Tables
-lent-tables s =
-    tables s.args.v.now s.args.vt.now s.args.vn.now s.args.vp.now s.args.corners.now s.args.elements.now
-    s.args.bodies.now s.args.ranges.now s.args.parameters.now s.args.loops.now s.args.spans.now
+pub returns-in_err-found : goal.returns-in_err-found
+returns-in_err-found c =
+    let a = c.args in
+    let p = err_from_is_err_and c.from_residual.result c.from_residual.ensures.1 in
+    rw (p.1, p.2) (refused-surface a.used (lent a.t.now) a.element a.along_u a.along_v (missed true a.used (lent a.t.now) a.element (sym c.in_err-found.ensures)))
 
-abbrev el : (c : In-Found) → Element
-el c = c.in-Found.element
-
-abbrev bo : (c : In-Found) → Body
-bo c = c.in-Found.body
-
-there : (c : In-Found) → Looked true c.args.used (lent-tables c) c.args.element (el c) (bo c)
-there c = looked true c.args.used (lent-tables c) c.args.element (sym c.look_up-found.ensures ∙ c.in-Found.is)
+there : (c : In_ok-found) → let f = c.in_ok-found.found in Looked true c.args.used (lent c.args.t.now) c.args.element f.element f.body
+there c = looked true c.args.used (lent c.args.t.now) c.args.element (sym c.in_ok-found.ensures)
 
 pub surface_at-requires : goal.surface_at-requires
-surface_at-requires c = surface-lent (surface-found (there c))
+surface_at-requires c = surface-found (there (goal.at.surface_at-requires c).In_ok-found)
 
-abbrev lent-tables-at-In-Refused : (s : In-Refused) → Tables
-lent-tables-at-In-Refused s =
-    tables s.args.v.now s.args.vt.now s.args.vn.now s.args.vp.now s.args.corners.now s.args.elements.now
-    s.args.bodies.now s.args.ranges.now s.args.parameters.now s.args.loops.now s.args.spans.now
-
-pub returns-in-Refused : goal.returns-in-Refused
-returns-in-Refused c =
-    refused-surface c.args.s c.args.t (missed true c.args.used (lent-tables-at-In-Refused c) c.args.element (sym c.look_up-found.ensures ∙ c.in-Refused.is))
-
-abbrev lent-tables-at-After-surface_at : (s : After-surface_at) → Tables
-lent-tables-at-After-surface_at s =
-    tables s.args.v.now s.args.vt.now s.args.vn.now s.args.vp.now s.args.corners.now s.args.elements.now
-    s.args.bodies.now s.args.ranges.now s.args.parameters.now s.args.loops.now s.args.spans.now
-
-abbrev el-at-After-surface_at : (c : After-surface_at) → Element
-el-at-After-surface_at c = c.in-Found.element
-
-abbrev bo-at-After-surface_at : (c : After-surface_at) → Body
-bo-at-After-surface_at c = c.in-Found.body
-
-there-at-After-surface_at : (c : After-surface_at) → Looked true c.args.used (lent-tables-at-After-surface_at c) c.args.element (el-at-After-surface_at c) (bo-at-After-surface_at c)
-there-at-After-surface_at c = looked true c.args.used (lent-tables-at-After-surface_at c) c.args.element (sym c.look_up-found.ensures ∙ c.in-Found.is)
-
-pub returns-in-Found : goal.returns-in-Found
-returns-in-Found c =
-    c.surface_at.ensures ∙ ap₂ (answer_on_surface (surface-tables (lent-tables-at-After-surface_at c)) (el-at-After-surface_at c) (bo-at-After-surface_at c)) (to_z-of_z c.ranges.s) (to_z-of_z c.ranges.t) ∙ surface-answered c.args.s c.args.t (there-at-After-surface_at c)
+pub returns : goal.returns
+returns c =
+    rw (to_z-of_z c.ranges.along_u, to_z-of_z c.ranges.along_v) at c.surface_at.ensures ∙ surface-answered _ _ _ c.args.along_u c.args.along_v (there (goal.at.returns c).In_ok-found)

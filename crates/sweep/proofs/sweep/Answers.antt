@@ -1,57 +1,41 @@
 -- A refusal leaves everything as it was; else the passes one after the other, each by what it ensures.
-use Rattle.sweep.proofs.Answering.{Passed, passed, refused-is, swept-is, fewer-left, lent, vertices-lent, corners-lent, rest-lent}
-use Rattle.tables.specs.Tables.{Tables, tables}
+use Rattle.std.proofs.Common.{ap, ◌∙◌, length}
+use Rattle.std.proofs.Math.Seq.{length-sets}
+use Rattle.tables.specs.Lent.{lent_mut}
+use Rattle.std.proofs.lemmas.Result.{err_from_is_err_and}
+use Rattle.sweep_marks.specs.Marks.{runs_by}
+use Rattle.sweep.proofs.Answering.{passed, refused-is, swept-is, fewer-left, lent, vertices-lent, corners-lent, rest-lent}
 use Rattle.sweep.proofs.sweep.Goals as goal
-use Rattle.sweep.proofs.sweep.Goals.{After-clear_rest-arg-7-1, After-dropped_of, After-renumber-arg-1, After-spans-1, After-sweep_vertices-arg-5-1, Then-number-ne0}
 
-abbrev t : (c : Then-number-ne0) → Tables
-t c = let a = c.args in tables a.v.now a.vt.now a.vn.now a.vp.now a.corners.now a.elements.now a.bodies.now a.ranges.now a.parameters.now a.loops.now a.spans.now
+pub returns-in_err-refusal_of-clause-answer : goal.returns-in_err-refusal_of-clause-answer
+returns-in_err-refusal_of-clause-answer c =
+    let p = err_from_is_err_and c.from_residual.result c.from_residual.ensures.1 in
+    rw (p.1, p.2) (refused-is c.args.used (lent_mut c.args.t.now) c.args.numbers.now (rw c.shared.ensures at c.in_err-refusal_of.ensures))
 
-pub returns-then-number-ne0 : goal.returns-then-number-ne0
-returns-then-number-ne0 c = refused-is c.args.used (t c) c.args.numbers.now c.refusal_of-number.ensures c.if-number-ne0.true
-
-abbrev t-at-After-sweep_vertices-arg-5-1 : (c : After-sweep_vertices-arg-5-1) → Tables
-t-at-After-sweep_vertices-arg-5-1 c = let a = c.args in tables a.v.now a.vt.now a.vn.now a.vp.now a.corners.now a.elements.now a.bodies.now a.ranges.now a.parameters.now a.loops.now a.spans.now
-
--- past them
-through : (c : After-sweep_vertices-arg-5-1) → Passed c.args.used (t-at-After-sweep_vertices-arg-5-1 c) c.args.numbers.now
-through c = passed _ _ _ c.refusal_of-number.ensures c.if-number-ne0.false
-
-pub sweep_vertices-after-requires : goal.sweep_vertices-after-requires
-sweep_vertices-after-requires c = vertices-lent c.args.used (t-at-After-sweep_vertices-arg-5-1 c) c.args.numbers.now (through c)
-
-abbrev t-at-After-renumber-arg-1 : (c : After-renumber-arg-1) → Tables
-t-at-After-renumber-arg-1 c = let a = c.args in tables a.v.now a.vt.now a.vn.now a.vp.now a.corners.now a.elements.now a.bodies.now a.ranges.now a.parameters.now a.loops.now a.spans.now
-
--- past them
-through-at-After-renumber-arg-1 : (c : After-renumber-arg-1) → Passed c.args.used (t-at-After-renumber-arg-1 c) c.args.numbers.now
-through-at-After-renumber-arg-1 c = passed _ _ _ c.refusal_of-number.ensures c.if-number-ne0.false
-
-pub renumber-requires : goal.renumber-requires
-renumber-requires c = corners-lent c.args.used (t-at-After-renumber-arg-1 c) c.args.numbers.now (through-at-After-renumber-arg-1 c)
-
-abbrev t-at-After-clear_rest-arg-7-1 : (c : After-clear_rest-arg-7-1) → Tables
-t-at-After-clear_rest-arg-7-1 c = let a = c.args in tables a.v.now a.vt.now a.vn.now a.vp.now a.corners.now a.elements.now a.bodies.now a.ranges.now a.parameters.now a.loops.now a.spans.now
-
--- past them
-through-at-After-clear_rest-arg-7-1 : (c : After-clear_rest-arg-7-1) → Passed c.args.used (t-at-After-clear_rest-arg-7-1 c) c.args.numbers.now
-through-at-After-clear_rest-arg-7-1 c = passed _ _ _ c.refusal_of-number.ensures c.if-number-ne0.false
+pub sweep_named-after-requires : goal.sweep_named-after-requires
+sweep_named-after-requires c =
+    let s = c.args in
+    let t = lent_mut s.t.now in
+    let through = passed s.used t s.numbers.now (rw c.shared.ensures at c.in_ok-refusal_of.ensures) in
+    record { lent = vertices-lent s.used t s.numbers.now through; follow = corners-lent s.used t s.numbers.now through }
 
 pub clear_rest-requires : goal.clear_rest-requires
-clear_rest-requires c = rest-lent c.args.used (t-at-After-clear_rest-arg-7-1 c) c.args.numbers.now (through-at-After-clear_rest-arg-7-1 c) c.corners-1.given
-
-abbrev t-at-After-spans-1 : (c : After-spans-1) → Tables
-t-at-After-spans-1 c = let a = c.args in tables a.v.now a.vt.now a.vn.now a.vp.now a.corners.now a.elements.now a.bodies.now a.ranges.now a.parameters.now a.loops.now a.spans.now
+clear_rest-requires c =
+    let s = c.args in
+    let t = lent_mut s.t.now in
+    let named = c.sweep_named-after.ensures in
+    rw named.elements
+    (rest-lent s.used t s.numbers.now (passed s.used t s.numbers.now (rw c.shared.ensures at c.in_ok-refusal_of.ensures)) (ap length named.corners ∙ length-sets s.t.now.corners.now 0 (runs_by s.used c.sweep_named-after.new.numbers s.t.now.elements.now s.t.now.corners.now s.used.elements)))
 
 pub dropped_of-requires : goal.dropped_of-requires
-dropped_of-requires c = fewer-left c.args.used (t-at-After-spans-1 c) c.args.numbers.now c.sweep_vertices-after.ensures
+dropped_of-requires c = let s = c.args in fewer-left s.used (lent_mut s.t.now) s.numbers.now c.sweep_named-after.ensures.vertices
 
-abbrev t-at-After-dropped_of : (c : After-dropped_of) → Tables
-t-at-After-dropped_of c = let a = c.args in tables a.v.now a.vt.now a.vn.now a.vp.now a.corners.now a.elements.now a.bodies.now a.ranges.now a.parameters.now a.loops.now a.spans.now
-
--- past them
-through-at-After-dropped_of : (c : After-dropped_of) → Passed c.args.used (t-at-After-dropped_of c) c.args.numbers.now
-through-at-After-dropped_of c = passed _ _ _ c.refusal_of-number.ensures c.if-number-ne0.false
-
-pub returns : goal.returns
-returns c = let x = c.clear_rest.ensures in swept-is c.args.used (t-at-After-dropped_of c) c.args.numbers.now c.sweep_vertices-after.ensures (through-at-After-dropped_of c) (lent c.args.used (t-at-After-dropped_of c) c.args.numbers.now (through-at-After-dropped_of c)).elements.corners c.renumber.ensures x.0 x.1 x.2 x.3 x.4 x.5 x.6 c.dropped_of.ensures
+pub returns-clause-answer : goal.returns-clause-answer
+returns-clause-answer c =
+    let s = c.args in
+    let t = lent_mut s.t.now in
+    let through = passed s.used t s.numbers.now (rw c.shared.ensures at c.in_ok-refusal_of.ensures) in
+    let named = c.sweep_named-after.ensures in
+    let rest = c.clear_rest.ensures in
+    swept-is s.used t s.numbers.now named.vertices through (lent s.used t s.numbers.now through).elements.corners named.corners
+    rest.vertices rest.corners (rw named.elements at rest.elements) rest.bodies rest.ranges rest.parameters rest.loops rest.spans c.dropped_of.ensures

@@ -1,22 +1,23 @@
--- The invariant: the entries passed are numbers, the rest are marks.
-use Rattle.sweep_marks.proofs.Numbering.{numbered-none, numbered_more, numbered-all, numbered-most}
-use native.Mathlib.Omega.{arith}
+-- The entries passed are numbers, the rest are marks: `Numbered`.
+use Rattle.std.proofs.Common.{◌∙◌, arith}
+use Rattle.sweep_marks.proofs.Numbering.{numbered-none, numbered_more, numbered-most, mark-stays, mark-numbered}
 use Rattle.sweep_marks.proofs.number_marks.Goals as goal
+use Rattle.sweep_marks.proofs.number_marks.Goals.{then-mark-ne0, else-mark-ne0}
 
-pub loop-i-init : goal.loop-i-init
-loop-i-init c = numbered-none c.args.marks.now
+pub loop-mark-init : goal.loop-mark-init
+loop-mark-init c = numbered-none c.args.marks.now
 
-pub number_mark-kept-requires : goal.number_mark-kept-requires
-number_mark-kept-requires c = let n = c.loop-i.invariant in let m = numbered-most n in let e = n.long in (omega arith, omega arith)
+pub overflow_add-kept : goal.overflow_add-kept
+overflow_add-kept c = let n = c.loop-mark.invariant in record { fits = omega (arith, numbered-most n, n.long, c.requires) }
 
-pub loop-i-smaller : goal.loop-i-smaller
-loop-i-smaller c = let n = c.loop-i.invariant in let e = n.long in omega arith
-
-pub loop-i-preserved : goal.loop-i-preserved
-loop-i-preserved c = let n = c.loop-i.invariant in let e = n.long in numbered_more n (omega arith) c.number_mark-kept.ensures.0 c.number_mark-kept.ensures.1
-
-pub shape_of-marks : goal.shape_of-marks
-shape_of-marks c = c.loop-i.invariant.long
-
-pub returns : goal.returns
-returns c = let n = c.loop-i.invariant in let e = n.long in numbered-all n (omega arith)
+pub loop-mark-preserved : goal.loop-mark-preserved
+loop-mark-preserved c =
+    let l = c.loop-mark in
+    elim c.if-mark-ne0.branch [
+      | then-mark-ne0 w ↦
+          let one = mark-numbered l.marks l.mark-index l.kept w.if-mark-ne0.true in
+          numbered_more l.invariant c.loop-mark-test.true (w.kept-is ∙ one.0) (w.marks-is ∙ one.1)
+      | else-mark-ne0 w ↦
+          let one = mark-stays l.marks l.mark-index l.kept w.if-mark-ne0.false in
+          numbered_more l.invariant c.loop-mark-test.true (w.kept-is ∙ one.0) (w.marks-is ∙ one.1)
+    ]

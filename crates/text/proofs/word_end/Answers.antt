@@ -7,10 +7,10 @@ pub loop-i-init : goal.loop-i-init
 loop-i-init c = record { to = c.requires; ends = refl }
 
 pub loop-i-preserved : goal.loop-i-preserved
-loop-i-preserved c = L.word-turn c.loop-i.invariant c.loop-i-test.true _ c.is_word.ensures c.if-is_word.true
+loop-i-preserved c = L.word-turn c.loop-i.invariant c.loop-i-test.true _ c.is_word.ensures c.if-not-is_word.false
 
-pub returns-else-is_word : goal.returns-else-is_word
-returns-else-is_word c = L.word-stop c.loop-i.invariant c.loop-i-test.true _ c.is_word.ensures c.if-is_word.false
+pub returns-then-not-is_word : goal.returns-then-not-is_word
+returns-then-not-is_word c = L.word-stop c.loop-i.invariant c.loop-i-test.true _ c.is_word.ensures c.if-not-is_word.true
 
 pub returns : goal.returns
 returns c = L.word-done c.loop-i.invariant c.loop-i-test.false

@@ -20,12 +20,12 @@ mantissa_ahead-requires c =
 
 pub in_millionths-requires : goal.in_millionths-requires
 in_millionths-requires c =
-    decimals-fit c.digits_upto-f.ensures (low-stops (drop c.digits_upto-f.result.end c.args.text.now) c.byte_in-b.result c.byte_in-b.ensures c.if-b-gt32.false) c.requires.2
+    decimals-fit c.digits_upto-f.ensures (low-stops (drop c.digits_upto-f.result.next c.args.text.now) c.byte_in-b.result c.byte_in-b.ensures c.if-b-gt32.false) c.requires.2
 
 pub returns : goal.returns
 returns c =
     let l = c.if-b-gt32.false in
     let e = c.byte_in-b.ensures in (
-      decimals-of c.digits_upto-f.ensures (low-stops (drop c.digits_upto-f.result.end c.args.text.now) c.byte_in-b.result c.byte_in-b.ensures c.if-b-gt32.false) c.in_millionths.result c.in_millionths.ensures c.args.count (omega arith) c.if-count-end-eq0.false,
+      decimals-of c.digits_upto-f.ensures (low-stops (drop c.digits_upto-f.result.next c.args.text.now) c.byte_in-b.result c.byte_in-b.ensures c.if-b-gt32.false) c.in_millionths.result c.in_millionths.ensures c.args.count (omega arith) c.if-count-end-eq0.false,
       few-near c.digits_upto-f.ensures,
     )

@@ -10,12 +10,12 @@ use Rattle.word_numbers.proofs.mantissa_ahead.Goals as goal
 
 pub in_millionths-requires : goal.in_millionths-requires
 in_millionths-requires c =
-    let stop = first (drop c.args.f.end c.args.text.now) in
+    let stop = first (drop c.args.f.next c.args.text.now) in
     let h : is_e stop ≡ true = sym (ap is_e c.byte_in.ensures) ∙ sym c.is_e.ensures ∙ c.if-is_e.true in
     decimals-fit c.requires.upto_read (e-no-digit stop h) c.requires.end_in_bounds.2
 
 pub returns-then-is_e : goal.returns-then-is_e
 returns-then-is_e c =
-    let stop = first (drop c.args.f.end c.args.text.now) in
+    let stop = first (drop c.args.f.next c.args.text.now) in
     let h : is_e stop ≡ true = sym (ap is_e c.byte_in.ensures) ∙ sym c.is_e.ensures ∙ c.if-is_e.true in
     decimals-ahead c.requires.upto_read (e-no-digit stop h) c.in_millionths.result c.in_millionths.ensures c.args.count c.if-count-stop-eq0.false h

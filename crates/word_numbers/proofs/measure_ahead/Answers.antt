@@ -34,17 +34,17 @@ returns-then-b-eq46 c =
     let s = c.args.text.now in
     let n = few-near c.digits_upto-w.ensures in
     let f = four c.digits_upto-w.ensures (ap is_digit (sym c.byte_in-b.ensures ∙ c.if-b-eq46.true)) in
-    let x = ends_at (pointed (c.digits_upto-w.result.end - c.args.at) c.digits_upto-w.result.value (word_of (drop (c.digits_upto-w.result.end + 1) s))) (end_of s (c.digits_upto-w.result.end + 1)) in
-    exact-on (c.digits_upto-w.result.end + 1 + 6) (c.args.at + 11) x (ends_at (magnitude_of (word_of (drop c.args.at s))) (end_of s c.args.at)) (DecimalsAhead s (c.digits_upto-w.result.end + 1) (c.digits_upto-w.result.end - c.args.at) c.digits_upto-w.result.value) (MantissaAhead s c.args.at) c.decimals_ahead.result
-    (measure-point s c.args.at c.digits_upto-w.result.end c.digits_upto-w.result.value f c.byte_in-b.result c.byte_in-b.ensures c.if-b-eq46.true x refl)
+    let x = ends_at (pointed (c.digits_upto-w.result.next - c.args.at) c.digits_upto-w.result.value (word_of (drop (c.digits_upto-w.result.next + 1) s))) (end_of s (c.digits_upto-w.result.next + 1)) in
+    exact-on (c.digits_upto-w.result.next + 1 + 6) (c.args.at + 11) x (ends_at (magnitude_of (word_of (drop c.args.at s))) (end_of s c.args.at)) (DecimalsAhead s (c.digits_upto-w.result.next + 1) (c.digits_upto-w.result.next - c.args.at) c.digits_upto-w.result.value) (MantissaAhead s c.args.at) c.decimals_ahead.result
+    (measure-point s c.args.at c.digits_upto-w.result.next c.digits_upto-w.result.value f c.byte_in-b.result c.byte_in-b.ensures c.if-b-eq46.true x refl)
     (omega arith)
-    (with-decimals s c.args.at c.digits_upto-w.result.end c.digits_upto-w.result.value f (few-all c.digits_upto-w.ensures (ap is_digit (sym c.byte_in-b.ensures ∙ c.if-b-eq46.true))) c.byte_in-b.result c.byte_in-b.ensures c.if-b-eq46.true)
+    (with-decimals s c.args.at c.digits_upto-w.result.next c.digits_upto-w.result.value f (few-all c.digits_upto-w.ensures (ap is_digit (sym c.byte_in-b.ensures ∙ c.if-b-eq46.true))) c.byte_in-b.result c.byte_in-b.ensures c.if-b-eq46.true)
     c.decimals_ahead.ensures
 
 pub overflow_mul-result : goal.overflow_mul-result
 overflow_mul-result c =
     let s = c.args.text.now in
-    let f = four c.digits_upto-w.ensures (low-stops (drop c.digits_upto-w.result.end s) c.byte_in-b.result c.byte_in-b.ensures c.if-b-gt32.false) in
+    let f = four c.digits_upto-w.ensures (low-stops (drop c.digits_upto-w.result.next s) c.byte_in-b.result c.byte_in-b.ensures c.if-b-gt32.false) in
     let v = f.value-is in
     omega arith
 

@@ -10,10 +10,12 @@ use Rattle.text.specs.Words.{word_of}
 use Rattle.text.specs.Rest.{end_of}
 use Rattle.digits.specs.Answers.{ends_at}
 use Rattle.decimals.specs.Straight.{magnitude_of, size_of, MantissaAhead}
-use Rattle.decimals.specs.Answers.{said_magnitude}
+use Rattle.std.proofs.lemmas.Result.{err_from_is_err_and}
+use Rattle.refusals.specs.Reasons.{reason_number}
+use Rattle.digits.specs.Said.{says, wrong}
 use Rattle.word_numbers.specs.Answers.{ExactIs}
 use Rattle.decimals.proofs.Signed.{sign-most}
-use Rattle.word_numbers.proofs.Numbers.{number_read}
+use Rattle.word_numbers.proofs.Numbers.{number-not, number_read}
 use Rattle.word_numbers.proofs.Decimals.{size-plain, size-scaled}
 use Rattle.word_numbers.proofs.Ahead.{settle-exact}
 use Rattle.decimals.proofs.Ahead.{ahead-no-decimal}
@@ -56,6 +58,17 @@ settled-requires c =
     let q =
     subst (ExactIs (at + 11) (ends_at (magnitude_of (word_of (drop at s))) (end_of s at)) (MantissaAhead s at)) c.in-Scaled.is c.measure_ahead.ensures in record {
       at_in_bounds = (c.requires, c.byte_in-b.ensures);
-      size_value = size-scaled (word_of (drop at s)) (end_of s at) (said_magnitude c.shifted.result) (ahead-no-decimal s at c.in-Scaled.millionths c.in-Scaled.end q) c.shifted.ensures
+      size_value = size-scaled (word_of (drop at s)) 6 (end_of s at) (says (c.in_ok-size-in-Scaled.size.value, c.in_ok-size-in-Scaled.size.next)) (ahead-no-decimal s at c.in-Scaled.millionths c.in-Scaled.end q) c.in_ok-size-in-Scaled.ensures
           ∙ ap (λ (i : ℕ). ends_at (size_of (word_of (drop (c.args.at + i) s))) (end_of s (c.args.at + i))) c.sign_length.ensures;
     }
+
+pub returns-in_err-size-in-Scaled : goal.returns-in_err-size-in-Scaled
+returns-in_err-size-in-Scaled c =
+    let s = c.args.text.now in
+    let at = c.args.at + c.sign_length.result in
+    let q =
+    subst (ExactIs (at + 11) (ends_at (magnitude_of (word_of (drop at s))) (end_of s at)) (MantissaAhead s at)) c.in-Scaled.is c.measure_ahead.ensures in
+    let p = err_from_is_err_and c.from_residual.result c.from_residual.ensures.1 in
+    rw (p.1, p.2)
+    (number-not s c.args.at c.byte_in-b.result c.sign_length.result c.requires c.byte_in-b.ensures c.sign_length.ensures _
+    (size-scaled (word_of (drop at s)) 6 (end_of s at) (wrong (reason_number c.in_err-size-in-Scaled.field-0.0)) (ahead-no-decimal s at c.in-Scaled.millionths c.in-Scaled.end q) c.in_err-size-in-Scaled.ensures))

@@ -14,4 +14,4 @@ digits_upto-requires c =
 pub returns-then-left-lt7 : goal.returns-then-left-lt7
 returns-then-left-lt7 c =
     let a = c.args in
-    few-seven a.text.now a.at a.whole (length a.text.now - a.at) c.digits_upto.result.end c.digits_upto.result.value refl c.if-left-lt7.true c.digits_upto.ensures
+    few-seven a.text.now a.at a.whole (length a.text.now - a.at) c.digits_upto.result.next c.digits_upto.result.value refl c.if-left-lt7.true c.digits_upto.ensures

@@ -12,6 +12,6 @@ pub returns-then-minus : goal.returns-then-minus
 returns-then-minus c =
     minus-back c.args.m c.requires ∙ sym (ap (λ (b : Bool). with_sign b c.args.m) c.if-minus.true)
 
-pub returns : goal.returns
-returns c =
+pub returns-else-minus : goal.returns-else-minus
+returns-else-minus c =
     reads c.args.m c.requires ∙ sym (ap (λ (b : Bool). with_sign b c.args.m) c.if-minus.false)

@@ -1,18 +1,17 @@
 -- Without an exponent, else with one.
-use mathlib.Core.Path.{◌∙◌, sym, ap}
 use lib.ListN.{drop}
 use Rattle.text.specs.Words.{word_of}
 use Rattle.text.specs.Rest.{end_of}
-use Rattle.decimals.specs.Answers.{said_magnitude}
+use Rattle.digits.specs.Answers.{said}
 use Rattle.word_numbers.proofs.Decimals.{size-plain, size-scaled}
 use Rattle.word_numbers.proofs.size.Goals as goal
 
-pub returns-in-Of : goal.returns-in-Of
-returns-in-Of c =
+pub returns-in-Ok : goal.returns-in-Ok
+returns-in-Ok c =
     let a = c.args in
-    size-plain (word_of (drop a.at a.text.now)) c.in-Of.value c.in-Of.end (end_of a.text.now a.at) (sym (ap said_magnitude c.in-Of.is) ∙ c.measure.ensures)
+    size-plain (word_of (drop a.at a.text.now)) c.in-Ok.size.value c.in-Ok.size.next (end_of a.text.now a.at) c.in-Ok.ensures
 
-pub returns-in-Bad : goal.returns-in-Bad
-returns-in-Bad c =
+pub returns-in-Err : goal.returns-in-Err
+returns-in-Err c =
     let a = c.args in
-    size-scaled (word_of (drop a.at a.text.now)) (end_of a.text.now a.at) (said_magnitude c.scaled.result) (sym (ap said_magnitude c.in-Bad.is) ∙ c.measure.ensures) c.scaled.ensures
+    size-scaled (word_of (drop a.at a.text.now)) _ (end_of a.text.now a.at) (said c.scaled.result) c.in-Err.ensures c.scaled.ensures

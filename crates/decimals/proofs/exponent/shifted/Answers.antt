@@ -1,7 +1,6 @@
 -- An exponent that is none, or a value.
-use mathlib.Core.Path.{sym, ap, ◌∙◌}
 use native.Mathlib.Omega.{arith}
-use Rattle.decimals.specs.Answers.{said_exponent}
+use Rattle.std.proofs.lemmas.Result.{err_from_is_err_and}
 use Rattle.decimals.proofs.Ahead.{ahead_small, ahead_in, shifted-malformed, shifted-read}
 use borrow.Author.Rules.{rules}
 use Rattle.decimals.proofs.exponent.shifted.Goals as goal
@@ -24,10 +23,12 @@ overflow_mul-millionths c =
 pub moved-value-requires : goal.moved-value-requires
 moved-value-requires c = ahead_small c.args.text.now c.args.at c.args.millionths c.args.end c.requires
 
-pub returns-in-Bad : goal.returns-in-Bad
-returns-in-Bad c =
-    shifted-malformed c.args.text.now c.args.at c.args.millionths c.args.end c.requires (sym (ap said_exponent c.in-Bad.is) ∙ c.exponent_at.ensures)
+pub returns-in_err-exponent : goal.returns-in_err-exponent
+returns-in_err-exponent c =
+    let p = err_from_is_err_and c.from_residual.result c.from_residual.ensures.1 in
+    rw (p.1, p.2)
+    (shifted-malformed c.args.text.now c.args.at c.args.millionths c.args.end c.requires _ c.in_err-exponent.ensures)
 
-pub returns-in-Of : goal.returns-in-Of
-returns-in-Of c =
-    shifted-read c.args.text.now c.args.at c.args.millionths c.args.end c.requires c.in-Of.minus c.in-Of.power c.in-Of.end c.moved-value.result (sym (ap said_exponent c.in-Of.is) ∙ c.exponent_at.ensures) c.moved-value.ensures
+pub returns : goal.returns
+returns c =
+    shifted-read c.args.text.now c.args.at c.args.millionths c.args.end c.requires c.in_ok-exponent.exponent.value c.in_ok-exponent.exponent.next c.moved-value.result c.in_ok-exponent.ensures c.moved-value.ensures

@@ -1,31 +1,20 @@
 -- The form from `row_at`, then the value.
-use mathlib.Core.Path.{◌∙◌, sym, ap}
-use Rattle.digits.specs.Answers.{said_row}
-use Rattle.digits.proofs.Wholes.{RowRead, degree-bad, degree-low, degree-high, degree-of}
+use Rattle.std.proofs.lemmas.Result.{err_from_is_err_and}
+use Rattle.digits.proofs.Wholes.{degree-bad, degree-low, degree-high, degree-of}
 use Rattle.digits.proofs.whole.degree_at.Goals as goal
-use Rattle.digits.proofs.whole.degree_at.Goals.{Else-value-gt20, Then-value-eq0, Then-value-gt20}
+use Rattle.digits.proofs.whole.degree_at.Goals.{then-degree-eq0-via-then-degree-eq0, then-degree-eq0-via-else-degree-eq0+then-degree-gt20}
 
-row : (c : Then-value-eq0) → RowRead 3 c.args.text.now c.args.at c.in-Of.value c.in-Of.end
-row c = sym (ap said_row c.in-Of.is) ∙ c.row_at.ensures
+pub returns-in_err-degree : goal.returns-in_err-degree
+returns-in_err-degree c =
+    let p = err_from_is_err_and c.from_residual.result c.from_residual.ensures.1 in
+    rw (p.1, p.2) (degree-bad c.args.text.now c.args.at c.in_err-degree.ensures)
 
-pub returns-then-value-eq0 : goal.returns-then-value-eq0
-returns-then-value-eq0 c = degree-low c.args.text.now c.args.at _ _ (row c) c.if-value-eq0.true
-
-row-at-Then-value-gt20 : (c : Then-value-gt20) → RowRead 3 c.args.text.now c.args.at c.in-Of.value c.in-Of.end
-row-at-Then-value-gt20 c = sym (ap said_row c.in-Of.is) ∙ c.row_at.ensures
-
-pub returns-then-value-gt20 : goal.returns-then-value-gt20
-returns-then-value-gt20 c =
-    degree-high c.args.text.now c.args.at _ _ (row-at-Then-value-gt20 c) c.if-value-eq0.false c.if-value-gt20.true
-
-pub returns-in-Malformed : goal.returns-in-Malformed
-returns-in-Malformed c =
+pub returns-then-degree-eq0 : goal.returns-then-degree-eq0
+returns-then-degree-eq0 c =
     let a = c.args in
-    degree-bad a.text.now a.at (sym (ap said_row c.in-Malformed.is) ∙ c.row_at.ensures)
+    let h = c.in_ok-degree.ensures in
+    elim c.then-degree-eq0.branch [ then-degree-eq0-via-then-degree-eq0 w ↦ degree-low a.text.now a.at _ _ h w.if-degree-eq0.true | then-degree-eq0-via-else-degree-eq0+then-degree-gt20 w ↦ degree-high a.text.now a.at _ _ h w.if-degree-eq0.false w.if-degree-gt20.true ]
 
-row-at-Else-value-gt20 : (c : Else-value-gt20) → RowRead 3 c.args.text.now c.args.at c.in-Of.value c.in-Of.end
-row-at-Else-value-gt20 c = sym (ap said_row c.in-Of.is) ∙ c.row_at.ensures
-
-pub returns-else-value-gt20 : goal.returns-else-value-gt20
-returns-else-value-gt20 c =
-    degree-of c.args.text.now c.args.at _ _ (row-at-Else-value-gt20 c) c.if-value-eq0.false c.if-value-gt20.false
+pub returns : goal.returns
+returns c =
+    degree-of c.args.text.now c.args.at _ _ c.in_ok-degree.ensures c.if-degree-eq0.false c.if-degree-gt20.false

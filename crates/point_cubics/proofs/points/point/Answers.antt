@@ -3,7 +3,7 @@ use mathlib.Core.Path.{ap₂, ◌∙◌}
 use native.Mathlib.Omega.{arith}
 use borrow.Author.Tests.{eq-eqb, ne_eqb}
 use Rattle.rounding.proofs.Bits.{read-back-small}
-use Rattle.sampler.specs.declared.PointResult.TheVariants as sampled
+use Rattle.sampler.specs.declared.Point.TheVariants as sampled
 use Rattle.sampler.proofs.Entries.{space-eq}
 use Rattle.point_cubics.specs.Inner.{step_point_by}
 use Rattle.point_cubics.proofs.points.point.Goals as goal

@@ -8,12 +8,6 @@ pub search-requires : goal.search-requires
 search-requires c =
     rw (to_z-of_z c.ranges.t) (c.requires, begun c.requires (lead-spline c.args.along c.args.x.now (eq-eqb _ _ c.if-along-eq-BSPLINE.true)))
 
-pub returns-then-along-eq-BSPLINE : goal.returns-then-along-eq-BSPLINE
-returns-then-along-eq-BSPLINE c = rw (to_z-of_z c.ranges.t) at c.search.ensures
-
 pub search-requires-2 : goal.search-requires-2
 search-requires-2 c =
     rw (to_z-of_z c.ranges.t) (c.requires, begun c.requires (lead-bezier c.args.along c.args.x.now (ne_eqb _ _ c.if-along-eq-BSPLINE.false)))
-
-pub returns : goal.returns
-returns c = rw (to_z-of_z c.ranges.t) at c.search-2.ensures

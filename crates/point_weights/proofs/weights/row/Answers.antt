@@ -4,4 +4,4 @@ use Rattle.point_weights.proofs.Table.{rule}
 use Rattle.point_weights.proofs.weights.row.Goals as goal
 
 pub returns : goal.returns
-returns c = rule c.weights-table.ensures c.args.j (omega arith) _
+returns c = rule c.weights.ensures c.args.j (omega arith) _

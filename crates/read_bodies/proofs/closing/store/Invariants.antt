@@ -1,9 +1,5 @@
-use Prim.Native.Nat.{◌-◌}
 use Rattle.read_bodies.proofs.Closings as C
 use Rattle.read_bodies.proofs.closing.store.Given as goal
 
 abbrev pub invariant-loop-done : goal.invariant-loop-done
 invariant-loop-done l = C.Storing l.text l.at l.count l.asked l.initial.parameters l.first l.i l.done l.order l.parameters
-
-abbrev pub decreases-loop-done : goal.decreases-loop-done
-decreases-loop-done l = l.count - l.done

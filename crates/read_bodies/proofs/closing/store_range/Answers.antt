@@ -8,5 +8,5 @@ use Rattle.read_bodies.proofs.closing.store_range.Goals as goal
 pub returns : goal.returns
 returns c =
     let a = c.args in
-    let answer = put_of a.ranges.now (4 * (a.used - 1)) c.range_row-row.ensures (c.put_i32.ensures.value, c.put_i32.ensures.values_after) in
+    let answer = put_of a.ranges.now (4 * (a.used - 1)) c.range_row-row.ensures (c.put.ensures.value, c.put.ensures.entries_after) in
     K.record-put 4 a.used a.ranges.now (range_numbers a.body) c.requires.0 c.requires.1 answer.0 answer.1

@@ -13,99 +13,92 @@ use mathlib.Core.Path.{ap}
 use mathlib.Core.Bool.{not}
 use Rattle.read_bodies.proofs.loops.take_loop.Goals as goal
 
-pub loop-q-init : goal.loop-q-init
-loop-q-init c =
+pub loop-next-init : goal.loop-next-init
+loop-next-init c =
     K.looping-none c.args.text.now c.args.at c.args.hole c.args.curves c.args.used c.args.loops.now c.args.spans.now c.requires.0
 
 pub next_part-requires : goal.next_part-requires
 next_part-requires c =
-    c.loop-q.invariant.to
+    c.loop-next.invariant.to
 
-pub shape_of-loops-in-Stopped : goal.shape_of-loops-in-Stopped
-shape_of-loops-in-Stopped c =
-    c.loop-q.invariant.same
-
-pub shape_of-spans-in-Stopped : goal.shape_of-spans-in-Stopped
-shape_of-spans-in-Stopped c =
-    c.loop-q.invariant.same-spans
-
-pub returns-in-Stopped : goal.returns-in-Stopped
-returns-in-Stopped c =
-    K.looping-stops c.args.text.now c.args.at c.args.hole c.args.curves c.args.used c.args.loops.now c.args.spans.now c.loop-q.loops c.loop-q.spans c.loop-q.i c.loop-q.place c.loop-q.count c.loop-q.invariant (L.part_none c.args.curves c.args.text.now c.loop-q.i c.next_part.result c.next_part.ensures c.in-Stopped.is)
+pub returns-in_err-next : goal.returns-in_err-next
+returns-in_err-next c =
+    rw c.from_residual.ensures
+    (K.looping-stops c.args.text.now c.args.at c.args.hole c.args.curves c.args.used c.args.loops.now c.args.spans.now c.loop-next.loops c.loop-next.spans c.loop-next.i c.loop-next.place c.loop-next.count c.loop-next.invariant c.in_err-next.ensures)
 
 pub shape_of-loops-then-not-loop_counted : goal.shape_of-loops-then-not-loop_counted
 shape_of-loops-then-not-loop_counted c =
-    c.loop-q.invariant.same
+    c.loop-next.invariant.same
 
 pub shape_of-spans-then-not-loop_counted : goal.shape_of-spans-then-not-loop_counted
 shape_of-spans-then-not-loop_counted c =
-    c.loop-q.invariant.same-spans
+    c.loop-next.invariant.same-spans
 
 pub returns-then-not-loop_counted : goal.returns-then-not-loop_counted
 returns-then-not-loop_counted c =
-    K.looping-empty c.args.text.now c.args.at c.args.hole c.args.curves c.args.used c.args.loops.now c.args.spans.now c.loop-q.loops c.loop-q.spans c.loop-q.i c.loop-q.place c.loop-q.count c.loop-q.invariant (L.part_end c.args.curves c.args.text.now c.loop-q.i c.next_part.result c.next_part.ensures c.in-End.is) (K.no-parts c.loop-q.count (sym (not-true _ (ap not c.if-not-loop_counted.true)) ∙ c.loop_counted.ensures))
+    K.looping-empty c.args.text.now c.args.at c.args.hole c.args.curves c.args.used c.args.loops.now c.args.spans.now c.loop-next.loops c.loop-next.spans c.loop-next.i c.loop-next.place c.loop-next.count c.loop-next.invariant (L.part_end c.args.curves c.args.text.now c.loop-next.i c.in_ok-next.ensures c.in-End.is) (K.no-parts c.loop-next.count (sym (not-true _ (ap not c.if-not-loop_counted.true)) ∙ c.loop_counted.ensures))
 
 pub shape_of-loops-in-End : goal.shape_of-loops-in-End
 shape_of-loops-in-End c =
-    c.loop-q.invariant.same
+    c.loop-next.invariant.same
 
 pub shape_of-spans-in-End : goal.shape_of-spans-in-End
 shape_of-spans-in-End c =
-    c.loop-q.invariant.same-spans
+    c.loop-next.invariant.same-spans
 
 pub returns-in-End : goal.returns-in-End
 returns-in-End c =
-    K.looping-over c.args.text.now c.args.at c.args.hole c.args.curves c.args.used c.args.loops.now c.args.spans.now c.loop-q.loops c.loop-q.spans c.loop-q.i c.loop-q.place c.loop-q.count c.loop-q.invariant (L.part_end c.args.curves c.args.text.now c.loop-q.i c.next_part.result c.next_part.ensures c.in-End.is) (K.some-parts c.loop-q.count (sym (not-false _ (ap not c.if-not-loop_counted.false)) ∙ c.loop_counted.ensures))
+    K.looping-over c.args.text.now c.args.at c.args.hole c.args.curves c.args.used c.args.loops.now c.args.spans.now c.loop-next.loops c.loop-next.spans c.loop-next.i c.loop-next.place c.loop-next.count c.loop-next.invariant (L.part_end c.args.curves c.args.text.now c.loop-next.i c.in_ok-next.ensures c.in-End.is) (K.some-parts c.loop-next.count (sym (not-false _ (ap not c.if-not-loop_counted.false)) ∙ c.loop_counted.ensures))
 
-pub shape_of-loops-then-not-put_u32 : goal.shape_of-loops-then-not-put_u32
-shape_of-loops-then-not-put_u32 c =
-    let parts = put_of c.loop-q.loops c.loop-q.place c.loop_row-row.ensures (c.put_u32.ensures.value, c.put_u32.ensures.numbers_after) in
-    (K.no_room c.args.text.now c.args.at c.args.hole c.args.curves c.args.used c.args.loops.now c.args.spans.now c.loop-q.loops c.loop-q.spans c.loop-q.i c.loop-q.place c.loop-q.count c.loop-q.invariant _ _ (L.part-found c.args.curves c.args.text.now c.loop-q.i c.next_part.result c.next_part.ensures c.in-Part.is) (c.begins_with.result ∷ c.in-Part.curve ∷ []) parts.0 parts.1 (not-true _ (ap not c.if-not-put_u32.true))).same
+pub shape_of-loops-then-not-put : goal.shape_of-loops-then-not-put
+shape_of-loops-then-not-put c =
+    let parts = put_of c.loop-next.loops c.loop-next.place c.loop_row-row.ensures (c.put.ensures.value, c.put.ensures.entries_after) in
+    (K.no_room c.args.text.now c.args.at c.args.hole c.args.curves c.args.used c.args.loops.now c.args.spans.now c.loop-next.loops c.loop-next.spans c.loop-next.i c.loop-next.place c.loop-next.count c.loop-next.invariant _ _ (L.part-found c.args.curves c.args.text.now c.loop-next.i c.in_ok-next.ensures c.in-Part.is) (c.begins_with.result ∷ c.in-Part.curve ∷ []) parts.0 parts.1 (not-true _ (ap not c.if-not-put.true))).same
 
-pub shape_of-spans-then-not-put_u32 : goal.shape_of-spans-then-not-put_u32
-shape_of-spans-then-not-put_u32 c =
-    let parts = put_of c.loop-q.loops c.loop-q.place c.loop_row-row.ensures (c.put_u32.ensures.value, c.put_u32.ensures.numbers_after) in
-    (K.no_room c.args.text.now c.args.at c.args.hole c.args.curves c.args.used c.args.loops.now c.args.spans.now c.loop-q.loops c.loop-q.spans c.loop-q.i c.loop-q.place c.loop-q.count c.loop-q.invariant _ _ (L.part-found c.args.curves c.args.text.now c.loop-q.i c.next_part.result c.next_part.ensures c.in-Part.is) (c.begins_with.result ∷ c.in-Part.curve ∷ []) parts.0 parts.1 (not-true _ (ap not c.if-not-put_u32.true))).same-spans
+pub shape_of-spans-then-not-put : goal.shape_of-spans-then-not-put
+shape_of-spans-then-not-put c =
+    let parts = put_of c.loop-next.loops c.loop-next.place c.loop_row-row.ensures (c.put.ensures.value, c.put.ensures.entries_after) in
+    (K.no_room c.args.text.now c.args.at c.args.hole c.args.curves c.args.used c.args.loops.now c.args.spans.now c.loop-next.loops c.loop-next.spans c.loop-next.i c.loop-next.place c.loop-next.count c.loop-next.invariant _ _ (L.part-found c.args.curves c.args.text.now c.loop-next.i c.in_ok-next.ensures c.in-Part.is) (c.begins_with.result ∷ c.in-Part.curve ∷ []) parts.0 parts.1 (not-true _ (ap not c.if-not-put.true))).same-spans
 
-pub returns-then-not-put_u32 : goal.returns-then-not-put_u32
-returns-then-not-put_u32 c =
-    let parts = put_of c.loop-q.loops c.loop-q.place c.loop_row-row.ensures (c.put_u32.ensures.value, c.put_u32.ensures.numbers_after) in
-    K.no_room c.args.text.now c.args.at c.args.hole c.args.curves c.args.used c.args.loops.now c.args.spans.now c.loop-q.loops c.loop-q.spans c.loop-q.i c.loop-q.place c.loop-q.count c.loop-q.invariant _ _ (L.part-found c.args.curves c.args.text.now c.loop-q.i c.next_part.result c.next_part.ensures c.in-Part.is) (c.begins_with.result ∷ c.in-Part.curve ∷ []) parts.0 parts.1 (not-true _ (ap not c.if-not-put_u32.true))
+pub returns-then-not-put : goal.returns-then-not-put
+returns-then-not-put c =
+    let parts = put_of c.loop-next.loops c.loop-next.place c.loop_row-row.ensures (c.put.ensures.value, c.put.ensures.entries_after) in
+    K.no_room c.args.text.now c.args.at c.args.hole c.args.curves c.args.used c.args.loops.now c.args.spans.now c.loop-next.loops c.loop-next.spans c.loop-next.i c.loop-next.place c.loop-next.count c.loop-next.invariant _ _ (L.part-found c.args.curves c.args.text.now c.loop-next.i c.in_ok-next.ensures c.in-Part.is) (c.begins_with.result ∷ c.in-Part.curve ∷ []) parts.0 parts.1 (not-true _ (ap not c.if-not-put.true))
 
-pub shape_of-loops-then-not-put_i32 : goal.shape_of-loops-then-not-put_i32
-shape_of-loops-then-not-put_i32 c =
-    let parts = put_of c.loop-q.loops c.loop-q.place c.loop_row-row.ensures (c.put_u32.ensures.value, c.put_u32.ensures.numbers_after) in
-    let ends = put_of c.loop-q.spans c.loop-q.place c.span_row-span.ensures (c.put_i32.ensures.value, c.put_i32.ensures.values_after) in
-    (K.no-room-spans c.args.text.now c.args.at c.args.hole c.args.curves c.args.used c.args.loops.now c.args.spans.now c.loop-q.loops c.loop-q.spans c.loop-q.i c.loop-q.place c.loop-q.count c.loop-q.invariant _ _ (L.part-found c.args.curves c.args.text.now c.loop-q.i c.next_part.result c.next_part.ensures c.in-Part.is) c.begins_with.result c.in-Part.curve parts.0 parts.1 (not-false _ (ap not c.if-not-put_u32.false)) ((to_z w32 (of_z w32 c.in-Part.from)) ∷ (to_z w32 (of_z w32 c.in-Part.to)) ∷ []) ends.0 ends.1 (not-true _ (ap not c.if-not-put_i32.true))).same
+pub shape_of-loops-then-not-put-2 : goal.shape_of-loops-then-not-put-2
+shape_of-loops-then-not-put-2 c =
+    let parts = put_of c.loop-next.loops c.loop-next.place c.loop_row-row.ensures (c.put.ensures.value, c.put.ensures.entries_after) in
+    let ends = put_of c.loop-next.spans c.loop-next.place c.span_row-span.ensures (c.put-in-Part.ensures.value, c.put-in-Part.ensures.entries_after) in
+    (K.no-room-spans c.args.text.now c.args.at c.args.hole c.args.curves c.args.used c.args.loops.now c.args.spans.now c.loop-next.loops c.loop-next.spans c.loop-next.i c.loop-next.place c.loop-next.count c.loop-next.invariant _ _ (L.part-found c.args.curves c.args.text.now c.loop-next.i c.in_ok-next.ensures c.in-Part.is) c.begins_with.result c.in-Part.curve parts.0 parts.1 (not-false _ (ap not c.if-not-put.false)) ((to_z w32 (of_z w32 c.in-Part.from)) ∷ (to_z w32 (of_z w32 c.in-Part.to)) ∷ []) ends.0 ends.1 (not-true _ (ap not c.if-not-put-2.true))).same
 
-pub shape_of-spans-then-not-put_i32 : goal.shape_of-spans-then-not-put_i32
-shape_of-spans-then-not-put_i32 c =
-    let parts = put_of c.loop-q.loops c.loop-q.place c.loop_row-row.ensures (c.put_u32.ensures.value, c.put_u32.ensures.numbers_after) in
-    let ends = put_of c.loop-q.spans c.loop-q.place c.span_row-span.ensures (c.put_i32.ensures.value, c.put_i32.ensures.values_after) in
-    (K.no-room-spans c.args.text.now c.args.at c.args.hole c.args.curves c.args.used c.args.loops.now c.args.spans.now c.loop-q.loops c.loop-q.spans c.loop-q.i c.loop-q.place c.loop-q.count c.loop-q.invariant _ _ (L.part-found c.args.curves c.args.text.now c.loop-q.i c.next_part.result c.next_part.ensures c.in-Part.is) c.begins_with.result c.in-Part.curve parts.0 parts.1 (not-false _ (ap not c.if-not-put_u32.false)) ((to_z w32 (of_z w32 c.in-Part.from)) ∷ (to_z w32 (of_z w32 c.in-Part.to)) ∷ []) ends.0 ends.1 (not-true _ (ap not c.if-not-put_i32.true))).same-spans
+pub shape_of-spans-then-not-put-2 : goal.shape_of-spans-then-not-put-2
+shape_of-spans-then-not-put-2 c =
+    let parts = put_of c.loop-next.loops c.loop-next.place c.loop_row-row.ensures (c.put.ensures.value, c.put.ensures.entries_after) in
+    let ends = put_of c.loop-next.spans c.loop-next.place c.span_row-span.ensures (c.put-in-Part.ensures.value, c.put-in-Part.ensures.entries_after) in
+    (K.no-room-spans c.args.text.now c.args.at c.args.hole c.args.curves c.args.used c.args.loops.now c.args.spans.now c.loop-next.loops c.loop-next.spans c.loop-next.i c.loop-next.place c.loop-next.count c.loop-next.invariant _ _ (L.part-found c.args.curves c.args.text.now c.loop-next.i c.in_ok-next.ensures c.in-Part.is) c.begins_with.result c.in-Part.curve parts.0 parts.1 (not-false _ (ap not c.if-not-put.false)) ((to_z w32 (of_z w32 c.in-Part.from)) ∷ (to_z w32 (of_z w32 c.in-Part.to)) ∷ []) ends.0 ends.1 (not-true _ (ap not c.if-not-put-2.true))).same-spans
 
-pub returns-then-not-put_i32 : goal.returns-then-not-put_i32
-returns-then-not-put_i32 c =
-    let parts = put_of c.loop-q.loops c.loop-q.place c.loop_row-row.ensures (c.put_u32.ensures.value, c.put_u32.ensures.numbers_after) in
-    let ends = put_of c.loop-q.spans c.loop-q.place c.span_row-span.ensures (c.put_i32.ensures.value, c.put_i32.ensures.values_after) in
-    K.no-room-spans c.args.text.now c.args.at c.args.hole c.args.curves c.args.used c.args.loops.now c.args.spans.now c.loop-q.loops c.loop-q.spans c.loop-q.i c.loop-q.place c.loop-q.count c.loop-q.invariant _ _ (L.part-found c.args.curves c.args.text.now c.loop-q.i c.next_part.result c.next_part.ensures c.in-Part.is) c.begins_with.result c.in-Part.curve parts.0 parts.1 (not-false _ (ap not c.if-not-put_u32.false)) ((to_z w32 (of_z w32 c.in-Part.from)) ∷ (to_z w32 (of_z w32 c.in-Part.to)) ∷ []) ends.0 ends.1 (not-true _ (ap not c.if-not-put_i32.true))
+pub returns-then-not-put-2 : goal.returns-then-not-put-2
+returns-then-not-put-2 c =
+    let parts = put_of c.loop-next.loops c.loop-next.place c.loop_row-row.ensures (c.put.ensures.value, c.put.ensures.entries_after) in
+    let ends = put_of c.loop-next.spans c.loop-next.place c.span_row-span.ensures (c.put-in-Part.ensures.value, c.put-in-Part.ensures.entries_after) in
+    K.no-room-spans c.args.text.now c.args.at c.args.hole c.args.curves c.args.used c.args.loops.now c.args.spans.now c.loop-next.loops c.loop-next.spans c.loop-next.i c.loop-next.place c.loop-next.count c.loop-next.invariant _ _ (L.part-found c.args.curves c.args.text.now c.loop-next.i c.in_ok-next.ensures c.in-Part.is) c.begins_with.result c.in-Part.curve parts.0 parts.1 (not-false _ (ap not c.if-not-put.false)) ((to_z w32 (of_z w32 c.in-Part.from)) ∷ (to_z w32 (of_z w32 c.in-Part.to)) ∷ []) ends.0 ends.1 (not-true _ (ap not c.if-not-put-2.true))
 
 pub overflow_add-place : goal.overflow_add-place
 overflow_add-place c =
-    let parts = put_of c.loop-q.loops c.loop-q.place c.loop_row-row.ensures (c.put_u32.ensures.value, c.put_u32.ensures.numbers_after) in
-    let ends = put_of c.loop-q.spans c.loop-q.place c.span_row-span.ensures (c.put_i32.ensures.value, c.put_i32.ensures.values_after) in
-    let b = K.fits-spans c.args.text.now c.args.at c.args.hole c.args.curves c.args.used c.args.loops.now c.args.spans.now c.loop-q.loops c.loop-q.spans c.loop-q.i c.loop-q.place c.loop-q.count c.loop-q.invariant _ _ (L.part-found c.args.curves c.args.text.now c.loop-q.i c.next_part.result c.next_part.ensures c.in-Part.is) c.begins_with.result c.in-Part.curve parts.0 parts.1 (not-false _ (ap not c.if-not-put_u32.false)) ends.0 (not-false _ (ap not c.if-not-put_i32.false)) in let x = b.0 in record { fits = omega (arith, c.well_formed) }
+    let parts = put_of c.loop-next.loops c.loop-next.place c.loop_row-row.ensures (c.put.ensures.value, c.put.ensures.entries_after) in
+    let ends = put_of c.loop-next.spans c.loop-next.place c.span_row-span.ensures (c.put-in-Part.ensures.value, c.put-in-Part.ensures.entries_after) in
+    let b = K.fits-spans c.args.text.now c.args.at c.args.hole c.args.curves c.args.used c.args.loops.now c.args.spans.now c.loop-next.loops c.loop-next.spans c.loop-next.i c.loop-next.place c.loop-next.count c.loop-next.invariant _ _ (L.part-found c.args.curves c.args.text.now c.loop-next.i c.in_ok-next.ensures c.in-Part.is) c.begins_with.result c.in-Part.curve parts.0 parts.1 (not-false _ (ap not c.if-not-put.false)) ends.0 (not-false _ (ap not c.if-not-put-2.false)) in let x = b.0 in record { fits = omega (arith, c.well_formed) }
 
 pub overflow_add-count : goal.overflow_add-count
 overflow_add-count c =
-    let x = c.loop-q.invariant.counted in let y = c.loop-q.invariant.ahead in let z = c.loop-q.invariant.to in let v = c.requires.1 in record { fits = omega arith }
+    let x = c.loop-next.invariant.counted in let y = c.loop-next.invariant.ahead in let z = c.loop-next.invariant.to in let v = c.requires.1 in record { fits = omega arith }
 
-pub loop-q-smaller : goal.loop-q-smaller
-loop-q-smaller c =
-    let x = (L.part-found c.args.curves c.args.text.now c.loop-q.i c.next_part.result c.next_part.ensures c.in-Part.is) in let y = x.ahead in let z = x.to in omega arith
+pub loop-next-smaller : goal.loop-next-smaller
+loop-next-smaller c =
+    let x = (L.part-found c.args.curves c.args.text.now c.loop-next.i c.in_ok-next.ensures c.in-Part.is) in let y = x.ahead in let z = x.to in omega arith
 
-pub loop-q-preserved : goal.loop-q-preserved
-loop-q-preserved c =
-    let parts = put_of c.loop-q.loops c.loop-q.place c.loop_row-row.ensures (c.put_u32.ensures.value, c.put_u32.ensures.numbers_after) in
-    let ends = put_of c.loop-q.spans c.loop-q.place c.span_row-span.ensures (c.put_i32.ensures.value, c.put_i32.ensures.values_after) in
-    K.looping-more c.args.text.now c.args.at c.args.hole c.args.curves c.args.used c.args.loops.now c.args.spans.now c.loop-q.loops c.loop-q.spans c.loop-q.i c.loop-q.place c.loop-q.count c.loop-q.invariant _ _ (L.part-found c.args.curves c.args.text.now c.loop-q.i c.next_part.result c.next_part.ensures c.in-Part.is) c.begins_with.result c.in-Part.curve parts.0 parts.1 (not-false _ (ap not c.if-not-put_u32.false)) (to_z w32 (of_z w32 c.in-Part.from)) (to_z w32 (of_z w32 c.in-Part.to)) ends.0 ends.1 (not-false _ (ap not c.if-not-put_i32.false)) c.begins_with.ensures refl (fitted c.in-Part.known_told-in-Part-1-own.given.0.1) (fitted c.in-Part.known_told-in-Part-1-own.given.1.0.1)
+pub loop-next-preserved : goal.loop-next-preserved
+loop-next-preserved c =
+    let parts = put_of c.loop-next.loops c.loop-next.place c.loop_row-row.ensures (c.put.ensures.value, c.put.ensures.entries_after) in
+    let ends = put_of c.loop-next.spans c.loop-next.place c.span_row-span.ensures (c.put-in-Part.ensures.value, c.put-in-Part.ensures.entries_after) in
+    K.looping-more c.args.text.now c.args.at c.args.hole c.args.curves c.args.used c.args.loops.now c.args.spans.now c.loop-next.loops c.loop-next.spans c.loop-next.i c.loop-next.place c.loop-next.count c.loop-next.invariant _ _ (L.part-found c.args.curves c.args.text.now c.loop-next.i c.in_ok-next.ensures c.in-Part.is) c.begins_with.result c.in-Part.curve parts.0 parts.1 (not-false _ (ap not c.if-not-put.false)) (to_z w32 (of_z w32 c.in-Part.from)) (to_z w32 (of_z w32 c.in-Part.to)) ends.0 ends.1 (not-false _ (ap not c.if-not-put-2.false)) c.begins_with.ensures refl (fitted c.in-Part.known_told-in-Part-1-own.given.0.1) (fitted c.in-Part.known_told-in-Part-1-own.given.1.0.1)

@@ -1,43 +1,32 @@
 -- The three answers of `skip_blanks`; at a word, what it says as a number.
-use mathlib.Core.Path.{ap}
 use native.Mathlib.Omega.{arith}
-use Rattle.word_numbers.specs.Answers.{said_number}
-use Rattle.tables.proofs.Bits.{fitted}
+use lib.ListN.{drop}
+use Rattle.text.specs.Words.{word_of}
+use Rattle.text.specs.Rest.{end_of}
+use Rattle.decimals.specs.Number.{number_of}
+use Rattle.read_state.proofs.Read.{read-says, read-wrong}
 use Rattle.read_bodies.proofs.Steps as S
 use Rattle.read_bodies.proofs.numbers.next_number.Goals as goal
 
 pub number_at-requires : goal.number_at-requires
 number_at-requires c =
-    let a = c.args in
-    let w = S.met-word a.text.now a.at _ c.skip_blanks.ensures c.in-Start.is in
-    let m = w.more in
-    let t = w.to in
+    let m = c.in-Start.ensures.more in
+    let t = c.in-Start.ensures.to in
     omega arith
 
 pub returns-in-Bad : goal.returns-in-Bad
-returns-in-Bad c =
-    let a = c.args in
-    S.bad-stops a.text.now a.at (S.met-bad a.text.now a.at _ c.skip_blanks.ensures c.in-Bad.is)
+returns-in-Bad c = S.bad-stops c.args.text.now c.args.at c.in-Bad.ensures
 
-pub returns-in-End : goal.returns-in-End
-returns-in-End c =
-    let a = c.args in
-    S.met-end a.text.now a.at _ c.skip_blanks.ensures c.in-End.is
+pub returns-in_err-ok-in-Start : goal.returns-in_err-ok-in-Start
+returns-in_err-ok-in-Start c =
+    let s = c.args.text.now in
+    let p = c.in-Start.p in
+    let x = read-wrong (number_of (word_of (drop p s))) (end_of s p) _ c.number_at.ensures c.in_err-ok-in-Start.ensures.value in
+    rw c.from_residual.ensures (S.other-stops s c.args.at p c.in-Start.ensures x.1)
 
-pub returns-in-Malformed : goal.returns-in-Malformed
-returns-in-Malformed c =
-    let a = c.args in
-    let w = S.met-word a.text.now a.at _ c.skip_blanks.ensures c.in-Start.is in
-    S.other-stops a.text.now a.at _ w c.number_at.result c.number_at.ensures (ap said_number c.in-Malformed.is)
-
-pub returns-in-OutOfRange : goal.returns-in-OutOfRange
-returns-in-OutOfRange c =
-    let a = c.args in
-    let w = S.met-word a.text.now a.at _ c.skip_blanks.ensures c.in-Start.is in
-    S.other-stops a.text.now a.at _ w c.number_at.result c.number_at.ensures (ap said_number c.in-OutOfRange.is)
-
-pub returns-in-Value : goal.returns-in-Value
-returns-in-Value c =
-    let a = c.args in
-    let w = S.met-word a.text.now a.at _ c.skip_blanks.ensures c.in-Start.is in
-    rw (fitted c.in-Value.known_told-in-Value-1-own.given.0.1) (S.number-steps a.text.now a.at _ w c.number_at.result c.number_at.ensures c.in-Value.is)
+pub returns-in_ok-ok-in-Start : goal.returns-in_ok-ok-in-Start
+returns-in_ok-ok-in-Start c =
+    let s = c.args.text.now in
+    let p = c.in-Start.p in
+    let x = read-says (number_of (word_of (drop p s))) (end_of s p) _ c.number_at.ensures c.in_ok-ok-in-Start.ensures.value in
+    S.number-steps s c.args.at p c.in-Start.ensures x.0 x.1

@@ -3,12 +3,12 @@ use mathlib.Core.Path.{sym, ◌∙◌}
 use Rattle.read_element_lines.proofs.Quiet.{passed-line, passed-bad}
 use Rattle.read_element_lines.proofs.setting_lines.passed_line.Goals as goal
 
-pub returns-in-Good : goal.returns-in-Good
-returns-in-Good c =
+pub returns-in-Ok : goal.returns-in-Ok
+returns-in-Ok c =
     let a = c.args in
-    λ out. passed-line a.text.now a.at a.state c.requires out _ _ (sym c.in-Good.is ∙ c.scan_line.ensures)
+    λ out. passed-line a.text.now a.at a.state c.requires out _ _ (sym c.in-Ok.is ∙ c.scan_line.ensures)
 
-pub returns-in-Bad : goal.returns-in-Bad
-returns-in-Bad c =
+pub returns-in-Err : goal.returns-in-Err
+returns-in-Err c =
     let a = c.args in
-    λ out. passed-bad a.text.now a.at a.state c.requires out _ (sym c.in-Bad.is ∙ c.scan_line.ensures)
+    λ out. passed-bad a.text.now a.at a.state c.requires out _ (sym c.in-Err.is ∙ c.scan_line.ensures)

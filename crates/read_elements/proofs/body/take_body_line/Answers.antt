@@ -37,7 +37,7 @@ take_controls-requires c =
     let z = c.numbers_into.new.table in
     let set = sym c.in_force.ensures ∙ not-false _ (ap not c.if-not-in_force.false) in
     let fits = sym c.body_room.ensures ∙ not-false _ (ap not c.if-not-body_room.false) in
-    let w = L.full-found k s a.at _ y z (rw c.range_words.ensures at c.numbers_into.ensures) c.in-Full.is in
+    let w = L.full-found k s a.at _ y z c.range_words.ensures c.in_ok-end.ensures c.in-Full.is in
     (w.to, c.requires.1, c.requires.2)
 
 pub returns-in-Full : goal.returns-in-Full
@@ -51,7 +51,7 @@ returns-in-Full c =
     let z = c.numbers_into.new.table in
     let set = sym c.in_force.ensures ∙ not-false _ (ap not c.if-not-in_force.false) in
     let fits = sym c.body_room.ensures ∙ not-false _ (ap not c.if-not-body_room.false) in
-    let w = L.full-found k s a.at _ y z (rw c.range_words.ensures at c.numbers_into.ensures) c.in-Full.is in
+    let w = L.full-found k s a.at _ y z c.range_words.ensures c.in_ok-end.ensures c.in-Full.is in
     let m = c.take_controls.new.corners in
     let f = c.take_controls.new.elements in
     L.line_taken k a.used a.names a.form a.vp.now s a.at l e a.bodies y z w set fits m f c.take_controls.result c.take_controls.ensures
@@ -67,10 +67,10 @@ returns-in-Ended c =
     let z = c.numbers_into.new.table in
     let set = sym c.in_force.ensures ∙ not-false _ (ap not c.if-not-in_force.false) in
     let fits = sym c.body_room.ensures ∙ not-false _ (ap not c.if-not-body_room.false) in
-    L.line-ended k a.used a.names a.form a.vp.now s a.at l e a.bodies y z (L.end-found k s a.at _ y z (rw c.range_words.ensures at c.numbers_into.ensures) c.in-Ended.is)
+    L.line-ended k a.used a.names a.form a.vp.now s a.at l e a.bodies y z (L.end-found k s a.at _ y z c.range_words.ensures c.in_ok-end.ensures c.in-Ended.is)
 
-pub returns-in-Stopped : goal.returns-in-Stopped
-returns-in-Stopped c =
+pub returns-in_err-end : goal.returns-in_err-end
+returns-in_err-end c =
     let a = c.args in
     let k = a.free in
     let s = a.text.now in
@@ -80,4 +80,4 @@ returns-in-Stopped c =
     let z = c.numbers_into.new.table in
     let set = sym c.in_force.ensures ∙ not-false _ (ap not c.if-not-in_force.false) in
     let fits = sym c.body_room.ensures ∙ not-false _ (ap not c.if-not-body_room.false) in
-    L.line-stopped k a.used a.names a.form a.vp.now s a.at l e a.bodies y z (L.stop-found k s a.at _ y z (rw c.range_words.ensures at c.numbers_into.ensures) c.in-Stopped.is)
+    rw c.from_residual.ensures (L.line-stopped k a.used a.names a.form a.vp.now s a.at l e a.bodies y z (L.stop-found k s a.at _ y z c.range_words.ensures c.in_err-end.ensures))

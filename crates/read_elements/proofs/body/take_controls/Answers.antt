@@ -1,5 +1,10 @@
 -- By what storing the corners and the record answered, and whether the controls are wide.
-use mathlib.Core.Path.{sym, ◌∙◌}
+use Prim.Native.Nat.{◌+◌}
+use mathlib.Core.Path.{sym, ap, ◌∙◌}
+use mathlib.Core.Bool.{not}
+use borrow.Author.Tests.{not-true, not-false}
+use Rattle.read_elements.specs.Elements.{TakenElement}
+use Rattle.read_elements.specs.Bodies.{rule_for}
 use Rattle.read_elements.proofs.Controls as C
 use Rattle.read_elements.proofs.body.take_controls.Goals as goal
 
@@ -12,11 +17,11 @@ all_wide_for-requires c =
     let e = a.elements.now in
     let m = c.take_corners.new.corners in
     let f = c.take_corners.new.elements in
-    let w = C.taken k a.used a.names a.vp.now s a.at l m e f (rw c.rule_for.ensures at c.take_corners.ensures) c.in-Accepted.is in
+    let w : TakenElement (rule_for k) (a.used.bodies + 1) a.used a.names s a.at l m e f c.in_ok-controls.controls.value c.in_ok-controls.controls.next = rw c.rule_for.ensures at c.in_ok-controls.ensures in
     C.room_after k a.used a.names a.vp.now s a.at l m e f w
 
-pub returns-then-all_wide_for : goal.returns-then-all_wide_for
-returns-then-all_wide_for c =
+pub returns : goal.returns
+returns c =
     let a = c.args in
     let k = a.free in
     let s = a.text.now in
@@ -24,11 +29,11 @@ returns-then-all_wide_for c =
     let e = a.elements.now in
     let m = c.take_corners.new.corners in
     let f = c.take_corners.new.elements in
-    let w = C.taken k a.used a.names a.vp.now s a.at l m e f (rw c.rule_for.ensures at c.take_corners.ensures) c.in-Accepted.is in
-    C.wide-taken k a.used a.names a.vp.now s a.at l m e f w (sym c.all_wide_for.ensures ∙ c.if-all_wide_for.true)
+    let w : TakenElement (rule_for k) (a.used.bodies + 1) a.used a.names s a.at l m e f c.in_ok-controls.controls.value c.in_ok-controls.controls.next = rw c.rule_for.ensures at c.in_ok-controls.ensures in
+    C.wide-taken k a.used a.names a.vp.now s a.at l m e f w (sym c.all_wide_for.ensures ∙ not-false _ (ap not c.if-not-all_wide_for.false))
 
-pub returns-in-Rejected : goal.returns-in-Rejected
-returns-in-Rejected c =
+pub returns-in_err-controls : goal.returns-in_err-controls
+returns-in_err-controls c =
     let a = c.args in
     let k = a.free in
     let s = a.text.now in
@@ -36,10 +41,10 @@ returns-in-Rejected c =
     let e = a.elements.now in
     let m = c.take_corners.new.corners in
     let f = c.take_corners.new.elements in
-    C.none-taken k a.used a.names a.vp.now s a.at l m e f (rw c.rule_for.ensures at c.take_corners.ensures) c.in-Rejected.is
+    rw c.from_residual.ensures (C.none-taken k a.used a.names a.vp.now s a.at l m e f (rw c.rule_for.ensures at c.in_err-controls.ensures))
 
-pub returns-else-all_wide_for : goal.returns-else-all_wide_for
-returns-else-all_wide_for c =
+pub returns-then-not-all_wide_for : goal.returns-then-not-all_wide_for
+returns-then-not-all_wide_for c =
     let a = c.args in
     let k = a.free in
     let s = a.text.now in
@@ -47,5 +52,5 @@ returns-else-all_wide_for c =
     let e = a.elements.now in
     let m = c.take_corners.new.corners in
     let f = c.take_corners.new.elements in
-    let w = C.taken k a.used a.names a.vp.now s a.at l m e f (rw c.rule_for.ensures at c.take_corners.ensures) c.in-Accepted.is in
-    C.narrow k a.used a.names a.vp.now s a.at l m e f w (sym c.all_wide_for.ensures ∙ c.if-all_wide_for.false)
+    let w : TakenElement (rule_for k) (a.used.bodies + 1) a.used a.names s a.at l m e f c.in_ok-controls.controls.value c.in_ok-controls.controls.next = rw c.rule_for.ensures at c.in_ok-controls.ensures in
+    C.narrow k a.used a.names a.vp.now s a.at l m e f w (sym c.all_wide_for.ensures ∙ not-true _ (ap not c.if-not-all_wide_for.true))

@@ -4,10 +4,8 @@ use native.Mathlib.Omega.{arith}
 use borrow.Author.Rules.{rules}
 use Rattle.text.specs.Words.{word_of}
 use Rattle.text.specs.Rest.{rest_at, word_at, end_of}
-use Rattle.text.proofs.Found as F
-use Rattle.digits.specs.Said.{says}
 use Rattle.digits.specs.Degree.{name_of}
-use Rattle.read_settings.proofs.Lines as L
+use Rattle.read_state.proofs.Read.{name-says, name-wrong}
 use Rattle.read_settings.proofs.Runs as R
 use Rattle.read_settings.proofs.words.names_from.Goals as goal
 
@@ -20,24 +18,23 @@ loop-end-init c =
 pub name_at-requires : goal.name_at-requires
 name_at-requires c = let inv = c.loop-end.invariant in let more = inv.more in let to = inv.to in omega arith
 
-pub returns-in-Malformed : goal.returns-in-Malformed
-returns-in-Malformed c =
+pub returns-in_err-end : goal.returns-in_err-end
+returns-in_err-end c =
     let s = c.args.text.now in
     let w = word_of (drop c.loop-end.place s) in
-    R.run-unnamed s _ _ _ c.loop-end.invariant (L.name-wrong w (name_of w) (end_of s c.loop-end.place) _ c.name_at.ensures c.in-Malformed.is)
+    rw c.from_residual.ensures (R.run-unnamed s _ _ _ c.loop-end.invariant (name-wrong w (name_of w) (end_of s c.loop-end.place) _ c.name_at.ensures c.in_err-end.ensures.value).1)
 
 pub skip_blanks-requires : goal.skip_blanks-requires
 skip_blanks-requires c =
     let s = c.args.text.now in
     let w = word_of (drop c.loop-end.place s) in
-    let said = L.name-says w (name_of w) (end_of s c.loop-end.place) _ c.name_at.ensures c.in-Of.is in
+    let said = name-says w (name_of w) (end_of s c.loop-end.place) _ c.name_at.ensures c.in_ok-end.ensures.value in
     let end = said.1 in
     let to = c.loop-end.invariant.to in
     omega arith
 
 pub overflow_add-count : goal.overflow_add-count
 overflow_add-count c =
-    let s = c.args.text.now in
     let inv = c.loop-end.invariant in
     let few = inv.few in
     let more = inv.more in
@@ -48,9 +45,8 @@ pub loop-end-smaller : goal.loop-end-smaller
 loop-end-smaller c =
     let s = c.args.text.now in
     let w = word_of (drop c.loop-end.place s) in
-    let said = L.name-says w (name_of w) (end_of s c.loop-end.place) _ c.name_at.ensures c.in-Of.is in
-    let met = F.word-found s _ _ c.skip_blanks.ensures c.in-Start.is in
-    let next = R.run-turn s _ _ _ c.loop-end.invariant _ said.1 said.0 met in
+    let said = name-says w (name_of w) (end_of s c.loop-end.place) _ c.name_at.ensures c.in_ok-end.ensures.value in
+    let next = R.run-turn s _ _ _ c.loop-end.invariant _ said.1 said.0 c.in-Start.ensures in
     let ahead = next.1 in
     let more = next.0.more in
     let far = next.0.to in
@@ -60,9 +56,8 @@ pub loop-end-preserved : goal.loop-end-preserved
 loop-end-preserved c =
     let s = c.args.text.now in
     let w = word_of (drop c.loop-end.place s) in
-    let said = L.name-says w (name_of w) (end_of s c.loop-end.place) _ c.name_at.ensures c.in-Of.is in
-    let met = F.word-found s _ _ c.skip_blanks.ensures c.in-Start.is in
-    (R.run-turn s _ _ _ c.loop-end.invariant _ said.1 said.0 met).0
+    let said = name-says w (name_of w) (end_of s c.loop-end.place) _ c.name_at.ensures c.in_ok-end.ensures.value in
+    (R.run-turn s _ _ _ c.loop-end.invariant _ said.1 said.0 c.in-Start.ensures).0
 
 pub overflow_cast-result : goal.overflow_cast-result
 overflow_cast-result c =
@@ -75,7 +70,7 @@ pub overflow_sub-result : goal.overflow_sub-result
 overflow_sub-result c =
     let s = c.args.text.now in
     let w = word_of (drop c.loop-end.place s) in
-    let said = L.name-says w (name_of w) (end_of s c.loop-end.place) _ c.name_at.ensures c.in-Of.is in
+    let said = name-says w (name_of w) (end_of s c.loop-end.place) _ c.name_at.ensures c.in_ok-end.ensures.value in
     let end = said.1 in
     let from = c.loop-end.invariant.from in
     let more = c.loop-end.invariant.more in
@@ -85,7 +80,7 @@ pub overflow_cast-result-in-End : goal.overflow_cast-result-in-End
 overflow_cast-result-in-End c =
     let s = c.args.text.now in
     let w = word_of (drop c.loop-end.place s) in
-    let said = L.name-says w (name_of w) (end_of s c.loop-end.place) _ c.name_at.ensures c.in-Of.is in
+    let said = name-says w (name_of w) (end_of s c.loop-end.place) _ c.name_at.ensures c.in_ok-end.ensures.value in
     let end = said.1 in
     let to = c.loop-end.invariant.to in
     omega (arith, c.requires.2)
@@ -94,13 +89,12 @@ pub returns-in-End : goal.returns-in-End
 returns-in-End c =
     let s = c.args.text.now in
     let w = word_of (drop c.loop-end.place s) in
-    let said = L.name-says w (name_of w) (end_of s c.loop-end.place) _ c.name_at.ensures c.in-Of.is in
-    R.run_end s _ _ _ c.loop-end.invariant _ said.1 said.0 (L.end_rest s _ _ c.skip_blanks.ensures c.in-End.is)
+    let said = name-says w (name_of w) (end_of s c.loop-end.place) _ c.name_at.ensures c.in_ok-end.ensures.value in
+    R.run_end s _ _ _ c.loop-end.invariant _ said.1 said.0 c.in-End.ensures.rest
 
 pub returns-in-Bad : goal.returns-in-Bad
 returns-in-Bad c =
     let s = c.args.text.now in
     let w = word_of (drop c.loop-end.place s) in
-    let said = L.name-says w (name_of w) (end_of s c.loop-end.place) _ c.name_at.ensures c.in-Of.is in
-    let bad = L.bad-rest s _ _ c.skip_blanks.ensures c.in-Bad.is in
-    R.run-bad s _ _ _ c.loop-end.invariant _ said.1 said.0 bad.0 bad.1
+    let said = name-says w (name_of w) (end_of s c.loop-end.place) _ c.name_at.ensures c.in_ok-end.ensures.value in
+    R.run-bad s _ _ _ c.loop-end.invariant _ said.1 said.0 c.in-Bad.ensures.no_words c.in-Bad.ensures.bad-at

@@ -1,5 +1,4 @@
 -- By the first corner.
-use mathlib.Core.Path.{refl}
 use native.Mathlib.Omega.{arith}
 use Rattle.read_word_checks.specs.Faults.{seen_by}
 use Rattle.read_word_checks.proofs.Steps as S
@@ -8,21 +7,16 @@ use Rattle.read_word_checks.proofs.held.pattern_from.Goals as goal
 pub first_fault-requires : goal.first_fault-requires
 first_fault-requires c =
     let a = c.args in
-    let e = S.pattern-end (seen_by a.seen) a.vp.now a.texture a.normal a.text.now a.at _ c.corner_at.ensures c.in-Of.is in
-    let p = c.requires.at_in_bounds_2 in
-    record { at_in_bounds = omega arith; argument_table_value = c.requires.argument_table_value }
+    let e = S.pattern-end (seen_by a.seen) a.vp.now a.parts a.text.now a.at c.in-Ok.ensures in
+    let p = c.requires.end_in_bounds in
+    omega arith
 
-pub returns-in-Of : goal.returns-in-Of
-returns-in-Of c =
+pub returns : goal.returns
+returns c =
     let a = c.args in
-    S.pattern-found (seen_by a.seen) a.vp.now a.texture a.normal a.text.now a.at _ c.corner_at.ensures c.in-Of.is c.first_fault.ensures
+    S.pattern-found (seen_by a.seen) a.vp.now a.parts a.text.now a.at c.in-Ok.ensures c.first_fault.ensures
 
-pub returns-in-Malformed : goal.returns-in-Malformed
-returns-in-Malformed c =
+pub returns-in_default : goal.returns-in_default
+returns-in_default c =
     let a = c.args in
-    S.pattern-none (seen_by a.seen) a.vp.now a.texture a.normal a.text.now a.at _ c.corner_at.ensures 6 c.in-Malformed.is refl
-
-pub returns-in-Missing : goal.returns-in-Missing
-returns-in-Missing c =
-    let a = c.args in
-    S.pattern-none (seen_by a.seen) a.vp.now a.texture a.normal a.text.now a.at _ c.corner_at.ensures 8 c.in-Missing.is refl
+    S.pattern-none (seen_by a.seen) a.vp.now a.parts a.text.now a.at c.in_default.ensures

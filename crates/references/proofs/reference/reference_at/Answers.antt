@@ -1,27 +1,23 @@
 -- The part that stands there is the word where the word ends with it.
-use mathlib.Core.Path.{◌∙◌, sym, subst}
-use Rattle.references.specs.Straight.{CornerPartIs}
+use mathlib.Core.Path.{◌∙◌, sym}
+use Rattle.std.proofs.lemmas.Result.{err_from_is_err_and}
 use Rattle.references.proofs.References.{reference-bad, reference-not, reference-missing, reference-item}
 use Rattle.references.proofs.reference.reference_at.Goals as goal
 
-pub returns-then-number-eq0 : goal.returns-then-number-eq0
-returns-then-number-eq0 c =
-    let a = c.args in
-    reference-missing a.count a.text.now a.at c.in-Of.number c.in-Of.end (subst (CornerPartIs a.count a.text.now a.at) c.in-Of.is c.part_at.ensures)
-    (sym c.if-word_ends.true ∙ c.word_ends.ensures) c.if-number-eq0.true
+pub returns-in_err-part : goal.returns-in_err-part
+returns-in_err-part c =
+    let p = err_from_is_err_and c.from_residual.result c.from_residual.ensures.1 in
+    let q = c.in_err-part.ensures in
+    rw (p.1, p.2, q.0) (reference-bad c.args.count c.args.text.now c.args.at q.1)
 
-pub returns-then-word_ends : goal.returns-then-word_ends
-returns-then-word_ends c =
-    let a = c.args in
-    reference-item a.count a.text.now a.at c.in-Of.number c.in-Of.end (subst (CornerPartIs a.count a.text.now a.at) c.in-Of.is c.part_at.ensures)
-    (sym c.if-word_ends.true ∙ c.word_ends.ensures) c.if-number-eq0.false
+pub returns-then-not-word_ends : goal.returns-then-not-word_ends
+returns-then-not-word_ends c =
+    reference-not c.args.count c.args.text.now c.args.at _ _ c.in_ok-part.ensures (sym c.if-not-word_ends.true ∙ c.word_ends.ensures)
 
-pub returns-in-Malformed : goal.returns-in-Malformed
-returns-in-Malformed c =
-    let a = c.args in
-    reference-bad a.count a.text.now a.at (subst (CornerPartIs a.count a.text.now a.at) c.in-Malformed.is c.part_at.ensures)
+pub returns-then-part-eq0 : goal.returns-then-part-eq0
+returns-then-part-eq0 c =
+    reference-missing c.args.count c.args.text.now c.args.at _ _ c.in_ok-part.ensures (sym c.if-not-word_ends.false ∙ c.word_ends.ensures) c.if-part-eq0.true
 
-pub returns-else-word_ends : goal.returns-else-word_ends
-returns-else-word_ends c =
-    let a = c.args in
-    reference-not a.count a.text.now a.at c.in-Of.number c.in-Of.end (subst (CornerPartIs a.count a.text.now a.at) c.in-Of.is c.part_at.ensures) (sym c.if-word_ends.false ∙ c.word_ends.ensures)
+pub returns : goal.returns
+returns c =
+    reference-item c.args.count c.args.text.now c.args.at _ _ c.in_ok-part.ensures (sym c.if-not-word_ends.false ∙ c.word_ends.ensures) c.if-part-eq0.false

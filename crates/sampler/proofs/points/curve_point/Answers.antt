@@ -6,7 +6,7 @@ use mir.Facts.{to_z-of_z}
 use Rattle.rounding.proofs.Bits.{read-back-small}
 use Rattle.point_rows.specs.Controls.{ControlsLent}
 use Rattle.sampler.specs.Inner.{point_by}
-use Rattle.sampler.specs.declared.PointResult.TheVariants as sampled
+use Rattle.sampler.specs.declared.Point.TheVariants as sampled
 use Rattle.sampler.proofs.Entries.{space-eq}
 use Rattle.sampler.proofs.points.curve_point.Goals as goal
 use Rattle.sampler.proofs.points.curve_point.Goals.{Else-kind-eq-CURVE2, Then-kind-eq-CURVE2}

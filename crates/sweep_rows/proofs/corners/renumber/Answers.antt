@@ -1,5 +1,5 @@
 -- The invariant: the corners of the elements passed have their new numbers, and those to come are as lent.
-use Rattle.sweep_rows.proofs.Renumbering.{runs_none, runs-more, runs-all, run_fits}
+use Rattle.sweep_rows.proofs.Renumbering.{runs_none, runs-more, run_fits}
 use native.Mathlib.Omega.{arith}
 use Rattle.sweep_rows.proofs.corners.renumber.Goals as goal
 
@@ -11,9 +11,3 @@ renumber_run-requires c = let m = c.loop-i in rw c.element_in-e.ensures (run_fit
 
 pub loop-i-preserved : goal.loop-i-preserved
 loop-i-preserved c = let m = c.loop-i in runs-more c.args.used c.args.numbers.now c.args.elements.now c.loop-i.invariant (omega arith) (c.requires.0 c.loop-i.i (omega arith)) (rw c.element_in-e.ensures at c.renumber_run.ensures)
-
-pub shape_of-corners : goal.shape_of-corners
-shape_of-corners c = c.loop-i.invariant.long
-
-pub returns : goal.returns
-returns c = runs-all c.args.used c.args.numbers.now c.args.elements.now c.loop-i.invariant (omega arith)

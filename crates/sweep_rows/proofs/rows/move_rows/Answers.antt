@@ -1,8 +1,11 @@
 use Rattle.sweep_rows.proofs.Stored.{part-cleared}
-use mathlib.Core.Path.{◌∙◌}
+use mathlib.Core.Path.{◌≡◌, ◌∙◌}
+use borrow.Rule.Slice.PartMut.{mid_of}
+use borrow.Author.Rules.{rules}
+use lib.ListN.{length, replicate}
 use lib.IntN.{pos}
 use Rattle.sweep_rows.proofs.Moving.{moved_none, moved_more, moved-most, moved-within, moved-fits, moved_all}
-use Prim.Native.Nat.{◌*◌}
+use Prim.Native.Nat.{◌*◌, ◌-◌}
 use native.Mathlib.Omega.{arith}
 use Rattle.sweep_rows.proofs.rows.move_rows.Goals as goal
 
@@ -21,14 +24,14 @@ overflow_mul-rest c = let q = moved-fits c.loop-i.invariant c.requires.0 (omega 
 pub offset_bounds-values-rest : goal.offset_bounds-values-rest
 offset_bounds-values-rest c = let q = moved-fits c.loop-i.invariant c.requires.0 (omega arith) in let e = c.loop-i.invariant.long in record { fits = omega arith }
 
-pub slice_bounds-clear_i32-count : goal.slice_bounds-clear_i32-count
-slice_bounds-clear_i32-count c = let q = moved-fits c.loop-i.invariant c.requires.0 (omega arith) in omega arith
+pub slice_bounds-fill-count : goal.slice_bounds-fill-count
+slice_bounds-fill-count c = let q = moved-fits c.loop-i.invariant c.requires.0 (omega arith) in omega arith
 
-pub slice_bounds-clear_i32-start : goal.slice_bounds-clear_i32-start
-slice_bounds-clear_i32-start c = let q = moved-fits c.loop-i.invariant c.requires.0 (omega arith) in omega arith
-
-pub shape_of-values : goal.shape_of-values
-shape_of-values c = c.values-2-1.given.1 ∙ c.loop-i.invariant.long
+pub slice_bounds-fill-start : goal.slice_bounds-fill-start
+slice_bounds-fill-start c = let q = moved-fits c.loop-i.invariant c.requires.0 (omega arith) in omega arith
 
 pub returns : goal.returns
-returns c = let m = c.loop-i in part-cleared c.loop-i.values (pos 0) (c.args.width * c.loop-i.to) (moved-fits c.loop-i.invariant c.requires.0 (omega arith)) c.clear_i32.ensures ∙ moved_all c.loop-i.invariant c.requires.0 (omega arith)
+returns c =
+    let fits = moved-fits c.loop-i.invariant c.requires.0 (omega arith) in
+    let cleared : c.fill.new.self ≡ replicate (length (mid_of (c.args.width * c.loop-i.to) (length c.loop-i.values - c.args.width * c.loop-i.to) c.loop-i.values)) (pos 0) = search rules in
+    part-cleared c.loop-i.values (pos 0) (c.args.width * c.loop-i.to) fits cleared ∙ moved_all c.loop-i.invariant c.requires.0 (omega arith)

@@ -1,10 +1,5 @@
 use Rattle.sweep_rows.proofs.Moving.{Moved}
-use Prim.Native.Nat.{◌-◌}
-use lib.ListN.{length}
 use Rattle.sweep_rows.proofs.rows.move_rows.Given as goal
 
 abbrev pub invariant-loop-i : goal.invariant-loop-i
 invariant-loop-i l = Moved l.width l.numbers l.initial.values l.values l.to l.i
-
-abbrev pub decreases-loop-i : goal.decreases-loop-i
-decreases-loop-i l = length l.numbers - l.i

@@ -11,10 +11,10 @@ use Rattle.tidy_writer.proofs.Turns.{emitted-line}
 use Rattle.tidy_writer.proofs.body.parameter_line.Goals as goal
 
 pub emit_numbers-end-requires : goal.emit_numbers-end-requires
-emit_numbers-end-requires c = omega (arith, (emitted-spaced c.emit_spaced_argument-numbers.ensures).ends)
+emit_numbers-end-requires c = omega (arith, (emitted-spaced c.emit_spaced-numbers.ensures).ends)
 
 pub returns : goal.returns
 returns c =
     let a = c.args in
-    emitted-line (keyword_of Parameters) (argument_bytes a.direction ∷ map written_number (take a.count (drop a.first a.parameters.now))) (emitted-whole c.emit_keyword-words.ensures)
-    (emitted_then (emitted-spaced c.emit_spaced_argument-numbers.ensures) c.emit_numbers-end.ensures) (emitted-whole c.emit_byte.ensures)
+    emitted-line (keyword_of Parameters) (argument_bytes a.direction ∷ map written_number (take a.count (drop a.first a.parameters.now))) (emitted-whole c.emit-words.ensures)
+    (emitted_then (emitted-spaced c.emit_spaced-numbers.ensures) c.emit_numbers-end.ensures) (emitted-whole c.emit.ensures)

@@ -1,19 +1,15 @@
 -- The keyword, the range, the corners, the line's end.
-use mathlib.Core.Path.{ap}
-use mathlib.Core.List.{◌++◌, map}
-use native.Mathlib.Omega.{arith}
-use lib.ListN.{take, drop}
+use Rattle.std.proofs.Common.{ap, ◌++◌, map, take, drop, arith}
 use Rattle.references.specs.Written.{written_number, written_corner}
 use Rattle.keywords.specs.Keywords.{keyword_of}
 use Rattle.tables.specs.Rows.{range_numbers}
 use Rattle.tidy_writer.specs.Rows.{kind_keyword, range_count, stored_corners}
-use Rattle.tables.proofs.Bits.{fitted}
 use Rattle.tidy_words.proofs.Emissions.{emitted_then, emitted-is, emitted-whole}
 use Rattle.tidy_writer.proofs.Turns.{emitted-line, spaced-append}
 use Rattle.tidy_writer.proofs.element.element_line.Goals as goal
 
 pub emit_numbers-first-requires : goal.emit_numbers-first-requires
-emit_numbers-first-requires c = omega (arith, (emitted-whole c.emit_keyword-words.ensures).ends)
+emit_numbers-first-requires c = omega (arith, (emitted-whole c.emit-words.ensures).ends)
 
 pub returns : goal.returns
 returns c =
@@ -22,6 +18,6 @@ returns c =
     let ns = map written_number (take (range_count e.kind) (range_numbers a.body)) in
     let cs = map written_corner (stored_corners e.corners.count (drop e.corners.first a.corners.now)) in
     let k = ap keyword_of c.kind_keyword.ensures in
-    let n = rw (c.range_count.ensures, fitted {z = a.body.start_u} c.struct_told-1.given.1.1.1.1.1.1.1.1.1.0.1, fitted {z = a.body.end_u} c.struct_told-1.given.1.1.1.1.1.1.1.1.1.1.0.1, fitted {z = a.body.start_v} c.struct_told-1.given.1.1.1.1.1.1.1.1.1.1.1.0.1, fitted {z = a.body.end_v} c.struct_told-1.given.1.1.1.1.1.1.1.1.1.1.1.1.0.1) at c.emit_numbers-first.ensures in
-    emitted-line (keyword_of (kind_keyword e.kind)) (ns ++ cs) (emitted-is k (emitted-whole c.emit_keyword-words.ensures))
-    (emitted-is (spaced-append ns cs) (emitted_then n c.emit_corners-end.ensures)) (emitted-whole c.emit_byte.ensures)
+    let n = rw (c.range_count.ensures, c.range_row-range.ensures) at c.emit_numbers-first.ensures in
+    emitted-line (keyword_of (kind_keyword e.kind)) (ns ++ cs) (emitted-is k (emitted-whole c.emit-words.ensures))
+    (emitted-is (spaced-append ns cs) (emitted_then n c.emit_corners-end.ensures)) (emitted-whole c.emit.ensures)

@@ -10,11 +10,11 @@ pub returns-then-same_names : goal.returns-then-same_names
 returns-then-same_names c =
     let a = c.args in
     let t = a.text.now in
-    emitted-is (changed-none a.statement (words_at t a.before) (words_at t a.run) (sym c.same_names.ensures ∙ c.if-same_names.true)) (emitted-none a.at a.out.now c.requires.at_bound)
+    emitted-is (changed-none a.statement (words_at t a.before) (words_at t a.run) (sym c.same_names.ensures ∙ c.if-same_names.true)) (emitted-none a.at a.out.now c.requires)
 
 pub returns : goal.returns
 returns c =
     let a = c.args in
     let t = a.text.now in
     emitted-is (changed-line a.statement (words_at t a.before) (words_at t a.run) (sym c.same_names.ensures ∙ c.if-same_names.false))
-    (emitted-line (keyword_of a.statement) (words_at t a.run) (emitted-whole c.emit_keyword-words.ensures) c.emit_names-end.ensures (emitted-whole c.emit_byte.ensures))
+    (emitted-line (keyword_of a.statement) (words_at t a.run) (emitted-whole c.emit-words.ensures) c.emit_names-end.ensures (emitted-whole c.emit.ensures))

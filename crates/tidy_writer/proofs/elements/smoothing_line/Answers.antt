@@ -10,10 +10,10 @@ use Rattle.tidy_writer.proofs.elements.smoothing_line.Goals as goal
 pub returns-then-before-smoothing : goal.returns-then-before-smoothing
 returns-then-before-smoothing c =
     let a = c.args in
-    emitted-is (smoothed-none a.before a.smoothing c.if-before-smoothing.true) (emitted-none a.at a.out.now c.requires.at_bound)
+    emitted-is (smoothed-none a.before a.smoothing c.if-before-smoothing.true) (emitted-none a.at a.out.now c.requires)
 
 pub returns : goal.returns
 returns c =
     let a = c.args in
     emitted-is (smoothed-line a.before a.smoothing c.if-before-smoothing.false)
-    (emitted-line (keyword_of Smoothing) (written_whole a.smoothing ∷ []) (emitted-whole c.emit_keyword-words.ensures) (emitted-is (spaced-one (written_whole a.smoothing)) (emitted-spaced c.emit_spaced_whole-end.ensures)) (emitted-whole c.emit_byte.ensures))
+    (emitted-line (keyword_of Smoothing) (written_whole a.smoothing ∷ []) (emitted-whole c.emit-words.ensures) (emitted-is (spaced-one (written_whole a.smoothing)) (emitted-spaced c.emit_spaced-end.ensures)) (emitted-whole c.emit.ensures))

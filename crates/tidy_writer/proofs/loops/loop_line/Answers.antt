@@ -16,7 +16,7 @@ pub returns-then-part-eq0 : goal.returns-then-part-eq0
 returns-then-part-eq0 c =
     let part = c.part_at-part in
     let a = c.args in
-    emitted-is (begun-none a.loops.now a.spans.now a.first c.part_at-part.result c.part_at-part.ensures a.count c.if-part-eq0.true) (emitted-none a.at a.out.now c.requires.at_bound.0)
+    emitted-is (begun-none a.loops.now a.spans.now a.first c.part_at-part.result c.part_at-part.ensures a.count c.if-part-eq0.true) (emitted-none a.at a.out.now c.requires.0)
 
 pub returns : goal.returns
 returns c =
@@ -26,6 +26,6 @@ returns c =
     let z = drop (span_width * a.first) a.spans.now in
     let k = ap keyword_of (c.loop_keyword.ensures ∙ ap (λ (n : ℕ). loop_keyword (eqb n 2)) (sym (begins-first a.loops.now a.spans.now a.first c.part_at-part.result c.part_at-part.ensures))) in
     emitted-is (begun-line a.loops.now a.spans.now a.first c.part_at-part.result c.part_at-part.ensures a.count c.if-part-eq0.false)
-    (emitted-line (keyword_of (loop_keyword (eqb (get_or l 0 0) 2))) (part_words l z ++ going_on a.count (drop loop_width l) (drop span_width z)) (emitted-is k (emitted-whole c.emit_keyword-words.ensures))
+    (emitted-line (keyword_of (loop_keyword (eqb (get_or l 0 0) 2))) (part_words l z ++ going_on a.count (drop loop_width l) (drop span_width z)) (emitted-is k (emitted-whole c.emit-words.ensures))
     (emitted-is (loop-words a.loops.now a.spans.now a.first c.part_at-part.result c.part_at-part.ensures a.count) (emitted_then c.emit_part-rest.ensures c.emit_going_on-end.ensures))
-    (emitted-whole c.emit_byte.ensures))
+    (emitted-whole c.emit.ensures))

@@ -1,41 +1,27 @@
 -- What is left of the loops comes to all of them.
-use Prim.Native.Nat.{◌*◌, ◌<◌}
-use native.Mathlib.Omega.{arith}
-use lib.ListN.{drop}
+use Rattle.std.proofs.Common.{◌≡◌, ◌+◌, ◌-◌, ◌*◌, drop, ap₂, arith}
 use Rattle.tables.specs.Records.{loop_width, span_width}
 use Rattle.text.specs.Written.{written_lines}
 use Rattle.tidy_writer.specs.Rows.{loop_lines}
-use Rattle.tidy_words.proofs.Emissions.{left-start, left-turn, left-ends}
+use Rattle.tidy_words.proofs.Emissions.{left-begins, left-turn, left-ends}
 use Rattle.tidy_writer.proofs.Turns.{loops-turn, loops-none}
 use Rattle.tidy_writer.proofs.loops.loop_lines.Goals as goal
 
-pub loop-left-init : goal.loop-left-init
-loop-left-init c = let a = c.args in (left-start a.at (written_lines (loop_lines a.count (drop (loop_width * a.first) a.loops.now) (drop (span_width * a.first) a.spans.now))) a.out.now c.requires.at_bound.0, omega arith)
-
-pub overflow_sub-left : goal.overflow_sub-left
-overflow_sub-left c = omega arith
-
-pub loop_line-end-requires : goal.loop_line-end-requires
-loop_line-end-requires c = record { table_value = c.requires.table_value; at_bound = (c.loop-left.invariant.0.most, omega arith) }
-
-pub overflow_add-i : goal.overflow_add-i
-overflow_add-i c = omega arith
-
-pub loop-left-smaller : goal.loop-left-smaller
-loop-left-smaller c = omega arith
-
-pub loop-left-preserved : goal.loop-left-preserved
-loop-left-preserved c =
+pub loop-k-init : goal.loop-k-init
+loop-k-init c =
     let a = c.args in
-    let l = c.loop-left in
-    let h : 0 < c.loop-left.left = omega arith in
-    (left-turn c.loop-left.invariant.0 (loops-turn a.loops.now a.spans.now c.loop-left.i c.loop-left.left h) c.loop_line-end.ensures, omega arith)
+    left-begins a.at a.out.now c.requires.0
+    (ap₂ (λ n i. written_lines (loop_lines n (drop (loop_width * i) a.loops.now) (drop (span_width * i) a.spans.now))) (let n : a.count - 0 ≡ a.count = omega arith in n) (let i : a.first + 0 ≡ a.first = omega arith in i))
 
-pub shape_of-out : goal.shape_of-out
-shape_of-out c = c.loop-left.invariant.0.same
+pub loop-k-preserved : goal.loop-k-preserved
+loop-k-preserved c =
+    let a = c.args in
+    let n : a.count - (c.loop-k.k + 1) ≡ a.count - c.loop-k.k - 1 = omega arith in
+    let i : a.first + (c.loop-k.k + 1) ≡ a.first + c.loop-k.k + 1 = omega arith in
+    rw (n, i)
+    (left-turn c.loop-k.invariant (loops-turn a.loops.now a.spans.now (a.first + c.loop-k.k) (a.count - c.loop-k.k) (a.count - c.loop-k.k - 1) (omega arith)) c.loop_line-end.ensures)
 
 pub returns : goal.returns
 returns c =
     let a = c.args in
-    let l = c.loop-left in
-    left-ends c.loop-left.invariant.0 (loops-none (drop (loop_width * c.loop-left.i) a.loops.now) (drop (span_width * c.loop-left.i) a.spans.now) c.loop-left.left (omega arith))
+    left-ends c.loop-k.invariant (loops-none (drop (loop_width * (a.first + c.loop-k.k)) a.loops.now) (drop (span_width * (a.first + c.loop-k.k)) a.spans.now) (a.count - c.loop-k.k) (omega arith))

@@ -3,7 +3,7 @@ use Prim.Native.Nat.{◌+◌, min}
 use mathlib.Core.Path.{◌≡◌, refl}
 use native.Mathlib.Omega.{arith}
 use lib.ListN.{length}
-use Rattle.tables.specs.Tables.{tables}
+use Rattle.tables.specs.Lent.{lent}
 use Rattle.tidy_writer.specs.TidyFrom.{tidy_from}
 use Rattle.tidy_words.proofs.Emissions.{whole-emitted, whole-roomless}
 use Rattle.tidy_writer.proofs.tidy_text.write_tidy.Goals as goal
@@ -16,7 +16,6 @@ returns-then-length-room_in c =
 pub returns : goal.returns
 returns c =
     let a = c.args in
-    let w = tidy_from a.weights a.text.now a.used (tables a.v.now a.vt.now a.vn.now a.vp.now a.corners.now a.elements.now a.bodies.now a.ranges.now a.parameters.now a.parts.now a.spans.now) in
-    let m = c.measure-length in
+    let w = tidy_from a.weights a.text.now a.used (lent a.t.now) in
     let j : c.measure-length.result ≡ min (0 + length w) 16777217 = omega (arith, c.measure-length.ensures) in
     whole-roomless 0 w a.out.now (length w) c.measure-length.result refl j (omega (arith, c.room_in.ensures, c.if-length-room_in.false))

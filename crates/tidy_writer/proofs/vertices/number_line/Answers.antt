@@ -9,10 +9,10 @@ use Rattle.tidy_words.proofs.Emissions.{emitted-whole}
 use Rattle.tidy_writer.proofs.vertices.number_line.Goals as goal
 
 pub emit_numbers-end-requires : goal.emit_numbers-end-requires
-emit_numbers-end-requires c = omega (arith, (emitted-whole c.emit_keyword-words.ensures).ends)
+emit_numbers-end-requires c = omega (arith, (emitted-whole c.emit-words.ensures).ends)
 
 pub returns : goal.returns
 returns c =
     let a = c.args in
     emitted-line (keyword_of a.statement) (map written_number (take a.count (drop a.first a.values.now)))
-    (emitted-whole c.emit_keyword-words.ensures) c.emit_numbers-end.ensures (emitted-whole c.emit_byte.ensures)
+    (emitted-whole c.emit-words.ensures) c.emit_numbers-end.ensures (emitted-whole c.emit.ensures)

@@ -12,15 +12,15 @@ use Rattle.tidy_words.proofs.Emissions.{emitted-is}
 use Rattle.tidy_writer.proofs.Turns.{counted-row}
 use Rattle.tidy_writer.proofs.vertices.row_line.Goals as goal
 
-pub returns-then-counted : goal.returns-then-counted
-returns-then-counted c =
-    let a = c.args in
+pub returns-then-rows : goal.returns-then-rows
+returns-then-rows c =
+    let a = c.args.rows.now in
     let g = c.given_count-count in
-    let e = counted-row a.weights a.values.now a.first a.width c.given_count-count.result c.requires.le_width.0 c.given_count-count.ensures ∙ ap (λ (b : Bool). row_numbers b a.weights (take a.width (drop a.first a.values.now))) (sym c.if-counted.true) in
+    let e = counted-row a.weights a.values.now c.args.first a.width c.given_count-count.result c.requires.0 c.given_count-count.ensures ∙ ap (λ (b : Bool). row_numbers b a.weights (take a.width (drop c.args.first a.values.now))) (sym c.if-rows.true) in
     emitted-is (ap (λ (z : List ℤ). written_line (keyword_of a.statement ∷ map written_number z)) e) c.number_line.ensures
 
 pub returns : goal.returns
 returns c =
-    let a = c.args in
-    let e = c.weighted_count-count.ensures ∙ ap (λ (b : Bool). row_numbers b a.weights (take a.width (drop a.first a.values.now))) (sym c.if-counted.false) in
+    let a = c.args.rows.now in
+    let e = c.weighted_count-count.ensures ∙ ap (λ (b : Bool). row_numbers b a.weights (take a.width (drop c.args.first a.values.now))) (sym c.if-rows.false) in
     emitted-is (ap (λ (z : List ℤ). written_line (keyword_of a.statement ∷ map written_number z)) e) c.number_line-2.ensures

@@ -1,14 +1,11 @@
-use Prim.Native.Nat.{◌+◌, ◌*◌, ◌≤◌}
-use lib.ListN.{drop}
+-- The records from the one that the loop has come to are left.
+use Rattle.std.proofs.Common.{◌-◌, ◌*◌, drop}
 use Rattle.text.specs.Written.{written_lines}
 use Rattle.tidy_writer.specs.Rows.{vertex_rows}
 use Rattle.tidy_words.proofs.Emissions.{Left}
 use Rattle.tidy_writer.proofs.vertices.vertex_lines.Given as goal
 
-abbrev pub invariant-loop-left : goal.invariant-loop-left
-invariant-loop-left l =
-    Left l.at (written_lines (vertex_rows l.statement l.counted l.weights l.width l.used l.values)) l.initial.out l.end (written_lines (vertex_rows l.statement l.counted l.weights l.width l.left (drop l.first l.values))) l.out
-    × (l.first + 4 * l.left ≤ 4 * l.used)
-
-abbrev pub decreases-loop-left : goal.decreases-loop-left
-decreases-loop-left l = l.left
+abbrev pub invariant-loop-k : goal.invariant-loop-k
+invariant-loop-k l =
+    let r = l.rows in
+    Left l.at (written_lines (vertex_rows r.statement r.counted r.weights r.width l.used r.values.now)) l.initial.out l.end (written_lines (vertex_rows r.statement r.counted r.weights r.width (l.used - l.k) (drop (r.width * l.k) r.values.now))) l.out
