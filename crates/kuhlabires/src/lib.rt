@@ -7,6 +7,7 @@ ghost use Rattle.spellings.specs.Rows.{spelling_at, fitting};
 ghost use Rattle.keywords.specs.Keywords.{keywords, statement_of};
 ghost use Rattle.keywords.specs.Arguments.{arguments};
 ghost use Rattle.tables.specs.Tables.{tables};
+ghost use Rattle.tables.specs.Lent.{lent};
 ghost use Rattle.tables.specs.Asking.{asked_element, asked_body, asked_corner, asked_group, asked_material};
 ghost use Rattle.sampler.specs.Answers.{point_on_curve, point_on_surface, run_into};
 ghost use Rattle.polyline.specs.Answers.{polyline_into};
@@ -216,6 +217,37 @@ pub extern "C" fn kuhlabires_material_of(
     c_tables::part_of(text, e.material)
 }
 
+// The lent tables as one value, to be asked.
+fn tables_of<'a>(
+    v: &'a [i32],
+    vt: &'a [i32],
+    vn: &'a [i32],
+    vp: &'a [i32],
+    corners: &'a [u32],
+    elements: &'a [u32],
+    bodies: &'a [u32],
+    ranges: &'a [i32],
+    parameters: &'a [i32],
+    loops: &'a [u32],
+    spans: &'a [i32],
+) -> Tables<'a>
+    ensures { lent result ≡ tables v.now vt.now vn.now vp.now corners.now elements.now bodies.now ranges.now parameters.now loops.now spans.now }
+{
+    Tables {
+        v,
+        vt,
+        vn,
+        vp,
+        corners,
+        elements,
+        bodies,
+        ranges,
+        parameters,
+        loops,
+        spans,
+    }
+}
+
 // The point at t of the curv or curv2 of that number, counted from 1 over all elements.
 #[unsafe(no_mangle)]
 pub extern "C" fn kuhlabires_point_on_curve(
@@ -236,19 +268,9 @@ pub extern "C" fn kuhlabires_point_on_curve(
 ) -> Point
     ensures { result ≡ point_in (point_on_curve used (tables v.now vt.now vn.now vp.now corners.now elements.now bodies.now ranges.now parameters.now loops.now spans.now) element t).outcome }
 {
-    let lent = Tables {
-        v,
-        vt,
-        vn,
-        vp,
-        corners,
-        elements,
-        bodies,
-        ranges,
-        parameters,
-        loops,
-        spans,
-    };
+    let lent = tables_of(
+        v, vt, vn, vp, corners, elements, bodies, ranges, parameters, loops, spans,
+    );
     Point::from(sampler::point_on_curve(used, &lent, element, t))
 }
 
@@ -273,19 +295,9 @@ pub extern "C" fn kuhlabires_point_on_surface(
 ) -> Point
     ensures { result ≡ point_in (point_on_surface used (tables v.now vt.now vn.now vp.now corners.now elements.now bodies.now ranges.now parameters.now loops.now spans.now) element s t).outcome }
 {
-    let lent = Tables {
-        v,
-        vt,
-        vn,
-        vp,
-        corners,
-        elements,
-        bodies,
-        ranges,
-        parameters,
-        loops,
-        spans,
-    };
+    let lent = tables_of(
+        v, vt, vn, vp, corners, elements, bodies, ranges, parameters, loops, spans,
+    );
     Point::from(sampler::point_on_surface(used, &lent, element, s, t))
 }
 
@@ -310,19 +322,9 @@ pub extern "C" fn kuhlabires_cubic_at(
 ) -> Point
     ensures { result ≡ point_in (cubic_at used (tables v.now vt.now vn.now vp.now corners.now elements.now bodies.now ranges.now parameters.now loops.now spans.now) element segment j).outcome }
 {
-    let lent = Tables {
-        v,
-        vt,
-        vn,
-        vp,
-        corners,
-        elements,
-        bodies,
-        ranges,
-        parameters,
-        loops,
-        spans,
-    };
+    let lent = tables_of(
+        v, vt, vn, vp, corners, elements, bodies, ranges, parameters, loops, spans,
+    );
     Point::from(point_cubics::cubic_at(used, &lent, element, segment, j))
 }
 
@@ -348,19 +350,9 @@ pub extern "C" fn kuhlabires_run_on_curve(
 ) -> Run
     ensures { (result ≡ run_in (run_into used (tables v.now vt.now vn.now vp.now corners.now elements.now bodies.now ranges.now parameters.now loops.now spans.now) element steps at points.old).outcome) × (points.new ≡ (run_into used (tables v.now vt.now vn.now vp.now corners.now elements.now bodies.now ranges.now parameters.now loops.now spans.now) element steps at points.old).points) }
 {
-    let lent = Tables {
-        v,
-        vt,
-        vn,
-        vp,
-        corners,
-        elements,
-        bodies,
-        ranges,
-        parameters,
-        loops,
-        spans,
-    };
+    let lent = tables_of(
+        v, vt, vn, vp, corners, elements, bodies, ranges, parameters, loops, spans,
+    );
     Run::from(sampler::run_on_curve(used, &lent, element, steps, points, at))
 }
 
@@ -386,19 +378,9 @@ pub extern "C" fn kuhlabires_polyline(
 ) -> PolylinePoints
     ensures { (result ≡ polyline_in (polyline_into used (tables v.now vt.now vn.now vp.now corners.now elements.now bodies.now ranges.now parameters.now loops.now spans.now) element tolerance at points.old).outcome) × (points.new ≡ (polyline_into used (tables v.now vt.now vn.now vp.now corners.now elements.now bodies.now ranges.now parameters.now loops.now spans.now) element tolerance at points.old).points) }
 {
-    let lent = Tables {
-        v,
-        vt,
-        vn,
-        vp,
-        corners,
-        elements,
-        bodies,
-        ranges,
-        parameters,
-        loops,
-        spans,
-    };
+    let lent = tables_of(
+        v, vt, vn, vp, corners, elements, bodies, ranges, parameters, loops, spans,
+    );
     PolylinePoints::from(polyline::polyline(used, &lent, element, tolerance, points, at))
 }
 
