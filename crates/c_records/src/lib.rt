@@ -1,12 +1,13 @@
 // The answers as C and Rust get them: each case of an answer as a record of numbers; and a choice that they name by a number.
 #![tactic(auto)]
 
-ghost use Rattle.std.specs.Prelude.{◌≡◌};
+ghost use Rattle.std.specs.Prelude.{◌≡◌, pos};
+ghost use Rattle.model.specs.Layout.{none_used};
 ghost use Rattle.reader.specs.Reading.{read_outcome};
 ghost use Rattle.tidier.specs.Tidying.{tidy_outcome};
 ghost use Rattle.sampler.specs.Answers.{point_outcome, run_outcome};
 ghost use Rattle.polyline.specs.Answers.{polyline_outcome};
-ghost use Rattle.sweep.specs.Swept.{sweep_outcome};
+ghost use Rattle.sweep.specs.Swept.{none_dropped, sweep_outcome};
 ghost use Rattle.c_records.specs.Answers.{read_in, tidy_in, weights_in, point_in, run_in, polyline_in, sweep_in};
 
 use refusals::{Reason, Refusal};
@@ -90,6 +91,19 @@ const NOTHING_DROPPED: Dropped = Dropped {
     vp: 0,
 };
 
+impl ReadRecord {
+    // A refusal of any number, at its place.
+    pub fn refused(number: u32, place: usize) -> ReadRecord
+        ensures { (result.refusal ≡ number) × (result.place ≡ place) × (result.used ≡ none_used) }
+    {
+        ReadRecord {
+            refusal: number,
+            place,
+            used: NOTHING_USED,
+        }
+    }
+}
+
 impl From<Result<Used, Refusal>> for ReadRecord {
     ghost from_gives = { λ answer r. r ≡ read_in (read_outcome answer) };
 
@@ -100,11 +114,7 @@ impl From<Result<Used, Refusal>> for ReadRecord {
                 place: 0,
                 used,
             },
-            Err(refusal) => ReadRecord {
-                refusal: refusal.reason.number(),
-                place: refusal.place,
-                used: NOTHING_USED,
-            },
+            Err(refusal) => ReadRecord::refused(refusal.reason.number(), refusal.place),
         }
     }
 }
@@ -116,6 +126,21 @@ pub fn weights_of(number: u32) -> Weights
     match number {
         1 => Weights::Always,
         _ => Weights::WhenNeeded,
+    }
+}
+
+impl TidyRecord {
+    // A refusal of any number, at its place.
+    pub fn refused(untidied: u32, at: usize) -> TidyRecord
+        ensures { (result.refusal ≡ untidied) × (result.place ≡ at) × (result.length ≡ 0) × (result.needed ≡ 0) × (result.used ≡ none_used) }
+    {
+        TidyRecord {
+            refusal: untidied,
+            place: at,
+            length: 0,
+            needed: 0,
+            used: NOTHING_USED,
+        }
     }
 }
 
@@ -138,13 +163,24 @@ impl From<Result<Tidied, TidyError>> for TidyRecord {
                 needed,
                 used,
             },
-            Err(TidyError::Refused(stopped)) => TidyRecord {
-                refusal: stopped.reason.number(),
-                place: stopped.place,
-                length: 0,
-                needed: 0,
-                used: NOTHING_USED,
-            },
+            Err(TidyError::Refused(stopped)) => {
+                TidyRecord::refused(stopped.reason.number(), stopped.place)
+            }
+        }
+    }
+}
+
+impl Point {
+    // A refusal of any number.
+    pub fn refused(unsampled: u32) -> Point
+        ensures { (result.refusal ≡ unsampled) × (result.axes ≡ 0) × (result.x ≡ pos 0) × (result.y ≡ pos 0) × (result.z ≡ pos 0) }
+    {
+        Point {
+            refusal: unsampled,
+            axes: 0,
+            x: 0,
+            y: 0,
+            z: 0,
         }
     }
 }
@@ -168,13 +204,19 @@ impl From<Result<sampler::Point, Reason>> for Point {
                 y: v,
                 z: 0,
             },
-            Err(reason) => Point {
-                refusal: reason.number(),
-                axes: 0,
-                x: 0,
-                y: 0,
-                z: 0,
-            },
+            Err(reason) => Point::refused(reason.number()),
+        }
+    }
+}
+
+impl Run {
+    // A refusal of any number.
+    pub fn refused(unfilled: u32) -> Run
+        ensures { (result.refusal ≡ unfilled) × (result.numbers ≡ 0) }
+    {
+        Run {
+            refusal: unfilled,
+            numbers: 0,
         }
     }
 }
@@ -188,10 +230,19 @@ impl From<Result<usize, Reason>> for Run {
                 refusal: 0,
                 numbers,
             },
-            Err(reason) => Run {
-                refusal: reason.number(),
-                numbers: 0,
-            },
+            Err(reason) => Run::refused(reason.number()),
+        }
+    }
+}
+
+impl PolylinePoints {
+    // A refusal of any number.
+    pub fn refused(uncut: u32) -> PolylinePoints
+        ensures { (result.refusal ≡ uncut) × (result.points ≡ 0) }
+    {
+        PolylinePoints {
+            refusal: uncut,
+            points: 0,
         }
     }
 }
@@ -202,10 +253,20 @@ impl From<Result<u32, Reason>> for PolylinePoints {
     fn from(answer: Result<u32, Reason>) -> PolylinePoints {
         match answer {
             Ok(points) => PolylinePoints { refusal: 0, points },
-            Err(reason) => PolylinePoints {
-                refusal: reason.number(),
-                points: 0,
-            },
+            Err(reason) => PolylinePoints::refused(reason.number()),
+        }
+    }
+}
+
+impl SweepCounts {
+    // A refusal of any number.
+    pub fn refused(unswept: u32) -> SweepCounts
+        ensures { (result.refusal ≡ unswept) × (result.used ≡ none_used) × (result.dropped ≡ none_dropped) }
+    {
+        SweepCounts {
+            refusal: unswept,
+            used: NOTHING_USED,
+            dropped: NOTHING_DROPPED,
         }
     }
 }
@@ -220,11 +281,7 @@ impl From<Result<Swept, Reason>> for SweepCounts {
                 used: swept.used,
                 dropped: swept.dropped,
             },
-            Err(unswept) => SweepCounts {
-                refusal: unswept.number(),
-                used: NOTHING_USED,
-                dropped: NOTHING_DROPPED,
-            },
+            Err(reason) => SweepCounts::refused(reason.number()),
         }
     }
 }

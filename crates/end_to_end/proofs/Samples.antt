@@ -21,7 +21,7 @@ use Rattle.refusals.specs.declared.Reason.TheVariants.{BrokenRecord, NoOutputRoo
 use Rattle.sampler.specs.declared.Point.{Point}
 use Rattle.sampler.specs.declared.Point.TheVariants as sampled
 use Rattle.polyline.proofs.Granted.{number-15}
-use Rattle.sampler.specs.Answers.{point_answer, unless, point_outcome, run_outcome, PointAnswer, RunAnswer, wanted, carried, element_of, body_of, inside, refusal_of, refused_point, space_point, plane_point, curve_point, point_on_curve, surface_point, point_on_surface, refused_run, filled_run, run_into}
+use Rattle.sampler.specs.Answers.{point_answer, refused_or, point_outcome, run_outcome, PointAnswer, RunAnswer, wanted, carried, element_of, body_of, inside, refusal_of, refused_point, space_point, plane_point, curve_point, point_on_curve, surface_point, point_on_surface, refused_run, filled_run, run_into}
 use Rattle.end_to_end.specs.Demand1.{Between, RefusedRun}
 
 -- what holds of both answers of a test holds of the answer
@@ -30,7 +30,7 @@ module _ {A : Type 0} (P : A → Type 0) where
   either true x y h k = h
   either false x y h k = k
 
-  unless-cases : (o : Option Reason) (f : Reason → A) (x : A) → P x → ((r : Reason) → o ≡ Some r → P (f r)) → P (unless o f x)
+  unless-cases : (o : Option Reason) (f : Reason → A) (x : A) → P x → ((r : Reason) → o ≡ Some r → P (f r)) → P (refused_or o f x)
   unless-cases None f x h k = h
   unless-cases (Some r) f x h k = k r refl
 

@@ -65,8 +65,12 @@ pub fn no_order() -> Order
 fn too_often(asked: Requirement, i: usize, since: usize, low: i32, previous: i32) -> bool
     ensures { result ≡ too_often asked i since low previous }
 {
+    // Asked first and apart: as one test of the chain it is worked out for each parameter of a bezier, with all the others.
+    if asked.basis != bases::BSPLINE {
+        return false;
+    }
     let n = asked.degree as usize;
-    asked.basis == bases::BSPLINE && n < i && since < i - n && i <= asked.high_at && low < previous
+    n < i && since < i - n && i <= asked.high_at && low < previous
 }
 
 // Whether b may stand at index i: knots never decrease, other parameters increase.
@@ -92,10 +96,12 @@ fn end_so_far(at: usize, i: usize, before: i32, b: i32) -> i32
 pub fn step(asked: Requirement, i: usize, o: Order, b: i32) -> Order
     ensures { result ≡ step_of asked i o b }
 {
+    // Worked out whether or not all was fine so far: a test in front of it makes each knot wait for the one before.
+    let follows = may_follow(asked, i, o.since, o.low, o.previous, b);
     Order {
         previous: b,
         since: if o.previous < b { i } else { o.since },
-        fine: o.fine && may_follow(asked, i, o.since, o.low, o.previous, b),
+        fine: o.fine && follows,
         low: end_so_far(asked.low_at, i, o.low, b),
         high: end_so_far(asked.high_at, i, o.high, b),
     }

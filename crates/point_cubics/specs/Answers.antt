@@ -9,7 +9,7 @@ use Rattle.tables.specs.declared.Used.{Used}
 use Rattle.point_exact.specs.Directions.{at}
 use Rattle.refusals.specs.declared.Reason.TheVariants.{NotSampled, ParameterOutside}
 use Rattle.sampler.specs.Points.{control_of}
-use Rattle.sampler.specs.Answers.{PointAnswer, element_of, body_of, refusal_of, unless, inside, refused_point, space_point, plane_point}
+use Rattle.sampler.specs.Answers.{PointAnswer, element_of, body_of, refusal_of, refused_or, inside, refused_point, space_point, plane_point}
 use Rattle.point_weights.specs.Weights.{cubic_sampled}
 
 -- 18: the body is a bezier, type 1, of degree 3
@@ -33,7 +33,7 @@ cubic_point t e g j =
 
 unfoldable pub cubic_at : Used → Tables → (number g j : ℕ) → PointAnswer
 cubic_at used t number g j =
-    unless (refusal_of false used t number) refused_point
+    refused_or (refusal_of false used t number) refused_point
     (cond (cubic (body_of t number).basis (body_of t number).degree_u)
     (cond (reached (parameters_u t (body_of t number)) (body_of t number).start_u (body_of t number).end_u g j)
     (cubic_point t (element_of t number) g j)

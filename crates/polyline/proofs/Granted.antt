@@ -22,7 +22,7 @@ use Rattle.refusals.specs.declared.Reason.{Reason}
 use Rattle.refusals.specs.declared.Reason.TheVariants as reason
 use Rattle.refusals.specs.declared.Reason.TheVariants.{BrokenRecord, NoOutputRoom, ParameterOutside}
 use Rattle.sampler.specs.Points.{axes_of, curve_at}
-use Rattle.sampler.specs.Answers.{element_of, body_of, refusal_of, unless, PointAnswer, point_outcome, refused_point, plane_point, space_point, inside, curve_point, point_on_curve}
+use Rattle.sampler.specs.Answers.{element_of, body_of, refusal_of, refused_or, PointAnswer, point_outcome, refused_point, plane_point, space_point, inside, curve_point, point_on_curve}
 use Rattle.sampler.specs.Sampling.{Curved, answer_on_curve}
 use Rattle.sampler.proofs.Obeyed.{granted, curved}
 use Rattle.sampler.proofs.Refusals.{Looked}
@@ -192,7 +192,7 @@ either-told : (c : Bool) (x y : PolylineAnswer) → Told x → Told y → Told (
 either-told true x y f g = f
 either-told false x y f g = g
 
-unless-told : (o : Option Reason) (points : List ℤ) (x : PolylineAnswer) → Told x → Told (unless o (refused_polyline points) x)
+unless-told : (o : Option Reason) (points : List ℤ) (x : PolylineAnswer) → Told x → Told (refused_or o (refused_polyline points) x)
 unless-told None points x f = f
 unless-told (Some r) points x f = refl
 
@@ -230,7 +230,7 @@ number-15 reason.NotSampled h = absurd (omega arith)
 number-15 reason.ParameterOutside h = absurd (omega arith)
 
 only : (b c : Bool) (o : Option Reason) (x y z : PolylineAnswer) → x.outcome.number ≡ 0 → y.outcome.number ≡ 16 → z.outcome.number ≡ 19 → (points : List ℤ)
-    → (unless o (refused_polyline points) (cond b (cond c x y) z)).outcome.number ≡ 15 → o ≡ Some BrokenRecord
+    → (refused_or o (refused_polyline points) (cond b (cond c x y) z)).outcome.number ≡ 15 → o ≡ Some BrokenRecord
 only true true None x y z f g h p e = absurd (omega (arith, e, f))
 only true false None x y z f g h p e = absurd (omega (arith, e, g))
 only false c None x y z f g h p e = absurd (omega (arith, e, h))

@@ -5,7 +5,7 @@ use Rattle.std.specs.Int.Signed.{le_z}
 use Rattle.tables.specs.Tables.{Tables}
 use Rattle.tables.specs.declared.Used.{Used}
 use Rattle.sampler.specs.Points.{axes_of}
-use Rattle.sampler.specs.Answers.{element_of, body_of, refusal_of, unless, point_on_curve}
+use Rattle.sampler.specs.Answers.{element_of, body_of, refusal_of, refused_or, point_on_curve}
 use Rattle.point_chords.specs.Chords.{parameters, numbers}
 use Rattle.refusals.specs.Reasons.{reason_number}
 use Rattle.refusals.specs.declared.Reason.{Reason}
@@ -55,7 +55,7 @@ filled_polyline count at numbers points = polyline_answer (Ok count) (take at po
 -- "Refusals: the sampler's; 19 also for a negative tolerance; 16 exactly when they lack room."
 unfoldable pub polyline_into : Used → Tables → (number : ℕ) (tolerance : ℤ) (at : ℕ) → List ℤ → PolylineAnswer
 polyline_into used t number tolerance at points =
-    unless (refusal_of false used t number) (refused_polyline points)
+    refused_or (refusal_of false used t number) (refused_polyline points)
     (cond (le_z (pos 0) tolerance)
     (cond (leb (at + polyline_room used t number tolerance) (length points))
     (filled_polyline (length (parameters_of used t number tolerance)) at (polyline_numbers used t number tolerance) points)

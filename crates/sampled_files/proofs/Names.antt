@@ -21,7 +21,7 @@ use Rattle.sampler.specs.Points.{axes_of, control_of, curve_at, surface_at, run_
 use Rattle.std.specs.Prelude.{Option, Some, None}
 use Rattle.refusals.specs.declared.Reason.{Reason}
 use Rattle.refusals.specs.declared.Reason.TheVariants.{BrokenRecord, NoSuchElement, NotSampled, ParameterOutside}
-use Rattle.sampler.specs.Answers.{PointAnswer, wanted, carried, element_of, body_of, refusal_of, unless, inside, refused_point, curve_point, point_on_curve, surface_point, point_on_surface, run_into}
+use Rattle.sampler.specs.Answers.{PointAnswer, wanted, carried, element_of, body_of, refusal_of, refused_or, inside, refused_point, curve_point, point_on_curve, surface_point, point_on_surface, run_into}
 use Rattle.sampler.specs.Demand3.{sampling}
 use Rattle.tidy_form.proofs.Layouts.{with_element_table}
 use Rattle.sampled_files.specs.Joined.{SampledAlike}
@@ -115,7 +115,7 @@ module _ (u : Used) (t : Tables) (k l : List ℕ) (same : (i j : ℕ) → j < 5 
     unfolding point_on_curve
     answer-curve p =
         let answer : Option Reason → Body → PointAnswer → PointAnswer =
-        λ r b c. unless r refused_point (cond (inside b.start_u b.end_u p) c (refused_point ParameterOutside)) in
+        λ r b c. refused_or r refused_point (cond (inside b.start_u b.end_u p) c (refused_point ParameterOutside)) in
         ap₂ (λ (r : Option Reason) (b : Body). answer r b (curve_point T (element_of T number) (body_of T number) p)) (refusal-same false) body_same
         ∙ ap (answer (refusal_of false u W number) (body_of W number)) (curve-same p)
 
@@ -123,7 +123,7 @@ module _ (u : Used) (t : Tables) (k l : List ℕ) (same : (i j : ℕ) → j < 5 
     unfolding point_on_surface
     answer-surface p q =
         let answer : Option Reason → Body → PointAnswer → PointAnswer =
-        λ r b c. unless r refused_point (cond (inside b.start_u b.end_u p && inside b.start_v b.end_v q) c (refused_point ParameterOutside)) in
+        λ r b c. refused_or r refused_point (cond (inside b.start_u b.end_u p && inside b.start_v b.end_v q) c (refused_point ParameterOutside)) in
         ap₂ (λ (r : Option Reason) (b : Body). answer r b (surface_point T (element_of T number) (body_of T number) p q)) (refusal-same true) body_same
         ∙ ap (answer (refusal_of true u W number) (body_of W number)) (surface-same p q)
 

@@ -17,7 +17,7 @@ use Rattle.record_rules.specs.Rules.{obeys, curves_among, curves_before, records
 use Rattle.record_rules.proofs.Records.{records-counted, records-are}
 use Rattle.record_rules.proofs.Bodied.{body_is, body-there}
 use Rattle.record_rules.proofs.Element.{obeys-facts, body-of}
-use Rattle.sampler.specs.Answers.{wanted, carried, element_of, body_of, refusal_of, unless}
+use Rattle.sampler.specs.Answers.{wanted, carried, element_of, body_of, refusal_of, refused_or}
 use Rattle.sampler.specs.Sampling.{lookup_of}
 use Rattle.sampler.specs.declared.Found.{Found}
 use Rattle.refusals.specs.declared.Reason.{Reason}
@@ -83,7 +83,7 @@ module _ (surface : Bool) (used : Used) (t : Tables) (number : ℕ) where
   unfolding lookup_of
   missed {r} = go (refusal_of surface used t number)
     where
-      go : (o : Option Reason) → ◌≡◌ {A = Result Found Reason} (unless o Err (Ok (record { element = element_of t number; body = body_of t number }))) (Err r) → o ≡ Some r
+      go : (o : Option Reason) → ◌≡◌ {A = Result Found Reason} (refused_or o Err (Ok (record { element = element_of t number; body = body_of t number }))) (Err r) → o ≡ Some r
       go None h = cc
       go (Some q) h = cc
 
@@ -92,7 +92,7 @@ module _ (surface : Bool) (used : Used) (t : Tables) (number : ℕ) where
   looked {f} = go (refusal_of surface used t number) refl
     where
       go : (o : Option Reason) → refusal_of surface used t number ≡ o
-          → ◌≡◌ {A = Result Found Reason} (unless o Err (Ok (record { element = element_of t number; body = body_of t number }))) (Ok f) → Looked surface used t number f.element f.body
+          → ◌≡◌ {A = Result Found Reason} (refused_or o Err (Ok (record { element = element_of t number; body = body_of t number }))) (Ok f) → Looked surface used t number f.element f.body
       go None z h =
           let e : f ≡ record { element = element_of t number; body = body_of t number } = cc in
           record { given = z; element-is = ap (λ (x : Found). x.element) e; body_is = ap (λ (x : Found). x.body) e }

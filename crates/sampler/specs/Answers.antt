@@ -21,12 +21,12 @@ pub record PointOutcome : Type 0 where
   pub number : ℕ
   pub coordinates : List ℤ
 
-abbrev pub coordinates : Point → List ℤ
-coordinates (sampled.Space x y z) = x ∷ y ∷ z ∷ []
-coordinates (sampled.Plane u v) = u ∷ v ∷ []
+abbrev pub point_coordinates : Point → List ℤ
+point_coordinates (sampled.Space x y z) = x ∷ y ∷ z ∷ []
+point_coordinates (sampled.Plane u v) = u ∷ v ∷ []
 
 abbrev pub point_outcome : Result Point Reason → PointOutcome
-point_outcome (Ok p) = record { number = 0; coordinates = coordinates p }
+point_outcome (Ok p) = record { number = 0; coordinates = point_coordinates p }
 point_outcome (Err r) = record { number = reason_number r; coordinates = [] }
 
 -- A run: the number of refusal, 0 where it is filled, and how many numbers were written.
@@ -84,9 +84,9 @@ refusal_of surface used t number =
     (Some NoSuchElement)
 
 -- what is answered to a refusal, or else
-abbrev pub unless : {A : Type 0} → Option Reason → (Reason → A) → A → A
-unless None refused x = x
-unless (Some r) refused x = refused r
+abbrev pub refused_or : {A : Type 0} → Option Reason → (Reason → A) → A → A
+refused_or None refused x = x
+refused_or (Some r) refused x = refused r
 
 -- "19 parameter outside start..end"
 abbrev pub inside : (start end p : ℤ) → Bool
@@ -110,7 +110,7 @@ curve_point t e b p =
 
 unfoldable pub point_on_curve : Used → Tables → (number : ℕ) (p : ℤ) → PointAnswer
 point_on_curve used t number p =
-    unless (refusal_of false used t number) refused_point
+    refused_or (refusal_of false used t number) refused_point
     (cond (inside (body_of t number).start_u (body_of t number).end_u p)
     (curve_point t (element_of t number) (body_of t number) p)
     (refused_point ParameterOutside))
@@ -120,7 +120,7 @@ surface_point t e b p q = space_point (surface_at t e b p q 0) (surface_at t e b
 
 unfoldable pub point_on_surface : Used → Tables → (number : ℕ) (p q : ℤ) → PointAnswer
 point_on_surface used t number p q =
-    unless (refusal_of true used t number) refused_point
+    refused_or (refusal_of true used t number) refused_point
     (cond
     (inside (body_of t number).start_u (body_of t number).end_u p
     && inside (body_of t number).start_v (body_of t number).end_v q)
@@ -137,7 +137,7 @@ filled_run count at numbers points = run_answer (Ok count) (take at points ++ (n
 -- "or a run of 0 or over 65,536 steps; 16 no room for the run"; it "fills the caller's point table from a chosen place onward, counted in numbers"
 unfoldable pub run_into : Used → Tables → (number steps at : ℕ) → List ℤ → RunAnswer
 run_into used t number steps at points =
-    unless (refusal_of false used t number) (refused_run points)
+    refused_or (refusal_of false used t number) (refused_run points)
     (cond (leb 1 steps && leb steps 65536)
     (cond (leb (at + axes_of (element_of t number) * (steps + 1)) (length points))
     (filled_run (axes_of (element_of t number) * (steps + 1)) at (run_numbers t (element_of t number) (body_of t number) steps) points)

@@ -8,7 +8,7 @@ use Rattle.point_rows.specs.Finding.{Sized}
 use Rattle.point_rows.specs.Controls.{ControlsLent}
 use Rattle.point_runs.specs.Inner.{Ranged}
 use Rattle.sampler.specs.Points.{body_direction, axes_of, run_numbers}
-use Rattle.sampler.specs.Answers.{PointAnswer, RunAnswer, inside, curve_point, surface_point, refused_point, refused_run, filled_run, element_of, body_of, refusal_of, unless}
+use Rattle.sampler.specs.Answers.{PointAnswer, RunAnswer, inside, curve_point, surface_point, refused_point, refused_run, filled_run, element_of, body_of, refusal_of, refused_or}
 use Rattle.tables.specs.declared.Used.{Used}
 use Rattle.refusals.specs.declared.Reason.{Reason}
 use Rattle.refusals.specs.declared.Reason.TheVariants.{NoOutputRoom, ParameterOutside}
@@ -52,4 +52,4 @@ answer_of_run t e b steps at points =
 
 -- the element with its body where none of them is given
 unfoldable pub lookup_of : (surface : Bool) → Used → Tables → ℕ → Result Found Reason
-lookup_of surface used t number = unless (refusal_of surface used t number) Err (Ok (record { element = element_of t number; body = body_of t number }))
+lookup_of surface used t number = refused_or (refusal_of surface used t number) Err (Ok (record { element = element_of t number; body = body_of t number }))

@@ -25,7 +25,7 @@ use Rattle.sampler.specs.Points.{axes_of, curve_at, surface_at, run_numbers}
 use Rattle.std.specs.Prelude.{Option, Some, None}
 use Rattle.refusals.specs.declared.Reason.{Reason}
 use Rattle.refusals.specs.declared.Reason.TheVariants.{NoOutputRoom, NoSuchElement, NotSampled, ParameterOutside}
-use Rattle.sampler.specs.Answers.{PointAnswer, wanted, carried, element_of, body_of, refusal_of, unless, RunAnswer, inside, refused_point, curve_point, point_on_curve, surface_point, point_on_surface, refused_run, filled_run, run_into}
+use Rattle.sampler.specs.Answers.{PointAnswer, wanted, carried, element_of, body_of, refusal_of, refused_or, RunAnswer, inside, refused_point, curve_point, point_on_curve, surface_point, point_on_surface, refused_run, filled_run, run_into}
 use Rattle.sampler.specs.Sampling.{Curved, Surfaced}
 use Rattle.sampler.proofs.Obeyed.{Granted, granted, curved, surfaced}
 use Rattle.sampler.proofs.Refusals.{kinds, none-such}
@@ -55,7 +55,7 @@ axes-most false = omega arith
 abbrev refusal_by : Bool → Element → Body → Option Reason
 refusal_by surface e b = cond (wanted surface e.kind) (cond (carried b.rational b.basis) None (Some NotSampled)) (Some NoSuchElement)
 
-unless-where : {A : Type 0} (o : Option Reason) (f : Reason → A) {x y : A} → (o ≡ None → x ≡ y) → unless o f x ≡ unless o f y
+unless-where : {A : Type 0} (o : Option Reason) (f : Reason → A) {x y : A} → (o ≡ None → x ≡ y) → refused_or o f x ≡ refused_or o f y
 unless-where None f h = h refl
 unless-where (Some r) f h = refl
 
@@ -164,7 +164,7 @@ module _ (used : Used) (t : Tables) (u : Used) (w : Tables) (count : u.elements 
   unfolding point_on_curve
   curve-answer p =
       let answer : Element → Body → PointAnswer = λ x y. cond (inside y.start_u y.end_u p) (curve_point w x y p) (refused_point ParameterOutside) in
-      ap (λ (r : Option Reason). unless r refused_point (answer (element_of w number) (body_of w number))) (refusal-same false)
+      ap (λ (r : Option Reason). refused_or r refused_point (answer (element_of w number) (body_of w number))) (refusal-same false)
       ∙ unless-where (refusal_of false used t number) refused_point
       (λ given. ap₂ answer (granted-element false given) (granted-body false given) ∙ cond-where (inside b.start_u b.end_u p) (refused_point ParameterOutside) (point-same given p))
 
@@ -173,7 +173,7 @@ module _ (used : Used) (t : Tables) (u : Used) (w : Tables) (count : u.elements 
   run-answer steps at points =
       let answer : Element → List ℤ → RunAnswer = λ x y. cond (leb 1 steps && leb steps 65536)
       (cond (leb (at + axes_of x * (steps + 1)) (length points)) (filled_run (axes_of x * (steps + 1)) at y points) (refused_run points NoOutputRoom)) (refused_run points ParameterOutside) in
-      ap (λ (r : Option Reason). unless r (refused_run points) (answer (element_of w number) (run_numbers w (element_of w number) (body_of w number) steps))) (refusal-same false)
+      ap (λ (r : Option Reason). refused_or r (refused_run points) (answer (element_of w number) (run_numbers w (element_of w number) (body_of w number) steps))) (refusal-same false)
       ∙ unless-where (refusal_of false used t number) (refused_run points)
       (λ given. ap₂ (λ (x : Element) (y : Body). answer x (run_numbers w x y steps)) (granted-element false given) (granted-body false given) ∙ ap (answer e) (run-same given steps))
 
@@ -183,7 +183,7 @@ module _ (used : Used) (t : Tables) (u : Used) (w : Tables) (count : u.elements 
       let answer : (ℤ → List ℤ) → Element → Body → PolylineAnswer = λ f x y.
       let ps = parameters f tolerance y.start_u y.end_u in
       cond (le_z (pos 0) tolerance) (cond (leb (at + axes_of x * length ps) (length points)) (filled_polyline (length ps) at (numbers f ps) points) (refused_polyline points NoOutputRoom)) (refused_polyline points ParameterOutside) in
-      ap (λ (r : Option Reason). unless r (refused_polyline points) (answer (point_at u w number) (element_of w number) (body_of w number))) (refusal-same false)
+      ap (λ (r : Option Reason). refused_or r (refused_polyline points) (answer (point_at u w number) (element_of w number) (body_of w number))) (refusal-same false)
       ∙ unless-where (refusal_of false used t number) (refused_polyline points)
       (λ given. ap₂ (answer (point_at u w number)) (granted-element false given) (granted-body false given)
       ∙ ap (λ (f : ℤ → List ℤ). answer f e b) (fun_ext (λ p. ap (λ (r : PointAnswer). r.outcome.coordinates) (curve-answer p))))
@@ -193,7 +193,7 @@ module _ (used : Used) (t : Tables) (u : Used) (w : Tables) (count : u.elements 
   surface-answer p q =
       let answer : Element → Body → PointAnswer = λ x y.
       cond (inside y.start_u y.end_u p && inside y.start_v y.end_v q) (surface_point w x y p q) (refused_point ParameterOutside) in
-      ap (λ (r : Option Reason). unless r refused_point (answer (element_of w number) (body_of w number))) (refusal-same true)
+      ap (λ (r : Option Reason). refused_or r refused_point (answer (element_of w number) (body_of w number))) (refusal-same true)
       ∙ unless-where (refusal_of true used t number) refused_point
       (λ given. ap₂ answer (granted-element true given) (granted-body true given)
       ∙ cond-where (inside b.start_u b.end_u p && inside b.start_v b.end_v q) (refused_point ParameterOutside)

@@ -2,7 +2,6 @@
 #![tactic(auto)]
 
 ghost use Rattle.std.specs.Prelude.{◌≡◌, ◌≤◌, min, length};
-ghost use Rattle.refusals.specs.Reasons.{reason_number};
 ghost use Rattle.tables.specs.Lent.{lent_mut, SameSlices};
 ghost use Rattle.read_lines.specs.Answered.{rooms_of};
 ghost use Rattle.tidy_words.specs.Emitting.{Emitted};
@@ -25,31 +24,38 @@ fn emit_bytes(bytes: &[u8], out: &mut [u8], at: usize) -> usize
     to
 }
 
-fn emit_refusal(reason: Reason, place: u32, out: &mut [u8]) -> usize
-    ensures { Emitted 0 (refusal_line (reason_number reason) place) out.old out.new result }
+fn emit_refusal(number: u32, place: u32, out: &mut [u8]) -> usize
+    ensures { Emitted 0 (refusal_line number place) out.old out.new result }
 {
     let first = emit_bytes(b"refused", out, 0);
-    let second = emit_spaced(reason.number(), out, first);
+    let second = emit_spaced(number, out, first);
     let third = emit_bytes(b" at", out, second);
     let fourth = emit_spaced(place, out, third);
     emit(b'\n', out, fourth)
 }
 
-fn refusal_length(reason: Reason, place: u32) -> usize
-    ensures { result ≡ min (length (refusal_line (reason_number reason) place)) 16777217 }
+fn refusal_length(number: u32, place: u32) -> usize
+    ensures { result ≡ min (length (refusal_line number place)) 16777217 }
 {
     let mut none = [0u8; 1];
-    emit_refusal(reason, place, &mut none)
+    emit_refusal(number, place, &mut none)
 }
 
 // A refusal, measured first: nothing is written where it has no room.
-fn print_refusal(reason: Reason, place: u32, out: &mut [u8]) -> usize
-    ensures { printing result out.new ≡ printed_in (refusal_line (reason_number reason) place) out.old }
+fn print_line(number: u32, place: u32, out: &mut [u8]) -> usize
+    ensures { printing result out.new ≡ printed_in (refusal_line number place) out.old }
 {
-    if out.len() < refusal_length(reason, place) {
+    if out.len() < refusal_length(number, place) {
         return 0;
     }
-    emit_refusal(reason, place, out)
+    emit_refusal(number, place, out)
+}
+
+// How many bytes of the front of `out` are printed for a refusal of any number, which is written there; the largest place is 4,294,967,295.
+pub fn print_refusal(number: u32, place: usize, out: &mut [u8]) -> usize
+    ensures { printing result out.new ≡ printed_in (refusal_line number (min place 4294967295)) out.old }
+{
+    print_line(number, place.min(4_294_967_295) as u32, out)
 }
 
 // How many bytes of the front of `out` are printed for an answer of tidying into it; a refusal is written there first.
@@ -58,9 +64,9 @@ pub fn print_answer(tidied: Result<Tidied, TidyError>, out: &mut [u8]) -> usize
 {
     match tidied {
         Ok(text) => text.length.min(out.len()),
-        Err(TidyError::TooLong { .. }) => print_refusal(Reason::NoOutputRoom, 0, out),
+        Err(TidyError::TooLong { .. }) => print_refusal(Reason::NoOutputRoom.number(), 0, out),
         Err(TidyError::Refused(refusal)) => {
-            print_refusal(refusal.reason, refusal.place.min(4_294_967_295) as u32, out)
+            print_refusal(refusal.reason.number(), refusal.place, out)
         }
     }
 }

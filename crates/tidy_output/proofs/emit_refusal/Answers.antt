@@ -1,8 +1,7 @@
 -- The words and numbers of the line, one after the other.
-use Rattle.std.proofs.Common.{ℕ, ◌∷◌, ap, arith}
-use Rattle.references.specs.Written.{written_whole}
+use Rattle.std.proofs.Common.{arith}
 use Rattle.tidy_output.specs.Output.{refusal_line}
-use Rattle.tidy_words.proofs.Emissions.{emitted_then, emitted-is, emitted-whole, emitted-spaced}
+use Rattle.tidy_words.proofs.Emissions.{emitted_then, emitted-whole, emitted-spaced}
 use Rattle.tidy_output.proofs.emit_refusal.Goals as goal
 
 pub emit_bytes-third-requires : goal.emit_bytes-third-requires
@@ -11,6 +10,5 @@ emit_bytes-third-requires c = omega (arith, (emitted-spaced c.emit_spaced-second
 pub returns : goal.returns
 unfolding refusal_line
 returns c =
-    let n = ap (λ (k : ℕ). 32 ∷ written_whole k) c.number.ensures in
-    emitted_then c.emit_bytes-first.ensures (emitted_then (emitted-is n (emitted-spaced c.emit_spaced-second.ensures))
+    emitted_then c.emit_bytes-first.ensures (emitted_then (emitted-spaced c.emit_spaced-second.ensures)
     (emitted_then c.emit_bytes-third.ensures (emitted_then (emitted-spaced c.emit_spaced-fourth.ensures) (emitted-whole c.emit.ensures))))
